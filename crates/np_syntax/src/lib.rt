@@ -1,0 +1,25 @@
+//! The plain data of Nomadic Pict: values, types, expressions, patterns, processes, programs of both
+//! levels, and the events of runs. Contracts see each as a tree, and each copy equals its original.
+#![tactic(auto)]
+
+mod boxed;
+mod event;
+mod expression;
+mod list;
+mod memory;
+mod pattern;
+mod process;
+mod program;
+mod types;
+mod value;
+
+pub use boxed::Boxed;
+pub use event::{End, Event, Kind, Made};
+pub use expression::{Expr, ExprForm, Op};
+pub use list::{List, Text, copy_texts};
+pub use memory::Memory;
+pub use pattern::{Pat, PatForm};
+pub use process::{Proc, ProcForm, Role, Tag};
+pub use program::{LowProgram, Program};
+pub use types::{Cap, Ty};
+pub use value::{Name, Value};
