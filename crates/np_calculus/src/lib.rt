@@ -1,0 +1,2 @@
+//! The two calculi: configurations, the table of reductions, and runs.
+#![tactic(auto)]

@@ -1,0 +1,2 @@
+//! Finite maps and sets of names, and the work lists of a configuration.
+#![tactic(auto)]
