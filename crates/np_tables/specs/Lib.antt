@@ -1,2 +1,4 @@
+pub mod Mapped
 pub mod Maybe
 pub mod Names
+pub mod Stored

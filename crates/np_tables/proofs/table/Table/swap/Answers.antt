@@ -1,0 +1,19 @@
+use Rattle.std.proofs.Common.{IsSome, sym, subst, ◌∙◌}
+use Rattle.std.specs.FinMap as map
+use Rattle.np_tables.specs.Stored.{Stored}
+use Rattle.np_tables.proofs.Keyed.{get-found, write_found, found_there}
+use Rattle.np_tables.proofs.table.Table.swap.Goals as goal
+
+pub unreachable-requires : goal.unreachable-requires
+unreachable-requires g c =
+    found_there c.self.inside.entries.entries c.args.key (subst (λ (s : Stored g.row.V.Denot). IsSome (map.get s.items c.args.key)) (sym c.self.view_is) c.requires)
+    (sym c.in-None.ensures.value)
+
+pub returns-clause-held : goal.returns-clause-held
+returns-clause-held g c =
+    rw (← c.self.view_is, c.replace.ensures.value) (get-found c.self.inside.entries.entries c.args.key ∙ sym c.in-Some.ensures.value)
+
+pub returns-clause-items : goal.returns-clause-items
+returns-clause-items g c =
+    rw (← c.self.view_is, c.replace.ensures.after)
+    (write_found c.self.inside.entries.entries _ c.args.key c.args.value c.in-Some.place.now c.in-Some.ensures.value (λ there. ((c.get_mut.follows.holds c.args.value).3 there).0))
