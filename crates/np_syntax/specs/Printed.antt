@@ -1,7 +1,7 @@
 -- The text of a value that is printed (docs/LANGUAGE.md, "Printed values").
-use Rattle.std.specs.Prelude.{ℕ, Bool, true, false, ◌==◌, List, [], ◌∷◌, ◌++◌, length, map, nat_lt, codes, slice_index_or, if◌then◌else◌}
+use Rattle.std.specs.Prelude.{ℕ, Bool, true, false, ◌==◌, List, [], ◌∷◌, ◌++◌, map, codes, slice_index_or, if◌then◌else◌}
 use Rattle.std.specs.Fmt.{signed_decimal}
-use Rattle.std.specs.List.{flat_map, list_all}
+use Rattle.std.specs.List.{flat_map}
 use Rattle.np_syntax.specs.declared.value.Value.{Value, Value-F, fold-Value}
 
 -- a byte of a string: a line feed, a double quote and a backslash are written as escapes
@@ -28,18 +28,10 @@ text_step sites (Value-F.Site site) = slice_index_or sites site []
 text_step sites (Value-F.Tuple parts) = codes "[" ++ spaced parts ++ codes "]"
 text_step sites _ = []
 
--- the text of a value, in a program whose sites have these names
+-- the text of a value, in a program whose sites have these names; empty where it is never printed
 unfoldable pub value_text : List (List ℕ) → Value → List ℕ
 value_text sites = fold-Value (List ℕ) (text_step sites)
 
-abbrev pub printable_step : ℕ → Value-F Bool → Bool
-printable_step sites (Value-F.Int number) = true
-printable_step sites (Value-F.Truth truth) = true
-printable_step sites (Value-F.Str text) = true
-printable_step sites (Value-F.Site site) = nat_lt site sites
-printable_step sites (Value-F.Tuple parts) = list_all (λ part. part) parts
-printable_step sites _ = false
-
--- the value has a text: numbers, truth values, strings, sites of the program, and tuples of such
-unfoldable pub is_printable : ℕ → Value → Bool
-is_printable sites = fold-Value Bool (printable_step sites)
+-- the text of a tuple
+abbrev pub tuple_text : List (List ℕ) → List Value → List ℕ
+tuple_text sites parts = codes "[" ++ spaced (map (value_text sites) parts) ++ codes "]"
