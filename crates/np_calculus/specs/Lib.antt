@@ -1,1 +1,7 @@
+pub mod Config
+pub mod ConfigCode
+pub mod Eval
+pub mod Forms
+pub mod Overlay
 pub mod Plain
+pub mod Reductions
