@@ -1,1 +1,3 @@
+pub mod Binds
+pub mod Evals
 pub mod Overlays

@@ -1,4 +1,5 @@
 pub mod Config
+pub mod Bound
 pub mod ConfigCode
 pub mod Eval
 pub mod Forms
