@@ -1,8 +1,11 @@
-pub mod Config
 pub mod Bound
+pub mod Config
 pub mod ConfigCode
 pub mod Eval
 pub mod Forms
+pub mod Idle
 pub mod Overlay
 pub mod Plain
 pub mod Reductions
+pub mod Starts
+pub mod Well

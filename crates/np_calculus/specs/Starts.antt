@@ -1,0 +1,71 @@
+-- Where runs begin (docs/LANGUAGE.md, "Starts").
+use Rattle.std.specs.Prelude.{ℕ, List, [], ◌∷◌, length, map}
+use Rattle.std.specs.FinMap as table
+use Rattle.std.specs.FinSet as set
+use Rattle.np_syntax.specs.declared.value.Name.{Name}
+use Rattle.np_syntax.specs.declared.process.Proc.{Proc}
+use Rattle.np_syntax.specs.declared.program.Program.{Program}
+use Rattle.np_syntax.specs.declared.program.LowProgram.{LowProgram}
+use Rattle.np_calculus.specs.declared.config.Atom.{Atom}
+use Rattle.np_calculus.specs.declared.config.Place.TheVariants as place
+use Rattle.np_calculus.specs.Config.{Config}
+use Rattle.np_tables.specs.Names.{NameSet}
+
+-- a program of n sites has names of its own, made by no site
+abbrev pub own : ℕ → ℕ → Name
+own n i = record { site = n; n = i }
+
+abbrev pub main_agent : ℕ → Name
+main_agent n = own n 0
+
+abbrev pub daemon_agent : ℕ → Name
+daemon_agent n = own n 1
+
+-- the marks of the first atoms of main and of the daemon
+abbrev pub main_mark : ℕ → Name
+main_mark n = own n 11
+
+abbrev pub daemon_mark : ℕ → Name
+daemon_mark n = own n 12
+
+-- main, daemon, register, migrating, migrated, message, deliver, ack, dack, currentloc, lock, the two marks, here,
+-- cache, where and found
+abbrev pub own_numbers : List ℕ
+own_numbers = 0 ∷ 1 ∷ 2 ∷ 3 ∷ 4 ∷ 5 ∷ 6 ∷ 7 ∷ 8 ∷ 9 ∷ 10 ∷ 11 ∷ 12 ∷ 13 ∷ 14 ∷ 15 ∷ 16 ∷ []
+
+-- a set with each name of a list
+abbrev pub with_all : NameSet → List Name → NameSet
+with_all names [] = names
+with_all names (name ∷ rest) = with_all (set.insert names name) rest
+
+abbrev pub own_names : ℕ → NameSet
+own_names n = with_all set.empty (map (own n) own_numbers)
+
+abbrev pub first_atom : Name → Proc → Atom
+first_atom agent p = record { agent = agent; proc = p; env = table.empty }
+
+-- main at its site, with its process
+unfoldable pub start_high : Program → Config
+start_high p =
+    let n : ℕ = length p.sites in
+    record {
+      sites = n;
+      places = table.insert table.empty (main_agent n) (place.At p.at);
+      atoms = table.insert table.empty (main_mark n) (first_atom (main_agent n) p.main);
+      packets = table.empty;
+      born = own_names n;
+      said = [];
+    }
+
+-- main at its site and the daemon at the first one, each with its process
+unfoldable pub start_low : LowProgram → Config
+start_low q =
+    let n : ℕ = length q.sites in
+    record {
+      sites = n;
+      places = table.insert (table.insert table.empty (main_agent n) (place.At q.at)) (daemon_agent n) (place.At 0);
+      atoms = table.insert (table.insert table.empty (main_mark n) (first_atom (main_agent n) q.main)) (daemon_mark n) (first_atom (daemon_agent n) q.daemon);
+      packets = table.empty;
+      born = own_names n;
+      said = [];
+    }
