@@ -1,3 +1,4 @@
 pub mod Binds
+pub mod Chans
 pub mod Evals
 pub mod Overlays

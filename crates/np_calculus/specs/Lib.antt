@@ -1,6 +1,8 @@
+pub mod Applied
 pub mod Bound
 pub mod Config
 pub mod ConfigCode
+pub mod Errands
 pub mod Eval
 pub mod Forms
 pub mod Idle

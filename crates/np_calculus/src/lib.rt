@@ -1,12 +1,20 @@
 //! The two calculi: configurations, the table of reductions, and runs.
 #![tactic(auto)]
 
+mod cfg;
 mod config;
+mod fail;
 mod frame;
+mod moves;
+mod operands;
 mod patterns;
+mod rows;
 mod values;
 
+pub use cfg::Cfg;
 pub use config::{Atom, Packet, Place};
+pub use fail::ApplyFail;
 pub use frame::Frame;
+pub use operands::{chan_of, errand_of};
 pub use patterns::bind;
 pub use values::eval;

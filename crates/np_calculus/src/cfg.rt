@@ -1,0 +1,87 @@
+ghost use Rattle.std.specs.Prelude.{◌≡◌};
+ghost use Rattle.std.specs.Option.{option_copied};
+ghost use Rattle.std.specs.FinMap as map;
+ghost use Rattle.np_calculus.specs.Reductions.{acting, offered};
+
+use super::config::{Atom, Packet, Place};
+use np_syntax::{Event, List, Name, Value};
+use np_tables::{Names, Table, WorkLists};
+use std::marker::Model;
+
+/// A configuration, seen as the record of its definition. Beside it work lists keep what each atom waits
+/// for, so that what can act is found without a walk over the atoms.
+#[derive(Drop)]
+pub struct Cfg {
+    pub(super) sites: u32,
+    pub(super) places: Table<Place>,
+    pub(super) atoms: Table<Atom>,
+    pub(super) packets: Table<Packet>,
+    pub(super) born: Names,
+    pub(super) said: List<(u32, Value)>,
+    pub(super) work: WorkLists,
+}
+
+impl Model for Cfg {
+    ghost use Rattle.np_calculus.specs.Config.{Config};
+
+    ghost Value = { Config };
+
+    ghost use Rattle.np_calculus.specs.ConfigCode.{config_code};
+
+    ghost coded = { config_code };
+
+    ghost view = { λ cfg. record {
+      sites = cfg.sites;
+      places = cfg.places.items;
+      atoms = cfg.atoms.items;
+      packets = cfg.packets.items;
+      born = cfg.born.members;
+      said = cfg.said;
+    } };
+
+    ghost use Rattle.np_calculus.specs.Errands.{IsKept};
+
+    ghost invariant = { λ cfg. IsKept cfg.work cfg.atoms.items cfg.places.items cfg.born.members };
+}
+
+impl Cfg {
+    /// Where an agent is.
+    pub fn place(&self, agent: Name) -> Option<Place>
+        ensures { result ≡ map.get self.now.places agent }
+    {
+        self.places.get(agent).copied()
+    }
+
+    /// The atom of a mark.
+    pub fn atom(&self, mark: Name) -> Option<&Atom>
+        ensures { option_copied result ≡ map.get self.now.atoms mark }
+    {
+        self.atoms.get(mark)
+    }
+
+    /// The packet of a mark.
+    pub fn packet(&self, mark: Name) -> Option<&Packet>
+        ensures { option_copied result ≡ map.get self.now.packets mark }
+    {
+        self.packets.get(mark)
+    }
+
+    /// What was printed, with the sites, in order.
+    pub fn said(&self) -> &[(u32, Value)]
+        ensures { result.now ≡ self.now.said }
+    {
+        self.said.as_slice()
+    }
+
+    /// The acting atom of an event.
+    pub(super) fn acting(&self, e: &Event) -> Option<&Atom>
+        ensures { option_copied result ≡ acting self.now e.now }
+    {
+        let atom = self.atoms.get(e.actor)?;
+        let place = self.places.get(atom.agent)?;
+        match place {
+            Place::At(site) if *site == e.site && atom.proc.tag == e.tag => Some(atom),
+            _ => None,
+        }
+    }
+}
