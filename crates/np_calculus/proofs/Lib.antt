@@ -1,4 +1,6 @@
 pub mod Binds
 pub mod Chans
 pub mod Evals
+pub mod Keeping
 pub mod Overlays
+pub mod Steps

@@ -1,11 +1,14 @@
-ghost use Rattle.std.specs.Prelude.{◌≡◌};
+ghost use Rattle.std.specs.Prelude.{◌≡◌, IfOk};
 ghost use Rattle.std.specs.Option.{option_copied};
 ghost use Rattle.std.specs.FinMap as map;
-ghost use Rattle.np_calculus.specs.Reductions.{acting, offered};
+ghost use Rattle.np_calculus.specs.Reductions.{acting, fresh, offered};
 
 use super::config::{Atom, Packet, Place};
-use np_syntax::{Event, List, Name, Value};
+use super::operands::chan_of;
+use super::values::eval;
+use np_syntax::{Event, List, Memory, Name, ProcForm, Value};
 use np_tables::{Names, Table, WorkLists};
+use std::alloc::Global;
 use std::marker::Model;
 
 /// A configuration, seen as the record of its definition. Beside it work lists keep what each atom waits
@@ -83,5 +86,37 @@ impl Cfg {
             Place::At(site) if *site == e.site && atom.proc.tag == e.tag => Some(atom),
             _ => None,
         }
+    }
+
+    /// The name is not born yet.
+    pub(super) fn fresh(&self, name: Name) -> Option<()>
+        ensures { result ≡ fresh self.now name }
+    {
+        if self.born.has(name) { None } else { Some(()) }
+    }
+
+    /// The value that the atom of a mark, in this agent, outputs on this channel.
+    pub(super) fn offered(
+        &self,
+        alloc: Global,
+        mark: Name,
+        agent: Name,
+        chan: Name,
+    ) -> Result<Option<Value>, Memory>
+        ensures { IfOk result (λ value. value ≡ offered self.now mark agent chan) }
+    {
+        let Some(mate) = self.atoms.get(mark) else {
+            return Ok(None);
+        };
+        if agent != mate.agent {
+            return Ok(None);
+        }
+        let ProcForm::Out(on, value) = &mate.proc.form else {
+            return Ok(None);
+        };
+        if chan_of(on, &mate.env) != Some(chan) {
+            return Ok(None);
+        }
+        eval(alloc, value, &mate.env)
     }
 }

@@ -10,6 +10,7 @@ mod operands;
 mod patterns;
 mod rows;
 mod values;
+mod views;
 
 pub use cfg::Cfg;
 pub use config::{Atom, Packet, Place};

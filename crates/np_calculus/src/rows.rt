@@ -1,11 +1,14 @@
-ghost use Rattle.np_calculus.specs.Reductions.{stop_row, fork_row};
+ghost use Rattle.np_calculus.specs.Reductions.{stop_row, fork_row, new_row, comm_row, print_row};
 ghost use Rattle.np_calculus.specs.Applied.{Applied};
 
 use super::cfg::Cfg;
-use super::fail::ApplyFail;
-use super::moves::halves;
-use super::operands::errand_of;
-use np_syntax::{Event, Made, ProcForm};
+use super::fail::ApplyFail::{self, NotEnabled};
+use super::moves::{enter, split};
+use super::operands::{chan_of, errand_of};
+use super::patterns::bind;
+use super::values::eval;
+use super::views::{as_inp, as_new, as_par, as_print, as_stop, no_other, none_made, one_made};
+use np_syntax::{Event, Value};
 use std::alloc::Global;
 
 impl Cfg {
@@ -13,18 +16,10 @@ impl Cfg {
     pub(super) fn stop(&mut self, e: &Event) -> Result<(), ApplyFail>
         ensures { Applied (stop_row self.old e.now) self.old self.new result }
     {
-        let Some(atom) = self.acting(e) else {
-            return Err(ApplyFail::NotEnabled);
-        };
-        let ProcForm::Stop = &atom.proc.form else {
-            return Err(ApplyFail::NotEnabled);
-        };
-        let Made::Nothing = e.made else {
-            return Err(ApplyFail::NotEnabled);
-        };
-        let None = e.other else {
-            return Err(ApplyFail::NotEnabled);
-        };
+        let atom = self.acting(e).ok_or(NotEnabled)?;
+        as_stop(&atom.proc).ok_or(NotEnabled)?;
+        none_made(e.made).ok_or(NotEnabled)?;
+        no_other(e.other).ok_or(NotEnabled)?;
         self.work.remove(e.actor);
         self.atoms.remove(e.actor);
         Ok(())
@@ -34,36 +29,74 @@ impl Cfg {
     pub(super) fn fork(&mut self, alloc: Global, e: &Event) -> Result<(), ApplyFail>
         ensures { Applied (fork_row self.old e.now) self.old self.new result }
     {
-        let Some(atom) = self.acting(e) else {
-            return Err(ApplyFail::NotEnabled);
-        };
-        let ProcForm::Par(left, right) = &atom.proc.form else {
-            return Err(ApplyFail::NotEnabled);
-        };
-        let Made::One(mark) = e.made else {
-            return Err(ApplyFail::NotEnabled);
-        };
-        let None = e.other else {
-            return Err(ApplyFail::NotEnabled);
-        };
-        if self.born.has(mark) {
-            return Err(ApplyFail::NotEnabled);
-        }
-        let stays = errand_of(atom.agent, left.get(), &atom.env);
-        let comes = errand_of(atom.agent, right.get(), &atom.env);
+        let atom = self.acting(e).ok_or(NotEnabled)?;
+        let (left, right) = as_par(&atom.proc).ok_or(NotEnabled)?;
+        let mark = one_made(e.made).ok_or(NotEnabled)?;
+        no_other(e.other).ok_or(NotEnabled)?;
+        self.fresh(mark).ok_or(NotEnabled)?;
+        let stays = errand_of(atom.agent, left, &atom.env);
+        let comes = errand_of(atom.agent, right, &atom.env);
         let env = atom.env.copy(alloc)?;
         self.atoms.reserve(2)?;
         self.born.reserve(1)?;
         self.work.file_two(mark, comes, e.actor, stays)?;
-        let Some(whole) = self.atoms.take(e.actor) else {
-            unreachable!();
-        };
-        let Some((left, right)) = halves(whole, env) else {
-            unreachable!();
-        };
-        self.atoms.put(mark, right);
-        self.atoms.put(e.actor, left);
+        split(&mut self.atoms, e.actor, mark, env);
         self.born.put(mark);
+        Ok(())
+    }
+
+    #[tactic(auto, using(np_tables::proofs::Tables::puts), unfolding(crate::specs::Reductions::new_row))]
+    pub(super) fn renew(&mut self, alloc: Global, e: &Event) -> Result<(), ApplyFail>
+        ensures { Applied (new_row self.old e.now) self.old self.new result }
+    {
+        let atom = self.acting(e).ok_or(NotEnabled)?;
+        let (binder, _, body) = as_new(&atom.proc).ok_or(NotEnabled)?;
+        let chan = one_made(e.made).ok_or(NotEnabled)?;
+        no_other(e.other).ok_or(NotEnabled)?;
+        self.fresh(chan).ok_or(NotEnabled)?;
+        let mut env = atom.env.copy(alloc)?;
+        env.set(binder, Value::Chan(chan))?;
+        let errand = errand_of(atom.agent, body, &env);
+        self.atoms.reserve(1)?;
+        self.born.reserve(1)?;
+        self.work.file(e.actor, errand)?;
+        enter(&mut self.atoms, e.actor, env);
+        self.born.put(chan);
+        Ok(())
+    }
+
+    #[tactic(auto, using(np_tables::proofs::Tables::puts), unfolding(crate::specs::Reductions::comm_row))]
+    pub(super) fn comm(&mut self, alloc: Global, e: &Event) -> Result<(), ApplyFail>
+        ensures { Applied (comm_row self.old e.now) self.old self.new result }
+    {
+        let atom = self.acting(e).ok_or(NotEnabled)?;
+        let (chan, pat, body) = as_inp(&atom.proc).ok_or(NotEnabled)?;
+        let chan = chan_of(chan, &atom.env).ok_or(NotEnabled)?;
+        let other = e.other.ok_or(NotEnabled)?;
+        let value = self.offered(alloc, other, atom.agent, chan)?.ok_or(NotEnabled)?;
+        let env = bind(alloc, pat, &value, &atom.env)?.ok_or(NotEnabled)?;
+        none_made(e.made).ok_or(NotEnabled)?;
+        let errand = errand_of(atom.agent, body, &env);
+        self.atoms.reserve(1)?;
+        self.work.file(e.actor, errand)?;
+        self.work.remove(other);
+        enter(&mut self.atoms, e.actor, env);
+        self.atoms.remove(other);
+        Ok(())
+    }
+
+    #[tactic(auto, unfolding(crate::specs::Reductions::print_row))]
+    pub(super) fn print(&mut self, alloc: Global, e: &Event) -> Result<(), ApplyFail>
+        ensures { Applied (print_row self.old e.now) self.old self.new result }
+    {
+        let atom = self.acting(e).ok_or(NotEnabled)?;
+        let printed = as_print(&atom.proc).ok_or(NotEnabled)?;
+        let value = eval(alloc, printed, &atom.env)?.ok_or(NotEnabled)?;
+        none_made(e.made).ok_or(NotEnabled)?;
+        no_other(e.other).ok_or(NotEnabled)?;
+        self.said.add((e.site, value))?;
+        self.work.remove(e.actor);
+        self.atoms.remove(e.actor);
         Ok(())
     }
 }
