@@ -3,10 +3,6 @@
 
 mod names;
 mod table;
-mod work;
-mod work_lists;
 
 pub use names::Names;
 pub use table::Table;
-pub use work::{Errand, Meeting, Ready};
-pub use work_lists::WorkLists;
