@@ -1,3 +1,6 @@
+pub mod Errands
+pub mod InStep
+pub mod Lines
 pub mod Mapped
 pub mod Maybe
 pub mod Names

@@ -1,0 +1,290 @@
+-- The marks by their errands: how a change of one line shows in the others, in the busy meetings and in what is ready.
+use Rattle.std.proofs.Common.{◌≡◌, Bool, true, false, not, cond, ◌&&◌, ◌||◌, nat_eq, Option, None, Some, unwrap_or, IsSome, IfNone, IfSome, List, [], ◌∷◌, slice_get, IsTrue, ℕ, refl, sym, ap, subst, ◌∙◌, arith}
+use Rattle.std.specs.FinMap as map
+use Rattle.std.specs.FinSet as set
+use Rattle.std.specs.FinSet.{len-empty, empty_of_len}
+use Rattle.std.specs.List.{list_any}
+use Rattle.std.specs.Map.{lookup}
+use Rattle.indexmap.specs.IndexMap as index_map
+use Rattle.indexmap.specs.IndexMap.{IndexMap}
+use Rattle.indexmap.specs.IndexSet.{IndexSet}
+use Rattle.np_syntax.specs.declared.value.Name.{Name}
+use Rattle.np_tables.specs.Names.{NameSet, name_cmp, same_name}
+use Rattle.np_tables.specs.declared.errand.Meeting.{Meeting}
+use Rattle.np_tables.specs.declared.errand.Errand.{Errand}
+use Rattle.np_tables.specs.declared.errand.Errand.TheVariants as errand
+use Rattle.np_tables.specs.declared.errand.Errand.TheVariants.{Acts, Gives, Takes, Stuck}
+use Rattle.np_tables.specs.Errands.{same_meeting, same_errand, is_filed}
+use Rattle.np_tables.specs.Lines.{line_of, has_some, has_both, is_at, is_busy, SetsLine, SameLines, BusyAt}
+use Rattle.np_tables.proofs.Keyed.{alike, alike-same}
+use Rattle.np_tables.proofs.Tables.{same_name-is, same_name-itself, same_names, born_remove, born_here, contains-none}
+
+both : (s t : Bool) → (s && t) ≡ true → (s ≡ true) × (t ≡ true)
+both true true e = (refl, refl)
+both true false e = absurd cc
+both false t e = absurd cc
+
+pub same_meeting-is : (a b : Meeting) → same_meeting a b ≡ true → a ≡ b
+same_meeting-is a b e =
+    let h = both (alike a.agent b.agent) (alike a.chan b.chan) e in
+    let p = same_name-is a.agent b.agent (sym (alike-same a.agent b.agent) ∙ h.0) in
+    let q = same_name-is a.chan b.chan (sym (alike-same a.chan b.chan) ∙ h.1) in
+    λ i. record { agent = p i; chan = q i }
+
+pub same_meeting-itself : (a : Meeting) → same_meeting a a ≡ true
+same_meeting-itself a = grind arith
+
+pub same_errand-is : (e f : Errand) → same_errand e f ≡ true → e ≡ f
+same_errand-is Acts Acts h = refl
+same_errand-is Acts (Gives k) h = absurd cc
+same_errand-is Acts (Takes k) h = absurd cc
+same_errand-is Acts Stuck h = absurd cc
+same_errand-is (Gives l) Acts h = absurd cc
+same_errand-is (Gives l) (Gives k) h = ap Gives (same_meeting-is l k h)
+same_errand-is (Gives l) (Takes k) h = absurd cc
+same_errand-is (Gives l) Stuck h = absurd cc
+same_errand-is (Takes l) Acts h = absurd cc
+same_errand-is (Takes l) (Gives k) h = absurd cc
+same_errand-is (Takes l) (Takes k) h = ap Takes (same_meeting-is l k h)
+same_errand-is (Takes l) Stuck h = absurd cc
+same_errand-is Stuck Acts h = absurd cc
+same_errand-is Stuck (Gives k) h = absurd cc
+same_errand-is Stuck (Takes k) h = absurd cc
+same_errand-is Stuck Stuck h = refl
+
+pub same_errand-itself : (e : Errand) → same_errand e e ≡ true
+same_errand-itself Acts = refl
+same_errand-itself (Gives l) = same_meeting-itself l
+same_errand-itself (Takes l) = same_meeting-itself l
+same_errand-itself Stuck = refl
+
+pub true_false : true ≡ false → ⊥
+true_false e = cc
+
+-- no name can be taken out of the empty set
+empty-cut : (m : Name) → set.remove (set.empty {R = name_cmp}) m ≡ set.empty
+empty-cut m = same_names _ _ λ q. born_remove set.empty m q ∙ ap (λ b. not (same_name q m) && b) (contains-none q) ∙ and_false (not (same_name q m)) ∙ sym (contains-none q)
+  where
+    and_false : (t : Bool) → (t && false) ≡ false
+    and_false true = refl
+    and_false false = refl
+
+module _ {S : Type 0} where
+  -- an errand with no line stays as it is where a mark leaves it
+  pub leave_none : (old new : IndexMap Errand NameSet S) (e : Errand) (m : Name) → None ≡ index_map.get same_errand old e → new ≡ old → SetsLine old new e (set.remove (line_of old e) m)
+  leave_none old new e m none is = record { at = λ f. ap (λ (n : IndexMap Errand NameSet S). line_of n f) is ∙ at_one (same_errand e f) f refl }
+    where
+      at_one : (t : Bool) (f : Errand) → same_errand e f ≡ t → line_of old f ≡ cond t (set.remove (line_of old e) m) (line_of old f)
+      at_one true f h = ap (line_of old) (sym (same_errand-is e f h)) ∙ ap (λ o. unwrap_or o set.empty) (sym none) ∙ sym (empty-cut m) ∙ ap (λ o. set.remove (unwrap_or o set.empty) m) none
+      at_one false f h = refl
+
+  -- a line whose last mark has left may be given up
+  pub leave_last : (old mid new : IndexMap Errand NameSet S) (e : Errand) (m : Name) (line left : NameSet) → Some line ≡ index_map.get same_errand old e
+      → left ≡ set.remove line m → left ≡ set.empty
+      → (IsSome (index_map.get same_errand old e) → (f : Errand) → index_map.get same_errand mid f ≡ cond (same_errand e f) (Some left) (index_map.get same_errand old f))
+      → ((f : Errand) → index_map.get same_errand new f ≡ cond (same_errand e f) None (index_map.get same_errand mid f))
+      → SetsLine old new e (set.remove (line_of old e) m)
+  leave_last old mid new e m line left there is empty write cut = record { at = λ f.
+      ap (λ o. unwrap_or o set.empty) (cut f ∙ ap (cond (same_errand e f) None) (write (subst IsSome there refl) f)) ∙ at_one (same_errand e f) (index_map.get same_errand old f) }
+    where
+      gone : set.empty ≡ set.remove (line_of old e) m
+      gone = sym empty ∙ is ∙ ap (λ o. set.remove (unwrap_or o set.empty) m) there
+      at_one : (t : Bool) (o : Option NameSet) → unwrap_or (cond t None (cond t (Some left) o)) set.empty ≡ cond t (set.remove (line_of old e) m) (unwrap_or o set.empty)
+      at_one true o = gone
+      at_one false o = refl
+
+pub some-empty : has_some set.empty ≡ false
+some-empty = ap (λ n. not (nat_eq n 0)) (len-empty name_cmp)
+
+no_length : (n : ℕ) → not (nat_eq n 0) ≡ false → n ≡ 0
+no_length n e = grind (arith, e)
+
+-- a set that has none is the empty one
+pub empty_of-some : (s : NameSet) → has_some s ≡ false → s ≡ set.empty
+empty_of-some s e = empty_of_len s (no_length (set.len s) e)
+
+-- the test of emptiness, turned round
+pub some-is_empty : (b : Bool) (s : NameSet) → (IsTrue b → s ≡ set.empty) → (s ≡ set.empty → IsTrue b) → not b ≡ has_some s
+some-is_empty true s to from = sym (ap has_some (to refl) ∙ some-empty)
+some-is_empty false s to from = by_case (has_some s) refl
+  where
+    by_case : (b : Bool) → has_some s ≡ b → true ≡ b
+    by_case true e = refl
+    by_case false e = absurd cc (from (empty_of-some s e))
+
+pub none_of-empty : (s : NameSet) → s ≡ set.empty → has_some s ≡ false
+none_of-empty s e = ap has_some e ∙ some-empty
+
+-- what holds where there is none
+pub if_none : {A P Q : Type 0} (o : Option A) → (P → Q) → IfNone o P → IfNone o Q
+if_none None f h = f h
+if_none (Some a) f h = h
+
+module _ {S : Type 0} (lines : IndexMap Errand NameSet S) (e : Errand) where
+  -- the line of an errand that has one, and of one that has none
+  pub line_there : (line : NameSet) → Some line ≡ index_map.get same_errand lines e → line ≡ line_of lines e
+  line_there line h = ap (λ o. unwrap_or o set.empty) h
+
+  pub no_line : None ≡ index_map.get same_errand lines e → set.empty ≡ line_of lines e
+  no_line h = ap (λ o. unwrap_or o set.empty) h
+
+  -- an errand that has marks has a line, which is not empty
+  pub has_line : IsTrue (has_some (line_of lines e)) → None ≡ index_map.get same_errand lines e → ⊥
+  has_line h n = true_false (sym h ∙ ap has_some (sym (no_line n)) ∙ some-empty)
+
+  pub line_has : (line : NameSet) → IsTrue (has_some (line_of lines e)) → Some line ≡ index_map.get same_errand lines e → line ≡ set.empty → ⊥
+  line_has line h there none = true_false (sym h ∙ ap has_some (sym (line_there line there) ∙ none) ∙ some-empty)
+
+pub some_of_member : (s : NameSet) (m : Name) → set.contains s m ≡ true → has_some s ≡ true
+some_of_member s m h = by_case (has_some s) refl
+  where
+    by_case : (b : Bool) → has_some s ≡ b → b ≡ true
+    by_case true e = refl
+    by_case false e = let n : set.contains s m ≡ false = ap (λ t. set.contains t m) (empty_of-some s e) ∙ contains-none m in absurd (true_false (sym h ∙ n))
+
+some-insert : (s : NameSet) (m : Name) → has_some (set.insert s m) ≡ true
+some-insert s m = some_of_member (set.insert s m) m (born_here s m)
+
+some_before : (s : NameSet) (m : Name) → has_some (set.remove s m) ≡ true → has_some s ≡ true
+some_before s m h = by_case (has_some s) refl
+  where
+    by_case : (b : Bool) → has_some s ≡ b → b ≡ true
+    by_case true e = refl
+    by_case false e = absurd (true_false (sym h ∙ ap (λ t. has_some (set.remove t m)) (empty_of-some s e) ∙ ap has_some (empty-cut m) ∙ some-empty))
+
+-- a test of the meeting of an errand, made at any meeting
+at_here : {S : Type 0} (lines : IndexMap Errand NameSet S) (x k : Meeting) (at r : Bool) → at ≡ same_meeting x k → r ≡ has_both lines x → (at && has_both lines k) ≡ (same_meeting x k && r)
+at_here lines x k at r is here = ap (λ b. b && has_both lines k) is ∙ by_case (same_meeting x k) refl
+  where
+    by_case : (t : Bool) → same_meeting x k ≡ t → (t && has_both lines k) ≡ (t && r)
+    by_case true e = ap (has_both lines) (sym (same_meeting-is x k e)) ∙ sym here
+    by_case false e = refl
+
+module _ {S R : Type 0} (lines : IndexMap Errand NameSet S) (e : Errand) (x : Meeting) (here : (k : Meeting) → is_at e k ≡ same_meeting x k) where
+  pub opens : (old new : IndexSet Meeting R) → true ≡ has_both lines x → ((k : Meeting) → is_busy new k ≡ cond (same_meeting x k) true (is_busy old k)) → (k : Meeting) → is_busy new k ≡ (is_busy old k || (is_at e k && has_both lines k))
+  opens old new meets write k = write k ∙ put (same_meeting x k) _ ∙ ap (λ b. is_busy old k || b) (sym (at_here lines x k (is_at e k) true (here k) meets))
+    where
+      put : (t b : Bool) → cond t true b ≡ (b || (t && true))
+      put true true = refl
+      put true false = refl
+      put false true = refl
+      put false false = refl
+
+  pub stays_shut : (busy : IndexSet Meeting R) → false ≡ has_both lines x → (k : Meeting) → is_busy busy k ≡ (is_busy busy k || (is_at e k && has_both lines k))
+  stays_shut busy apart k = same (same_meeting x k) _ ∙ ap (λ b. is_busy busy k || b) (sym (at_here lines x k (is_at e k) false (here k) apart))
+    where
+      same : (t b : Bool) → b ≡ (b || (t && false))
+      same true true = refl
+      same true false = refl
+      same false true = refl
+      same false false = refl
+
+  pub shuts : (old new : IndexSet Meeting R) → false ≡ has_both lines x → ((k : Meeting) → is_busy new k ≡ cond (same_meeting x k) false (is_busy old k)) → (k : Meeting) → is_busy new k ≡ (is_busy old k && not (is_at e k && not (has_both lines k)))
+  shuts old new apart write k = write k ∙ put (same_meeting x k) refl
+    where
+      rest : (t : Bool) → same_meeting x k ≡ t → (is_at e k && not (has_both lines k)) ≡ t
+      rest true h = ap (λ b. b && not (has_both lines k)) (here k ∙ h) ∙ ap (λ l. not (has_both lines l)) (sym (same_meeting-is x k h)) ∙ ap not (sym apart)
+      rest false h = ap (λ b. b && not (has_both lines k)) (here k ∙ h)
+      cut : (t b : Bool) → cond t false b ≡ (b && not t)
+      cut true true = refl
+      cut true false = refl
+      cut false true = refl
+      cut false false = refl
+      put : (t : Bool) → same_meeting x k ≡ t → cond (same_meeting x k) false (is_busy old k) ≡ (is_busy old k && not (is_at e k && not (has_both lines k)))
+      put t h = ap (λ b. cond b false (is_busy old k)) h ∙ cut t (is_busy old k) ∙ ap (λ b. is_busy old k && not b) (sym (rest t h))
+
+  pub stays_open : (busy : IndexSet Meeting R) → true ≡ has_both lines x → (k : Meeting) → is_busy busy k ≡ (is_busy busy k && not (is_at e k && not (has_both lines k)))
+  stays_open busy meets k = and_true _ ∙ ap (λ b. is_busy busy k && not b) (sym (rest (same_meeting x k) refl))
+    where
+      and_true : (b : Bool) → b ≡ (b && true)
+      and_true true = refl
+      and_true false = refl
+      rest : (t : Bool) → same_meeting x k ≡ t → (is_at e k && not (has_both lines k)) ≡ false
+      rest true h = ap (λ b. b && not (has_both lines k)) (here k ∙ h) ∙ ap (λ l. not (has_both lines l)) (sym (same_meeting-is x k h)) ∙ ap not (sym meets)
+      rest false h = ap (λ b. b && not (has_both lines k)) (here k ∙ h)
+
+apart_takes : (e : Errand) (k : Meeting) → is_at e k ≡ false → same_errand e (Takes k) ≡ false
+apart_takes Acts k h = refl
+apart_takes (Gives l) k h = refl
+apart_takes (Takes l) k h = h
+apart_takes Stuck k h = refl
+
+apart_gives : (e : Errand) (k : Meeting) → is_at e k ≡ false → same_errand e (Gives k) ≡ false
+apart_gives Acts k h = refl
+apart_gives (Gives l) k h = h
+apart_gives (Takes l) k h = refl
+apart_gives Stuck k h = refl
+
+opened : (at p q : Bool) → (p ≡ true → q ≡ true) → (at ≡ false → q ≡ p) → (p || (at && q)) ≡ q
+opened at true q grows away = sym (grows refl)
+opened true false q grows away = refl
+opened false false q grows away = sym (away refl)
+
+closed : (at p q : Bool) → (q ≡ true → p ≡ true) → (at ≡ false → q ≡ p) → (p && not (at && not q)) ≡ q
+closed true true true shrinks away = refl
+closed true true false shrinks away = refl
+closed false true q shrinks away = sym (away refl)
+closed at false true shrinks away = shrinks refl
+closed at false false shrinks away = refl
+
+module _ {S : Type 0} (old new : IndexMap Errand NameSet S) (e : Errand) (line : NameSet) (sets : SetsLine old new e line) where
+  line_away : (f : Errand) → same_errand e f ≡ false → line_of new f ≡ line_of old f
+  line_away f h = sets.at f ∙ ap (λ t. cond t line (line_of old f)) h
+
+  both_away : (k : Meeting) → is_at e k ≡ false → has_both new k ≡ has_both old k
+  both_away k h = let t = line_away (Takes k) (apart_takes e k h) in let g = line_away (Gives k) (apart_gives e k h) in λ i. has_some (t i) && has_some (g i)
+
+and_both : (a b c d : Bool) → (a ≡ true → c ≡ true) → (b ≡ true → d ≡ true) → (a && b) ≡ true → (c && d) ≡ true
+and_both true true c d f g h = let p = f refl in let q = g refl in λ i. p i && q i
+and_both true false c d f g h = absurd cc
+and_both false b c d f g h = absurd cc
+
+module _ {S : Type 0} (old new : IndexMap Errand NameSet S) (e : Errand) (m : Name) where
+  some_more : SetsLine old new e (set.insert (line_of old e) m) → (f : Errand) → has_some (line_of old f) ≡ true → has_some (line_of new f) ≡ true
+  some_more sets f h = ap has_some (sets.at f) ∙ by_case (same_errand e f)
+    where
+      by_case : (t : Bool) → has_some (cond t (set.insert (line_of old e) m) (line_of old f)) ≡ true
+      by_case true = some-insert (line_of old e) m
+      by_case false = h
+
+  some_fewer : SetsLine old new e (set.remove (line_of old e) m) → (f : Errand) → has_some (line_of new f) ≡ true → has_some (line_of old f) ≡ true
+  some_fewer sets f h = by_case (same_errand e f) refl (sym (ap has_some (sets.at f)) ∙ h)
+    where
+      by_case : (t : Bool) → same_errand e f ≡ t → has_some (cond t (set.remove (line_of old e) m) (line_of old f)) ≡ true → has_some (line_of old f) ≡ true
+      by_case true is h = ap (λ g. has_some (line_of old g)) (sym (same_errand-is e f is)) ∙ some_before (line_of old e) m h
+      by_case false is h = h
+
+module _ {S R : Type 0} (old new : IndexMap Errand NameSet S) (busy after : IndexSet Meeting R) where
+  both_lines : (k : Meeting) → line_of old (Takes k) ≡ line_of new (Takes k) → line_of old (Gives k) ≡ line_of new (Gives k) → has_both old k ≡ has_both new k
+  both_lines k t g = λ i. has_some (t i) && has_some (g i)
+
+  pub busy_same : BusyAt old busy → SameLines old new → after.keys ≡ busy.keys → BusyAt new after
+  busy_same at lines keys = record { at = λ k.
+      ap (λ ks. list_any (same_meeting k) ks) keys ∙ at.at k ∙ both_lines k (sym (lines.same (Takes k))) (sym (lines.same (Gives k))) }
+
+  pub busy_more : (e : Errand) (m : Name) → BusyAt old busy → SetsLine old new e (set.insert (line_of old e) m) → ((k : Meeting) → is_busy after k ≡ (is_busy busy k || (is_at e k && has_both new k))) → BusyAt new after
+  busy_more e m at sets opens = record { at = λ k.
+      opens k ∙ ap (λ b. b || (is_at e k && has_both new k)) (at.at k)
+      ∙ opened (is_at e k) (has_both old k) (has_both new k) (and_both _ _ _ _ (some_more old new e m sets (Takes k)) (some_more old new e m sets (Gives k))) (both_away old new e _ sets k) }
+
+  pub busy_fewer : (e : Errand) (m : Name) → BusyAt old busy → SetsLine old new e (set.remove (line_of old e) m) → ((k : Meeting) → is_busy after k ≡ (is_busy busy k && not (is_at e k && not (has_both new k)))) → BusyAt new after
+  busy_fewer e m at sets shuts = record { at = λ k.
+      shuts k ∙ ap (λ b. b && not (is_at e k && not (has_both new k))) (at.at k)
+      ∙ closed (is_at e k) (has_both old k) (has_both new k) (and_both _ _ _ _ (some_fewer old new e m sets (Takes k)) (some_fewer old new e m sets (Gives k))) (both_away old new e _ sets k) }
+
+-- nothing is busy where there are no lines
+pub busy_none : {S R : Type 0} (lines : IndexMap Errand NameSet S) (busy : IndexSet Meeting R) → lines.entries ≡ [] → busy.keys ≡ [] → BusyAt lines busy
+busy_none lines busy none keys = record { at = λ k. ap (λ ks. list_any (same_meeting k) ks) keys ∙ sym (nowhere k) }
+  where
+    takes_none : (k : Meeting) → has_some (line_of lines (Takes k)) ≡ false
+    takes_none k = ap (λ es. has_some (unwrap_or (lookup (same_errand (Takes k)) es) set.empty)) none ∙ some-empty
+    nowhere : (k : Meeting) → has_both lines k ≡ false
+    nowhere k = ap (λ b. b && has_some (line_of lines (Gives k))) (takes_none k)
+
+-- the first of the busy meetings is busy
+pub first_busy : {R : Type 0} (busy : IndexSet Meeting R) (o : Option Meeting) → o ≡ slice_get busy.keys 0 → IfSome o (λ meeting. IsTrue (is_busy busy meeting))
+first_busy busy o e = first busy.keys o e
+  where
+    first : (ks : List Meeting) (o : Option Meeting) → o ≡ slice_get ks 0 → IfSome o (λ k. IsTrue (list_any (same_meeting k) ks))
+    first [] o e = subst (λ (p : Option Meeting). IfSome p (λ k. IsTrue (list_any (same_meeting k) []))) (sym e) tt
+    first (k ∷ ks) o e = subst (λ (p : Option Meeting). IfSome p (λ q. IsTrue (list_any (same_meeting q) (k ∷ ks)))) (sym e) (ap (λ b. b || list_any (same_meeting k) ks) (same_meeting-itself k))

@@ -1,0 +1,222 @@
+ghost use Rattle.std.specs.Prelude.{◌≡◌, ◌<◌, ◌&&◌, ◌||◌, ◌↔◌, not, MatchOption, IfSome, IfNone, OnOk, OnErr, IsTrue, false, []};
+ghost use Rattle.std.specs.FinSet as set;
+ghost use Rattle.indexmap.specs.IndexSet as index_set;
+ghost use Rattle.np_tables.specs.Errands.{same_meeting};
+ghost use Rattle.np_tables.specs.Lines.{line_of, has_some, has_both, is_at, is_busy, is_due, NoneDue, SameLines, SetsLine, BusyAt};
+
+use super::errand::{Errand, Meeting};
+use super::line::Line;
+use super::turns::Turn;
+use indexmap::{IndexMap, IndexSet};
+use np_syntax::{Memory, Name};
+use std::alloc::Global;
+
+/// The marks by their errands, each errand's in a line, and the meetings that have both an input and an output.
+#[derive(Drop)]
+pub struct ByErrand {
+    alloc: Global,
+    lines: IndexMap<Errand, Line>,
+    busy: IndexSet<Meeting>,
+}
+
+impl Errand {
+    /// Where an output or an input waits.
+    fn meeting(self) -> Option<Meeting>
+        ensures { MatchOption result ((meeting : Meeting) → is_at self meeting ≡ false) (λ here. (meeting : Meeting) → is_at self meeting ≡ same_meeting here meeting) }
+    {
+        match self {
+            Errand::Gives(meeting) | Errand::Takes(meeting) => Some(meeting),
+            Errand::Acts | Errand::Stuck => None,
+        }
+    }
+}
+
+/// A mark comes into the line of an errand.
+fn enter(
+    alloc: Global,
+    lines: &mut IndexMap<Errand, Line>,
+    errand: Errand,
+    mark: Name,
+) -> Result<(), Memory>
+    ensures ok { OnOk result (SetsLine lines.old lines.new errand (set.insert (line_of lines.old errand) mark)) }
+    ensures err { OnErr result (SameLines lines.old lines.new) }
+{
+    let served = errand.meeting().is_some();
+    match lines.get_mut(&errand) {
+        Some(line) => line.insert(mark, served),
+        None => {
+            let mut line = Line::new(alloc);
+            line.insert(mark, served)?;
+            match lines.insert(errand, line) {
+                Ok(_) => Ok(()),
+                Err(_) => Err(Memory),
+            }
+        }
+    }
+}
+
+/// A mark leaves the line of an errand. A line with no mark is given up.
+fn leave(lines: &mut IndexMap<Errand, Line>, errand: Errand, mark: Name)
+    ensures { SetsLine lines.old lines.new errand (set.remove (line_of lines.old errand) mark) }
+{
+    let Some(line) = lines.get_mut(&errand) else {
+        return;
+    };
+    line.remove(mark);
+    if line.is_empty() {
+        let _ = lines.swap_remove(&errand);
+    }
+}
+
+/// Whether an errand has marks.
+fn has(lines: &IndexMap<Errand, Line>, errand: Errand) -> bool
+    ensures { result ≡ has_some (line_of lines.now errand) }
+{
+    match lines.get(&errand) {
+        Some(line) => !line.is_empty(),
+        None => false,
+    }
+}
+
+/// Whether a mark is in the line of an errand.
+fn holds(lines: &IndexMap<Errand, Line>, errand: Errand, mark: Name) -> bool
+    ensures { result ≡ set.contains (line_of lines.now errand) mark }
+{
+    match lines.get(&errand) {
+        Some(line) => line.has(mark),
+        None => false,
+    }
+}
+
+/// One of the marks of an errand, whichever.
+fn any(lines: &IndexMap<Errand, Line>, errand: Errand) -> Option<Name>
+    ensures some { IfSome result (λ mark. IsTrue (set.contains (line_of lines.now errand) mark)) }
+    ensures none { IfNone result (has_some (line_of lines.now errand) ≡ false) }
+{
+    match lines.get(&errand) {
+        Some(line) => line.any(),
+        None => None,
+    }
+}
+
+/// Whether a meeting has both an input and an output.
+fn meets(lines: &IndexMap<Errand, Line>, meeting: Meeting) -> bool
+    ensures { result ≡ has_both lines.now meeting }
+{
+    has(lines, Errand::Takes(meeting)) && has(lines, Errand::Gives(meeting))
+}
+
+/// The meeting of an errand that a mark came under is busy if it has both now.
+fn open(lines: &IndexMap<Errand, Line>, busy: &mut IndexSet<Meeting>, errand: Errand)
+    requires { 0 < index_set.spare busy.old }
+    ensures { (meeting : Meeting) → is_busy busy.new meeting ≡ (is_busy busy.old meeting || (is_at errand meeting && has_both lines.now meeting)) }
+{
+    let Some(meeting) = errand.meeting() else {
+        return;
+    };
+    if meets(lines, meeting) {
+        match busy.insert(meeting) {
+            Ok(_) => {}
+            Err(_) => unreachable!(),
+        }
+    }
+}
+
+/// The meeting of an errand that a mark left is busy no more if it has not both now.
+fn close(lines: &IndexMap<Errand, Line>, busy: &mut IndexSet<Meeting>, errand: Errand)
+    ensures { (meeting : Meeting) → is_busy busy.new meeting ≡ (is_busy busy.old meeting && not (is_at errand meeting && not (has_both lines.now meeting))) }
+{
+    let Some(meeting) = errand.meeting() else {
+        return;
+    };
+    if !meets(lines, meeting) {
+        let _ = busy.swap_remove(&meeting);
+    }
+}
+
+/// One of the busy meetings, whichever.
+fn any_busy(busy: &IndexSet<Meeting>) -> Option<Meeting>
+    ensures some { IfSome result (λ meeting. IsTrue (is_busy busy.now meeting)) }
+    ensures none { IfNone result (busy.now.keys ≡ []) }
+{
+    busy.first().copied()
+}
+
+impl ByErrand {
+    pub fn new(alloc: Global) -> ByErrand
+        ensures lines { (errand : Errand) → line_of result.lines errand ≡ set.empty }
+        ensures busy { BusyAt result.lines result.busy }
+    {
+        ByErrand {
+            alloc,
+            lines: IndexMap::new(alloc),
+            busy: IndexSet::new(alloc),
+        }
+    }
+
+    /// Puts a mark under an errand, where other errands keep theirs.
+    pub fn add(&mut self, errand: Errand, mark: Name) -> Result<(), Memory>
+        requires { BusyAt self.old.lines self.old.busy }
+        ensures ok { OnOk result (SetsLine self.old.lines self.new.lines errand (set.insert (line_of self.old.lines errand) mark)) }
+        ensures err { OnErr result (SameLines self.old.lines self.new.lines) }
+        ensures busy { BusyAt self.new.lines self.new.busy }
+    {
+        self.busy.reserve(1)?;
+        enter(self.alloc, &mut self.lines, errand, mark)?;
+        open(&self.lines, &mut self.busy, errand);
+        Ok(())
+    }
+
+    /// Takes a mark from an errand, where other errands keep theirs.
+    pub fn remove(&mut self, errand: Errand, mark: Name)
+        requires { BusyAt self.old.lines self.old.busy }
+        ensures lines { SetsLine self.old.lines self.new.lines errand (set.remove (line_of self.old.lines errand) mark) }
+        ensures busy { BusyAt self.new.lines self.new.busy }
+    {
+        leave(&mut self.lines, errand, mark);
+        close(&self.lines, &mut self.busy, errand);
+    }
+
+    /// Whether there is something to be served in this turn.
+    pub fn is_due(&self, turn: Turn) -> bool
+        ensures { result ≡ is_due self.now.lines self.now.busy turn }
+    {
+        match turn {
+            Turn::Alone(mark) => holds(&self.lines, Errand::Acts, mark),
+            Turn::Meets(meeting) => self.busy.contains(&meeting),
+        }
+    }
+
+    /// A turn in which there is something to be served, whichever.
+    pub fn any_due(&self) -> Option<Turn>
+        ensures some { IfSome result (λ turn. IsTrue (is_due self.now.lines self.now.busy turn)) }
+        ensures none { IfNone result (NoneDue self.now.lines self.now.busy) }
+    {
+        match any(&self.lines, Errand::Acts) {
+            Some(mark) => Some(Turn::Alone(mark)),
+            None => Some(Turn::Meets(any_busy(&self.busy)?)),
+        }
+    }
+
+    pub fn is_quiet(&self) -> bool
+        ensures { IsTrue result ↔ NoneDue self.now.lines self.now.busy }
+    {
+        !has(&self.lines, Errand::Acts) && self.busy.is_empty()
+    }
+
+    /// The mark to be served under an errand, which goes to the end of its line.
+    pub fn serve(&mut self, errand: Errand) -> Name
+        requires { IsTrue (has_some (line_of self.old.lines errand)) }
+        ensures member { IsTrue (set.contains (line_of self.old.lines errand) result) }
+        ensures lines { SameLines self.old.lines self.new.lines }
+        ensures busy { self.new.busy ≡ self.old.busy }
+    {
+        match self.lines.get_mut(&errand) {
+            Some(line) => match line.next() {
+                Some(mark) => mark,
+                None => unreachable!(),
+            },
+            None => unreachable!(),
+        }
+    }
+}
