@@ -3,7 +3,7 @@ use Rattle.std.proofs.Common.{◌≡◌, Bool, true, false, cond, ◌||◌, ◌�
 use Rattle.std.specs.FinMap as map
 use Rattle.std.specs.FinSet as set
 use Rattle.np_syntax.specs.declared.value.Name.{Name}
-use Rattle.np_tables.specs.declared.work.Errand.{Errand}
+use Rattle.np_tables.specs.declared.errand.Errand.{Errand}
 use Rattle.np_tables.specs.Names.{NameMap, NameSet, same_name}
 use Rattle.np_tables.specs.Mapped.{mapped}
 use Rattle.np_tables.proofs.Tables.{put_cases, cut_cases, get-put, get-cut, born_insert, born_here, same_name-is, same_name-itself}

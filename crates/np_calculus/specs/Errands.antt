@@ -4,8 +4,8 @@ use Rattle.std.specs.FinMap as map
 use Rattle.std.specs.FinSet as set
 use Rattle.np_syntax.specs.declared.value.Name.{Name}
 use Rattle.np_syntax.specs.declared.process.ProcForm.{ProcForm-F}
-use Rattle.np_tables.specs.declared.work.Errand.{Errand}
-use Rattle.np_tables.specs.declared.work.Errand.TheVariants as errand
+use Rattle.np_tables.specs.declared.errand.Errand.{Errand}
+use Rattle.np_tables.specs.declared.errand.Errand.TheVariants as errand
 use Rattle.np_tables.specs.Names.{NameMap, NameSet}
 use Rattle.np_tables.specs.Mapped.{mapped}
 use Rattle.np_calculus.specs.declared.config.Atom.{Atom}
