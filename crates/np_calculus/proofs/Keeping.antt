@@ -73,3 +73,8 @@ kept-more {places = places} {born = born} k m n a b more there same other =
     let housed : (x : Name) → x ≡ a.agent → IsSome (map.get places x) = λ x e. subst (λ n. IsSome (map.get places n)) (sym e) (k.housed m a there) in
     let grown = kept-born k n in
     kept-put (kept-put grown n more (born_here born n) (housed more.agent other)) m b (kept-mark grown m a there) (housed b.agent same)
+
+-- the same, of what equals the parts
+pub kept-as : {work : NameMap Errand} {atoms : NameMap Atom} {places : NameMap Place} {born : NameSet} → IsKept work atoms places born
+    → (work' : NameMap Errand) (atoms' : NameMap Atom) → work' ≡ work → atoms' ≡ atoms → IsKept work' atoms' places born
+kept-as k work' atoms' e f = rw (e, f) k

@@ -17,7 +17,9 @@ use Rattle.np_calculus.specs.declared.config.Atom.{Atom}
 use Rattle.np_calculus.specs.declared.config.Place.{Place}
 use Rattle.np_calculus.specs.Config.{Config}
 use Rattle.np_calculus.specs.Eval.{Env, eval, bind, chan_of}
-use Rattle.np_calculus.specs.Forms.{layer, as_stop, as_par, as_new, as_inp, as_print}
+use Rattle.np_calculus.specs.Forms.{Layer, layer, as_stop, as_par, as_new, as_inp, as_print}
+use Rattle.np_syntax.specs.declared.process.ProcForm.{ProcForm-F}
+use Rattle.np_calculus.specs.Moves.{body_at}
 use Rattle.np_calculus.specs.Reductions.{acting, at, same_tag, none_made, one_made, no_other, fresh, goes, goes_under, sends, offered, stop_row, fork_row, new_row, comm_row, print_row}
 
 pub record Acts (c : Config) (e : Event) (a : Atom) : Type 0 where
@@ -169,3 +171,8 @@ print-step c e d h =
 pub step-print : (c : Config) (e : Event) (d : Config) → Prints c e d → print_row c e ≡ Some d
 unfolding print_row
 step-print c e d s = rw (s.acts, s.form, s.says, s.made, s.lone) (ap Some (sym s.is))
+
+-- an input's body is its one process
+pub input-body : (l : Layer) (parts : Expr × Pat × Proc) → as_inp l ≡ Some parts → body_at l ≡ Some parts.2
+input-body (ProcForm-F.Inp c x p) parts h = ap (λ (o : Option (Expr × Pat × Proc)). o >>= λ q. Some q.2) h
+input-body _ parts h = absurd cc

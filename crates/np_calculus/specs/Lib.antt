@@ -6,6 +6,7 @@ pub mod Errands
 pub mod Eval
 pub mod Forms
 pub mod Idle
+pub mod Met
 pub mod Moves
 pub mod Overlay
 pub mod Plain

@@ -1,15 +1,28 @@
 ghost use Rattle.np_calculus.specs.Reductions.{stop_row, fork_row, new_row, comm_row, print_row};
+ghost use Rattle.std.specs.Prelude.{◌≡◌, None, IfOk, MatchOption};
 ghost use Rattle.np_calculus.specs.Applied.{Applied};
+ghost use Rattle.np_calculus.specs.Met.{IsMet};
 
 use super::cfg::Cfg;
 use super::fail::ApplyFail::{self, NotEnabled};
+use super::frame::Frame;
 use super::moves::{enter, split};
 use super::operands::{chan_of, errand_of};
 use super::patterns::bind;
 use super::values::eval;
 use super::views::{as_inp, as_new, as_par, as_print, as_stop, no_other, none_made, one_made};
-use np_syntax::{Event, Value};
+use np_syntax::{Event, Memory, Name, Value};
+use np_tables::Errand;
 use std::alloc::Global;
+
+/// A communication that is enabled: the mark of the output, the frame under which the input goes on, and
+/// what it waits for then.
+#[derive(Drop)]
+struct Met {
+    mark: Name,
+    env: Frame,
+    errand: Errand,
+}
 
 impl Cfg {
     #[tactic(auto, unfolding(crate::specs::Reductions::stop_row))]
@@ -65,24 +78,46 @@ impl Cfg {
         Ok(())
     }
 
-    #[tactic(auto, using(np_tables::proofs::Tables::puts), unfolding(crate::specs::Reductions::comm_row))]
     pub(super) fn comm(&mut self, alloc: Global, e: &Event) -> Result<(), ApplyFail>
         ensures { Applied (comm_row self.old e.now) self.old self.new result }
     {
-        let atom = self.acting(e).ok_or(NotEnabled)?;
-        let (chan, pat, body) = as_inp(&atom.proc).ok_or(NotEnabled)?;
-        let chan = chan_of(chan, &atom.env).ok_or(NotEnabled)?;
-        let other = e.other.ok_or(NotEnabled)?;
-        let value = self.offered(alloc, other, atom.agent, chan)?.ok_or(NotEnabled)?;
-        let env = bind(alloc, pat, &value, &atom.env)?.ok_or(NotEnabled)?;
-        none_made(e.made).ok_or(NotEnabled)?;
-        let errand = errand_of(atom.agent, body, &env);
+        let met = self.met(alloc, e)?.ok_or(NotEnabled)?;
         self.atoms.reserve(1)?;
-        self.work.file(e.actor, errand)?;
-        self.work.remove(other);
-        enter(&mut self.atoms, e.actor, env);
-        self.atoms.remove(other);
+        self.work.file(e.actor, met.errand)?;
+        self.work.remove(met.mark);
+        enter(&mut self.atoms, e.actor, met.env);
+        self.atoms.remove(met.mark);
         Ok(())
+    }
+
+    /// The output that an input takes, and how the input goes on, where the row is met.
+    #[tactic(auto, unfolding(crate::specs::Reductions::comm_row))]
+    fn met(&self, alloc: Global, e: &Event) -> Result<Option<Met>, Memory>
+        ensures { IfOk result (λ met. MatchOption met (comm_row self.now e.now ≡ None) (λ m. IsMet self.now e.now m.mark m.env m.errand)) }
+    {
+        let Some(atom) = self.acting(e) else {
+            return Ok(None);
+        };
+        let Some((chan, pat, body)) = as_inp(&atom.proc) else {
+            return Ok(None);
+        };
+        let Some(chan) = chan_of(chan, &atom.env) else {
+            return Ok(None);
+        };
+        let Some(mark) = e.other else {
+            return Ok(None);
+        };
+        let Some(value) = self.offered(alloc, mark, atom.agent, chan)? else {
+            return Ok(None);
+        };
+        let Some(env) = bind(alloc, pat, &value, &atom.env)? else {
+            return Ok(None);
+        };
+        let Some(()) = none_made(e.made) else {
+            return Ok(None);
+        };
+        let errand = errand_of(atom.agent, body, &env);
+        Ok(Some(Met { mark, env, errand }))
     }
 
     #[tactic(auto, unfolding(crate::specs::Reductions::print_row))]
