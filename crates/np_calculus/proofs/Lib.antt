@@ -1,6 +1,9 @@
 pub mod Binds
 pub mod Chans
 pub mod Evals
+pub mod FittingPatterns
+pub mod FittingShapes
+pub mod FittingTuples
 pub mod Keeping
 pub mod Overlays
 pub mod Steps

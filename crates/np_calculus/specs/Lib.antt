@@ -4,6 +4,7 @@ pub mod Config
 pub mod ConfigCode
 pub mod Errands
 pub mod Eval
+pub mod Fitting
 pub mod Forms
 pub mod Idle
 pub mod Met

@@ -4,6 +4,7 @@
 mod cfg;
 mod config;
 mod fail;
+mod fitting;
 mod frame;
 mod moves;
 mod operands;
@@ -15,6 +16,7 @@ mod views;
 pub use cfg::Cfg;
 pub use config::{Atom, Packet, Place};
 pub use fail::ApplyFail;
+pub use fitting::fits;
 pub use frame::Frame;
 pub use operands::{chan_of, errand_of};
 pub use patterns::bind;
