@@ -7,7 +7,10 @@ use Rattle.np_syntax.specs.declared.pattern.Pat.{Pat}
 use Rattle.np_syntax.specs.declared.process.ProcForm.{ProcForm-F}
 use Rattle.np_calculus.specs.declared.config.Atom.{Atom}
 use Rattle.np_calculus.specs.declared.config.Packet.{Packet}
+use Rattle.np_calculus.specs.declared.config.Place.{Place}
 use Rattle.np_calculus.specs.declared.config.Place.TheVariants as place
+use Rattle.np_tables.specs.Names.{NameMap}
+use Rattle.np_calculus.specs.Reductions.{way}
 use Rattle.np_calculus.specs.Config.{Config}
 use Rattle.np_calculus.specs.Eval.{chan_of}
 use Rattle.np_calculus.specs.Forms.{Layer, layer, given_on, taken_on}
@@ -70,3 +73,7 @@ Can c site = HasPacket c site ⊎ (HasArrival c site ⊎ HasAgent c site)
 -- no site can act
 abbrev pub Idle : Config → Type 0
 Idle c = (site : ℕ) → ¬ Can c site
+
+-- every agent stands at a site
+pub record NoneTravels (places : NameMap Place) : Type 0 where
+  pub each : (agent : Name) (p : Place) → map.get places agent ≡ Some p → way p ≡ None

@@ -12,5 +12,6 @@ pub mod Moves
 pub mod Overlay
 pub mod Plain
 pub mod Reductions
+pub mod Serial
 pub mod Starts
 pub mod Well

@@ -1,13 +1,17 @@
-ghost use Rattle.std.specs.Prelude.{◌≡◌, IfOk};
+ghost use Rattle.std.specs.Prelude.{◌≡◌, ◌↔◌, IfOk, IfSome, IfNone, IsTrue};
 ghost use Rattle.std.specs.Option.{option_copied};
 ghost use Rattle.std.specs.FinMap as map;
+ghost use Rattle.np_tables.specs.Errands.{IsReady, NothingReady};
+ghost use Rattle.np_tables.specs.Mapped.{mapped};
+ghost use Rattle.np_calculus.specs.Errands.{errand_of};
+ghost use Rattle.np_calculus.specs.Idle.{Idle, NoneTravels};
 ghost use Rattle.np_calculus.specs.Reductions.{acting, fresh, offered};
 
 use super::config::{Atom, Packet, Place};
 use super::operands::chan_of;
 use super::values::eval;
 use np_syntax::{Event, List, Memory, Name, ProcForm, Value};
-use np_tables::{Names, Table, WorkLists};
+use np_tables::{Names, Ready, Table, WorkLists};
 use std::alloc::Global;
 use std::marker::Model;
 
@@ -119,4 +123,33 @@ impl Cfg {
         }
         eval(alloc, value, &mate.env)
     }
+
+    /// An atom that acts alone, or an input and an output that meet.
+    pub(super) fn next(&mut self) -> Option<Ready>
+        ensures same { self.new ≡ self.old }
+        ensures ready { IfSome result (IsReady (mapped errand_of self.old.atoms)) }
+        ensures none { IfNone result (NothingReady (mapped errand_of self.old.atoms)) }
+    {
+        self.work.next()
+    }
+
+    /// Whether no event is possible. It takes no memory, and walks over the agents alone.
+    pub fn idle(&self) -> bool
+        ensures { IsTrue result ↔ Idle self.now }
+    {
+        self.work.is_quiet() && self.packets.is_empty() && all_stand(&self.places)
+    }
+}
+
+/// Whether no agent is under way.
+fn all_stand(places: &Table<Place>) -> bool
+    ensures { IsTrue result ↔ NoneTravels places.now.items }
+{
+    for at in 0..places.len() {
+        let agent = places.key(at);
+        if let Some(Place::Way(_)) = places.get(agent) {
+            return false;
+        }
+    }
+    true
 }

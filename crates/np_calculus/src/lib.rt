@@ -10,6 +10,7 @@ mod moves;
 mod operands;
 mod patterns;
 mod rows;
+mod start;
 mod values;
 mod views;
 
@@ -20,4 +21,6 @@ pub use fitting::fits;
 pub use frame::Frame;
 pub use operands::{chan_of, errand_of};
 pub use patterns::bind;
+pub use rows::apply;
+pub use start::start_high;
 pub use values::eval;

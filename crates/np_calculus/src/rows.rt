@@ -1,7 +1,8 @@
-ghost use Rattle.np_calculus.specs.Reductions.{stop_row, fork_row, new_row, comm_row, print_row};
+ghost use Rattle.np_calculus.specs.Reductions.{apply, stop_row, fork_row, new_row, comm_row, print_row};
 ghost use Rattle.std.specs.Prelude.{◌≡◌, None, IfOk, MatchOption};
 ghost use Rattle.np_calculus.specs.Applied.{Applied};
 ghost use Rattle.np_calculus.specs.Met.{IsMet};
+ghost use Rattle.np_calculus.specs.Serial.{IsBuilt};
 
 use super::cfg::Cfg;
 use super::fail::ApplyFail::{self, NotEnabled};
@@ -11,7 +12,7 @@ use super::operands::{chan_of, errand_of};
 use super::patterns::bind;
 use super::values::eval;
 use super::views::{as_inp, as_new, as_par, as_print, as_stop, no_other, none_made, one_made};
-use np_syntax::{Event, Memory, Name, Value};
+use np_syntax::{Event, Kind, Memory, Name, Value};
 use np_tables::Errand;
 use std::alloc::Global;
 
@@ -133,5 +134,20 @@ impl Cfg {
         self.work.remove(e.actor);
         self.atoms.remove(e.actor);
         Ok(())
+    }
+}
+
+/// Makes an event of one of the kinds that are built so far.
+pub fn apply(alloc: Global, c: &mut Cfg, e: &Event) -> Result<(), ApplyFail>
+    requires { IsBuilt e.now.kind }
+    ensures { Applied (apply c.old e.now) c.old c.new result }
+{
+    match e.kind {
+        Kind::Stop => c.stop(e),
+        Kind::Fork => c.fork(alloc, e),
+        Kind::New => c.renew(alloc, e),
+        Kind::Comm => c.comm(alloc, e),
+        Kind::Print => c.print(alloc, e),
+        _ => unreachable!(),
     }
 }

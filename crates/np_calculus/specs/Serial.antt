@@ -1,0 +1,42 @@
+-- What the serial run promises.
+use Rattle.std.specs.Prelude.{◌≡◌, ◌≤◌, ◌↔◌, ◌⊎◌, ℕ, List, length, Some, None}
+use Rattle.std.specs.FinMap as map
+use Rattle.std.specs.FinSet as set
+use Rattle.np_syntax.specs.declared.value.Name.{Name}
+use Rattle.np_syntax.specs.declared.program.Program.{Program}
+use Rattle.np_syntax.specs.declared.event.Event.{Event}
+use Rattle.np_syntax.specs.declared.event.End.{End}
+use Rattle.np_syntax.specs.declared.event.End.TheVariants.{Rest, Spent}
+use Rattle.np_syntax.specs.declared.event.Kind.{Kind}
+use Rattle.np_syntax.specs.declared.event.Kind.TheVariants as kind
+use Rattle.np_calculus.specs.Config.{Config}
+use Rattle.np_calculus.specs.Idle.{Idle}
+use Rattle.np_calculus.specs.Plain.{IsPlain}
+use Rattle.np_calculus.specs.Reductions.{run}
+use Rattle.np_calculus.specs.Starts.{start_high}
+use Rattle.np_calculus.specs.Well.{Well, WellAlong}
+
+-- the kinds whose rows the code makes so far
+abbrev pub IsBuilt : Kind → Type 0
+IsBuilt kind.Stop = Unit {0}
+IsBuilt kind.Fork = Unit {0}
+IsBuilt kind.New = Unit {0}
+IsBuilt kind.Comm = Unit {0}
+IsBuilt kind.Print = Unit {0}
+IsBuilt _ = ⊥
+
+-- a configuration of a run of a plain program
+pub record IsReached (c : Config) : Type 0 where
+  pub program : Program
+  pub is_plain : IsPlain program
+  pub events : List Event
+  pub reaches : run (start_high program) events ≡ Some c
+
+-- a run of the program within the budget, with how it ended
+pub record IsSerialRun (p : Program) (budget : ℕ) (events : List Event) (last : Config) (end : End) : Type 0 where
+  pub reaches : run (start_high p) events ≡ Some last
+  -- no value of a wrong type is met after any prefix
+  pub well : WellAlong (start_high p) events
+  pub within : length events ≤ budget
+  pub rest : (end ≡ Rest) ↔ Idle last
+  pub spent : (end ≡ Spent) ↔ ((length events ≡ budget) × ¬ Idle last)

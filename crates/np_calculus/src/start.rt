@@ -1,0 +1,53 @@
+ghost use Rattle.std.specs.Prelude.{◌≡◌, ◌<◌, ◌^◌, ◌*◌, length, map, IfOk, OnOk, OnErr};
+ghost use Rattle.np_calculus.specs.Starts.{start_high, own, own_names, own_numbers, with_all};
+
+use super::cfg::Cfg;
+use super::config::{Atom, Place};
+use super::frame::Frame;
+use super::operands::errand_of;
+use np_syntax::{List, Memory, Name, Program};
+use np_tables::{Names, Table, WorkLists};
+use std::alloc::Global;
+
+const OWN_NUMBERS: [u32; 17] = [0, 1, 2, 3, 4, 5, 6, 7, 8, 9, 10, 11, 12, 13, 14, 15, 16];
+
+/// The names that a program of so many sites has from the start.
+fn own_names(alloc: Global, sites: u32) -> Result<Names, Memory>
+    ensures { IfOk result (λ names. names.members ≡ own_names sites) }
+{
+    let mut names = Names::new(alloc);
+    for n in OWN_NUMBERS.iter() {
+        names.insert(Name { site: sites, n: *n })?;
+    }
+    Ok(names)
+}
+
+/// Main at its site, with its process.
+#[tactic(auto, unfolding(crate::specs::Starts::start_high))]
+pub fn start_high(alloc: Global, p: &Program) -> Result<Cfg, Memory>
+    requires { length p.now.sites < 2 ^ 32 }
+    ensures { IfOk result (λ c. c ≡ start_high p.now) }
+{
+    let sites = p.sites.len() as u32;
+    let agent = Name { site: sites, n: 0 };
+    let mark = Name { site: sites, n: 11 };
+    let born = own_names(alloc, sites)?;
+    let mut places = Table::new(alloc);
+    places.insert(agent, Place::At(p.at))?;
+    let mut work = WorkLists::new(alloc);
+    let env = Frame::new(alloc);
+    work.file(mark, errand_of(agent, &p.main, &env))?;
+    let mut atoms = Table::new(alloc);
+    atoms.reserve(1)?;
+    let proc = p.main.copy(alloc)?;
+    atoms.put(mark, Atom { agent, proc, env });
+    Ok(Cfg {
+        sites,
+        places,
+        atoms,
+        packets: Table::new(alloc),
+        born,
+        said: List::new(alloc),
+        work,
+    })
+}

@@ -1,0 +1,128 @@
+ghost use Rattle.std.specs.Prelude.{◌≡◌, ◌≤◌, false};
+ghost use Rattle.np_io.specs.Causes.{Rose};
+
+use super::fault::Fault;
+use super::texts::Texts;
+use super::word::Word;
+use std::fs;
+use std::io::Read;
+use std::marker::Model;
+use std::rt::Files;
+
+/// Texts that are files, named by their paths. Each failure counts for every name, an interrupted call
+/// too, and no content is told.
+#[derive(Drop)]
+pub struct FileTexts<'a, R: Files> {
+    rt: &'a R,
+    file: Option<R::File>,
+    faults: u64,
+    taken: u64,
+    begins: u64,
+}
+
+impl<'a, R: Files> Model for FileTexts<'a, R> {
+    ghost use Rattle.std.specs.Prelude.{is_some};
+    ghost use Rattle.np_io.specs.FileTexts.{FileState};
+
+    ghost Value = { FileState };
+
+    ghost view = { λ texts. record {
+      begun = is_some texts.file;
+      faults = texts.faults;
+      taken = texts.taken;
+      begins = texts.begins;
+    } };
+}
+
+impl<'a, R: Files> FileTexts<'a, R> {
+    /// The files of the runtime, which stays lent. Takes no memory and opens nothing.
+    pub fn new(rt: &'a R) -> FileTexts<'a, R>
+        ensures { result ≡ record { begun = false; faults = 0; taken = 0; begins = 0 } }
+    {
+        FileTexts {
+            rt,
+            file: None,
+            faults: 0,
+            taken: 0,
+            begins: 0,
+        }
+    }
+
+    fn count_fault(&mut self) -> Fault
+        ensures later { self.old.faults ≤ self.new.faults }
+        ensures cause { Rose self.old.faults self.new.faults }
+        ensures rest { self.new ≡ record self.old { faults = self.new.faults } }
+    {
+        self.faults = self.faults.saturating_add(1);
+        Fault
+    }
+}
+
+impl<'a, R: Files> Texts for FileTexts<'a, R> {
+    ghost use Rattle.std.specs.Prelude.{None};
+
+    ghost faults = { λ texts name. texts.faults };
+
+    ghost is_begun = { λ texts. texts.begun };
+
+    ghost held = { λ texts name. None };
+
+    ghost last = { λ texts. None };
+
+    ghost left = { λ texts. None };
+
+    ghost taken = { λ texts. texts.taken };
+
+    ghost begins = { λ texts. texts.begins };
+
+    fn begin(&mut self, name: &Word) -> Result<(), Fault> {
+        self.file = None;
+        self.taken = 0;
+        self.begins = self.begins.saturating_add(1);
+        match fs::open(self.rt, name.text()) {
+            Ok(file) => {
+                self.file = Some(file);
+                Ok(())
+            }
+            Err(_) => Err(self.count_fault()),
+        }
+    }
+
+    fn read(&mut self, buf: &mut [u8]) -> Result<usize, Fault> {
+        let Some(file) = &mut self.file else {
+            unreachable!();
+        };
+        match file.read(buf) {
+            Ok(count) => {
+                self.taken = self.taken.saturating_add(count as u64);
+                Ok(count)
+            }
+            Err(_) => Err(self.count_fault()),
+        }
+    }
+}
+
+#[cfg(test)]
+mod tests {
+    use super::*;
+    use std::test::Fail;
+
+    #[test]
+    fn reads_a_file_and_counts_a_missing_one(rt: HostRuntime) -> Result<(), Fail> {
+        fs::write(&rt, "some", "seven bytes")?;
+        let some = Word::new(rt.alloc(), "some")?;
+        let missing = Word::new(rt.alloc(), "missing")?;
+        let mut texts = FileTexts::new(&rt);
+        let mut buffer = [0u8; 8];
+        assert_eq!(rt; texts.begin(&some), Ok(()));
+        assert_eq!(rt; texts.read(&mut buffer), Ok(8));
+        assert_eq!(rt; &buffer, b"seven by");
+        assert_eq!(rt; texts.read(&mut buffer), Ok(3));
+        assert_eq!(rt; &buffer[..3], b"tes".as_slice());
+        assert_eq!(rt; texts.read(&mut buffer), Ok(0));
+        assert_eq!(rt; (texts.faults, texts.taken, texts.begins), (0, 11, 1));
+        assert_eq!(rt; texts.begin(&missing), Err(Fault));
+        assert_eq!(rt; (texts.faults, texts.taken, texts.begins), (1, 0, 2));
+        Ok(())
+    }
+}

@@ -1,0 +1,24 @@
+//! Texts that are read by name and sinks that take bytes: in memory, over files and over writers. Each
+//! fault is told by a count that rose.
+#![tactic(auto)]
+
+mod fault;
+mod file_texts;
+mod mem_sink;
+mod mem_texts;
+mod named_text;
+mod sink;
+mod stream;
+#[cfg(test)]
+mod tests;
+mod texts;
+mod word;
+
+pub use fault::Fault;
+pub use file_texts::FileTexts;
+pub use mem_sink::MemSink;
+pub use mem_texts::MemTexts;
+pub use sink::{Sink, WriteFail, write_all};
+pub use stream::{ErrSink, OutSink};
+pub use texts::{ReadFail, Texts, read_all};
+pub use word::Word;
