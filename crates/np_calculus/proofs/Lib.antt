@@ -3,4 +3,5 @@ pub mod Chans
 pub mod Evals
 pub mod Keeping
 pub mod Overlays
+pub mod PlainRuns
 pub mod Steps
