@@ -4,4 +4,5 @@ pub mod Evals
 pub mod Keeping
 pub mod Overlays
 pub mod PlainRuns
+pub mod PlainWells
 pub mod Steps
