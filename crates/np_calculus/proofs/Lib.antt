@@ -1,5 +1,7 @@
 pub mod Binds
 pub mod Chans
+pub mod Enabled
+pub mod ErrandForms
 pub mod Evals
 pub mod Keeping
 pub mod Overlays

@@ -1,5 +1,5 @@
 -- Runs of plain programs stay plain.
-use Rattle.std.proofs.Common.{◌≡◌, ℕ, ℤ, Bool, true, false, cond, ◌&&◌, ◌⊎◌, inl, inr, Option, None, Some, List, [], ◌∷◌, length, refl, subst, sym, ap, ◌∙◌}
+use Rattle.std.proofs.Common.{◌≡◌, ℕ, ℤ, Bool, true, false, cond, ◌&&◌, inl, inr, Option, None, Some, List, [], ◌∷◌, length, refl, subst, sym, ap, ◌∙◌}
 use Rattle.std.specs.Ordering.{nat_cmp, eq_by_cmp}
 use Rattle.std.specs.Cmp.{nat_cmp_total}
 use Rattle.std.specs.FinMap as map
@@ -18,17 +18,16 @@ use Rattle.np_syntax.specs.declared.pattern.PatForm.{PatForm, PatForm-F, out-Pat
 use Rattle.np_syntax.specs.declared.pattern.PatForm as pat
 use Rattle.np_syntax.specs.declared.pattern.PatForm.TheVariants.{rolls-Bind}
 use Rattle.np_syntax.specs.declared.process.Proc.{Proc, fold_out-Proc}
-use Rattle.np_syntax.specs.declared.process.ProcForm.{ProcForm, ProcForm-F, out-ProcForm, map-ProcForm, fold-ProcForm, fold_out-ProcForm}
+use Rattle.np_syntax.specs.declared.process.ProcForm.{ProcForm, ProcForm-F, map-ProcForm, fold-ProcForm, fold_out-ProcForm}
 use Rattle.np_syntax.specs.declared.program.Program.{Program}
 use Rattle.np_syntax.specs.declared.event.Event.{Event}
 use Rattle.np_syntax.specs.declared.event.Kind.{Kind}
 use Rattle.np_syntax.specs.declared.event.Kind.TheVariants as kind
 use Rattle.np_tables.specs.Maybe.{◌>>=◌}
-use Rattle.np_tables.specs.Names.{NameMap, name_cmp, same_name}
+use Rattle.np_tables.specs.Names.{NameMap, name_cmp}
 use Rattle.np_tables.proofs.Maybe.{then, done}
 use Rattle.np_tables.proofs.Tables.{get-none, put_here, put_cases, cut_cases}
 use Rattle.np_calculus.specs.declared.config.Atom.{Atom}
-use Rattle.np_calculus.specs.declared.config.Packet.{Packet}
 use Rattle.np_calculus.specs.declared.config.Place.{Place}
 use Rattle.np_calculus.specs.declared.config.Place.TheVariants as place
 use Rattle.np_calculus.specs.Config.{Config}
@@ -70,6 +69,7 @@ Test = Sorts → Bool
 abbrev pub plain_layer : Layer → Sorts → Bool
 plain_layer l sorts = plain_step (map-ProcForm ProcForm Proc Test Test (fold-ProcForm Test Test plain_step (λ p. p.form)) plain l) sorts
 
+-- a process is plain as its form is
 pub plain-out : (p : Proc) (sorts : Sorts) → plain p sorts ≡ plain_layer (layer p) sorts
 unfolding plain
 plain-out p sorts =
@@ -120,7 +120,7 @@ module _ (sorts : Sorts) (env : Env) (agrees : AgreesWith sorts env) where
       let is : eval e env ≡ Some (value.Chan v.0) = eval-form e env ∙ v.1 in
       (v.0, rw (is, outs-Chan v.0) refl)
 
--- the forms of a plain process
+-- the parts of each form of a plain process are plain
 pub par-plain : (sorts : Sorts) (l : Layer) (x : Proc × Proc) → as_par l ≡ Some x → plain_layer l sorts ≡ true → (plain x.0 sorts ≡ true) × (plain x.1 sorts ≡ true)
 par-plain sorts (ProcForm-F.Par p q) x e h =
     let same : (p, q) ≡ x = cc in
@@ -209,6 +209,7 @@ sends-number places b sent t h =
     let v = number_value t.sorts b.env t.agrees s.parts.1 k.1 in
     (v.0, done (sym v.1 ∙ s.gives))
 
+-- an atom put in, and one taken out
 plain-put : (places : NameMap Place) (atoms : NameMap Atom) (k : Name) (a : Atom) → PlainAtoms places atoms → PlainAtom places a → PlainAtoms places (map.insert atoms k a)
 plain-put places atoms k v h t m a is = elim (put_cases atoms k v m a is) [ inl e ↦ rw e.1 t | inr old ↦ h m a old ]
 
@@ -222,6 +223,7 @@ goes-on places a p t h = record { sorts = t.sorts; agrees = t.agrees; is = h; si
 goes-in : (places : NameMap Place) (a : Atom) (p : Proc) (env : Env) (sorts : Sorts) → PlainAtom places a → AgreesWith sorts env → plain p sorts ≡ true → PlainAtom places (goes_under a p env)
 goes-in places a p env sorts t agrees h = record { sorts = sorts; agrees = agrees; is = h; site = t.site; stands = t.stands }
 
+-- empty tables have no entries
 absurd_entry : {X : Type 0} {C : Type 0} (q : Name) (x : X) → map.get (map.empty {X = X} {R = name_cmp}) q ≡ Some x → C
 absurd_entry q x e = absurd (let none = sym (get-none q) ∙ e in cc)
 
@@ -232,6 +234,7 @@ no_sort x s e = absurd (let none = sym (get-empty nat_cmp x) ∙ e in cc)
 agrees-empty : AgreesWith map.empty map.empty
 agrees-empty = record { channels = λ x e. no_sort x channel e; numbers = λ x e. no_sort x number e }
 
+-- the start of a plain program is plain
 pub plain-start : (p : Program) → IsPlain p → PlainConfig (start_high p)
 unfolding start_high
 plain-start p h =
@@ -299,6 +302,7 @@ module _ (c : Config) (e : Event) (d : Config) (i : PlainConfig c) where
       let t = actor a acts in
       absurd (never t.sorts (layer a.proc) x form (tested a t))
 
+-- the other forms are not plain
 no_let : (sorts : Sorts) (l : Layer) (x : Pat × Expr × Proc) → as_let l ≡ Some x → plain_layer l sorts ≡ true → ⊥
 no_let sorts (ProcForm-F.Let _ _ _) x e h = cc
 no_let sorts _ x e h = cc
@@ -389,6 +393,7 @@ module _ (c : Config) (e : Event) (d : Config) (i : PlainConfig c) where
   unfolding land_row
   never-land h = then (map.get c.packets e.actor) _ h λ p flies h. absurd_entry e.actor p (subst (λ packets. map.get packets e.actor ≡ Some p) i.packets flies)
 
+-- each row of the table
 plain-row : (k : Kind) (c : Config) (e : Event) (d : Config) → row k c e ≡ Some d → PlainConfig c → PlainConfig d
 plain-row kind.Stop c e d h i = plain-stop c e d i h
 plain-row kind.Fork c e d h i = plain-fork c e d i h
@@ -408,12 +413,15 @@ plain-row kind.Open c e d h i = never-open c e d i h
 plain-row kind.Lookup c e d h i = never-lookup c e d i h
 plain-row kind.Post c e d h i = never-post c e d i h
 
+-- an event of a plain configuration leads to a plain one
 pub plain-apply : (c : Config) (e : Event) (d : Config) → apply c e ≡ Some d → PlainConfig c → PlainConfig d
 plain-apply c e d h i = plain-row e.kind c e d h i
 
+-- and so does a run
 pub plain-run : (c : Config) (es : List Event) (d : Config) → run c es ≡ Some d → PlainConfig c → PlainConfig d
 plain-run c [] d h i = subst PlainConfig (sym (done h)) i
 plain-run c (e ∷ es) d h i = then (apply c e) (λ m. run m es) h λ m first rest. plain-run m es d rest (plain-apply c e m first i)
 
+-- what a plain program reaches is plain
 pub plain-reach : (p : Program) → IsPlain p → (es : List Event) (d : Config) → run (start_high p) es ≡ Some d → PlainConfig d
 plain-reach p h es d r = plain-run (start_high p) es d r (plain-start p h)

@@ -1,6 +1,5 @@
 -- A plain configuration is well, and so is every one along a run of a plain program.
-use Rattle.std.proofs.Common.{◌≡◌, ℕ, ℤ, Bool, true, false, ◌&&◌, Option, None, Some, List, [], ◌∷◌, ◌++◌, refl, subst, sym, ap, ◌∙◌}
-use Rattle.np_syntax.specs.declared.value.Name.{Name}
+use Rattle.std.proofs.Common.{◌≡◌, ℤ, Bool, true, Some, List, [], ◌∷◌, ◌++◌, refl, subst, sym, ap, ◌∙◌}
 use Rattle.np_syntax.specs.declared.value.Value.{Value, map-Value, fold_out-Value}
 use Rattle.np_syntax.specs.declared.value.Value as value
 use Rattle.np_syntax.specs.declared.value.Value.TheVariants.{outs-Int}
@@ -9,9 +8,7 @@ use Rattle.np_syntax.specs.declared.pattern.Pat.{Pat}
 use Rattle.np_syntax.specs.declared.process.ProcForm.{ProcForm-F}
 use Rattle.np_syntax.specs.declared.program.Program.{Program}
 use Rattle.np_syntax.specs.declared.event.Event.{Event}
-use Rattle.np_tables.specs.Maybe.{◌>>=◌}
 use Rattle.np_tables.proofs.Maybe.{then}
-use Rattle.np_calculus.specs.declared.config.Atom.{Atom}
 use Rattle.np_calculus.specs.Config.{Config}
 use Rattle.np_calculus.specs.Eval.{Env, eval, bind}
 use Rattle.np_calculus.specs.Forms.{Layer, layer, taken_on}
@@ -19,8 +16,9 @@ use Rattle.np_calculus.specs.Plain.{Sorts, is_number, is_channel, IsPlain}
 use Rattle.np_calculus.specs.Reductions.{apply, run}
 use Rattle.np_calculus.specs.Starts.{start_high}
 use Rattle.np_calculus.specs.Well.{Has, Ready, Well, WellAlong, printable_step, is_printable}
-use Rattle.np_calculus.proofs.PlainRuns.{AgreesWith, PlainConfig, PlainInput, plain_layer, plain-out, both, number_value, channel_value, input-plain, plain-reach}
+use Rattle.np_calculus.proofs.PlainRuns.{AgreesWith, PlainConfig, plain_layer, plain-out, both, number_value, channel_value, input-plain, plain-reach}
 
+-- a number can be printed
 int_printable : (n : ℤ) → is_printable (value.Int n) ≡ true
 unfolding is_printable
 int_printable n = fold_out-Value Bool printable_step (value.Int n) ∙ ap (λ l. printable_step (map-Value Value Bool is_printable l)) (outs-Int n)
@@ -48,6 +46,7 @@ takes-any sorts (ProcForm-F.Inp x q p) t v env e h =
 takes-any sorts (ProcForm-F.Rep x q p) t v env e h = absurd cc
 takes-any sorts _ t v env e h = absurd cc
 
+-- operands have values, and each input takes what is sent to it
 pub plain-well : (c : Config) → PlainConfig c → Well c
 plain-well c i = record {
   ready = λ m a there. let t = i.atoms m a there in plain-ready c t.sorts a.env t.agrees (layer a.proc) (sym (plain-out a.proc t.sorts) ∙ t.is);
@@ -62,6 +61,7 @@ run-prefix c (e ∷ es) rest d h = then (apply c e) (λ m. run m (es ++ rest)) h
     let k = run-prefix m es rest d h in
     (k.0, rw step k.1, k.2)
 
+-- along a run of a plain program all is well
 pub well-along : (p : Program) → IsPlain p → (es : List Event) (d : Config) → run (start_high p) es ≡ Some d → WellAlong (start_high p) es
 well-along p h es d r = record {
   each = λ first rest is.
