@@ -7,4 +7,5 @@ pub mod Keeping
 pub mod Overlays
 pub mod PlainRuns
 pub mod PlainWells
+pub mod Rests
 pub mod Steps
