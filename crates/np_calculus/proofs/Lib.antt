@@ -1,9 +1,14 @@
 pub mod Binds
 pub mod Chans
+pub mod Enabled
+pub mod ErrandForms
 pub mod Evals
 pub mod FittingPatterns
 pub mod FittingShapes
 pub mod FittingTuples
 pub mod Keeping
 pub mod Overlays
+pub mod PlainRuns
+pub mod PlainWells
+pub mod Rests
 pub mod Steps
