@@ -1,2 +1,6 @@
 mod Digits
 mod Levels
+mod Longest
+mod Readings
+mod Refused
+mod Steps

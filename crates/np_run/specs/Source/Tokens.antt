@@ -122,6 +122,9 @@ pub record Begins (bytes text rest : List ℕ) (kind : What) : Type 0 where
 
 -- ---- all tokens of a source
 
+abbrev pub Tokens : Type 0
+Tokens = List Token
+
 -- a comment of the language, `--` to the end of its line, begins here
 abbrev pub begins_comment : List ℕ → Bool
 begins_comment (first ∷ second ∷ rest) = first == 45 && second == 45

@@ -1,11 +1,12 @@
 //! From bytes to tokens.
 
-ghost use Rattle.std.specs.Prelude.{◌≡◌, ◌≤◌, ◌<◌, ◌+◌, length, IfOk, IfSome};
+ghost use Rattle.std.specs.Prelude.{◌≡◌, ◌≤◌, ◌<◌, length, IfOk};
 ghost use Rattle.std.specs.List.{list_any, prefix_len};
 ghost use Rattle.std.specs.Str.{bytes_eq};
 ghost use Rattle.np_run.specs.Source.Tokens as spec;
 ghost use Rattle.np_run.specs.Source.Lexing as lexing;
 ghost use Rattle.np_run.specs.Source.Lexing.{Gives};
+ghost use Rattle.np_run.specs.Source.Tokens.{Tokens};
 
 use super::fail::SourceFail;
 use super::symbol::symbol_of;
@@ -184,6 +185,10 @@ fn begins_comment(bytes: &[u8]) -> bool
 /// The tokens of the source.
 pub fn lex(alloc: Global, source: &[u8]) -> Result<List<Token>, SourceFail>
     requires { length source.now ≤ 1048576 }
+    ensures lexed { IfOk result (λ tokens. spec.Lexes 0 source.now tokens) }
+    ensures only { IfOk result (λ tokens. (others : Tokens) → spec.Lexes 0 source.now others → others ≡ tokens) }
+    ensures none { result ≡ Err SourceFail.Unbuilt → (tokens : Tokens) → spec.Lexes 0 source.now tokens → ⊥ }
+    ensures room { IfOk result (λ tokens. length tokens ≤ length source.now) }
 {
     let mut tokens = List::new(alloc);
     let mut at = 0;
