@@ -1,6 +1,11 @@
+mod Chains
+mod Complete
+mod Derives
 mod Digits
 mod Levels
 mod Longest
+mod Plainness
 mod Readings
 mod Refused
 mod Steps
+mod Taken
