@@ -18,3 +18,7 @@ pub pair_done : {A B : Type 0} {a c : A} {b d : B} → ◌≡◌ {A = Option (A 
 pair_done {A = A} {B = B} {a = a} {c = c} {b = b} {d = d} e =
     let same : ◌≡◌ {A = A × B} (c, d) (a, b) = done e in
     (ap (λ (q : A × B). q.0) same, ap (λ (q : A × B). q.1) same)
+
+-- what is said of the one is said of the other
+pub carried : {A : Type 0} {x y : A} (says : A → Type 0) → Some x ≡ Some y → says x → says y
+carried says e h = rw (done e) h

@@ -1,3 +1,4 @@
+mod Accepting
 mod Chains
 mod Complete
 mod Derives
