@@ -32,14 +32,14 @@ parallel_reads levels scope next at bar close tokens between rest left right l r
 channel_reads : (levels : ℕ) (scope : List Binding) (next : Numbers) (at a b c d e : ℕ) (text : List ℕ) (tokens rest : List Token) (body : Placed)
     → proc levels (binding text (bound.Channel next.binder) ∷ scope) (next_both next) tokens ≡ Some (body, rest)
     → proc (suc levels) scope next (symbol_at at symbol.New ∷ name_at a text ∷ symbol_at b symbol.Colon ∷ symbol_at c symbol.Caret ∷ symbol_at d symbol.Int ∷ symbol_at e symbol.In ∷ tokens)
-      ≡ Some (placed next at (form.New next.binder int_channel body.proc) body.next, rest)
+    ≡ Some (placed next at (form.New next.binder int_channel body.proc) body.next, rest)
 unfolding proc proc_in channel channel_head ident expect
 channel_reads levels scope next at a b c d e text tokens rest body p = rw p refl
 
 input_reads : (levels : ℕ) (scope : List Binding) (next : Numbers) (at a b c : ℕ) (name text : List ℕ) (binder : ℕ) (tokens rest : List Token) (body : Placed)
     → channel_of scope name ≡ Some binder → proc levels (binding text (bound.Number next.binder) ∷ scope) (next_both next) tokens ≡ Some (body, rest)
     → proc (suc levels) scope next (name_at at name ∷ symbol_at a symbol.Query ∷ name_at b text ∷ symbol_at c symbol.Arrow ∷ tokens)
-      ≡ Some (placed next at (form.Inp (variable at binder) (pattern b next.binder) body.proc) body.next, rest)
+    ≡ Some (placed next at (form.Inp (variable at binder) (pattern b next.binder) body.proc) body.next, rest)
 unfolding proc proc_in on_channel input input_head ident expect
 input_reads levels scope next at a b c name text binder tokens rest body found p = rw (found, p) refl
 
@@ -94,7 +94,7 @@ complete_proc (g.print {depth = depth} {at = at} {value = value} {operand = writ
 
 program_reads : (levels a b c d e f k : ℕ) (site home : List ℕ) (tokens : List Token) (main : Placed) → bytes_eq site home ≡ true → proc levels [] first_numbers tokens ≡ Some (main, [])
     → whole levels (symbol_at a symbol.Sites ∷ name_at b site ∷ symbol_at c symbol.Semicolon ∷ symbol_at d symbol.Main ∷ symbol_at e symbol.At ∷ name_at f home ∷ symbol_at k symbol.Equals ∷ tokens)
-      ≡ Some (program site main)
+    ≡ Some (program site main)
 unfolding whole program_head ident expect
 program_reads levels a b c d e f k site home tokens main same p = rw (same, p) refl
 

@@ -79,8 +79,14 @@ channel_head_is tokens name rest e =
     let c = expect_is symbol.Int t2 t3 int in
     let d = expect_is symbol.In t3 t4 in_ in
     let same = pair_done e in
-    rw (same.0, same.1) (record { a = a.0; b = b.0; c = c.0; d = d.0; is = f ∙ ap (λ l. name_at n.0.at n.0.text ∷ l) (a.1 ∙ ap (λ l. symbol_at a.0 symbol.Colon ∷ l)
-        (b.1 ∙ ap (λ l. symbol_at b.0 symbol.Caret ∷ l) (c.1 ∙ ap (λ l. symbol_at c.0 symbol.Int ∷ l) d.1))) })
+    rw (same.0, same.1) (record {
+      a = a.0;
+      b = b.0;
+      c = c.0;
+      d = d.0;
+      is = f ∙ ap (λ l. name_at n.0.at n.0.text ∷ l) (a.1 ∙ ap (λ l. symbol_at a.0 symbol.Colon ∷ l)
+          (b.1 ∙ ap (λ l. symbol_at b.0 symbol.Caret ∷ l) (c.1 ∙ ap (λ l. symbol_at c.0 symbol.Int ∷ l) d.1)));
+    })
 
 channel_derives : (inner : Reader) (levels : ℕ) → Sound inner levels → (scope : List Binding) (next : Numbers) (at : ℕ) (tokens : List Token) (read : Placed) (rest : List Token)
     → channel inner scope next at tokens ≡ Some (read, rest) → Derives (suc levels) scope next (symbol_at at symbol.New ∷ tokens) read rest

@@ -16,13 +16,13 @@ value_take : (digits : List ℕ) (count : ℕ) → value (take count digits) ≤
 value_take digits count =
     let whole : value digits ≡ value (take count digits ++ drop count digits) = ap value (sym (take-append-drop count digits)) in
     let more : value (take count digits ++ drop count digits) ≡ fold (λ number digit. 10 * number + (digit - 48)) (value (take count digits)) (drop count digits) =
-        fold-append (λ number digit. 10 * number + (digit - 48)) 0 (take count digits) (drop count digits) in
+    fold-append (λ number digit. 10 * number + (digit - 48)) 0 (take count digits) (drop count digits) in
     omega (arith, grows (value (take count digits)) (drop count digits))
 
 pub too_large : (digits : List ℕ) (index number : ℕ) → index < length digits → number ≡ value (take index digits)
     → 9223372036854775807 < 10 * number + (get_or digits index 0 - 48) → None ≡ bounded digits
 too_large digits index number inside same large =
     let next : value (take (index + 1) digits) ≡ 10 * value (take index digits) + (get_or digits index 0 - 48) =
-        fold_more (λ number digit. 10 * number + (digit - 48)) 0 digits index 0 inside in
+    fold_more (λ number digit. 10 * number + (digit - 48)) 0 digits index 0 inside in
     let above : nat_le (value digits) 9223372036854775807 ≡ false = grind (arith, nat_tests, value_take digits (index + 1)) in
     rw above

@@ -14,7 +14,6 @@ mod symbol;
 mod token;
 
 pub use fail::SourceFail;
-
 use np_syntax::Program;
 use std::alloc::Global;
 

@@ -31,7 +31,7 @@ pub data IsProc : ℕ → List Token → Tree → Type 0 where
       → IsProc (suc depth) (symbol_at at symbol.Open ∷ (lefts ++ symbol_at bar symbol.Bar ∷ (rights ++ symbol_at close symbol.Close ∷ []))) (tree.parallel at left right)
   channel : {depth at a b c d e : ℕ} {text : List ℕ} {tokens : List Token} {body : Tree} → IsProc depth tokens body
       → IsProc (suc depth) (symbol_at at symbol.New ∷ name_at a text ∷ symbol_at b symbol.Colon ∷ symbol_at c symbol.Caret ∷ symbol_at d symbol.Int ∷ symbol_at e symbol.In ∷ tokens)
-        (tree.channel at text body)
+      (tree.channel at text body)
   output : {depth at a : ℕ} {channel : List ℕ} {value : Token} {operand : Operand} → IsOperand value operand
       → IsProc (suc depth) (name_at at channel ∷ symbol_at a symbol.Bang ∷ value ∷ []) (tree.output at channel operand)
   input : {depth at a b c : ℕ} {channel variable : List ℕ} {tokens : List Token} {body : Tree} → IsProc depth tokens body
@@ -43,5 +43,5 @@ pub data IsProc : ℕ → List Token → Tree → Type 0 where
 pub data IsProgram : ℕ → List Token → Source → Type 0 where
   program : {depth a b c d e f g : ℕ} {site home : List ℕ} {tokens : List Token} {main : Tree} → IsProc depth tokens main
       → IsProgram depth
-        (symbol_at a symbol.Sites ∷ name_at b site ∷ symbol_at c symbol.Semicolon ∷ symbol_at d symbol.Main ∷ symbol_at e symbol.At ∷ name_at f home ∷ symbol_at g symbol.Equals ∷ tokens)
-        (record { site = site; home = home; main = main })
+      (symbol_at a symbol.Sites ∷ name_at b site ∷ symbol_at c symbol.Semicolon ∷ symbol_at d symbol.Main ∷ symbol_at e symbol.At ∷ name_at f home ∷ symbol_at g symbol.Equals ∷ tokens)
+      (record { site = site; home = home; main = main })

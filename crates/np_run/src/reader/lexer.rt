@@ -24,8 +24,9 @@ const LONGEST_NAME: usize = 64;
 const SIGNS: &[u8] = b";=()|:^?!*<>@[]+-_";
 
 const KEYWORDS: [&[u8]; 21] = [
-    b"sites", b"main", b"at", b"new", b"in", b"agent", b"migrate", b"to", b"iflocal", b"then", b"else",
-    b"if", b"let", b"print", b"true", b"false", b"Int", b"Bool", b"String", b"Site", b"Agent",
+    b"sites", b"main", b"at", b"new", b"in", b"agent", b"migrate", b"to", b"iflocal", b"then",
+    b"else", b"if", b"let", b"print", b"true", b"false", b"Int", b"Bool", b"String", b"Site",
+    b"Agent",
 ];
 
 fn is_digit(byte: u8) -> bool

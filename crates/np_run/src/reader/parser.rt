@@ -4,7 +4,7 @@ ghost use Rattle.std.specs.Prelude.{◌≡◌, ◌≤◌, ◌<◌, ◌+◌, suc,
 ghost use Rattle.np_run.specs.Source.Parsing as spec;
 ghost use Rattle.np_run.specs.Source.Parsing.{Reads, Room};
 ghost use Rattle.np_run.specs.Source.Lexing.{Gives};
-ghost use Rattle.np_run.specs.Source.Scope.{int_channel, next_node, next_both, placed, program, variable, first_numbers};
+ghost use Rattle.np_run.specs.Source.Scope.{int_channel, next_node, next_both, placed, variable};
 
 use super::cursor::{Cursor, Ident};
 use super::fail::SourceFail;
@@ -12,7 +12,8 @@ use super::scope::{Bound, Scope};
 use super::symbol::Symbol;
 use super::token::{Token, What};
 use np_syntax::{
-    Boxed, Cap, Expr, ExprForm, List, Memory, Pat, PatForm, Proc, ProcForm, Program, Role, Tag, Text, Ty, Value,
+    Boxed, Cap, Expr, ExprForm, List, Memory, Pat, PatForm, Proc, ProcForm, Program, Role, Tag,
+    Text, Ty, Value,
 };
 use std::alloc::Global;
 
@@ -70,6 +71,7 @@ impl Numbers {
     }
 }
 
+/// A name that stands for the binder.
 fn variable(at: u32, binder: u32) -> Expr
     ensures { result ≡ variable at binder }
 {
@@ -79,6 +81,7 @@ fn variable(at: u32, binder: u32) -> Expr
     }
 }
 
+/// A value: a number, or a name that an input binds.
 #[tactic(auto, unfolding(crate::specs::Source::Parsing::operand))]
 fn operand(tokens: &mut Cursor<'_>, scope: &Scope) -> Result<Expr, SourceFail>
     ensures reads { Reads (spec.operand scope.now tokens.old) result tokens.new }
@@ -98,6 +101,7 @@ fn operand(tokens: &mut Cursor<'_>, scope: &Scope) -> Result<Expr, SourceFail>
     }
 }
 
+/// Behind `new`: the channel's name, and what stands before the body.
 #[tactic(auto, unfolding(crate::specs::Source::Parsing::channel_head))]
 fn channel_head(alloc: Global, tokens: &mut Cursor<'_>) -> Result<Ident, SourceFail>
     ensures reads { Reads (spec.channel_head tokens.old) result tokens.new }
@@ -111,6 +115,7 @@ fn channel_head(alloc: Global, tokens: &mut Cursor<'_>) -> Result<Ident, SourceF
     Ok(name)
 }
 
+/// Behind `?`: the variable, and the arrow.
 #[tactic(auto, unfolding(crate::specs::Source::Parsing::input_head))]
 fn input_head(alloc: Global, tokens: &mut Cursor<'_>) -> Result<Ident, SourceFail>
     ensures reads { Reads (spec.input_head tokens.old) result tokens.new }
@@ -121,6 +126,7 @@ fn input_head(alloc: Global, tokens: &mut Cursor<'_>) -> Result<Ident, SourceFai
     Ok(name)
 }
 
+/// Behind `!`: the value.
 #[tactic(auto, unfolding(crate::specs::Source::Parsing::output))]
 fn output(
     tokens: &mut Cursor<'_>,
@@ -138,6 +144,7 @@ fn output(
     Ok(next.place(at, form, next.next_node()))
 }
 
+/// Behind `print`: the value.
 #[tactic(auto, unfolding(crate::specs::Source::Parsing::print))]
 fn print(
     tokens: &mut Cursor<'_>,
@@ -153,6 +160,7 @@ fn print(
     Ok(next.place(at, ProcForm::Print(value), next.next_node()))
 }
 
+/// Behind the opening bracket: both halves, and the closing bracket.
 #[tactic(auto, unfolding(crate::specs::Source::Parsing::parallel))]
 #[cycle(proc)]
 fn parallel(
@@ -179,12 +187,14 @@ fn parallel(
     Ok(next.place(at, ProcForm::Par(left, right), after))
 }
 
+/// The type of a channel of integers.
 fn int_channel(alloc: Global) -> Result<Ty, Memory>
     ensures { IfOk result (λ ty. ty ≡ int_channel) }
 {
     Ok(Ty::Chan(Cap::Both, Boxed::of(alloc, Ty::Int)?))
 }
 
+/// Behind `new`: its head, and the body.
 #[tactic(auto, unfolding(crate::specs::Source::Parsing::channel))]
 #[cycle(proc)]
 fn channel(
@@ -211,6 +221,7 @@ fn channel(
     Ok(next.place(at, ProcForm::New(next.binder, ty, body), after))
 }
 
+/// Behind `?`: its head, and the body.
 #[tactic(auto, unfolding(crate::specs::Source::Parsing::input))]
 #[cycle(proc)]
 fn input(
@@ -242,6 +253,7 @@ fn input(
     Ok(next.place(at, form, after))
 }
 
+/// Behind a channel's name: an output or an input.
 #[tactic(auto, unfolding(crate::specs::Source::Parsing::on_channel))]
 #[cycle(proc)]
 fn on_channel(
@@ -269,6 +281,7 @@ fn on_channel(
     }
 }
 
+/// A process, with so many levels below it for its parts.
 #[tactic(auto, unfolding(crate::specs::Source::Parsing::proc, crate::specs::Source::Parsing::proc_in))]
 #[cycle(proc)]
 fn proc_in(
@@ -296,6 +309,7 @@ fn proc_in(
     }
 }
 
+/// A process of so many levels at most. None is tried at level 0, so the recursion goes no deeper.
 #[tactic(auto, using(crate::proofs::Levels::deeper_proc), unfolding(crate::specs::Source::Parsing::proc))]
 #[cycle(proc)]
 fn proc(
@@ -318,6 +332,7 @@ fn proc(
     }
 }
 
+/// The site's name, which must stand after `main at` too.
 #[tactic(auto, unfolding(crate::specs::Source::Parsing::program_head))]
 fn program_head(alloc: Global, tokens: &mut Cursor<'_>) -> Result<Text, SourceFail>
     ensures reads { Reads (spec.program_head tokens.old) result tokens.new }
