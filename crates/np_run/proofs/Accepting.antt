@@ -1,5 +1,5 @@
 -- The reader against the definition of the sources that are accepted.
-use Rattle.std.proofs.Common.{◌≡◌, ℕ, List, Option, Some, None, Result, Ok, Err, sym, ap, ◌∙◌}
+use Rattle.std.proofs.Common.{◌≡◌, ℕ, List, Some, None, Result, Ok, Err, sym, ap, ◌∙◌}
 use Rattle.std.specs.Prelude.{IfOk}
 use Rattle.np_syntax.specs.declared.program.Program.{Program}
 use Rattle.np_calculus.specs.Plain.{IsPlain}

@@ -1,14 +1,12 @@
 -- What the grammar derives, and can be placed, is read.
-use Rattle.std.proofs.Common.{◌≡◌, ℕ, ℤ, pos, suc, List, [], ◌∷◌, ◌++◌, Option, None, Some, refl, sym, ap, ◌∙◌, subst, append_assoc, append-nil}
-use Rattle.std.specs.Prelude.{Bool, true, false}
+use Rattle.std.proofs.Common.{◌≡◌, ℕ, pos, suc, List, [], ◌∷◌, ◌++◌, Some, refl, sym, ap, ◌∙◌, append_assoc, append-nil}
+use Rattle.std.specs.Prelude.{true}
 use Rattle.std.specs.Str.{bytes_eq}
 use Rattle.np_syntax.specs.declared.expression.Expr.{Expr}
 use Rattle.np_syntax.specs.declared.process.ProcForm as form
 use Rattle.np_syntax.specs.declared.program.Program.{Program}
-use Rattle.np_tables.specs.Maybe.{◌>>=◌, ◌>>◌, need}
 use Rattle.np_run.specs.declared.reader.symbol.Symbol.TheVariants as symbol
 use Rattle.np_run.specs.declared.reader.token.Token.{Token}
-use Rattle.np_run.specs.declared.reader.token.What.TheVariants as what
 use Rattle.np_run.specs.declared.reader.scope.Binding.{Binding}
 use Rattle.np_run.specs.declared.reader.scope.Bound.TheVariants as bound
 use Rattle.np_run.specs.declared.reader.parser.Numbers.{Numbers}
@@ -17,7 +15,7 @@ use Rattle.np_run.specs.Source.Tree.{Tree, Operand, Source}
 use Rattle.np_run.specs.Source.Grammar as g
 use Rattle.np_run.specs.Source.Grammar.{symbol_at, name_at, number_at, IsOperand, IsProc, IsProgram}
 use Rattle.np_run.specs.Source.Scope.{place, binding, channel_of, operand_of, variable, pattern, int_channel, placed, program, program_of, next_node, next_both, first_numbers}
-use Rattle.np_run.specs.Source.Parsing.{Reader, expect, ident, operand, parallel, channel_head, channel, output, input_head, input, print, on_channel, proc_in, proc, program_head, whole}
+use Rattle.np_run.specs.Source.Parsing.{expect, ident, operand, parallel, channel_head, channel, output, input_head, input, print, on_channel, proc_in, proc, program_head, whole}
 use Rattle.np_run.proofs.Chains.{step, tested, done}
 use Rattle.np_run.proofs.Taken.{operand_reads}
 

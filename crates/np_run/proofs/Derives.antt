@@ -1,11 +1,8 @@
 -- What is read is derived by the grammar, and placed as it should be.
-use Rattle.std.proofs.Common.{◌≡◌, ℕ, ℤ, pos, zero, suc, List, [], ◌∷◌, ◌++◌, Option, None, Some, refl, sym, ap, ◌∙◌, subst, append_assoc, append-nil}
-use Rattle.std.specs.Prelude.{Bool, true, false}
+use Rattle.std.proofs.Common.{◌≡◌, ℕ, ℤ, pos, zero, suc, List, [], ◌∷◌, ◌++◌, Some, refl, sym, ap, ◌∙◌, subst, append_assoc, append-nil}
+use Rattle.std.specs.Prelude.{true}
 use Rattle.std.specs.Str.{bytes_eq}
-use Rattle.np_syntax.specs.declared.process.ProcForm as form
 use Rattle.np_syntax.specs.declared.program.Program.{Program}
-use Rattle.np_tables.specs.Maybe.{◌>>=◌, ◌>>◌, need}
-use Rattle.np_run.specs.declared.reader.symbol.Symbol.{Symbol}
 use Rattle.np_run.specs.declared.reader.symbol.Symbol.TheVariants as symbol
 use Rattle.np_run.specs.declared.reader.token.Token.{Token}
 use Rattle.np_run.specs.declared.reader.token.What.{What}
@@ -20,8 +17,8 @@ use Rattle.np_run.specs.Source.Tree as tree
 use Rattle.np_run.specs.Source.Tree.{Tree, Source}
 use Rattle.np_run.specs.Source.Grammar as g
 use Rattle.np_run.specs.Source.Grammar.{symbol_at, name_at, number_at, IsProc, IsProgram}
-use Rattle.np_run.specs.Source.Scope.{place, binding, channel_of, placed, program, program_of, next_node, next_both, first_numbers}
-use Rattle.np_run.specs.Source.Parsing.{Reader, Outcome, expect, ident, operand, parallel, channel_head, channel, output, input_head, input, print, use_by, use_of, on_channel, stop_by, proc_by, proc_in, proc, program_head, is_end, whole}
+use Rattle.np_run.specs.Source.Scope.{place, binding, channel_of, program_of, next_node, next_both, first_numbers}
+use Rattle.np_run.specs.Source.Parsing.{Reader, parallel, channel_head, channel, output, input_head, input, print, use_by, use_of, on_channel, stop_by, proc_by, proc_in, proc, program_head, is_end, whole}
 use Rattle.np_run.proofs.Chains.{step, tested, done, pair_done}
 use Rattle.np_run.proofs.Taken.{expect_is, ident_is, operand_is}
 

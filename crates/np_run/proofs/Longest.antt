@@ -1,9 +1,8 @@
 -- Which form stands at the front of bytes, and that it is the longest.
-use Rattle.std.proofs.Common.{◌≡◌, ℕ, suc, ◌+◌, ◌<◌, ◌≤◌, ◌⊎◌, inl, inr, List, [], ◌∷◌, ◌++◌, length, take, refl, sym, ap, ◌∙◌, subst, arith, append-nil}
-use Rattle.std.specs.Prelude.{Bool, true, false, ◌≢◌, ◌&&◌, ◌||◌, nat_le, ◌==◌, if◌then◌else◌}
+use Rattle.std.proofs.Common.{◌≡◌, ℕ, ◌<◌, ◌⊎◌, inl, inr, List, [], ◌∷◌, ◌++◌, length, refl, sym, ap, ◌∙◌, subst, arith, append-nil}
+use Rattle.std.specs.Prelude.{Bool, true, false, ◌≢◌, ◌||◌, ◌==◌}
 use Rattle.std.proofs.lemmas.Bool.Decides.{nat_tests}
-use Rattle.std.specs.List.{prefix_len, list_all}
-use Rattle.np_run.specs.declared.reader.token.What.{What}
+use Rattle.std.specs.List.{prefix_len}
 use Rattle.np_run.specs.Source.Tokens as t
 use Rattle.np_run.specs.Source.Tokens.{is_digit, is_letter, goes_on, is_sign, Each, IsWord, IsNumeral, IsSign, IsQuoted, IsForm, IsLongest}
 use Rattle.np_run.specs.Source.Lexing.{is_pair, begins_pair, form_len}

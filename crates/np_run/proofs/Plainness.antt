@@ -1,23 +1,20 @@
 -- A tree that is placed is a plain program.
-use Rattle.std.proofs.Common.{◌≡◌, ℕ, ℤ, pos, ◌+◌, ◌<◌, ◌≤◌, List, [], ◌∷◌, Option, None, Some, refl, sym, ap, ◌∙◌, subst, arith}
-use Rattle.std.specs.Prelude.{Bool, true, false, ◌&&◌, ◌==◌, cond, length, option_map}
+use Rattle.std.proofs.Common.{◌≡◌, ℕ, ℤ, ◌+◌, ◌<◌, ◌≤◌, List, [], ◌∷◌, Some, refl, sym, ap, ◌∙◌, arith}
+use Rattle.std.specs.Prelude.{Bool, true, false, ◌&&◌, ◌==◌, cond, option_map}
 use Rattle.std.specs.Str.{bytes_eq}
 use Rattle.std.specs.List.{find}
 use Rattle.std.specs.Ordering.{nat_cmp, eq_by_cmp}
 use Rattle.std.specs.Cmp.{nat_cmp_total, unsigned_tied}
 use Rattle.std.proofs.lemmas.Bool.Decides.{nat_tests}
 use Rattle.std.specs.FinMap as map
-use Rattle.std.specs.FinMap.{get-insert, get-empty}
+use Rattle.std.specs.FinMap.{get-insert}
 use Rattle.np_syntax.specs.declared.value.Value as value
 use Rattle.np_syntax.specs.declared.value.Value.{Value, out-Value}
 use Rattle.np_syntax.specs.declared.types.Ty as ty
 use Rattle.np_syntax.specs.declared.types.Ty.{Ty, out-Ty}
 use Rattle.np_syntax.specs.declared.types.Cap.TheVariants as cap
 use Rattle.np_syntax.specs.declared.expression.Expr.{Expr}
-use Rattle.np_syntax.specs.declared.expression.ExprForm as expr
-use Rattle.np_syntax.specs.declared.expression.ExprForm.{ExprForm, ExprForm-F, out-ExprForm}
 use Rattle.np_syntax.specs.declared.pattern.Pat.{Pat}
-use Rattle.np_syntax.specs.declared.pattern.PatForm as pat
 use Rattle.np_syntax.specs.declared.process.Tag.{Tag}
 use Rattle.np_syntax.specs.declared.process.Proc.{Proc, fold-Proc, fold-roll-Proc, out-Proc, roll-out-Proc}
 use Rattle.np_syntax.specs.declared.process.ProcForm as form
@@ -29,7 +26,6 @@ use Rattle.np_syntax.specs.declared.value.Value.TheVariants.{outs-Int}
 use Rattle.np_syntax.specs.declared.types.Ty.TheVariants as ty_is
 use Rattle.np_syntax.specs.declared.expression.ExprForm.TheVariants.{outs-Val, outs-Var}
 use Rattle.np_syntax.specs.declared.pattern.PatForm.TheVariants.{outs-Bind}
-use Rattle.np_tables.specs.Maybe.{◌>>=◌, ◌>>◌, need}
 use Rattle.np_run.specs.declared.reader.scope.Binding.{Binding}
 use Rattle.np_run.specs.declared.reader.scope.Bound.{Bound}
 use Rattle.np_run.specs.declared.reader.scope.Bound.TheVariants as bound

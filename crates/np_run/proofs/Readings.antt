@@ -1,7 +1,7 @@
 -- Which token a text is, and which token stands at the front of bytes.
-use Rattle.std.proofs.Common.{◌≡◌, ℕ, pos, ◌+◌, ◌<◌, ◌≤◌, ◌⊎◌, inl, inr, List, [], ◌∷◌, ◌++◌, length, take, drop, Option, Some, None, refl, sym, ap, ◌∙◌, subst, arith, append-nil}
-use Rattle.std.specs.Prelude.{Bool, true, false, cond, ◌≢◌, ◌&&◌, ◌||◌, not, nat_le, ◌==◌, if◌then◌else◌}
-use Rattle.std.specs.List.{find, list_all, list_any}
+use Rattle.std.proofs.Common.{◌≡◌, ℕ, pos, ◌<◌, ◌≤◌, inl, inr, List, [], ◌∷◌, ◌++◌, length, take, Option, Some, None, refl, sym, ap, ◌∙◌, subst, arith}
+use Rattle.std.specs.Prelude.{Bool, true, false, cond, ◌&&◌, ◌||◌, not, nat_le, ◌==◌, if◌then◌else◌}
+use Rattle.std.specs.List.{find, list_all}
 use Rattle.std.specs.Str.{bytes_eq}
 use Rattle.std.proofs.lemmas.Bool.Decides.{nat_tests}
 use Rattle.std.proofs.Math.Seq.{take-append_seam}
@@ -15,7 +15,7 @@ use Rattle.np_run.specs.declared.reader.token.What.TheVariants as what
 use Rattle.np_run.specs.Source.Tokens as t
 use Rattle.np_run.specs.Source.Tokens.{is_digit, is_letter, goes_on, is_sign, is_keyword, Each, IsWord, IsNumeral, IsSign, IsForm, IsToken, Begins, spelling, value}
 use Rattle.np_run.specs.Source.Lexing.{symbol_of, named, bounded, numbered, plain_kind, kind_by, kind_of, form_len, sized, token_of_len, first_token}
-use Rattle.np_run.proofs.Longest.{Front, Bare, front_of, same_longest, clash, apart, form_word, form_digits, sign_first, sign_no_letter, sign_no_digit, word_letter, numeral_digit}
+use Rattle.np_run.proofs.Longest.{Front, Bare, front_of, same_longest, clash, sign_no_letter, sign_no_digit}
 
 -- ---- symbols
 

@@ -1,9 +1,8 @@
 -- What a reader of a single token takes.
-use Rattle.std.proofs.Common.{◌≡◌, ℕ, List, [], ◌∷◌, ◌++◌, Option, None, Some, refl, sym, ap, ◌∙◌, subst, rules}
+use Rattle.std.proofs.Common.{◌≡◌, ℕ, List, [], ◌∷◌, None, Some, refl, sym, ap, rules}
 use Rattle.std.specs.Prelude.{Bool, true, false, if◌then◌else◌}
 use denote.Enum.Bare.{sameb, same_true}
 use Rattle.np_syntax.specs.declared.expression.Expr.{Expr}
-use Rattle.np_tables.specs.Maybe.{◌>>=◌}
 use Rattle.np_run.specs.declared.reader.symbol.Symbol.{Symbol}
 use Rattle.np_run.specs.contracts.reader.symbol.Symbol.{the_type}
 use Rattle.np_run.specs.declared.reader.token.Token.{Token}
@@ -16,7 +15,7 @@ use Rattle.np_run.specs.Source.Tree as tree
 use Rattle.np_run.specs.Source.Tree.{Operand}
 use Rattle.np_run.specs.Source.Grammar as g
 use Rattle.np_run.specs.Source.Grammar.{symbol_at, name_at, IsOperand}
-use Rattle.np_run.specs.Source.Scope.{operand_of, number_of, variable}
+use Rattle.np_run.specs.Source.Scope.{operand_of, number_of}
 use Rattle.np_run.specs.Source.Parsing.{expect, is_symbol, ident, ident_by, operand, operand_by}
 use Rattle.np_run.proofs.Chains.{step, done, pair_done}
 
