@@ -6,8 +6,8 @@ use Rattle.np_syntax.specs.declared.value.Name.{Name}
 use Rattle.np_tables.specs.declared.errand.Errand.{Errand}
 use Rattle.np_tables.specs.Names.{NameMap, NameSet, same_name}
 use Rattle.np_tables.specs.Mapped.{mapped}
-use Rattle.np_tables.proofs.Tables.{put_cases, cut_cases, get-put, get-cut, born_insert, born_here, same_name-is, same_name-itself}
-use Rattle.np_tables.proofs.Mapped.{get-mapped, mapped-put, mapped-cut}
+use Rattle.np_tables.proofs.Tables.{put_cases, cut_cases, get-put, get-cut, born_insert, born_here, get-none, put_here}
+use Rattle.np_tables.proofs.Mapped.{get-mapped, mapped-put, mapped-cut, mapped-empty}
 use Rattle.np_calculus.specs.declared.config.Atom.{Atom}
 use Rattle.np_calculus.specs.declared.config.Place.{Place}
 use Rattle.np_calculus.specs.Errands.{IsKept, errand_of}
@@ -19,6 +19,10 @@ some_of (Some x) h = (x, refl)
 is_some_of : {X : Type 0} (o : Option X) (x : X) → o ≡ Some x → IsSome o
 is_some_of None x e = cc
 is_some_of (Some y) x e = refl
+
+none_some : (o : Option Atom) → o ≡ None → IsSome o → ⊥
+none_some None e h = cc
+none_some (Some a) e h = cc
 
 module _ {work : NameMap Errand} {atoms : NameMap Atom} {places : NameMap Place} {born : NameSet} where
   pub kept-put : IsKept work atoms places born → (m : Name) (a : Atom) → set.contains born m ≡ true → IsSome (map.get places a.agent)
@@ -78,3 +82,10 @@ kept-more {places = places} {born = born} k m n a b more there same other =
 pub kept-as : {work : NameMap Errand} {atoms : NameMap Atom} {places : NameMap Place} {born : NameSet} → IsKept work atoms places born
     → (work' : NameMap Errand) (atoms' : NameMap Atom) → work' ≡ work → atoms' ≡ atoms → IsKept work' atoms' places born
 kept-as k work' atoms' e f = rw (e, f) k
+
+-- one atom of an agent that has a place
+pub kept-start : (m : Name) (a : Atom) (p : Place) (born : NameSet) → set.contains born m ≡ true
+    → IsKept (map.insert map.empty m (errand_of a)) (map.insert map.empty m a) (map.insert map.empty a.agent p) born
+kept-start m a p born known =
+    kept-put (record { filed = sym (mapped-empty errand_of); marked = λ q h. absurd (none_some _ (get-none q) h); housed = λ q b h. absurd (none_some _ (get-none q) (is_some_of _ b h)) })
+    m a known (is_some_of _ p (put_here map.empty a.agent p))

@@ -8,7 +8,9 @@ pub mod FittingShapes
 pub mod FittingTuples
 pub mod Keeping
 pub mod Overlays
+pub mod OwnNames
 pub mod PlainRuns
 pub mod PlainWells
+pub mod RestTests
 pub mod Rests
 pub mod Steps

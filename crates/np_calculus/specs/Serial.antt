@@ -1,5 +1,5 @@
 -- What the serial run promises.
-use Rattle.std.specs.Prelude.{◌≡◌, ◌≤◌, ◌↔◌, ◌⊎◌, ℕ, List, length, Some, None}
+use Rattle.std.specs.Prelude.{◌≡◌, ◌≤◌, ◌<◌, false, ◌↔◌, ◌⊎◌, ℕ, List, length, Some, None}
 use Rattle.std.specs.FinMap as map
 use Rattle.std.specs.FinSet as set
 use Rattle.np_syntax.specs.declared.value.Name.{Name}
@@ -9,12 +9,15 @@ use Rattle.np_syntax.specs.declared.event.End.{End}
 use Rattle.np_syntax.specs.declared.event.End.TheVariants.{Rest, Spent}
 use Rattle.np_syntax.specs.declared.event.Kind.{Kind}
 use Rattle.np_syntax.specs.declared.event.Kind.TheVariants as kind
+use Rattle.np_syntax.specs.declared.event.Made.{Made}
+use Rattle.np_syntax.specs.declared.event.Made.TheVariants as made
+use Rattle.np_tables.specs.Names.{NameSet}
 use Rattle.np_calculus.specs.Config.{Config}
 use Rattle.np_calculus.specs.Idle.{Idle}
 use Rattle.np_calculus.specs.Plain.{IsPlain}
-use Rattle.np_calculus.specs.Reductions.{run}
+use Rattle.np_calculus.specs.Reductions.{apply, run}
 use Rattle.np_calculus.specs.Starts.{start_high}
-use Rattle.np_calculus.specs.Well.{Well, WellAlong}
+use Rattle.np_calculus.specs.Well.{Has, WellAlong}
 
 -- the kinds whose rows the code makes so far
 abbrev pub IsBuilt : Kind → Type 0
@@ -31,6 +34,22 @@ pub record IsReached (c : Config) : Type 0 where
   pub is_plain : IsPlain program
   pub events : List Event
   pub reaches : run (start_high program) events ≡ Some c
+
+-- an event makes no name, or just this one
+abbrev pub MakesAtMost : Made → Name → Type 0
+MakesAtMost made.Nothing name = Unit {0}
+MakesAtMost (made.One m) name = m ≡ name
+MakesAtMost (made.Two m n) name = ⊥
+
+-- an event that the code makes, is enabled, and makes no name but this one
+pub record IsEnabled (c : Config) (e : Event) (name : Name) : Type 0 where
+  pub built : IsBuilt e.kind
+  pub enabled : Has (apply c e)
+  pub made : MakesAtMost e.made name
+
+-- no name of a site, from this number on, is born
+pub record AreFresh (born : NameSet) (sites first : ℕ) : Type 0 where
+  pub each : (q : Name) → q.site < sites → first ≤ q.n → set.contains born q ≡ false
 
 -- a run of the program within the budget, with how it ended
 pub record IsSerialRun (p : Program) (budget : ℕ) (events : List Event) (last : Config) (end : End) : Type 0 where

@@ -137,7 +137,13 @@ impl Cfg {
     pub fn idle(&self) -> bool
         ensures { IsTrue result ↔ Idle self.now }
     {
-        self.work.is_quiet() && self.packets.is_empty() && all_stand(&self.places)
+        if !self.work.is_quiet() {
+            return false;
+        }
+        if !self.packets.is_empty() {
+            return false;
+        }
+        all_stand(&self.places)
     }
 }
 

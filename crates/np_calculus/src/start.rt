@@ -1,5 +1,6 @@
-ghost use Rattle.std.specs.Prelude.{◌≡◌, ◌<◌, ◌^◌, ◌*◌, length, map, IfOk, OnOk, OnErr};
-ghost use Rattle.np_calculus.specs.Starts.{start_high, own, own_names, own_numbers, with_all};
+ghost use Rattle.std.specs.Prelude.{◌≡◌, ◌<◌, ◌^◌, length, map, IfOk};
+ghost use Rattle.std.specs.FinSet as set;
+ghost use Rattle.np_calculus.specs.Starts.{start_high, own, with_all};
 
 use super::cfg::Cfg;
 use super::config::{Atom, Place};
@@ -11,12 +12,12 @@ use std::alloc::Global;
 
 const OWN_NUMBERS: [u32; 17] = [0, 1, 2, 3, 4, 5, 6, 7, 8, 9, 10, 11, 12, 13, 14, 15, 16];
 
-/// The names that a program of so many sites has from the start.
-fn own_names(alloc: Global, sites: u32) -> Result<Names, Memory>
-    ensures { IfOk result (λ names. names.members ≡ own_names sites) }
+/// The names of these numbers that a program of so many sites has for its own.
+fn names_of(alloc: Global, sites: u32, numbers: &[u32]) -> Result<Names, Memory>
+    ensures { IfOk result (λ names. names.members ≡ with_all set.empty (map (own sites) numbers.now)) }
 {
     let mut names = Names::new(alloc);
-    for n in OWN_NUMBERS.iter() {
+    for n in numbers {
         names.insert(Name { site: sites, n: *n })?;
     }
     Ok(names)
@@ -31,7 +32,7 @@ pub fn start_high(alloc: Global, p: &Program) -> Result<Cfg, Memory>
     let sites = p.sites.len() as u32;
     let agent = Name { site: sites, n: 0 };
     let mark = Name { site: sites, n: 11 };
-    let born = own_names(alloc, sites)?;
+    let born = names_of(alloc, sites, &OWN_NUMBERS)?;
     let mut places = Table::new(alloc);
     places.insert(agent, Place::At(p.at))?;
     let mut work = WorkLists::new(alloc);
