@@ -1,6 +1,5 @@
 -- What the serial run promises.
-use Rattle.std.specs.Prelude.{◌≡◌, ◌≤◌, ◌<◌, false, ◌↔◌, ◌⊎◌, ℕ, List, length, Some, None}
-use Rattle.std.specs.FinMap as map
+use Rattle.std.specs.Prelude.{◌≡◌, ◌≤◌, ◌<◌, false, ◌↔◌, ℕ, List, length, Option, Some}
 use Rattle.std.specs.FinSet as set
 use Rattle.np_syntax.specs.declared.value.Name.{Name}
 use Rattle.np_syntax.specs.declared.program.Program.{Program}
@@ -12,6 +11,7 @@ use Rattle.np_syntax.specs.declared.event.Kind.TheVariants as kind
 use Rattle.np_syntax.specs.declared.event.Made.{Made}
 use Rattle.np_syntax.specs.declared.event.Made.TheVariants as made
 use Rattle.np_tables.specs.Names.{NameSet}
+use Rattle.np_calculus.specs.declared.config.Atom.{Atom}
 use Rattle.np_calculus.specs.Config.{Config}
 use Rattle.np_calculus.specs.Idle.{Idle}
 use Rattle.np_calculus.specs.Plain.{IsPlain}
@@ -34,6 +34,10 @@ pub record IsReached (c : Config) : Type 0 where
   pub is_plain : IsPlain program
   pub events : List Event
   pub reaches : run (start_high program) events ≡ Some c
+
+-- the event of an acting atom, with its tag
+abbrev pub event_at : Kind → ℕ → Name → Option Name → Atom → Made → Event
+event_at k site actor other a made = record { site = site; kind = k; actor = actor; other = other; tag = a.proc.tag; made = made }
 
 -- an event makes no name, or just this one
 abbrev pub MakesAtMost : Made → Name → Type 0
