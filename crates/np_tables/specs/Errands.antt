@@ -40,3 +40,10 @@ same_errand = errands.eq-value.it
 abbrev pub is_filed : Option Errand → Errand → Bool
 is_filed None e = false
 is_filed (Some f) e = same_errand f e
+
+-- where an output or an input waits
+abbrev pub meeting_of : Errand → Option Meeting
+meeting_of errand.Acts = None
+meeting_of (errand.Gives meeting) = Some meeting
+meeting_of (errand.Takes meeting) = Some meeting
+meeting_of errand.Stuck = None
