@@ -15,6 +15,7 @@ use Rattle.np_tables.specs.declared.errand.Errand.TheVariants as errand
 use Rattle.np_tables.specs.declared.turns.Turn.{Turn}
 use Rattle.np_tables.specs.declared.turns.Turn.TheVariants as turn
 
+-- the set is not empty
 abbrev pub has_some : NameSet → Bool
 has_some names = not (nat_eq (set.len names) 0)
 
@@ -35,6 +36,7 @@ module _ {S : Type 0} where
   abbrev pub has_both : IndexMap Errand NameSet S → Meeting → Bool
   has_both lines meeting = has_some (line_of lines (errand.Takes meeting)) && has_some (line_of lines (errand.Gives meeting))
 
+  -- each errand keeps its marks
   pub record SameLines (old new : IndexMap Errand NameSet S) : Type 0 where
     pub same : (f : Errand) → line_of new f ≡ line_of old f
 
@@ -51,6 +53,7 @@ module _ {S : Type 0} where
     pub at : (f : Errand) (q : Name) → set.contains (line_of lines f) q ≡ (is_filed (map.get work q) f || (same_errand e f && same_name q mark))
 
 module _ {S : Type 0} where
+  -- the meeting is among the busy ones
   abbrev pub is_busy : IndexSet Meeting S → Meeting → Bool
   is_busy busy meeting = index_set.contains same_meeting busy meeting
 

@@ -1,5 +1,4 @@
-ghost use Rattle.std.specs.Prelude.{◌≡◌, ◌++◌, []};
-ghost use Rattle.std.specs.Option.{option_to_list};
+ghost use Rattle.std.specs.Prelude.{◌≡◌, [], ◌∷◌, MatchOption};
 ghost use Rattle.np_tables.specs.Queues.{Queues};
 ghost use Rattle.np_tables.specs.declared.turns.Turn.TheVariants as turn;
 
@@ -61,7 +60,7 @@ impl Turns {
 
     /// Takes the first turn. Its meeting gets another turn by `again` alone, until it is forgotten.
     pub fn pop(&mut self) -> Option<Turn>
-        ensures { self.old.queue.items ≡ option_to_list result ++ self.new.queue.items }
+        ensures { MatchOption result (self.old.queue.items ≡ []) (λ first. self.old.queue.items ≡ first ∷ self.new.queue.items) }
     {
         self.queue.pop_front()
     }

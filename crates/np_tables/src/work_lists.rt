@@ -69,7 +69,7 @@ impl WorkLists {
         mark: Name,
         errand: Errand,
     ) -> Result<(), Memory>
-        requires { map.get self.old new_mark ≡ None }
+        requires absent { map.get self.old new_mark ≡ None }
         ensures ok { OnOk result (self.new ≡ map.insert (map.insert self.old new_mark new_errand) mark errand) }
         ensures err { OnErr result (self.new ≡ self.old) }
     {
@@ -83,6 +83,7 @@ impl WorkLists {
         }
     }
 
+    /// Files a mark no more. This takes no memory.
     pub fn remove(&mut self, mark: Name)
         ensures { self.new ≡ map.remove self.old mark }
     {
@@ -91,7 +92,7 @@ impl WorkLists {
         }
     }
 
-    /// What is to go on now. It stays filed.
+    /// What is to go on now. It stays filed until the caller files it anew or removes it. This takes no memory.
     pub fn next(&mut self) -> Option<Ready>
         ensures same { self.new ≡ self.old }
         ensures ready { IfSome result (IsReady self.old) }
@@ -104,6 +105,7 @@ impl WorkLists {
         Some(serve(&mut self.marks, turn))
     }
 
+    /// Whether `next` has nothing to give, told without a search.
     pub fn is_quiet(&self) -> bool
         ensures { IsTrue result ↔ NothingReady self.now }
     {
