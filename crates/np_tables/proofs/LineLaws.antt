@@ -1,6 +1,5 @@
 -- The marks by their errands: how a change of one line shows in the others, in the busy meetings and in what is ready.
 use Rattle.std.proofs.Common.{◌≡◌, Bool, true, false, not, cond, ◌&&◌, ◌||◌, nat_eq, Option, None, Some, unwrap_or, IsSome, IfNone, IfSome, List, [], ◌∷◌, slice_get, IsTrue, ℕ, refl, sym, ap, subst, ◌∙◌, arith}
-use Rattle.std.specs.FinMap as map
 use Rattle.std.specs.FinSet as set
 use Rattle.std.specs.FinSet.{len-empty, empty_of_len}
 use Rattle.std.specs.List.{list_any}
@@ -12,12 +11,11 @@ use Rattle.np_syntax.specs.declared.value.Name.{Name}
 use Rattle.np_tables.specs.Names.{NameSet, name_cmp, same_name}
 use Rattle.np_tables.specs.declared.errand.Meeting.{Meeting}
 use Rattle.np_tables.specs.declared.errand.Errand.{Errand}
-use Rattle.np_tables.specs.declared.errand.Errand.TheVariants as errand
 use Rattle.np_tables.specs.declared.errand.Errand.TheVariants.{Acts, Gives, Takes, Stuck}
-use Rattle.np_tables.specs.Errands.{same_meeting, same_errand, is_filed}
-use Rattle.np_tables.specs.Lines.{line_of, has_some, has_both, is_at, is_busy, SetsLine, SameLines, BusyAt}
+use Rattle.np_tables.specs.Errands.{same_meeting, same_errand, meeting_of}
+use Rattle.np_tables.specs.Lines.{line_of, has_some, has_both, is_here, is_at, is_busy, SetsLine, SameLines, BusyAt}
 use Rattle.np_tables.proofs.Keyed.{alike, alike-same}
-use Rattle.np_tables.proofs.Tables.{same_name-is, same_name-itself, same_names, born_remove, born_here, contains-none}
+use Rattle.np_tables.proofs.Tables.{same_name-is, same_names, born_remove, born_here, contains-none}
 
 both : (s t : Bool) → (s && t) ≡ true → (s ≡ true) × (t ≡ true)
 both true true e = (refl, refl)
@@ -84,11 +82,14 @@ module _ {S : Type 0} where
       → (IsSome (index_map.get same_errand old e) → (f : Errand) → index_map.get same_errand mid f ≡ cond (same_errand e f) (Some left) (index_map.get same_errand old f))
       → ((f : Errand) → index_map.get same_errand new f ≡ cond (same_errand e f) None (index_map.get same_errand mid f))
       → SetsLine old new e (set.remove (line_of old e) m)
-  leave_last old mid new e m line left there is empty write cut = record { at = λ f.
-      ap (λ o. unwrap_or o set.empty) (cut f ∙ ap (cond (same_errand e f) None) (write (subst IsSome there refl) f)) ∙ at_one (same_errand e f) (index_map.get same_errand old f) }
+  leave_last old mid new e m line left there is empty write cut = record {
+    at = λ f.
+        ap (λ o. unwrap_or o set.empty) (cut f ∙ ap (cond (same_errand e f) None) (write (subst IsSome there refl) f)) ∙ at_one (same_errand e f) (index_map.get same_errand old f);
+  }
     where
       gone : set.empty ≡ set.remove (line_of old e) m
       gone = sym empty ∙ is ∙ ap (λ o. set.remove (unwrap_or o set.empty) m) there
+
       at_one : (t : Bool) (o : Option NameSet) → unwrap_or (cond t None (cond t (Some left) o)) set.empty ≡ cond t (set.remove (line_of old e) m) (unwrap_or o set.empty)
       at_one true o = gone
       at_one false o = refl
@@ -160,9 +161,12 @@ at_here lines x k at r is here = ap (λ b. b && has_both lines k) is ∙ by_case
     by_case true e = ap (has_both lines) (sym (same_meeting-is x k e)) ∙ sym here
     by_case false e = refl
 
-module _ {S R : Type 0} (lines : IndexMap Errand NameSet S) (e : Errand) (x : Meeting) (here : (k : Meeting) → is_at e k ≡ same_meeting x k) where
+here : (e : Errand) (x : Meeting) → Some x ≡ meeting_of e → (k : Meeting) → is_at e k ≡ same_meeting x k
+here e x there k = ap (λ o. is_here o k) (sym there)
+
+module _ {S R : Type 0} (lines : IndexMap Errand NameSet S) (e : Errand) (x : Meeting) (there : Some x ≡ meeting_of e) where
   pub opens : (old new : IndexSet Meeting R) → true ≡ has_both lines x → ((k : Meeting) → is_busy new k ≡ cond (same_meeting x k) true (is_busy old k)) → (k : Meeting) → is_busy new k ≡ (is_busy old k || (is_at e k && has_both lines k))
-  opens old new meets write k = write k ∙ put (same_meeting x k) _ ∙ ap (λ b. is_busy old k || b) (sym (at_here lines x k (is_at e k) true (here k) meets))
+  opens old new meets write k = write k ∙ put (same_meeting x k) _ ∙ ap (λ b. is_busy old k || b) (sym (at_here lines x k (is_at e k) true (here e x there k) meets))
     where
       put : (t b : Bool) → cond t true b ≡ (b || (t && true))
       put true true = refl
@@ -171,7 +175,7 @@ module _ {S R : Type 0} (lines : IndexMap Errand NameSet S) (e : Errand) (x : Me
       put false false = refl
 
   pub stays_shut : (busy : IndexSet Meeting R) → false ≡ has_both lines x → (k : Meeting) → is_busy busy k ≡ (is_busy busy k || (is_at e k && has_both lines k))
-  stays_shut busy apart k = same (same_meeting x k) _ ∙ ap (λ b. is_busy busy k || b) (sym (at_here lines x k (is_at e k) false (here k) apart))
+  stays_shut busy apart k = same (same_meeting x k) _ ∙ ap (λ b. is_busy busy k || b) (sym (at_here lines x k (is_at e k) false (here e x there k) apart))
     where
       same : (t b : Bool) → b ≡ (b || (t && false))
       same true true = refl
@@ -183,13 +187,15 @@ module _ {S R : Type 0} (lines : IndexMap Errand NameSet S) (e : Errand) (x : Me
   shuts old new apart write k = write k ∙ put (same_meeting x k) refl
     where
       rest : (t : Bool) → same_meeting x k ≡ t → (is_at e k && not (has_both lines k)) ≡ t
-      rest true h = ap (λ b. b && not (has_both lines k)) (here k ∙ h) ∙ ap (λ l. not (has_both lines l)) (sym (same_meeting-is x k h)) ∙ ap not (sym apart)
-      rest false h = ap (λ b. b && not (has_both lines k)) (here k ∙ h)
+      rest true h = ap (λ b. b && not (has_both lines k)) (here e x there k ∙ h) ∙ ap (λ l. not (has_both lines l)) (sym (same_meeting-is x k h)) ∙ ap not (sym apart)
+      rest false h = ap (λ b. b && not (has_both lines k)) (here e x there k ∙ h)
+
       cut : (t b : Bool) → cond t false b ≡ (b && not t)
       cut true true = refl
       cut true false = refl
       cut false true = refl
       cut false false = refl
+
       put : (t : Bool) → same_meeting x k ≡ t → cond (same_meeting x k) false (is_busy old k) ≡ (is_busy old k && not (is_at e k && not (has_both lines k)))
       put t h = ap (λ b. cond b false (is_busy old k)) h ∙ cut t (is_busy old k) ∙ ap (λ b. is_busy old k && not b) (sym (rest t h))
 
@@ -199,9 +205,10 @@ module _ {S R : Type 0} (lines : IndexMap Errand NameSet S) (e : Errand) (x : Me
       and_true : (b : Bool) → b ≡ (b && true)
       and_true true = refl
       and_true false = refl
+
       rest : (t : Bool) → same_meeting x k ≡ t → (is_at e k && not (has_both lines k)) ≡ false
-      rest true h = ap (λ b. b && not (has_both lines k)) (here k ∙ h) ∙ ap (λ l. not (has_both lines l)) (sym (same_meeting-is x k h)) ∙ ap not (sym meets)
-      rest false h = ap (λ b. b && not (has_both lines k)) (here k ∙ h)
+      rest true h = ap (λ b. b && not (has_both lines k)) (here e x there k ∙ h) ∙ ap (λ l. not (has_both lines l)) (sym (same_meeting-is x k h)) ∙ ap not (sym meets)
+      rest false h = ap (λ b. b && not (has_both lines k)) (here e x there k ∙ h)
 
 apart_takes : (e : Errand) (k : Meeting) → is_at e k ≡ false → same_errand e (Takes k) ≡ false
 apart_takes Acts k h = refl
@@ -259,18 +266,24 @@ module _ {S R : Type 0} (old new : IndexMap Errand NameSet S) (busy after : Inde
   both_lines k t g = λ i. has_some (t i) && has_some (g i)
 
   pub busy_same : BusyAt old busy → SameLines old new → after.keys ≡ busy.keys → BusyAt new after
-  busy_same at lines keys = record { at = λ k.
-      ap (λ ks. list_any (same_meeting k) ks) keys ∙ at.at k ∙ both_lines k (sym (lines.same (Takes k))) (sym (lines.same (Gives k))) }
+  busy_same at lines keys = record {
+    at = λ k.
+        ap (λ ks. list_any (same_meeting k) ks) keys ∙ at.at k ∙ both_lines k (sym (lines.same (Takes k))) (sym (lines.same (Gives k)));
+  }
 
   pub busy_more : (e : Errand) (m : Name) → BusyAt old busy → SetsLine old new e (set.insert (line_of old e) m) → ((k : Meeting) → is_busy after k ≡ (is_busy busy k || (is_at e k && has_both new k))) → BusyAt new after
-  busy_more e m at sets opens = record { at = λ k.
-      opens k ∙ ap (λ b. b || (is_at e k && has_both new k)) (at.at k)
-      ∙ opened (is_at e k) (has_both old k) (has_both new k) (and_both _ _ _ _ (some_more old new e m sets (Takes k)) (some_more old new e m sets (Gives k))) (both_away old new e _ sets k) }
+  busy_more e m at sets opens = record {
+    at = λ k.
+        opens k ∙ ap (λ b. b || (is_at e k && has_both new k)) (at.at k)
+        ∙ opened (is_at e k) (has_both old k) (has_both new k) (and_both _ _ _ _ (some_more old new e m sets (Takes k)) (some_more old new e m sets (Gives k))) (both_away old new e _ sets k);
+  }
 
   pub busy_fewer : (e : Errand) (m : Name) → BusyAt old busy → SetsLine old new e (set.remove (line_of old e) m) → ((k : Meeting) → is_busy after k ≡ (is_busy busy k && not (is_at e k && not (has_both new k)))) → BusyAt new after
-  busy_fewer e m at sets shuts = record { at = λ k.
-      shuts k ∙ ap (λ b. b && not (is_at e k && not (has_both new k))) (at.at k)
-      ∙ closed (is_at e k) (has_both old k) (has_both new k) (and_both _ _ _ _ (some_fewer old new e m sets (Takes k)) (some_fewer old new e m sets (Gives k))) (both_away old new e _ sets k) }
+  busy_fewer e m at sets shuts = record {
+    at = λ k.
+        shuts k ∙ ap (λ b. b && not (is_at e k && not (has_both new k))) (at.at k)
+        ∙ closed (is_at e k) (has_both old k) (has_both new k) (and_both _ _ _ _ (some_fewer old new e m sets (Takes k)) (some_fewer old new e m sets (Gives k))) (both_away old new e _ sets k);
+  }
 
 -- nothing is busy where there are no lines
 pub busy_none : {S R : Type 0} (lines : IndexMap Errand NameSet S) (busy : IndexSet Meeting R) → lines.entries ≡ [] → busy.keys ≡ [] → BusyAt lines busy
@@ -278,6 +291,7 @@ busy_none lines busy none keys = record { at = λ k. ap (λ ks. list_any (same_m
   where
     takes_none : (k : Meeting) → has_some (line_of lines (Takes k)) ≡ false
     takes_none k = ap (λ es. has_some (unwrap_or (lookup (same_errand (Takes k)) es) set.empty)) none ∙ some-empty
+
     nowhere : (k : Meeting) → has_both lines k ≡ false
     nowhere k = ap (λ b. b && has_some (line_of lines (Gives k))) (takes_none k)
 

@@ -60,6 +60,9 @@ module _ {X : Type 0} where
   pub put_here : (m : NameMap X) (k : Name) (v : X) → map.get (map.insert m k v) k ≡ Some v
   put_here m k v = rw (get-put m k v k, same_name-itself k) refl
 
+  pub put_there : (m : NameMap X) (k : Name) (v : X) → IsSome (map.get (map.insert m k v) k)
+  put_there m k v = rw (put_here m k v) refl
+
   pub cut_here : (m : NameMap X) (k : Name) → map.get (map.remove m k) k ≡ None
   cut_here m k = rw (get-cut m k k, same_name-itself k) refl
 

@@ -1,5 +1,5 @@
 -- The marks in their lines as the work that is filed: how a change of one shows in the other, and what is ready.
-use Rattle.std.proofs.Common.{◌≡◌, Bool, true, false, not, cond, ◌&&◌, ◌||◌, Option, None, Some, IsTrue, List, [], ◌∷◌, refl, sym, ap, ◌∙◌}
+use Rattle.std.proofs.Common.{◌≡◌, Bool, true, false, cond, ◌&&◌, ◌||◌, Option, None, Some, IsTrue, List, [], ◌∷◌, refl, sym, ap, ◌∙◌}
 use Rattle.std.specs.List.{list_any}
 use Rattle.std.specs.FinMap as map
 use Rattle.std.specs.FinSet as set
@@ -11,7 +11,7 @@ use Rattle.np_tables.specs.declared.errand.Meeting.{Meeting}
 use Rattle.np_tables.specs.declared.errand.Errand.{Errand}
 use Rattle.np_tables.specs.declared.errand.Errand.TheVariants.{Acts, Gives, Takes}
 use Rattle.np_tables.specs.Errands.{Work, Meet, NothingReady, same_meeting, same_errand, is_filed}
-use Rattle.np_tables.specs.Lines.{line_of, has_some, has_both, is_busy, SetsLine, InLines, InLinesAnd, BusyAt, NoneDue}
+use Rattle.np_tables.specs.Lines.{line_of, has_some, has_both, SetsLine, InLines, InLinesAnd, BusyAt, NoneDue}
 use Rattle.np_tables.proofs.Tables.{get-none, get-put, get-cut, cut_absent, same_name-is, same_names, born_insert, born_remove, contains-none}
 use Rattle.np_tables.proofs.LineLaws.{same_errand-is, same_errand-itself, same_meeting-itself, some_of_member, some-empty, true_false}
 
@@ -39,9 +39,11 @@ module _ {S : Type 0} (work : Work) where
       swap true false = refl
       swap false true = refl
       swap false false = refl
+
       or_false : (b : Bool) → b ≡ (b || false)
       or_false true = refl
       or_false false = refl
+
       by_case : (f : Errand) (q : Name) (s : Bool) → same_errand e f ≡ s → set.contains (cond s (set.insert (line_of old e) m) (line_of old f)) q ≡ (is_filed (map.get work q) f || (s && same_name q m))
       by_case f q true is =
           born_insert (line_of old e) m q ∙ ap (λ b. same_name q m || b) (lines.at e q ∙ ap (is_filed (map.get work q)) (same_errand-is e f is)) ∙ swap (same_name q m) _
@@ -55,10 +57,12 @@ module _ {S : Type 0} (work : Work) where
         and_true : (b : Bool) → (b && true) ≡ b
         and_true true = refl
         and_true false = refl
+
         or_false : (b c : Bool) → (b || (c && false)) ≡ b
         or_false true c = refl
         or_false false true = refl
         or_false false false = refl
+
         by_case : (t : Bool) → same_name q m ≡ t → (is_filed (map.get work q) f || (same_errand e f && same_name q m)) ≡ is_filed (cond (same_name q m) (Some e) (map.get work q)) f
         by_case true t = rw (t, and_true (same_errand e f), at_name work m q o is t) (only f)
         by_case false t = rw t (or_false (is_filed (map.get work q) f) (same_errand e f))
@@ -83,9 +87,11 @@ module _ {S : Type 0} (work : Work) where
         or_false true c = refl
         or_false false true = refl
         or_false false false = refl
+
         and_true : (b : Bool) → (b && true) ≡ b
         and_true true = refl
         and_true false = refl
+
         by_case : (f : Errand) (q : Name) (s : Bool) → same_errand o f ≡ s → (t : Bool) → same_name q m ≡ t → set.contains (cond s (set.remove (line_of lines o) m) (line_of lines f)) q ≡ is_filed (cond (same_name q m) (Some e) (map.get work q)) f
         by_case f q true s true t = born_remove (line_of lines o) m q ∙ rw (t, ← same_errand-is o f s) (sym (apart_back o e apart))
         by_case f q true s false t = born_remove (line_of lines o) m q ∙ rw (t, ← same_errand-is o f s) (and.at o q ∙ rw t (or_false (is_filed (map.get work q) o) (same_errand e o)))
@@ -149,15 +155,19 @@ module _ {S R : Type 0} (work : Work) (lines : IndexMap Errand NameSet S) (busy 
       no_alone : (t : Bool) → has_some (line_of lines Acts) ≡ t → has_some (line_of lines Acts) ≡ false
       no_alone true h = absurd (some_member (line_of lines Acts) h λ q is. nothing.alone q (filed_there work lines at Acts q is))
       no_alone false h = h
+
       meets_none : (k : Meeting) → has_both lines k ≡ true → ⊥
       meets_none k h = let p = halves (has_some (line_of lines (Takes k))) (has_some (line_of lines (Gives k))) h in
           some_member (line_of lines (Takes k)) p.0 λ i takes. some_member (line_of lines (Gives k)) p.1 λ o gives.
           nothing.apart i o (record { meeting = k; takes = filed_there work lines at (Takes k) i takes; gives = filed_there work lines at (Gives k) o gives })
+
       no_busy : (ks : List Meeting) → busy.keys ≡ ks → busy.keys ≡ []
       no_busy [] h = h
       no_busy (k ∷ ks) h = absurd (meets_none k (sym (met.at k) ∙ ap (list_any (same_meeting k)) h ∙ ap (λ b. b || list_any (same_meeting k) ks) (same_meeting-itself k)))
 
 -- nothing is filed where there are no lines
 pub in_no_lines : {S : Type 0} (work : Work) (lines : IndexMap Errand NameSet S) → work ≡ map.empty → ((e : Errand) → line_of lines e ≡ set.empty) → InLines work lines
-in_no_lines work lines none empty = record { at = λ e q.
-    ap (λ s. set.contains s q) (empty e) ∙ contains-none q ∙ sym (ap (λ (w : Work). is_filed (map.get w q) e) none ∙ ap (λ o. is_filed o e) (get-none q)) }
+in_no_lines work lines none empty = record {
+  at = λ e q.
+      ap (λ s. set.contains s q) (empty e) ∙ contains-none q ∙ sym (ap (λ (w : Work). is_filed (map.get w q) e) none ∙ ap (λ o. is_filed o e) (get-none q));
+}

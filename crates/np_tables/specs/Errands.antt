@@ -21,6 +21,7 @@ pub record Meet (work : Work) (input output : Name) : Type 0 where
   pub takes : map.get work input ≡ Some (errand.Takes meeting)
   pub gives : map.get work output ≡ Some (errand.Gives meeting)
 
+-- what can go on: a mark that acts alone, or an input and an output that meet
 abbrev pub IsReady : Work → Ready → Type 0
 IsReady work (ready.Acts mark) = map.get work mark ≡ Some errand.Acts
 IsReady work (ready.Meets input output) = Meet work input output
@@ -37,6 +38,14 @@ same_meeting = meetings.eq-value.it
 abbrev pub same_errand : Errand → Errand → Bool
 same_errand = errands.eq-value.it
 
+-- whether what a mark is filed under, if it is, is this errand
 abbrev pub is_filed : Option Errand → Errand → Bool
 is_filed None e = false
 is_filed (Some f) e = same_errand f e
+
+-- where an output or an input waits
+abbrev pub meeting_of : Errand → Option Meeting
+meeting_of errand.Acts = None
+meeting_of (errand.Gives meeting) = Some meeting
+meeting_of (errand.Takes meeting) = Some meeting
+meeting_of errand.Stuck = None

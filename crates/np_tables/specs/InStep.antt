@@ -1,4 +1,4 @@
--- What always holds of the work lists.
+-- What always holds of the work lists: the lines and the busy meetings are in step with what is filed.
 use Rattle.np_tables.specs.Lines.{InLines, BusyAt}
 use Rattle.np_tables.specs.declared.work_lists.WorkLists.TheInside.{Inside}
 

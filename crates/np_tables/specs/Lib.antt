@@ -4,4 +4,5 @@ pub mod Lines
 pub mod Mapped
 pub mod Maybe
 pub mod Names
+pub mod Queues
 pub mod Stored

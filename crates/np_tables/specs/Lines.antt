@@ -1,5 +1,5 @@
 -- The marks by their errands, each errand's in a line, and the meetings that have both an input and an output.
-use Rattle.std.specs.Prelude.{◌≡◌, Bool, false, [], not, ◌&&◌, ◌||◌, nat_eq, unwrap_or, if◌then◌else◌}
+use Rattle.std.specs.Prelude.{◌≡◌, Bool, false, [], not, ◌&&◌, ◌||◌, nat_eq, Option, None, Some, unwrap_or, if◌then◌else◌}
 use Rattle.std.specs.FinMap as map
 use Rattle.std.specs.FinSet as set
 use Rattle.indexmap.specs.IndexMap as index_map
@@ -8,22 +8,24 @@ use Rattle.indexmap.specs.IndexSet as index_set
 use Rattle.indexmap.specs.IndexSet.{IndexSet}
 use Rattle.np_syntax.specs.declared.value.Name.{Name}
 use Rattle.np_tables.specs.Names.{NameSet, same_name}
-use Rattle.np_tables.specs.Errands.{Work, same_meeting, same_errand, is_filed}
+use Rattle.np_tables.specs.Errands.{Work, same_meeting, same_errand, is_filed, meeting_of}
 use Rattle.np_tables.specs.declared.errand.Meeting.{Meeting}
 use Rattle.np_tables.specs.declared.errand.Errand.{Errand}
 use Rattle.np_tables.specs.declared.errand.Errand.TheVariants as errand
 use Rattle.np_tables.specs.declared.turns.Turn.{Turn}
 use Rattle.np_tables.specs.declared.turns.Turn.TheVariants as turn
 
+-- the set is not empty
 abbrev pub has_some : NameSet → Bool
 has_some names = not (nat_eq (set.len names) 0)
 
+abbrev pub is_here : Option Meeting → Meeting → Bool
+is_here None meeting = false
+is_here (Some here) meeting = same_meeting here meeting
+
 -- the errand is an output or an input at the meeting
 abbrev pub is_at : Errand → Meeting → Bool
-is_at errand.Acts meeting = false
-is_at (errand.Gives here) meeting = same_meeting here meeting
-is_at (errand.Takes here) meeting = same_meeting here meeting
-is_at errand.Stuck meeting = false
+is_at e meeting = is_here (meeting_of e) meeting
 
 module _ {S : Type 0} where
   -- the marks under an errand, which are none where it has no line
@@ -34,6 +36,7 @@ module _ {S : Type 0} where
   abbrev pub has_both : IndexMap Errand NameSet S → Meeting → Bool
   has_both lines meeting = has_some (line_of lines (errand.Takes meeting)) && has_some (line_of lines (errand.Gives meeting))
 
+  -- each errand keeps its marks
   pub record SameLines (old new : IndexMap Errand NameSet S) : Type 0 where
     pub same : (f : Errand) → line_of new f ≡ line_of old f
 
@@ -50,6 +53,7 @@ module _ {S : Type 0} where
     pub at : (f : Errand) (q : Name) → set.contains (line_of lines f) q ≡ (is_filed (map.get work q) f || (same_errand e f && same_name q mark))
 
 module _ {S : Type 0} where
+  -- the meeting is among the busy ones
   abbrev pub is_busy : IndexSet Meeting S → Meeting → Bool
   is_busy busy meeting = index_set.contains same_meeting busy meeting
 

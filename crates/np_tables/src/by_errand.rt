@@ -1,7 +1,6 @@
-ghost use Rattle.std.specs.Prelude.{◌≡◌, ◌<◌, ◌&&◌, ◌||◌, ◌↔◌, not, MatchOption, IfSome, IfNone, OnOk, OnErr, IsTrue, false, []};
+ghost use Rattle.std.specs.Prelude.{◌≡◌, ◌<◌, ◌&&◌, ◌||◌, ◌↔◌, not, IfSome, IfNone, OnOk, OnErr, IsTrue, false, []};
 ghost use Rattle.std.specs.FinSet as set;
 ghost use Rattle.indexmap.specs.IndexSet as index_set;
-ghost use Rattle.np_tables.specs.Errands.{same_meeting};
 ghost use Rattle.np_tables.specs.Lines.{line_of, has_some, has_both, is_at, is_busy, is_due, NoneDue, SameLines, SetsLine, BusyAt};
 
 use super::errand::{Errand, Meeting};
@@ -17,18 +16,6 @@ pub struct ByErrand {
     alloc: Global,
     lines: IndexMap<Errand, Line>,
     busy: IndexSet<Meeting>,
-}
-
-impl Errand {
-    /// Where an output or an input waits.
-    fn meeting(self) -> Option<Meeting>
-        ensures { MatchOption result ((meeting : Meeting) → is_at self meeting ≡ false) (λ here. (meeting : Meeting) → is_at self meeting ≡ same_meeting here meeting) }
-    {
-        match self {
-            Errand::Gives(meeting) | Errand::Takes(meeting) => Some(meeting),
-            Errand::Acts | Errand::Stuck => None,
-        }
-    }
 }
 
 /// A mark comes into the line of an errand.

@@ -1,3 +1,6 @@
+ghost use Rattle.std.specs.Prelude.{◌≡◌};
+ghost use Rattle.np_tables.specs.Errands.{meeting_of};
+
 use np_syntax::Name;
 
 /// Where the outputs and the inputs of one agent on one channel meet.
@@ -14,6 +17,18 @@ pub enum Errand {
     Gives(Meeting),
     Takes(Meeting),
     Stuck,
+}
+
+impl Errand {
+    /// Where an output or an input waits.
+    pub fn meeting(self) -> Option<Meeting>
+        ensures { result ≡ meeting_of self }
+    {
+        match self {
+            Errand::Gives(meeting) | Errand::Takes(meeting) => Some(meeting),
+            Errand::Acts | Errand::Stuck => None,
+        }
+    }
 }
 
 /// What can go on: an atom that acts alone, or an input and an output that meet.

@@ -13,3 +13,6 @@ pub use errand::{Errand, Meeting, Ready};
 pub use names::Names;
 pub use table::Table;
 pub use work_lists::WorkLists;
+
+#[cfg(test)]
+mod tests;

@@ -66,6 +66,9 @@ impl Line {
         ensures { self.new ≡ set.remove self.old mark }
     {
         self.marks.remove(mark);
+        if self.order.back().copied() == Some(mark) {
+            let _ = self.order.pop_back();
+        }
     }
 
     /// One of the marks, whichever.

@@ -58,6 +58,7 @@ impl Names {
         ensures members { self.new.members ≡ self.old.members }
         ensures spare { self.old.spare ≤ self.new.spare }
         ensures ok { OnOk result (more ≤ self.new.spare) }
+        ensures room { more ≤ self.old.spare → IsOk result }
     {
         match self.names.reserve(more) {
             Ok(()) => Ok(()),

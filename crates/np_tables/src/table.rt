@@ -60,6 +60,7 @@ impl<V> Table<V> {
         ensures keys { self.new.keys ≡ self.old.keys }
         ensures spare { self.old.spare ≤ self.new.spare }
         ensures ok { OnOk result (more ≤ self.new.spare) }
+        ensures room { more ≤ self.old.spare → IsOk result }
     {
         match self.entries.reserve(more) {
             Ok(()) => Ok(()),

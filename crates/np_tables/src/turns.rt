@@ -1,5 +1,6 @@
-ghost use Rattle.std.specs.Prelude.{◌≡◌, ◌++◌};
-ghost use Rattle.std.specs.Option.{option_to_list};
+ghost use Rattle.std.specs.Prelude.{◌≡◌, [], ◌∷◌, MatchOption};
+ghost use Rattle.np_tables.specs.Queues.{Queues};
+ghost use Rattle.np_tables.specs.declared.turns.Turn.TheVariants as turn;
 
 use super::errand::Meeting;
 use indexmap::IndexSet;
@@ -23,7 +24,9 @@ pub struct Turns {
 }
 
 impl Turns {
-    pub fn new(alloc: Global) -> Turns {
+    pub fn new(alloc: Global) -> Turns
+        ensures { result.queue.items ≡ [] }
+    {
         Turns {
             queue: VecDeque::new(alloc),
             waiting: IndexSet::new(alloc),
@@ -31,27 +34,43 @@ impl Turns {
     }
 
     /// A turn for a mark that acts alone.
-    pub fn alone(&mut self, mark: Name) {
+    pub fn alone(&mut self, mark: Name)
+        ensures { Queues self.old.queue.items self.new.queue.items (turn.Alone mark) }
+    {
         let _ = self.queue.push_back(Turn::Alone(mark));
     }
 
     /// A turn for a meeting that has none.
-    pub fn meets(&mut self, meeting: Meeting) {
+    pub fn meets(&mut self, meeting: Meeting)
+        ensures { Queues self.old.queue.items self.new.queue.items (turn.Meets meeting) }
+    {
         if let Ok(true) = self.waiting.insert(meeting) {
-            if self.queue.push_back(Turn::Meets(meeting)).is_err() {
-                let _ = self.waiting.swap_remove(&meeting);
-            }
+            self.again(meeting);
         }
     }
 
-    /// Takes the first turn.
-    pub fn pop(&mut self) -> Option<Turn>
-        ensures { self.old.queue.items ≡ option_to_list result ++ self.new.queue.items }
+    /// Another turn for a meeting whose turn was taken.
+    pub fn again(&mut self, meeting: Meeting)
+        ensures { Queues self.old.queue.items self.new.queue.items (turn.Meets meeting) }
     {
-        let turn = self.queue.pop_front()?;
+        if self.queue.push_back(Turn::Meets(meeting)).is_err() {
+            let _ = self.waiting.swap_remove(&meeting);
+        }
+    }
+
+    /// Takes the first turn. Its meeting gets another turn by `again` alone, until it is forgotten.
+    pub fn pop(&mut self) -> Option<Turn>
+        ensures { MatchOption result (self.old.queue.items ≡ []) (λ first. self.old.queue.items ≡ first ∷ self.new.queue.items) }
+    {
+        self.queue.pop_front()
+    }
+
+    /// Gives up a turn that was taken.
+    pub fn forget(&mut self, turn: Turn)
+        ensures { self.new.queue ≡ self.old.queue }
+    {
         if let Turn::Meets(meeting) = turn {
             let _ = self.waiting.swap_remove(&meeting);
         }
-        Some(turn)
     }
 }

@@ -69,7 +69,7 @@ impl WorkLists {
         mark: Name,
         errand: Errand,
     ) -> Result<(), Memory>
-        requires { map.get self.old new_mark ≡ None }
+        requires absent { map.get self.old new_mark ≡ None }
         ensures ok { OnOk result (self.new ≡ map.insert (map.insert self.old new_mark new_errand) mark errand) }
         ensures err { OnErr result (self.new ≡ self.old) }
     {
@@ -83,6 +83,7 @@ impl WorkLists {
         }
     }
 
+    /// Files a mark no more. This takes no memory.
     pub fn remove(&mut self, mark: Name)
         ensures { self.new ≡ map.remove self.old mark }
     {
@@ -91,7 +92,7 @@ impl WorkLists {
         }
     }
 
-    /// What is to go on now. It stays filed.
+    /// What is to go on now. It stays filed until the caller files it anew or removes it. This takes no memory.
     pub fn next(&mut self) -> Option<Ready>
         ensures same { self.new ≡ self.old }
         ensures ready { IfSome result (IsReady self.old) }
@@ -101,9 +102,10 @@ impl WorkLists {
             Some(turn) => turn,
             None => self.marks.any_due()?,
         };
-        Some(serve(&mut self.turns, &mut self.marks, turn))
+        Some(serve(&mut self.marks, turn))
     }
 
+    /// Whether `next` has nothing to give, told without a search.
     pub fn is_quiet(&self) -> bool
         ensures { IsTrue result ↔ NothingReady self.now }
     {
@@ -153,20 +155,25 @@ fn announce(turns: &mut Turns, marks: &ByErrand, mark: Name, errand: Errand) {
     }
 }
 
-/// Takes the first turn in which there is something to be served, and those before it.
+/// The first turn in which there is something to be served. It is taken, and goes to the end if it is a meeting's;
+/// those before it are given up.
 fn due(turns: &mut Turns, marks: &ByErrand) -> Option<Turn>
     ensures { IfSome result (λ turn. IsTrue (is_due marks.now.lines marks.now.busy turn)) }
 {
     while let Some(turn) = turns.pop() {
         if marks.is_due(turn) {
+            if let Turn::Meets(meeting) = turn {
+                turns.again(meeting);
+            }
             return Some(turn);
         }
+        turns.forget(turn);
     }
     None
 }
 
-/// What is served in a turn. A meeting gets another one.
-fn serve(turns: &mut Turns, marks: &mut ByErrand, turn: Turn) -> Ready
+/// What is served in a turn.
+fn serve(marks: &mut ByErrand, turn: Turn) -> Ready
     requires due { IsTrue (is_due marks.old.lines marks.old.busy turn) }
     requires busy { BusyAt marks.old.lines marks.old.busy }
     ensures lines { SameLines marks.old.lines marks.new.lines }
@@ -178,7 +185,6 @@ fn serve(turns: &mut Turns, marks: &mut ByErrand, turn: Turn) -> Ready
         Turn::Meets(meeting) => {
             let input = marks.serve(Errand::Takes(meeting));
             let output = marks.serve(Errand::Gives(meeting));
-            turns.meets(meeting);
             Ready::Meets(input, output)
         }
     }

@@ -1,4 +1,4 @@
-use Rattle.std.proofs.Common.{sym, ap, subst}
+use Rattle.std.proofs.Common.{sym, subst}
 use Rattle.np_tables.specs.Errands.{Work}
 use Rattle.np_tables.specs.Lines.{InLinesAnd}
 use Rattle.np_tables.proofs.WorkLaws.{entered}

@@ -7,4 +7,4 @@ use Rattle.np_tables.proofs.work_lists.WorkLists.file_two.Goals as goal
 pub returns-in-Err-clause-err : goal.returns-in-Err-clause-err
 returns-in-Err-clause-err c =
     c.remove.ensures ∙ ap (λ (w : Work). map.remove w c.args.new_mark) (c.in-Err.ensures.err ∙ c.in_ok-file.ensures.ok)
-    ∙ cut-put_absent c.args.self.now c.args.new_mark c.args.new_errand c.requires
+    ∙ cut-put_absent c.args.self.now c.args.new_mark c.args.new_errand c.requires.absent

@@ -1,6 +1,3 @@
-use Rattle.std.proofs.Common.{◌≡◌, Option, None, IfNone, sym, subst}
-use Rattle.np_tables.specs.Errands.{Work, NothingReady}
-use Rattle.np_tables.proofs.LineLaws.{if_none}
 use Rattle.np_tables.proofs.WorkLaws.{nothing_ready}
 use Rattle.np_tables.proofs.work_lists.WorkLists.next.Goals as goal
 
