@@ -56,6 +56,7 @@ module _ {work : NameMap Errand} {atoms : NameMap Atom} {places : NameMap Place}
     where
       true_false : (b : Bool) → b ≡ true → b ≡ false → ⊥
       true_false b t f = absurd cc
+
       none_of : (o : Option Atom) → (IsSome o → ⊥) → option_map errand_of o ≡ None
       none_of None h = refl
       none_of (Some a) h = absurd (h refl)

@@ -13,4 +13,5 @@ pub mod PlainRuns
 pub mod PlainWells
 pub mod RestTests
 pub mod Rests
+pub mod SerialEvents
 pub mod Steps

@@ -1,6 +1,10 @@
 -- What the serial run promises.
-use Rattle.std.specs.Prelude.{◌≡◌, ◌≤◌, ◌<◌, false, ◌↔◌, ℕ, List, length, Option, Some}
+use Rattle.std.specs.Prelude.{◌≡◌, ◌≤◌, ◌<◌, false, ◌↔◌, ℕ, List, length, Option, Some, None}
+use Rattle.std.specs.FinMap as map
 use Rattle.std.specs.FinSet as set
+use Rattle.np_syntax.specs.declared.process.ProcForm.{ProcForm-F}
+use Rattle.np_calculus.specs.declared.config.Place.TheVariants as place
+use Rattle.np_calculus.specs.Forms.{Layer}
 use Rattle.np_syntax.specs.declared.value.Name.{Name}
 use Rattle.np_syntax.specs.declared.program.Program.{Program}
 use Rattle.np_syntax.specs.declared.event.Event.{Event}
@@ -38,6 +42,24 @@ pub record IsReached (c : Config) : Type 0 where
 -- the event of an acting atom, with its tag
 abbrev pub event_at : Kind → ℕ → Name → Option Name → Atom → Made → Event
 event_at k site actor other a made = record { site = site; kind = k; actor = actor; other = other; tag = a.proc.tag; made = made }
+
+-- the kind of event by which a plain process acts alone
+abbrev pub acting_kind : Layer → Option Kind
+acting_kind ProcForm-F.Stop = Some kind.Stop
+acting_kind (ProcForm-F.Par left right) = Some kind.Fork
+acting_kind (ProcForm-F.New x ty body) = Some kind.New
+acting_kind (ProcForm-F.Print e) = Some kind.Print
+acting_kind _ = None
+
+-- what it makes, where this is the next name
+abbrev pub made_by : Kind → Name → Made
+made_by kind.Fork name = made.One name
+made_by kind.New name = made.One name
+made_by _ name = made.Nothing
+
+-- the agent stands at some site
+abbrev pub Stands : Config → Name → Type 0
+Stands c agent = (site : ℕ) × (map.get c.places agent ≡ Some (place.At site))
 
 -- an event makes no name, or just this one
 abbrev pub MakesAtMost : Made → Name → Type 0

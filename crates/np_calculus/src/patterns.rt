@@ -54,12 +54,7 @@ fn put_form(alloc: Global, form: &PatForm, v: &Value, env: &mut Frame) -> Result
 
 #[tactic(auto, using(crate::proofs::Binds::binds))]
 #[cycle(bind)]
-fn put_all(
-    alloc: Global,
-    parts: &[Pat],
-    values: &[Value],
-    env: &mut Frame,
-) -> Result<bool, Memory>
+fn put_all(alloc: Global, parts: &[Pat], values: &[Value], env: &mut Frame) -> Result<bool, Memory>
     ensures { IfOk result (λ matched. Bound (bind_all parts.now values.now env.old) matched env.new) }
 {
     if parts.len() != values.len() {

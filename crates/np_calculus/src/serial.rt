@@ -1,12 +1,16 @@
-ghost use Rattle.std.specs.Prelude.{◌≡◌, Some, false, IfOk};
+ghost use Rattle.std.specs.Prelude.{◌≡◌, ◌↔◌, Some, false, IfOk};
+ghost use Rattle.std.specs.FinMap as map;
 ghost use Rattle.std.specs.FinSet as set;
+ghost use Rattle.np_calculus.specs.declared.config.Place.TheVariants as place;
+ghost use Rattle.np_calculus.specs.Forms.{layer};
+ghost use Rattle.np_calculus.specs.Idle.{Idle};
 ghost use Rattle.np_syntax.specs.declared.value.Name.{Name as Named};
 ghost use Rattle.np_tables.specs.Errands.{IsReady};
 ghost use Rattle.np_tables.specs.Mapped.{mapped};
 ghost use Rattle.np_calculus.specs.Errands.{errand_of};
 ghost use Rattle.np_calculus.specs.Plain.{IsPlain};
 ghost use Rattle.np_calculus.specs.Reductions.{apply};
-ghost use Rattle.np_calculus.specs.Serial.{IsEnabled, IsReached, IsSerialRun, event_at};
+ghost use Rattle.np_calculus.specs.Serial.{IsEnabled, IsReached, IsSerialRun, Stands, acting_kind, event_at, made_by};
 ghost use Rattle.np_tables.specs.declared.errand.Ready.TheVariants as ready;
 
 use super::cfg::Cfg;
@@ -14,7 +18,7 @@ use super::config::{Atom, Place};
 use super::fail::ApplyFail;
 use super::rows::apply;
 use super::start::start_high;
-use np_syntax::{End, Event, Kind, List, Made, Memory, Name, ProcForm, Program};
+use np_syntax::{End, Event, Kind, List, Made, Memory, Name, Proc, ProcForm, Program};
 use np_tables::Ready;
 use std::alloc::Global;
 
@@ -44,8 +48,16 @@ pub fn run_serial(alloc: Global, p: &Program, budget: u32) -> Result<SerialRun, 
         turn(alloc, &mut last, &event)?;
         events.add(event)?;
     }
-    let end = if last.idle() { End::Rest } else { End::Spent };
+    let end = end_of(&last);
     Ok(SerialRun { events, last, end })
+}
+
+/// How a run ends that has used its budget.
+fn end_of(c: &Cfg) -> End
+    ensures rest { (result ≡ End.Rest) ↔ Idle c.now }
+    ensures spent { (result ≡ End.Spent) ↔ ¬ Idle c.now }
+{
+    if c.idle() { End::Rest } else { End::Spent }
 }
 
 /// Makes an event that is enabled.
@@ -83,15 +95,46 @@ fn acting_event(c: &Cfg, mark: Name, name: Name) -> Event
     let Some(atom) = c.atom(mark) else {
         unreachable!();
     };
-    let Some(Place::At(site)) = c.place(atom.agent) else {
+    let Some(kind) = acting_kind(&atom.proc) else {
         unreachable!();
     };
-    match &atom.proc.form {
-        ProcForm::Stop => event_at(Kind::Stop, site, mark, None, atom, Made::Nothing),
-        ProcForm::Par(_, _) => event_at(Kind::Fork, site, mark, None, atom, Made::One(name)),
-        ProcForm::New(_, _, _) => event_at(Kind::New, site, mark, None, atom, Made::One(name)),
-        ProcForm::Print(_) => event_at(Kind::Print, site, mark, None, atom, Made::Nothing),
-        _ => unreachable!(),
+    let site = site_of(c, atom.agent);
+    event_at(kind, site, mark, None, atom, made_by(kind, name))
+}
+
+/// The kind of event by which a plain process acts alone.
+fn acting_kind(p: &Proc) -> Option<Kind>
+    ensures { result ≡ acting_kind (layer p.now) }
+{
+    match &p.form {
+        ProcForm::Stop => Some(Kind::Stop),
+        ProcForm::Par(_, _) => Some(Kind::Fork),
+        ProcForm::New(_, _, _) => Some(Kind::New),
+        ProcForm::Print(_) => Some(Kind::Print),
+        _ => None,
+    }
+}
+
+/// What an event of the kind makes, where this is the next name.
+fn made_by(kind: Kind, name: Name) -> Made
+    ensures { result ≡ made_by kind name }
+{
+    match kind {
+        Kind::Fork => Made::One(name),
+        Kind::New => Made::One(name),
+        _ => Made::Nothing,
+    }
+}
+
+/// The site at which an agent stands.
+fn site_of(c: &Cfg, agent: Name) -> u32
+    requires { Stands c.now agent }
+    ensures { map.get c.now.places agent ≡ Some (place.At result) }
+{
+    match c.place(agent) {
+        Some(Place::At(site)) => site,
+        Some(Place::Way(_)) => unreachable!(),
+        None => unreachable!(),
     }
 }
 
@@ -104,9 +147,7 @@ fn meeting_event(c: &Cfg, input: Name, output: Name) -> Event
     let Some(atom) = c.atom(input) else {
         unreachable!();
     };
-    let Some(Place::At(site)) = c.place(atom.agent) else {
-        unreachable!();
-    };
+    let site = site_of(c, atom.agent);
     event_at(Kind::Comm, site, input, Some(output), atom, Made::Nothing)
 }
 

@@ -9,7 +9,7 @@ use Rattle.np_calculus.proofs.Steps.{acting-step, step-fork}
 use Rattle.np_calculus.proofs.cfg.Cfg.fork.Goals as goal
 
 pub file_two-requires : goal.file_two-requires
-file_two-requires c = kept-absent c.self.invariant c.in_ok-mark.mark (search rules)
+file_two-requires c = record { absent = kept-absent c.self.invariant c.in_ok-mark.mark (search rules) }
 
 acts : (c : goal.After-put) → acting c.args.self.now c.args.e.now ≡ Some c.in_ok-atom.atom.now
 acts c = search rules
