@@ -10,3 +10,4 @@ mod Readings
 mod Refused
 mod Steps
 mod Taken
+pub mod Outcomes

@@ -1,1 +1,5 @@
 pub mod Source
+pub mod Words
+pub mod Report
+pub mod Answers
+pub mod Laws

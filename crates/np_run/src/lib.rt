@@ -1,6 +1,18 @@
-//! The top call: from the bytes of a source to the bytes of a report.
+//! The top call: from the words and the bytes of a source to the bytes of a report.
 #![tactic(auto)]
 
+mod answer;
+mod job;
+mod laws;
 mod reader;
+mod refusal;
+mod reporting;
 #[cfg(test)]
 mod tests;
+mod top;
+
+pub use answer::{Answer, Record};
+pub use laws::{law_completes, law_refuses_long, law_refuses_unbuilt, law_refuses_words};
+pub use refusal::{Refusal, line, status};
+pub use reporting::report;
+pub use top::np;

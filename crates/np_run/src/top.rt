@@ -1,0 +1,74 @@
+ghost use Rattle.std.specs.Prelude.{◌≡◌};
+ghost use Rattle.np_run.specs.Answers.{HasCauses, status_at};
+
+use super::answer::Answer;
+use super::job::work;
+use super::refusal::{Refusal, line, status};
+use np_io::{Sink, Texts, Word, write_all};
+use np_syntax::End;
+use std::alloc::Global;
+use std::sync::Wait;
+use std::thread::Threads;
+
+/// The program, over any texts and sinks. The words leave out its name.
+pub fn np<R: Threads + Wait + Sync, T: Texts, O: Sink, E: Sink>(
+    rt: &R,
+    alloc: Global,
+    words: &[Word],
+    texts: &mut T,
+    out: &mut O,
+    err: &mut E,
+) -> Answer
+    ensures { HasCauses (record {
+      words = words.now;
+      texts = record {
+        held = T.held texts.old; before = T.faults texts.old; now = T.faults texts.new;
+        taken = T.taken texts.new; begun = T.begins texts.old; begins = T.begins texts.new;
+      };
+      out = record {
+        before = O.faults out.old; now = O.faults out.new;
+        old = O.written out.old; new = O.written out.new;
+      };
+      err = record {
+        before = E.faults err.old; now = E.faults err.new;
+        old = E.written err.old; new = E.written err.new;
+      };
+    }) result }
+{
+    let _ = rt;
+    match work(alloc, words, texts) {
+        Ok(job) => match write_all(out, job.text.as_slice()) {
+            Ok(()) => Answer {
+                status: end_status(job.made.end),
+                kept: Some(job.made),
+            },
+            Err(_) => Answer {
+                status: 5,
+                kept: Some(job.made),
+            },
+        },
+        Err(Refusal::Memory) => Answer {
+            status: 6,
+            kept: None,
+        },
+        Err(refusal) => match write_all(err, line(refusal)) {
+            Ok(()) => Answer {
+                status: status(refusal),
+                kept: None,
+            },
+            Err(_) => Answer {
+                status: 5,
+                kept: None,
+            },
+        },
+    }
+}
+
+fn end_status(end: End) -> u8
+    ensures { result ≡ status_at end }
+{
+    match end {
+        End::Rest => 0,
+        End::Spent => 1,
+    }
+}
