@@ -1,11 +1,10 @@
 -- What an answer can be where no call failed and memory was not wanting.
-use Rattle.std.proofs.Common.{◌≡◌, ◌≢◌, ℕ, ◌≤◌, ◌<◌, ◌⊎◌, List, length, Option, Some, None, IfSome, inl, inr, arith, subst}
+use Rattle.std.proofs.Common.{◌≡◌, ◌≢◌, ℕ, ◌≤◌, ◌<◌, List, length, Option, Some, IfSome, inl, inr, subst}
 use Rattle.np_syntax.specs.declared.program.Program.{Program}
 use Rattle.np_io.specs.Causes.{Rose}
 use Rattle.np_io.specs.Bytes.{Held}
 use Rattle.np_run.specs.Source.Accepted.{Accepts}
-use Rattle.np_run.specs.Words.{plan}
-use Rattle.np_run.specs.Answers.{Call, HasCauses, HasRun, IsRefused, OutFailed, Stands, status_of}
+use Rattle.np_run.specs.Answers.{Call, HasCauses, HasRun, IsRefused, Stands, status_of}
 use Rattle.np_run.specs.Laws.{Reads}
 use Rattle.np_run.specs.declared.answer.Answer.{Answer}
 use Rattle.np_run.specs.declared.answer.Record.{Record}

@@ -26,24 +26,24 @@ pub(crate) struct Job {
 }
 
 /// Reads the source that the words name, runs its program and makes the report.
-pub(crate) fn work<T: Texts>(
-    alloc: Global,
-    words: &[Word],
-    texts: &mut T,
-) -> Result<Job, Refusal>
+pub(crate) fn work<T: Texts>(alloc: Global, words: &[Word], texts: &mut T) -> Result<Job, Refusal>
     ensures begins { T.begins texts.new ≤ T.begins texts.old + texts_read (plan words.now) }
-    ensures made {
-      let seen : Reading = record {
-        held = T.held texts.old; before = T.faults texts.old; now = T.faults texts.new;
-        taken = T.taken texts.new; begun = T.begins texts.old; begins = T.begins texts.new
-      } in IfOk result (λ job. HasRun words.now seen job.made job.text)
-    }
-    ensures refused {
-      let seen : Reading = record {
-        held = T.held texts.old; before = T.faults texts.old; now = T.faults texts.new;
-        taken = T.taken texts.new; begun = T.begins texts.old; begins = T.begins texts.new
-      } in IfErr result (λ refusal. refusal ≢ Refusal.Memory → Stands words.now seen refusal)
-    }
+    ensures made { let seen : Reading = record {
+      held = T.held texts.old;
+      before = T.faults texts.old;
+      now = T.faults texts.new;
+      taken = T.taken texts.new;
+      begun = T.begins texts.old;
+      begins = T.begins texts.new;
+    } in IfOk result (λ job. HasRun words.now seen job.made job.text) }
+    ensures refused { let seen : Reading = record {
+      held = T.held texts.old;
+      before = T.faults texts.old;
+      now = T.faults texts.new;
+      taken = T.taken texts.new;
+      begun = T.begins texts.old;
+      begins = T.begins texts.new;
+    } in IfErr result (λ refusal. refusal ≢ Refusal.Memory → Stands words.now seen refusal) }
 {
     let Some(file) = planned(words) else {
         return Err(Refusal::Usage);

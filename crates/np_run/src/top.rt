@@ -22,16 +22,24 @@ pub fn np<R: Threads + Wait + Sync, T: Texts, O: Sink, E: Sink>(
     ensures { HasCauses (record {
       words = words.now;
       texts = record {
-        held = T.held texts.old; before = T.faults texts.old; now = T.faults texts.new;
-        taken = T.taken texts.new; begun = T.begins texts.old; begins = T.begins texts.new;
+        held = T.held texts.old;
+        before = T.faults texts.old;
+        now = T.faults texts.new;
+        taken = T.taken texts.new;
+        begun = T.begins texts.old;
+        begins = T.begins texts.new;
       };
       out = record {
-        before = O.faults out.old; now = O.faults out.new;
-        old = O.written out.old; new = O.written out.new;
+        before = O.faults out.old;
+        now = O.faults out.new;
+        old = O.written out.old;
+        new = O.written out.new;
       };
       err = record {
-        before = E.faults err.old; now = E.faults err.new;
-        old = E.written err.old; new = E.written err.new;
+        before = E.faults err.old;
+        now = E.faults err.new;
+        old = E.written err.old;
+        new = E.written err.new;
       };
     }) result }
 {

@@ -1,4 +1,4 @@
-use Rattle.std.proofs.Common.{◌≡◌, sym, subst, ◌∙◌, ap, rules}
+use Rattle.std.proofs.Common.{sym, subst, ◌∙◌, ap}
 use Rattle.np_calculus.specs.Serial.{IsSerialRun}
 use Rattle.np_run.specs.Report.{report_text}
 use Rattle.np_run.specs.declared.answer.Record.{Record}

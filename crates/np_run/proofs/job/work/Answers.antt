@@ -1,4 +1,4 @@
-use Rattle.std.proofs.Common.{◌≡◌, ℕ, ◌≤◌, List, length, Option, Some, None, IfSome, subst, sym, rules, arith}
+use Rattle.std.proofs.Common.{◌≡◌, ℕ, ◌≤◌, List, length, Option, Some, None, IfSome, subst, sym, rules}
 use Rattle.np_syntax.specs.declared.program.Program.{Program}
 use Rattle.np_run.specs.Source.Accepted.{Accepts}
 use Rattle.np_run.proofs.job.work.Goals as goal

@@ -1,8 +1,7 @@
-use Rattle.std.proofs.Common.{◌≡◌, ℕ, ◌≤◌, ◌<◌, List, length, inl, inr, arith}
+use Rattle.std.proofs.Common.{ℕ, ◌≤◌, List, length, inl, inr, arith}
 use Rattle.np_syntax.specs.declared.program.Program.{Program}
 use Rattle.np_run.specs.Source.Accepted.{Accepts}
-use Rattle.np_run.specs.Answers.{Call, Stands}
-use Rattle.np_run.specs.Laws.{Reads}
+use Rattle.np_run.specs.Answers.{Stands}
 use Rattle.np_run.specs.declared.refusal.Refusal.{Refusal}
 use Rattle.np_run.specs.declared.refusal.Refusal.TheVariants.{Memory, Usage, ReadFault, TooLong, Unbuilt}
 use Rattle.np_run.proofs.Outcomes.{Says, stands_says}

@@ -1,5 +1,5 @@
-use Rattle.std.proofs.Common.{◌≡◌, ◌≢◌, ℕ, ◌<◌, ◌≤◌, List, length, arith}
-use Rattle.np_run.specs.Answers.{Call, Stands, IsRefused}
+use Rattle.std.proofs.Common.{ℕ, ◌<◌, List, length, arith}
+use Rattle.np_run.specs.Answers.{Call, IsRefused}
 use Rattle.np_run.specs.Laws.{Reads}
 use Rattle.np_run.specs.declared.answer.Answer.{Answer}
 use Rattle.np_run.specs.declared.refusal.Refusal.{Refusal}

@@ -1,4 +1,4 @@
-use Rattle.std.proofs.Common.{◌≡◌, ◌≢◌, ℕ, Option, Some, None}
+use Rattle.std.proofs.Common.{◌≡◌, ℕ, None}
 use Rattle.np_run.specs.Words.{plan}
 use Rattle.np_run.specs.Answers.{Call, Stands, status_of}
 use Rattle.np_run.specs.declared.answer.Answer.{Answer}

@@ -1,0 +1,57 @@
+//! The program: the words, files and streams of the process, and the top call.
+#![tactic(auto)]
+
+use np_io::{ErrSink, FileTexts, OutSink, Word};
+use np_run::np;
+use np_syntax::{List, Memory};
+use std::alloc::Global;
+use std::env;
+use std::io::{Error, ErrorKind};
+use std::process::ExitCode;
+
+const USAGE: u8 = 2;
+
+const WANT_OF_MEMORY: u8 = 6;
+
+fn main(rt: HostRuntime) -> ExitCode {
+    let texts: Vec<String> = match env::args(&rt) {
+        Ok(args) => match args.collect(rt.alloc()) {
+            Ok(texts) => texts,
+            Err(_) => return ExitCode::from(WANT_OF_MEMORY),
+        },
+        Err(error) => return ExitCode::from(status_of(&error)),
+    };
+    let Ok(words) = words_of(rt.alloc(), texts.as_slice()) else {
+        return ExitCode::from(WANT_OF_MEMORY);
+    };
+    let mut files = FileTexts::new(&rt);
+    let mut out = OutSink::new(rt.stdout());
+    let mut err = ErrSink::new(rt.stderr());
+    let answer = np(
+        &rt,
+        rt.alloc(),
+        words.as_slice(),
+        &mut files,
+        &mut out,
+        &mut err,
+    );
+    ExitCode::from(answer.status)
+}
+
+/// The status where the words cannot be read: memory is wanting, or one is no UTF-8.
+fn status_of(error: &Error) -> u8 {
+    if error.kind() == ErrorKind::OutOfMemory {
+        WANT_OF_MEMORY
+    } else {
+        USAGE
+    }
+}
+
+/// The words behind the program's name.
+fn words_of(alloc: Global, texts: &[String]) -> Result<List<Word>, Memory> {
+    let mut words = List::new(alloc);
+    for text in texts.iter().skip(1) {
+        words.add(Word::new(alloc, text.as_str())?)?;
+    }
+    Ok(words)
+}
