@@ -1,6 +1,6 @@
 //! A cursor over tokens.
 
-ghost use Rattle.std.specs.Prelude.{◌≡◌, ◌+◌, [], ◌∷◌, length, IfOk, OnOk, MatchResult};
+ghost use Rattle.std.specs.Prelude.{◌≡◌, ◌+◌, [], ◌∷◌, length, IfErr, OnOk, MatchResult};
 ghost use Rattle.np_run.specs.Source.Parsing as spec;
 ghost use Rattle.np_run.specs.Source.Parsing.{Passes, Reads};
 
@@ -48,7 +48,7 @@ impl<'a> Cursor<'a> {
 
     /// The next token, which is taken.
     pub fn next(&mut self) -> Result<&'a Token, SourceFail>
-        ensures { MatchResult result (λ token. self.old ≡ token.now ∷ self.new) (λ _. self.old ≡ []) }
+        ensures { MatchResult result (λ token. self.old ≡ token.now ∷ self.new) (λ fail. (fail ≡ SourceFail.Unbuilt) × (self.old ≡ [])) }
     {
         match self.rest.split_first() {
             Some((token, rest)) => {
@@ -63,6 +63,7 @@ impl<'a> Cursor<'a> {
     #[tactic(auto, unfolding(crate::specs::Source::Parsing::expect))]
     pub fn expect(&mut self, wanted: Symbol) -> Result<(), SourceFail>
         ensures passes { Passes (spec.expect wanted self.old) result self.new }
+        ensures refused { IfErr result (λ fail. fail ≡ SourceFail.Unbuilt) }
         ensures taken { OnOk result (length self.old ≡ length self.new + 1) }
     {
         match self.next()?.what {

@@ -3,7 +3,7 @@
 ghost use Rattle.std.specs.Prelude.{◌≡◌, ◌∷◌, [], OnOk, drop};
 ghost use Rattle.np_run.specs.Source.Scope as spec;
 
-use np_syntax::{List, Memory, Text};
+use np_syntax::{Memory, Text};
 use std::alloc::Global;
 use std::marker::Model;
 
