@@ -1,5 +1,5 @@
--- Plain programs: stop, parallel composition, new channels of integers, output, input and print, where each
--- channel is bound by a `new` and each value is a number or is bound by an input.
+-- Plain programs (docs/LANGUAGE.md, "The built form"): stop, parallel composition, new channels of integers, output, input
+-- and print, where each channel is bound by a `new` and each value is a number or is bound by an input.
 use Rattle.std.specs.Prelude.{◌≡◌, ◌<◌, ◌≤◌, ℕ, Bool, true, false, ◌&&◌, Option, None, Some, List, length}
 use Rattle.std.specs.Ordering.{nat_cmp}
 use Rattle.std.specs.FinMap as map

@@ -1,4 +1,4 @@
--- What the serial run promises.
+-- What the serial run promises (docs/LANGUAGE.md, "The built form").
 use Rattle.std.specs.Prelude.{◌≡◌, ◌≤◌, ◌<◌, false, ◌↔◌, ℕ, List, length, Option, Some, None}
 use Rattle.std.specs.FinMap as map
 use Rattle.std.specs.FinSet as set

@@ -1,4 +1,4 @@
--- The sources of the built form, and their programs.
+-- The sources of the built form, and their programs (docs/LANGUAGE.md, "The built form").
 use Rattle.std.specs.Prelude.{◌≡◌, ℕ, List, Some}
 use Rattle.np_syntax.specs.declared.program.Program.{Program}
 use Rattle.np_run.specs.declared.reader.token.Token.{Token}
