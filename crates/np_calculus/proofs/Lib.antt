@@ -3,10 +3,12 @@ pub mod Chans
 pub mod Enabled
 pub mod ErrandForms
 pub mod Evals
+pub mod ExampleRuns
 pub mod FittingPatterns
 pub mod FittingShapes
 pub mod FittingTuples
 pub mod Keeping
+pub mod NotEnabled
 pub mod Overlays
 pub mod OwnNames
 pub mod PlainRuns

@@ -4,6 +4,7 @@ pub mod Config
 pub mod ConfigCode
 pub mod Errands
 pub mod Eval
+pub mod Examples
 pub mod Fitting
 pub mod Forms
 pub mod Idle

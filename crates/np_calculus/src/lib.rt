@@ -3,6 +3,7 @@
 
 mod cfg;
 mod config;
+mod examples;
 mod fail;
 mod fitting;
 mod frame;
@@ -17,6 +18,7 @@ mod views;
 
 pub use cfg::Cfg;
 pub use config::{Atom, Packet, Place};
+pub use examples::law_examples;
 pub use fail::ApplyFail;
 pub use fitting::fits;
 pub use frame::Frame;

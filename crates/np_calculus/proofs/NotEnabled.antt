@@ -1,0 +1,207 @@
+-- Events that are not enabled, one for each reason that a row has.
+use Rattle.std.proofs.Common.{◌≡◌, ℕ, ℤ, Bool, true, false, List, Option, None, Some, is_some, nat_eq, nat_lt, refl}
+use Rattle.std.specs.FinMap as map
+use Rattle.std.specs.FinSet as set
+use Rattle.np_syntax.specs.declared.value.Name.{Name}
+use Rattle.np_syntax.specs.declared.value.Value.{Value, out-Value}
+use Rattle.np_syntax.specs.declared.value.Value as value
+use Rattle.np_syntax.specs.declared.value.Value.TheVariants.{outs-Int}
+use Rattle.np_syntax.specs.declared.expression.Expr.{Expr}
+use Rattle.np_syntax.specs.declared.expression.ExprForm as expr
+use Rattle.np_syntax.specs.declared.pattern.Pat.{Pat}
+use Rattle.np_syntax.specs.declared.pattern.PatForm as pat
+use Rattle.np_syntax.specs.declared.process.Proc.{Proc}
+use Rattle.np_syntax.specs.declared.process.ProcForm as form
+use Rattle.np_syntax.specs.declared.process.ProcForm.TheVariants.{outs-Print}
+use Rattle.np_syntax.specs.declared.event.Event.{Event}
+use Rattle.np_syntax.specs.declared.event.Kind.{Kind}
+use Rattle.np_syntax.specs.declared.event.Kind.TheVariants as kind
+use Rattle.np_syntax.specs.declared.event.Made.TheVariants as made
+use Rattle.np_tables.specs.Maybe.{◌>>=◌}
+use Rattle.np_tables.specs.Names.{same_name}
+use Rattle.np_calculus.specs.declared.config.Atom.{Atom}
+use Rattle.np_calculus.specs.declared.config.Place.TheVariants as place
+use Rattle.np_calculus.specs.Config.{Config}
+use Rattle.np_calculus.specs.Eval.{Env, eval, bind, as_site, chan_of}
+use Rattle.np_calculus.specs.Forms.{Layer, layer, as_stop, as_par, as_new, as_inp, as_rep, as_agent_form, as_migrate, as_iflocal, as_send, as_post, as_if, as_let, as_print, as_open, as_lookup}
+use Rattle.np_calculus.specs.Reductions.{acting, same_tag, none_made, no_other, sends, offered, row, stop_row, fork_row, new_row, let_row, if_row, comm_row, rep_row, agent_row, depart_row, arrive_row, local_row, send_row, land_row, print_row, open_row, lookup_row, post_row}
+use Rattle.np_calculus.proofs.Evals.{eval-form, eval-var}
+use Rattle.np_calculus.proofs.Binds.{bind-form, bind-tuple}
+
+none_after : {A B : Type 0} (o : Option A) (f : A → Option B) → ((a : A) → f a ≡ None) → (o >>= f) ≡ None
+none_after None f h = refl
+none_after (Some a) f h = h a
+
+-- an arrival and a landing have no acting atom
+abbrev pub by_atom : Kind → Bool
+by_atom kind.Arrive = false
+by_atom kind.Land = false
+by_atom _ = true
+
+-- without an acting atom no row of one is met
+pub no_actor : (k : Kind) (c : Config) (e : Event) → by_atom k ≡ true → acting c e ≡ None → row k c e ≡ None
+unfolding stop_row fork_row new_row let_row if_row comm_row rep_row agent_row depart_row local_row send_row print_row open_row lookup_row post_row
+no_actor kind.Stop c e b h = rw h refl
+no_actor kind.Fork c e b h = rw h refl
+no_actor kind.New c e b h = rw h refl
+no_actor kind.Let c e b h = rw h refl
+no_actor kind.If c e b h = rw h refl
+no_actor kind.Comm c e b h = rw h refl
+no_actor kind.Rep c e b h = rw h refl
+no_actor kind.Agent c e b h = rw h refl
+no_actor kind.Depart c e b h = rw h refl
+no_actor kind.Arrive c e b h = absurd cc
+no_actor kind.Local c e b h = rw h refl
+no_actor kind.Send c e b h = rw h refl
+no_actor kind.Land c e b h = absurd cc
+no_actor kind.Print c e b h = rw h refl
+no_actor kind.Open c e b h = rw h refl
+no_actor kind.Lookup c e b h = rw h refl
+no_actor kind.Post c e b h = rw h refl
+
+-- no atom has the mark
+pub absent : (k : Kind) (c : Config) (e : Event) → by_atom k ≡ true → map.get c.atoms e.actor ≡ None → row k c e ≡ None
+absent k c e b h = no_actor k c e b (rw h refl)
+
+-- the atom's agent is at another site
+pub elsewhere : (k : Kind) (c : Config) (e : Event) (a : Atom) (s : ℕ) → by_atom k ≡ true → map.get c.atoms e.actor ≡ Some a → map.get c.places a.agent ≡ Some (place.At s)
+    → nat_eq s e.site ≡ false → row k c e ≡ None
+elsewhere k c e a s b there lies apart = no_actor k c e b (rw (there, lies, apart) refl)
+
+-- the atom's agent is under way
+pub travelling : (k : Kind) (c : Config) (e : Event) (a : Atom) (s : ℕ) → by_atom k ≡ true → map.get c.atoms e.actor ≡ Some a → map.get c.places a.agent ≡ Some (place.Way s)
+    → row k c e ≡ None
+travelling k c e a s b there lies = no_actor k c e b (rw (there, lies) refl)
+
+-- the atom's process has another tag
+pub other_tag : (k : Kind) (c : Config) (e : Event) (a : Atom) (s : ℕ) → by_atom k ≡ true → map.get c.atoms e.actor ≡ Some a → map.get c.places a.agent ≡ Some (place.At s)
+    → nat_eq s e.site ≡ true → same_tag a.proc.tag e.tag ≡ false → row k c e ≡ None
+other_tag k c e a s b there lies here apart = no_actor k c e b (rw (there, lies, here, apart) refl)
+
+-- the form that each kind asks of the acting atom
+abbrev pub asked : Kind → Layer → Bool
+asked kind.Stop l = is_some (as_stop l)
+asked kind.Fork l = is_some (as_par l)
+asked kind.New l = is_some (as_new l)
+asked kind.Let l = is_some (as_let l)
+asked kind.If l = is_some (as_if l)
+asked kind.Comm l = is_some (as_inp l)
+asked kind.Rep l = is_some (as_rep l)
+asked kind.Agent l = is_some (as_agent_form l)
+asked kind.Depart l = is_some (as_migrate l)
+asked kind.Arrive l = false
+asked kind.Local l = is_some (as_iflocal l)
+asked kind.Send l = is_some (as_send l)
+asked kind.Land l = false
+asked kind.Print l = is_some (as_print l)
+asked kind.Open l = is_some (as_open l)
+asked kind.Lookup l = is_some (as_lookup l)
+asked kind.Post l = is_some (as_post l)
+
+none_there : {A : Type 0} (o : Option A) → is_some o ≡ false → o ≡ None
+none_there None h = refl
+none_there (Some a) h = absurd cc
+
+-- the process has another form than the kind asks
+pub other_form : (k : Kind) (c : Config) (e : Event) (a : Atom) → by_atom k ≡ true → acting c e ≡ Some a → asked k (layer a.proc) ≡ false → row k c e ≡ None
+unfolding stop_row fork_row new_row let_row if_row comm_row rep_row agent_row depart_row local_row send_row print_row open_row lookup_row post_row
+other_form kind.Stop c e a b acts h = rw (acts, none_there (as_stop (layer a.proc)) h) refl
+other_form kind.Fork c e a b acts h = rw (acts, none_there (as_par (layer a.proc)) h) refl
+other_form kind.New c e a b acts h = rw (acts, none_there (as_new (layer a.proc)) h) refl
+other_form kind.Let c e a b acts h = rw (acts, none_there (as_let (layer a.proc)) h) refl
+other_form kind.If c e a b acts h = rw (acts, none_there (as_if (layer a.proc)) h) refl
+other_form kind.Comm c e a b acts h = rw (acts, none_there (as_inp (layer a.proc)) h) refl
+other_form kind.Rep c e a b acts h = rw (acts, none_there (as_rep (layer a.proc)) h) refl
+other_form kind.Agent c e a b acts h = rw (acts, none_there (as_agent_form (layer a.proc)) h) refl
+other_form kind.Depart c e a b acts h = rw (acts, none_there (as_migrate (layer a.proc)) h) refl
+other_form kind.Arrive c e a b acts h = absurd cc
+other_form kind.Local c e a b acts h = rw (acts, none_there (as_iflocal (layer a.proc)) h) refl
+other_form kind.Send c e a b acts h = rw (acts, none_there (as_send (layer a.proc)) h) refl
+other_form kind.Land c e a b acts h = absurd cc
+other_form kind.Print c e a b acts h = rw (acts, none_there (as_print (layer a.proc)) h) refl
+other_form kind.Open c e a b acts h = rw (acts, none_there (as_open (layer a.proc)) h) refl
+other_form kind.Lookup c e a b acts h = rw (acts, none_there (as_lookup (layer a.proc)) h) refl
+other_form kind.Post c e a b acts h = rw (acts, none_there (as_post (layer a.proc)) h) refl
+
+-- a print does not stop
+pub print_to_stop : (c : Config) (e : Event) (a : Atom) (x : Expr) → acting c e ≡ Some a → a.proc.form ≡ form.Print x → stop_row c e ≡ None
+unfolding stop_row
+print_to_stop c e a x acts is = rw (acts, is, outs-Print x) refl
+
+-- no packet has the mark
+pub no_packet : (c : Config) (e : Event) → map.get c.packets e.actor ≡ None → land_row c e ≡ None
+unfolding land_row
+no_packet c e h = rw h refl
+
+-- the agent that is to arrive is at a site
+pub not_travelling : (c : Config) (e : Event) (s : ℕ) → map.get c.places e.actor ≡ Some (place.At s) → arrive_row c e ≡ None
+unfolding arrive_row
+not_travelling c e s h = rw h refl
+
+-- a stop makes no name
+pub name_made : (c : Config) (e : Event) (m : Name) → e.made ≡ made.One m → stop_row c e ≡ None
+unfolding stop_row
+name_made c e m h = none_after (acting c e) _ λ a. none_after (as_stop (layer a.proc)) _ λ p. rw h refl
+
+-- a fork makes one name
+pub none_made_there : (c : Config) (e : Event) → e.made ≡ made.Nothing → fork_row c e ≡ None
+unfolding fork_row
+none_made_there c e h = none_after (acting c e) _ λ a. none_after (as_par (layer a.proc)) _ λ p. rw h refl
+
+-- the name that a fork makes is born already
+pub born_already : (c : Config) (e : Event) (m : Name) → e.made ≡ made.One m → set.contains c.born m ≡ true → fork_row c e ≡ None
+unfolding fork_row
+born_already c e m h born =
+    none_after (acting c e) _ λ a. none_after (as_par (layer a.proc)) _ λ p. rw (h, born) (none_after (no_other e.other) _ λ l. refl)
+
+-- a stop takes no output
+pub output_taken : (c : Config) (e : Event) (o : Name) → e.other ≡ Some o → stop_row c e ≡ None
+unfolding stop_row
+output_taken c e o h = none_after (acting c e) _ λ a. none_after (as_stop (layer a.proc)) _ λ p. none_after (none_made e.made) _ λ m. rw h refl
+
+-- a communication takes an output
+pub no_output : (c : Config) (e : Event) → e.other ≡ None → comm_row c e ≡ None
+unfolding comm_row
+no_output c e h = none_after (acting c e) _ λ a. none_after (as_inp (layer a.proc)) _ λ p. none_after (chan_of p.0 a.env) _ λ n. rw h refl
+
+-- the output is on another channel than the input
+pub other_channel : (c : Config) (e : Event) (a b : Atom) (parts : Expr × Pat × Proc) (n o : Name) (sent : Name × Value) → acting c e ≡ Some a → as_inp (layer a.proc) ≡ Some parts
+    → chan_of parts.0 a.env ≡ Some n → e.other ≡ Some o → map.get c.atoms o ≡ Some b → same_name a.agent b.agent ≡ true → sends b ≡ Some sent → same_name n sent.0 ≡ false
+    → comm_row c e ≡ None
+unfolding comm_row
+other_channel c e a b parts n o sent acts is on other waits together gives apart =
+    let none : offered c o a.agent n ≡ None = rw (waits, together, gives, apart) refl in
+    rw (acts, is, on, other, none) refl
+
+-- the output is in another agent than the input
+pub other_agent : (c : Config) (e : Event) (a b : Atom) (parts : Expr × Pat × Proc) (n o : Name) → acting c e ≡ Some a → as_inp (layer a.proc) ≡ Some parts
+    → chan_of parts.0 a.env ≡ Some n → e.other ≡ Some o → map.get c.atoms o ≡ Some b → same_name a.agent b.agent ≡ false → comm_row c e ≡ None
+unfolding comm_row
+other_agent c e a b parts n o acts is on other waits apart =
+    let none : offered c o a.agent n ≡ None = rw (waits, apart) refl in
+    rw (acts, is, on, other, none) refl
+
+-- the pattern of a let does not match the value
+pub no_match : (c : Config) (e : Event) (a : Atom) (parts : Pat × Expr × Proc) (v : Value) → acting c e ≡ Some a → as_let (layer a.proc) ≡ Some parts → eval parts.1 a.env ≡ Some v
+    → bind parts.0 v a.env ≡ None → let_row c e ≡ None
+unfolding let_row
+no_match c e a parts v acts is says apart = rw (acts, is, says, apart) refl
+
+-- the expression of a print has no value
+pub no_value : (c : Config) (e : Event) (a : Atom) (x : Expr) → acting c e ≡ Some a → as_print (layer a.proc) ≡ Some x → eval x a.env ≡ None → print_row c e ≡ None
+unfolding print_row
+no_value c e a x acts is says = rw (acts, is, says) refl
+
+-- the program does not have the site to which the agent is to go
+pub no_site : (c : Config) (e : Event) (a : Atom) (parts : Expr × Proc) (v : Value) (t : ℕ) → acting c e ≡ Some a → as_migrate (layer a.proc) ≡ Some parts → eval parts.0 a.env ≡ Some v
+    → as_site (out-Value v) ≡ Some t → nat_lt t c.sites ≡ false → depart_row c e ≡ None
+unfolding depart_row
+no_site c e a parts v t acts is says site far = rw (acts, is, says, site, far) refl
+
+-- a variable that nothing stands for has no value
+pub unbound : (x at : ℕ) (env : Env) → map.get env x ≡ None → eval (record { at = at; form = expr.Var x }) env ≡ None
+unbound x at env h = rw (eval-form (record { at = at; form = expr.Var x }) env, eval-var x env, h) refl
+
+-- a pattern of a tuple does not match a number
+pub tuple_to_number : (ps : List Pat) (at : ℕ) (i : ℤ) (env : Env) → bind (record { at = at; form = pat.Tuple ps }) (value.Int i) env ≡ None
+tuple_to_number ps at i env = rw (bind-form (record { at = at; form = pat.Tuple ps }) (value.Int i) env, bind-tuple ps (value.Int i) env, outs-Int i) refl
