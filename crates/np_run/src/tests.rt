@@ -1,3 +1,8 @@
+mod faults;
+mod refusals;
+mod runs;
+mod setting;
+
 use crate::reader::read_source;
 use np_syntax::{Expr, ExprForm, Pat, PatForm, Proc, ProcForm, Value};
 use std::alloc::{AllocError, Global};
