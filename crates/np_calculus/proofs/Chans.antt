@@ -11,7 +11,7 @@ use Rattle.np_syntax.specs.declared.expression.Expr.{Expr}
 use Rattle.np_syntax.specs.declared.expression.ExprForm.{ExprForm}
 use Rattle.np_syntax.specs.declared.expression.ExprForm as expr
 use Rattle.np_tables.specs.Maybe.{◌>>=◌}
-use Rattle.np_calculus.specs.Eval.{Env, ValueLayer, eval, eval_form, eval_all, as_chan, as_agent, as_places, operate_at, equal_at, operate, pack, with_place, put_place}
+use Rattle.np_calculus.specs.Eval.{Env, ValueLayer, eval, eval_form, eval_all, as_chan, as_agent, as_places, operate_at, equal_at}
 use Rattle.np_calculus.proofs.Evals.{eval-val, eval-var, eval-tuple, eval-bin, eval-pack, eval-with}
 
 abbrev chan_in : Option Value → Option Name

@@ -1,12 +1,11 @@
 -- How the atoms of a configuration stay filed under their errands, with born marks and agents that have places.
-use Rattle.std.proofs.Common.{◌≡◌, Bool, true, false, cond, ◌||◌, ◌⊎◌, inl, inr, Option, None, Some, IsSome, option_map, refl, sym, ap, subst, ◌∙◌}
+use Rattle.std.proofs.Common.{◌≡◌, Bool, true, false, ◌||◌, inl, inr, Option, None, Some, IsSome, option_map, refl, sym, subst}
 use Rattle.std.specs.FinMap as map
 use Rattle.std.specs.FinSet as set
 use Rattle.np_syntax.specs.declared.value.Name.{Name}
 use Rattle.np_tables.specs.declared.errand.Errand.{Errand}
 use Rattle.np_tables.specs.Names.{NameMap, NameSet, same_name}
-use Rattle.np_tables.specs.Mapped.{mapped}
-use Rattle.np_tables.proofs.Tables.{put_cases, cut_cases, get-put, get-cut, born_insert, born_here, get-none, put_here}
+use Rattle.np_tables.proofs.Tables.{put_cases, cut_cases, born_insert, born_here, get-none, put_here}
 use Rattle.np_tables.proofs.Mapped.{get-mapped, mapped-put, mapped-cut, mapped-empty}
 use Rattle.np_calculus.specs.declared.config.Atom.{Atom}
 use Rattle.np_calculus.specs.declared.config.Place.{Place}

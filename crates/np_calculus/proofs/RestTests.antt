@@ -1,5 +1,5 @@
 -- What the tests of a configuration in code say of rest.
-use Rattle.std.proofs.Common.{◌≡◌, ℕ, Option, Some, None, IsSome, sym, subst}
+use Rattle.std.proofs.Common.{◌≡◌, ℕ, Option, Some, None, sym, subst}
 use Rattle.std.specs.FinMap as map
 use Rattle.np_syntax.specs.declared.value.Name.{Name}
 use Rattle.np_tables.specs.Names.{NameMap}

@@ -1,5 +1,5 @@
 -- The value of an expression, and the environment that a pattern gives (docs/LANGUAGE.md, "Values and evaluation").
-use Rattle.std.specs.Prelude.{ℕ, ℤ, Bool, true, false, not, ◌&&◌, cond, Option, None, Some, List, [], ◌∷◌, nat_eq, int_lt, ◌+ℤ◌, ◌-ℤ◌, ◌*ℤ◌}
+use Rattle.std.specs.Prelude.{ℕ, Bool, true, false, not, cond, Option, None, Some, List, [], ◌∷◌, nat_eq, int_lt, ◌+ℤ◌, ◌-ℤ◌, ◌*ℤ◌}
 use Rattle.std.specs.Ordering.{nat_cmp, int_eq}
 use Rattle.std.specs.Int.{int_wrap, w64}
 use Rattle.std.specs.Str.{bytes_eq}
@@ -13,7 +13,7 @@ use Rattle.np_syntax.specs.declared.expression.Expr.{Expr, fold-Expr}
 use Rattle.np_syntax.specs.declared.expression.ExprForm.{ExprForm, ExprForm-F, fold-ExprForm}
 use Rattle.np_syntax.specs.declared.pattern.Pat.{Pat, fold-Pat}
 use Rattle.np_syntax.specs.declared.pattern.PatForm.{PatForm, PatForm-F, fold-PatForm}
-use Rattle.np_tables.specs.Maybe.{◌>>=◌, ◌>>◌, need, all_some}
+use Rattle.np_tables.specs.Maybe.{◌>>=◌, all_some}
 use Rattle.np_tables.specs.Names.{same_name}
 
 -- what binders stand for

@@ -1,10 +1,9 @@
 -- Plain programs (docs/LANGUAGE.md, "The built form"): stop, parallel composition, new channels of integers, output, input
 -- and print, where each channel is bound by a `new` and each value is a number or is bound by an input.
-use Rattle.std.specs.Prelude.{◌≡◌, ◌<◌, ◌≤◌, ℕ, Bool, true, false, ◌&&◌, Option, None, Some, List, length}
+use Rattle.std.specs.Prelude.{◌≡◌, ◌<◌, ◌≤◌, Bool, true, false, ◌&&◌, Option, Some, length}
 use Rattle.std.specs.Ordering.{nat_cmp}
 use Rattle.std.specs.FinMap as map
 use Rattle.np_syntax.specs.declared.value.Value.{Value, Value-F, out-Value}
-use Rattle.np_syntax.specs.declared.types.Cap.{Cap}
 use Rattle.np_syntax.specs.declared.types.Cap.TheVariants as cap
 use Rattle.np_syntax.specs.declared.types.Ty.{Ty, Ty-F, out-Ty}
 use Rattle.np_syntax.specs.declared.expression.Expr.{Expr}

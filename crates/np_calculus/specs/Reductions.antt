@@ -1,6 +1,6 @@
 -- The table of reductions: what an event of each kind does to a configuration, or none where its row is not met
 -- (docs/LANGUAGE.md, "Reductions"). Each row is a chain of its conditions in the order of the table, and its effect.
-use Rattle.std.specs.Prelude.{ℕ, Bool, true, false, not, ◌&&◌, Option, None, Some, List, [], ◌∷◌, ◌++◌, nat_eq, nat_lt, cond}
+use Rattle.std.specs.Prelude.{ℕ, Bool, false, not, ◌&&◌, Option, None, Some, List, [], ◌∷◌, ◌++◌, nat_eq, nat_lt, cond}
 use Rattle.std.specs.FinMap as map
 use Rattle.std.specs.FinSet as set
 use Rattle.np_syntax.specs.declared.value.Name.{Name}
@@ -19,11 +19,10 @@ use Rattle.np_syntax.specs.declared.event.Kind.TheVariants as kind
 use Rattle.np_syntax.specs.declared.event.Made.{Made}
 use Rattle.np_syntax.specs.declared.event.Made.TheVariants as made
 use Rattle.np_calculus.specs.declared.config.Atom.{Atom}
-use Rattle.np_calculus.specs.declared.config.Packet.{Packet}
 use Rattle.np_calculus.specs.declared.config.Place.{Place}
 use Rattle.np_calculus.specs.declared.config.Place.TheVariants as place
 use Rattle.np_tables.specs.Maybe.{◌>>=◌, ◌>>◌, need}
-use Rattle.np_tables.specs.Names.{NameMap, same_name}
+use Rattle.np_tables.specs.Names.{same_name}
 use Rattle.np_calculus.specs.Config.{Config}
 use Rattle.np_calculus.specs.Eval.{Env, eval, bind, as_site, chan_of, agent_of, truth_of, letter_of, places_of, find_place}
 use Rattle.np_calculus.specs.Forms.{layer, as_stop, as_par, as_new, as_out, as_inp, as_rep, as_agent_form, as_migrate, as_iflocal, as_send, as_post, as_if, as_let, as_print, as_open, as_lookup}

@@ -12,14 +12,14 @@ use std::thread::Threads;
 
 /// What a call is lent.
 #[derive(Drop)]
-pub struct Trial {
-    pub texts: MemTexts,
-    pub out: MemSink,
-    pub err: MemSink,
+pub(super) struct Trial {
+    pub(super) texts: MemTexts,
+    pub(super) out: MemSink,
+    pub(super) err: MemSink,
 }
 
 /// The source under the name `a`, and two sinks that take so many bytes a call.
-pub fn make_trial(alloc: Global, source: &[u8], piece: usize) -> Result<Trial, Fail>
+pub(super) fn make_trial(alloc: Global, source: &[u8], piece: usize) -> Result<Trial, Fail>
     requires { 1 ≤ piece }
 {
     let mut texts = MemTexts::new(alloc);
@@ -32,7 +32,7 @@ pub fn make_trial(alloc: Global, source: &[u8], piece: usize) -> Result<Trial, F
 }
 
 /// Calls the program with these words.
-pub fn call_with<R: Threads + Wait + Sync>(
+pub(super) fn call_with<R: Threads + Wait + Sync>(
     rt: &R,
     alloc: Global,
     words: &[&str],
@@ -53,7 +53,7 @@ pub fn call_with<R: Threads + Wait + Sync>(
 }
 
 /// Calls the program with the words `run a`.
-pub fn run_a<R: Threads + Wait + Sync>(
+pub(super) fn run_a<R: Threads + Wait + Sync>(
     rt: &R,
     alloc: Global,
     trial: &mut Trial,
@@ -62,7 +62,7 @@ pub fn run_a<R: Threads + Wait + Sync>(
 }
 
 /// How many events the kept run has.
-pub fn events_of(answer: &Answer) -> Option<usize> {
+pub(super) fn events_of(answer: &Answer) -> Option<usize> {
     match &answer.kept {
         Some(made) => Some(made.events.len()),
         None => None,
@@ -70,6 +70,6 @@ pub fn events_of(answer: &Answer) -> Option<usize> {
 }
 
 /// The head of a program at one site, and this process.
-pub fn at_home(alloc: Global, main: &str) -> Result<String, AllocError> {
+pub(super) fn at_home(alloc: Global, main: &str) -> Result<String, AllocError> {
     format!(in alloc; "sites home ; main at home = {main}")
 }

@@ -1,6 +1,5 @@
-use Rattle.std.proofs.Common.{◌≡◌, Some, sym, ap, ◌∙◌, subst}
+use Rattle.std.proofs.Common.{sym, ap, ◌∙◌, subst}
 use Rattle.std.specs.Option.{option_copied}
-use Rattle.std.specs.FinMap as map
 use Rattle.np_syntax.specs.declared.event.Event.{Event}
 use Rattle.np_tables.specs.declared.errand.Errand.TheVariants as errand
 use Rattle.np_calculus.specs.Errands.{errand_of}

@@ -1,5 +1,4 @@
-use Rattle.std.proofs.Common.{◌≡◌, length, refl}
-use Rattle.np_calculus.proofs.Keeping.{kept-as, kept-start}
+use Rattle.np_calculus.proofs.Keeping.{kept-start}
 use Rattle.np_calculus.proofs.OwnNames.{mark-born}
 use Rattle.np_calculus.proofs.start.start_high.Goals as goal
 

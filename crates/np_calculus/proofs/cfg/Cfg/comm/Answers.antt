@@ -1,6 +1,5 @@
-use Rattle.std.proofs.Common.{◌≡◌, Some, IsSome, rules, refl, ap, ◌∙◌}
+use Rattle.std.proofs.Common.{◌≡◌, Some, rules, refl, ap, ◌∙◌}
 use Rattle.std.specs.FinMap as map
-use Rattle.np_syntax.specs.declared.process.Proc.{Proc}
 use Rattle.np_tables.specs.Names.{NameMap}
 use Rattle.np_tables.specs.Errands.{Work}
 use Rattle.np_calculus.specs.contracts.cfg.Cfg.{the_view}
@@ -8,7 +7,6 @@ use Rattle.np_calculus.specs.declared.config.Atom.{Atom}
 use Rattle.np_calculus.specs.Config.{Config}
 use Rattle.np_calculus.specs.Forms.{layer}
 use Rattle.np_calculus.specs.Met.{IsMet}
-use Rattle.np_calculus.specs.Moves.{body_at, body_in}
 use Rattle.np_calculus.specs.Reductions.{goes_under}
 use Rattle.np_calculus.proofs.Keeping.{kept-on, kept-cut, kept-as}
 use Rattle.np_calculus.proofs.Steps.{acting-step, step-comm, input-body}

@@ -1,9 +1,8 @@
-use Rattle.std.proofs.Common.{◌≡◌, Some, rules, refl, sym, ap, ◌∙◌}
+use Rattle.std.proofs.Common.{◌≡◌, Some, rules, refl, ap, ◌∙◌}
 use Rattle.std.specs.FinMap as map
-use Rattle.np_calculus.specs.declared.config.Atom.{Atom}
 use Rattle.np_calculus.specs.Config.{Config}
 use Rattle.np_calculus.specs.Forms.{layer, as_par}
-use Rattle.np_calculus.specs.Reductions.{acting, one_made, no_other, fresh, goes, goes_under}
+use Rattle.np_calculus.specs.Reductions.{acting, goes}
 use Rattle.np_calculus.proofs.Keeping.{kept-absent, kept-more}
 use Rattle.np_calculus.proofs.Steps.{acting-step, step-fork}
 use Rattle.np_calculus.proofs.cfg.Cfg.fork.Goals as goal

@@ -1,5 +1,4 @@
 use Rattle.std.proofs.Common.{sym, subst}
-use Rattle.np_calculus.specs.Config.{Config}
 use Rattle.np_calculus.specs.Idle.{Idle}
 use Rattle.np_calculus.specs.contracts.cfg.Cfg.{the_view}
 use Rattle.np_calculus.proofs.RestTests.{idle-work, idle-packets, idle-places, rests}

@@ -1,7 +1,5 @@
 use Rattle.std.proofs.Common.{◌≡◌, Some, rules, refl, ap, ◌∙◌}
 use Rattle.std.specs.FinMap as map
-use Rattle.np_syntax.specs.declared.value.Value as value
-use Rattle.np_calculus.specs.declared.config.Atom.{Atom}
 use Rattle.np_calculus.specs.Config.{Config}
 use Rattle.np_calculus.specs.Forms.{layer}
 use Rattle.np_calculus.specs.Moves.{body_at}
