@@ -1,5 +1,5 @@
 -- Events that are not enabled, one for each reason that a row has.
-use Rattle.std.proofs.Common.{◌≡◌, ℕ, ℤ, Bool, true, false, List, Option, None, Some, is_some, nat_eq, nat_lt, refl}
+use Rattle.std.proofs.Common.{◌≡◌, ℕ, ℤ, true, false, List, Option, None, Some, is_some, nat_eq, nat_lt, refl}
 use Rattle.std.specs.FinMap as map
 use Rattle.std.specs.FinSet as set
 use Rattle.np_syntax.specs.declared.value.Name.{Name}
@@ -20,23 +20,20 @@ use Rattle.np_syntax.specs.declared.event.Made.TheVariants as made
 use Rattle.np_tables.specs.Maybe.{◌>>=◌}
 use Rattle.np_tables.specs.Names.{same_name}
 use Rattle.np_calculus.specs.declared.config.Atom.{Atom}
+use Rattle.np_calculus.specs.declared.config.Packet.{Packet}
 use Rattle.np_calculus.specs.declared.config.Place.TheVariants as place
 use Rattle.np_calculus.specs.Config.{Config}
-use Rattle.np_calculus.specs.Eval.{Env, eval, bind, as_site, chan_of}
-use Rattle.np_calculus.specs.Forms.{Layer, layer, as_stop, as_par, as_new, as_inp, as_rep, as_agent_form, as_migrate, as_iflocal, as_send, as_post, as_if, as_let, as_print, as_open, as_lookup}
-use Rattle.np_calculus.specs.Reductions.{acting, same_tag, none_made, no_other, sends, offered, row, stop_row, fork_row, new_row, let_row, if_row, comm_row, rep_row, agent_row, depart_row, arrive_row, local_row, send_row, land_row, print_row, open_row, lookup_row, post_row}
+use Rattle.np_calculus.specs.Eval.{Env, eval, bind, as_site, chan_of, truth_of}
+use Rattle.np_calculus.specs.Forms.{layer, as_stop, as_par, as_new, as_inp, as_rep, as_agent_form, as_migrate, as_iflocal, as_send, as_post, as_if, as_let, as_print, as_open, as_lookup}
+use Rattle.np_calculus.specs.Reductions.{acting, same_tag, none_made, no_other, sends, offered, row}
+use Rattle.np_calculus.specs.Reductions.{stop_row, fork_row, new_row, let_row, if_row, comm_row, rep_row, agent_row, depart_row, arrive_row, local_row, send_row, land_row, print_row, open_row, lookup_row, post_row}
+use Rattle.np_calculus.specs.NotEnabled.{by_atom, asked}
 use Rattle.np_calculus.proofs.Evals.{eval-form, eval-var}
 use Rattle.np_calculus.proofs.Binds.{bind-form, bind-tuple}
 
 none_after : {A B : Type 0} (o : Option A) (f : A → Option B) → ((a : A) → f a ≡ None) → (o >>= f) ≡ None
 none_after None f h = refl
 none_after (Some a) f h = h a
-
--- an arrival and a landing have no acting atom
-abbrev pub by_atom : Kind → Bool
-by_atom kind.Arrive = false
-by_atom kind.Land = false
-by_atom _ = true
 
 -- without an acting atom no row of one is met
 pub no_actor : (k : Kind) (c : Config) (e : Event) → by_atom k ≡ true → acting c e ≡ None → row k c e ≡ None
@@ -78,26 +75,6 @@ pub other_tag : (k : Kind) (c : Config) (e : Event) (a : Atom) (s : ℕ) → by_
     → nat_eq s e.site ≡ true → same_tag a.proc.tag e.tag ≡ false → row k c e ≡ None
 other_tag k c e a s b there lies here apart = no_actor k c e b (rw (there, lies, here, apart) refl)
 
--- the form that each kind asks of the acting atom
-abbrev pub asked : Kind → Layer → Bool
-asked kind.Stop l = is_some (as_stop l)
-asked kind.Fork l = is_some (as_par l)
-asked kind.New l = is_some (as_new l)
-asked kind.Let l = is_some (as_let l)
-asked kind.If l = is_some (as_if l)
-asked kind.Comm l = is_some (as_inp l)
-asked kind.Rep l = is_some (as_rep l)
-asked kind.Agent l = is_some (as_agent_form l)
-asked kind.Depart l = is_some (as_migrate l)
-asked kind.Arrive l = false
-asked kind.Local l = is_some (as_iflocal l)
-asked kind.Send l = is_some (as_send l)
-asked kind.Land l = false
-asked kind.Print l = is_some (as_print l)
-asked kind.Open l = is_some (as_open l)
-asked kind.Lookup l = is_some (as_lookup l)
-asked kind.Post l = is_some (as_post l)
-
 none_there : {A : Type 0} (o : Option A) → is_some o ≡ false → o ≡ None
 none_there None h = refl
 none_there (Some a) h = absurd cc
@@ -138,6 +115,16 @@ pub not_travelling : (c : Config) (e : Event) (s : ℕ) → map.get c.places e.a
 unfolding arrive_row
 not_travelling c e s h = rw h refl
 
+-- the packet goes to another site
+pub packet_elsewhere : (c : Config) (e : Event) (p : Packet) → map.get c.packets e.actor ≡ Some p → nat_eq p.to e.site ≡ false → land_row c e ≡ None
+unfolding land_row
+packet_elsewhere c e p there apart = rw (there, apart) refl
+
+-- the agent is under way to another site
+pub bound_elsewhere : (c : Config) (e : Event) (s : ℕ) → map.get c.places e.actor ≡ Some (place.Way s) → nat_eq s e.site ≡ false → arrive_row c e ≡ None
+unfolding arrive_row
+bound_elsewhere c e s lies apart = rw (lies, apart) refl
+
 -- a stop makes no name
 pub name_made : (c : Config) (e : Event) (m : Name) → e.made ≡ made.One m → stop_row c e ≡ None
 unfolding stop_row
@@ -153,6 +140,12 @@ pub born_already : (c : Config) (e : Event) (m : Name) → e.made ≡ made.One m
 unfolding fork_row
 born_already c e m h born =
     none_after (acting c e) _ λ a. none_after (as_par (layer a.proc)) _ λ p. rw (h, born) (none_after (no_other e.other) _ λ l. refl)
+
+-- an agent and its first mark have one name
+pub one_name_twice : (c : Config) (e : Event) (m n : Name) → e.made ≡ made.Two m n → same_name m n ≡ true → agent_row c e ≡ None
+unfolding agent_row
+one_name_twice c e m n h same =
+    none_after (acting c e) _ λ a. none_after (as_agent_form (layer a.proc)) _ λ p. rw (h, same) (none_after (no_other e.other) _ λ l. refl)
 
 -- a stop takes no output
 pub output_taken : (c : Config) (e : Event) (o : Name) → e.other ≡ Some o → stop_row c e ≡ None
@@ -186,6 +179,12 @@ pub no_match : (c : Config) (e : Event) (a : Atom) (parts : Pat × Expr × Proc)
     → bind parts.0 v a.env ≡ None → let_row c e ≡ None
 unfolding let_row
 no_match c e a parts v acts is says apart = rw (acts, is, says, apart) refl
+
+-- the condition is no truth value
+pub no_truth : (c : Config) (e : Event) (a : Atom) (parts : Expr × Proc × Proc) → acting c e ≡ Some a → as_if (layer a.proc) ≡ Some parts
+    → truth_of parts.0 a.env ≡ None → if_row c e ≡ None
+unfolding if_row
+no_truth c e a parts acts is says = rw (acts, is, says) refl
 
 -- the expression of a print has no value
 pub no_value : (c : Config) (e : Event) (a : Atom) (x : Expr) → acting c e ≡ Some a → as_print (layer a.proc) ≡ Some x → eval x a.env ≡ None → print_row c e ≡ None

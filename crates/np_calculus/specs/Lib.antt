@@ -10,6 +10,7 @@ pub mod Forms
 pub mod Idle
 pub mod Met
 pub mod Moves
+pub mod NotEnabled
 pub mod Overlay
 pub mod Plain
 pub mod Reductions

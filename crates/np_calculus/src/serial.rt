@@ -31,7 +31,7 @@ pub struct SerialRun {
 }
 
 /// Runs a plain program at the high level, one event after another, for at most so many events. What can
-/// go on is taken from work lists, first come first served; the names that are made are numbered in order.
+/// go on is taken from work lists; the names that are made are numbered in order.
 pub fn run_serial(alloc: Global, p: &Program, budget: u32) -> Result<SerialRun, Memory>
     requires { IsPlain p.now }
     ensures { IfOk result (λ r. IsSerialRun p.now budget r.events r.last r.end) }

@@ -60,7 +60,9 @@ plain-par tag at p q sorts = plain-at (node tag at (form.Par p q)) sorts ∙ ap 
 
 plain-new : (tag : Tag) (at binder : ℕ) (t : Ty) (p : Proc) (sorts : Sorts) → plain (node tag at (form.New binder t p)) sorts ≡ (plains.int_channel_at (out-Ty t) && plain p (map.insert sorts binder plains.channel))
 unfolding plain plain_form
-plain-new tag at binder t p sorts = plain-at (node tag at (form.New binder t p)) sorts ∙ ap (λ f. plain_form f sorts) (sym (rolls-New binder t p)) ∙ ap (λ (f : Sorts → Bool). f sorts) (fold-roll-ProcForm _ _ _ _ (ProcForm-F.New binder t p))
+plain-new tag at binder t p sorts =
+    plain-at (node tag at (form.New binder t p)) sorts ∙ ap (λ f. plain_form f sorts) (sym (rolls-New binder t p))
+    ∙ ap (λ (f : Sorts → Bool). f sorts) (fold-roll-ProcForm _ _ _ _ (ProcForm-F.New binder t p))
 
 plain-out : (tag : Tag) (at : ℕ) (c e : Expr) (sorts : Sorts) → plain (node tag at (form.Out c e)) sorts ≡ (is_channel sorts c && is_number sorts e)
 unfolding plain plain_form
