@@ -1,0 +1,9 @@
+pub mod Longest
+pub mod Quotes
+pub mod Readings
+pub mod Digits
+pub mod Steps
+pub mod Once
+pub mod Answered
+pub mod Spelling
+pub mod Goes

@@ -1,0 +1,65 @@
+-- Each token has one text.
+use Rattle.std.proofs.Common.{◌≡◌, ℕ, ℤ, ◌+◌, ◌-◌, ◌*◌, true, false, List, [], ◌∷◌, ◌++◌, decimal, refl, sym, ap, arith, subst, ◌∙◌}
+use Rattle.std.specs.Prelude.{fold, ◌==◌}
+use Rattle.std.specs.Fmt.{signed_decimal}
+use Rattle.std.proofs.lemmas.Bool.Decides.{nat_tests}
+use Rattle.std.specs.Int.{IsInRange}
+use Rattle.std.proofs.lemmas.Str.Parse.{IsNumeralModel, numerals_by_fold}
+use Rattle.std.proofs.lemmas.Fmt.{decimal-digits_value, decimal_digit}
+use Rattle.np_lex.specs.declared.token.What.{What}
+use Rattle.np_lex.specs.declared.token.What.TheVariants as what
+use Rattle.np_lex.specs.Tokens as t
+use Rattle.np_lex.specs.Tokens.{is_digit, is_plain, Each, IsBody, IsToken, IsLegal, value}
+use Rattle.np_lex.specs.Spelling.{escaped, spelling}
+
+-- ---- numbers
+
+digit_range : (byte : ℕ) → is_digit byte ≡ true → IsInRange 48 57 byte
+digit_range byte digit = grind (arith, nat_tests)
+
+range_digit : (byte : ℕ) → IsInRange 48 57 byte → is_digit byte ≡ true
+range_digit byte range = grind (arith, nat_tests)
+
+abbrev step : ℕ → ℕ → ℕ
+step number digit = 10 * number + (digit - 48)
+
+digits_model : IsNumeralModel (Each is_digit) value
+digits_model = numerals_by_fold (Each is_digit)
+    (record { empty = tt; parts = λ byte bytes each. (digit_range byte each.0, each.1); more = λ byte bytes range each. (range_digit byte range, each) })
+    (fold step)
+    (record { empty = λ n. refl; more = λ n byte bytes range. ap (λ k. fold step k bytes) (omega arith) })
+
+pub number_text : {text : List ℕ} {n : ℤ} → IsToken text (what.Number n) → text ≡ signed_decimal n
+number_text t.nought = sym (decimal_digit 0 (omega arith))
+number_text (t.number {byte = byte} {bytes = bytes} digit other each same small) =
+    sym (ap decimal (sym same) ∙ decimal-digits_value digits_model (byte ∷ bytes) (digit, each) (omega arith) (λ e. absurd (other e)) (omega (arith, same)))
+
+-- ---- strings
+
+plain_escaped : (byte : ℕ) (text : List ℕ) → is_plain byte ≡ true → escaped (byte ∷ text) ≡ byte ∷ escaped text
+plain_escaped byte text plain =
+    let no_newline : (byte == 10) ≡ false = grind (arith, nat_tests) in
+    let no_quote : (byte == 34) ≡ false = grind (arith, nat_tests) in
+    let no_backslash : (byte == 92) ≡ false = grind (arith, nat_tests) in
+    rw (no_newline, no_quote, no_backslash)
+
+body_text : {bytes text : List ℕ} → IsBody bytes text → bytes ≡ escaped text
+body_text t.nothing = refl
+body_text (t.plain {byte = byte} {text = text} plain body) = ap (λ l. byte ∷ l) (body_text body) ∙ sym (plain_escaped byte text plain)
+body_text (t.newline body) = ap (λ l. 92 ∷ 110 ∷ l) (body_text body)
+body_text (t.quote body) = ap (λ l. 92 ∷ 34 ∷ l) (body_text body)
+body_text (t.backslash body) = ap (λ l. 92 ∷ 92 ∷ l) (body_text body)
+
+-- ---- tokens
+
+pub token_text : {text : List ℕ} {w : What} → IsToken text w → text ≡ spelling w
+token_text (t.key k) = refl
+token_text (t.name letter each few other) = refl
+token_text t.nought = number_text t.nought
+token_text (t.number digit other each same small) = number_text (t.number digit other each same small)
+token_text (t.string body few) = ap (λ l. 34 ∷ (l ++ 34 ∷ [])) (body_text body)
+token_text (t.sign s) = refl
+
+-- a token of some bytes is that of its spelling
+pub spelling_token : {w : What} → IsLegal w → IsToken (spelling w) w
+spelling_token {w = w} legal = subst (λ l. IsToken l w) (token_text legal.means) legal.means

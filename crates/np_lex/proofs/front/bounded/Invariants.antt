@@ -1,0 +1,6 @@
+use Rattle.std.proofs.Common.{◌≡◌, ◌≤◌, take}
+use Rattle.np_lex.specs.Tokens.{value}
+use Rattle.np_lex.proofs.front.bounded.Given as goal
+
+abbrev pub invariant-digits : goal.invariant-digits
+invariant-digits l = record { same : l.number ≡ value (take l.byte-index l.digits); small : l.number ≤ 9223372036854775807 }

@@ -1,0 +1,15 @@
+//! The tokens of a source.
+#![tactic(auto)]
+
+mod fail;
+mod front;
+mod strings;
+mod token;
+mod tokens;
+
+pub use fail::LexFail;
+pub use token::{Key, Sign, Token, What};
+pub use tokens::{Tokens, lex};
+
+#[cfg(test)]
+mod tests;
