@@ -1,0 +1,4 @@
+pub mod Counted
+pub mod Erases
+pub mod Parts
+pub mod Sized

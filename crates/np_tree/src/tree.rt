@@ -1,0 +1,81 @@
+use np_syntax::{Boxed, List, Op, Text, Ty, Value};
+
+/// A name with its offset in the source, in bytes.
+#[derive(Drop)]
+pub struct Ident {
+    pub at: u32,
+    pub text: Text,
+}
+
+/// A source as it is written: the names of its sites, the name after `main at`, and main's process.
+#[derive(Drop)]
+pub struct Tree {
+    pub sites: List<Ident>,
+    pub at: Ident,
+    pub main: RawProc,
+}
+
+/// An expression with the offset, in bytes, of its first token that is no round bracket.
+#[cycle(expr)]
+#[derive(Drop)]
+pub struct RawExpr {
+    pub at: u32,
+    pub form: RawExprForm,
+}
+
+/// The forms of an expression. A value is a number, a truth value or a string.
+#[cycle(expr)]
+#[derive(Drop)]
+pub enum RawExprForm {
+    Val(Value),
+    Main,
+    Var(Ident),
+    Tuple(List<RawExpr>),
+    Bin(Op, Boxed<RawExpr>, Boxed<RawExpr>),
+}
+
+/// A pattern with the offset of its first token, in bytes.
+#[cycle(pat)]
+#[derive(Drop)]
+pub struct RawPat {
+    pub at: u32,
+    pub form: RawPatForm,
+}
+
+/// The forms of a pattern: `_`, a binder, and a tuple.
+#[cycle(pat)]
+#[derive(Drop)]
+pub enum RawPatForm {
+    Any,
+    Bind(Ident),
+    Tuple(List<RawPat>),
+}
+
+/// A process with the offset of its first token, in bytes. The compositions of one bracket all have the
+/// offset of the bracket.
+#[cycle(process)]
+#[derive(Drop)]
+pub struct RawProc {
+    pub at: u32,
+    pub form: RawProcForm,
+}
+
+/// The forms of a process, with their parts in the order of the source.
+#[cycle(process)]
+#[derive(Drop)]
+pub enum RawProcForm {
+    Stop,
+    Par(Boxed<RawProc>, Boxed<RawProc>),
+    New(Ident, Ty, Boxed<RawProc>),
+    Out(Ident, RawExpr),
+    Inp(Ident, RawPat, Boxed<RawProc>),
+    Rep(Ident, RawPat, Boxed<RawProc>),
+    Agent(Ident, Boxed<RawProc>, Boxed<RawProc>),
+    Migrate(RawExpr, Boxed<RawProc>),
+    IfLocal(RawExpr, Ident, RawExpr, Boxed<RawProc>, Boxed<RawProc>),
+    Send(RawExpr, RawExpr, Ident, RawExpr),
+    Post(RawExpr, Ident, RawExpr),
+    If(RawExpr, Boxed<RawProc>, Boxed<RawProc>),
+    Let(RawPat, RawExpr, Boxed<RawProc>),
+    Print(RawExpr),
+}
