@@ -1,0 +1,11 @@
+pub mod Equations
+pub mod Pieces
+pub mod Canon
+pub mod CanonProc
+pub mod Raise
+pub mod ReadTypes
+pub mod ReadPats
+pub mod Literals
+pub mod ReadExprs
+pub mod ReadProcs
+pub mod Law

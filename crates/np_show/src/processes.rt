@@ -1,0 +1,261 @@
+//! The texts of processes.
+
+ghost use Rattle.std.specs.Prelude.{◌≡◌, ◌++◌, OnOk, true, false, codes};
+ghost use Rattle.np_show.specs.Shown.{type_text, pat_text, expr_text, message_text, proc_text};
+
+use super::expressions::{close_round, open_round, put_expr};
+use super::patterns::put_pat;
+use super::types::put_type;
+use np_syntax::{Boxed, Memory, Text, Ty};
+use np_tree::{Ident, RawExpr, RawPat, RawProc, RawProcForm};
+use std::alloc::Global;
+
+fn put_name(text: &mut Text, name: &Ident) -> Result<(), Memory>
+    ensures { OnOk result (text.new ≡ text.old ++ name.now.text) }
+{
+    text.append(name.text.as_slice())
+}
+
+/// `c!e`
+fn put_message(alloc: Global, text: &mut Text, c: &Ident, x: &RawExpr) -> Result<(), Memory>
+    ensures { OnOk result (text.new ≡ text.old ++ message_text c.now x.now) }
+{
+    put_name(text, c)?;
+    text.append(b"!")?;
+    put_expr(alloc, text, 0, x)
+}
+
+/// `<b@s>c!e`
+fn put_send(
+    alloc: Global,
+    text: &mut Text,
+    agent: &RawExpr,
+    site: &RawExpr,
+    c: &Ident,
+    x: &RawExpr,
+) -> Result<(), Memory>
+    ensures { OnOk result (text.new ≡ text.old ++ codes "<" ++ expr_text 3 agent.now ++ codes "@" ++ expr_text 3 site.now ++ codes ">" ++ message_text c.now x.now) }
+{
+    text.append(b"<")?;
+    put_expr(alloc, text, 3, agent)?;
+    text.append(b"@")?;
+    put_expr(alloc, text, 3, site)?;
+    text.append(b">")?;
+    put_message(alloc, text, c, x)
+}
+
+/// `<b@?>c!e`
+fn put_post(
+    alloc: Global,
+    text: &mut Text,
+    agent: &RawExpr,
+    c: &Ident,
+    x: &RawExpr,
+) -> Result<(), Memory>
+    ensures { OnOk result (text.new ≡ text.old ++ codes "<" ++ expr_text 3 agent.now ++ codes "@?>" ++ message_text c.now x.now) }
+{
+    text.append(b"<")?;
+    put_expr(alloc, text, 3, agent)?;
+    text.append(b"@?>")?;
+    put_message(alloc, text, c, x)
+}
+
+fn put_print(alloc: Global, text: &mut Text, x: &RawExpr) -> Result<(), Memory>
+    ensures { OnOk result (text.new ≡ text.old ++ codes "print " ++ expr_text 0 x.now) }
+{
+    text.append(b"print ")?;
+    put_expr(alloc, text, 0, x)
+}
+
+/// `c?p -> `
+fn put_taking(text: &mut Text, c: &Ident, pat: &RawPat) -> Result<(), Memory>
+    ensures { OnOk result (text.new ≡ text.old ++ c.now.text ++ codes "?" ++ pat_text pat.now ++ codes " -> ") }
+{
+    put_name(text, c)?;
+    text.append(b"?")?;
+    put_pat(text, pat)?;
+    text.append(b" -> ")
+}
+
+/// `agent b = `
+fn put_agent(text: &mut Text, name: &Ident) -> Result<(), Memory>
+    ensures { OnOk result (text.new ≡ text.old ++ codes "agent " ++ name.now.text ++ codes " = ") }
+{
+    text.append(b"agent ")?;
+    put_name(text, name)?;
+    text.append(b" = ")
+}
+
+/// `iflocal <b>c!e then `
+fn put_iflocal(
+    alloc: Global,
+    text: &mut Text,
+    agent: &RawExpr,
+    c: &Ident,
+    x: &RawExpr,
+) -> Result<(), Memory>
+    ensures { OnOk result (text.new ≡ text.old ++ codes "iflocal <" ++ expr_text 3 agent.now ++ codes ">" ++ message_text c.now x.now ++ codes " then ") }
+{
+    text.append(b"iflocal <")?;
+    put_expr(alloc, text, 3, agent)?;
+    text.append(b">")?;
+    put_message(alloc, text, c, x)?;
+    text.append(b" then ")
+}
+
+/// `if e then `
+fn put_if(alloc: Global, text: &mut Text, test: &RawExpr) -> Result<(), Memory>
+    ensures { OnOk result (text.new ≡ text.old ++ codes "if " ++ expr_text 0 test.now ++ codes " then ") }
+{
+    text.append(b"if ")?;
+    put_expr(alloc, text, 0, test)?;
+    text.append(b" then ")
+}
+
+/// The text of a process. A composition has its bracket where `bracket` says so.
+#[cycle(process)]
+pub fn put_proc(alloc: Global, text: &mut Text, bracket: bool, p: &RawProc) -> Result<(), Memory>
+    ensures { OnOk result (text.new ≡ text.old ++ proc_text bracket p.now) }
+{
+    use RawProcForm as Form;
+    match &p.form {
+        Form::Stop => text.append(b"0"),
+        Form::Par(p, q) => {
+            open_round(text, bracket)?;
+            put_left(alloc, text, false, p, b" | ")?;
+            put_part(alloc, text, q)?;
+            close_round(text, bracket)
+        }
+        Form::New(c, ty, p) => put_new(alloc, text, p, c, ty),
+        Form::Out(c, x) => put_message(alloc, text, c, x),
+        Form::Inp(c, pat, p) => put_input(alloc, text, p, c, pat),
+        Form::Rep(c, pat, p) => put_always(alloc, text, p, c, pat),
+        Form::Agent(b, p, q) => {
+            put_agent(text, b)?;
+            put_left(alloc, text, true, p, b" in ")?;
+            put_part(alloc, text, q)
+        }
+        Form::Migrate(site, p) => put_migrate(alloc, text, p, site),
+        Form::IfLocal(b, c, x, p, q) => {
+            put_iflocal(alloc, text, b, c, x)?;
+            put_left(alloc, text, true, p, b" else ")?;
+            put_part(alloc, text, q)
+        }
+        Form::Send(b, s, c, x) => put_send(alloc, text, b, s, c, x),
+        Form::Post(b, c, x) => put_post(alloc, text, b, c, x),
+        Form::If(test, p, q) => {
+            put_if(alloc, text, test)?;
+            put_left(alloc, text, true, p, b" else ")?;
+            put_part(alloc, text, q)
+        }
+        Form::Let(pat, x, p) => put_let(alloc, text, p, pat, x),
+        Form::Print(x) => put_print(alloc, text, x),
+    }
+}
+
+/// `new c : ^Int in P`
+#[cycle(process)]
+fn put_new(
+    alloc: Global,
+    text: &mut Text,
+    p: &Boxed<RawProc>,
+    c: &Ident,
+    ty: &Ty,
+) -> Result<(), Memory>
+    ensures { OnOk result (text.new ≡ text.old ++ codes "new " ++ c.now.text ++ codes " : " ++ type_text ty.now ++ codes " in " ++ proc_text true p.now) }
+{
+    text.append(b"new ")?;
+    put_name(text, c)?;
+    text.append(b" : ")?;
+    put_type(text, ty)?;
+    text.append(b" in ")?;
+    put_part(alloc, text, p)
+}
+
+/// `c?p -> P`
+#[cycle(process)]
+fn put_input(
+    alloc: Global,
+    text: &mut Text,
+    p: &Boxed<RawProc>,
+    c: &Ident,
+    pat: &RawPat,
+) -> Result<(), Memory>
+    ensures { OnOk result (text.new ≡ text.old ++ c.now.text ++ codes "?" ++ pat_text pat.now ++ codes " -> " ++ proc_text true p.now) }
+{
+    put_taking(text, c, pat)?;
+    put_part(alloc, text, p)
+}
+
+/// `*c?p -> P`
+#[cycle(process)]
+fn put_always(
+    alloc: Global,
+    text: &mut Text,
+    p: &Boxed<RawProc>,
+    c: &Ident,
+    pat: &RawPat,
+) -> Result<(), Memory>
+    ensures { OnOk result (text.new ≡ text.old ++ codes "*" ++ c.now.text ++ codes "?" ++ pat_text pat.now ++ codes " -> " ++ proc_text true p.now) }
+{
+    text.append(b"*")?;
+    put_taking(text, c, pat)?;
+    put_part(alloc, text, p)
+}
+
+/// `migrate to e -> P`
+#[cycle(process)]
+fn put_migrate(
+    alloc: Global,
+    text: &mut Text,
+    p: &Boxed<RawProc>,
+    site: &RawExpr,
+) -> Result<(), Memory>
+    ensures { OnOk result (text.new ≡ text.old ++ codes "migrate to " ++ expr_text 0 site.now ++ codes " -> " ++ proc_text true p.now) }
+{
+    text.append(b"migrate to ")?;
+    put_expr(alloc, text, 0, site)?;
+    text.append(b" -> ")?;
+    put_part(alloc, text, p)
+}
+
+/// `let p = e in P`
+#[cycle(process)]
+fn put_let(
+    alloc: Global,
+    text: &mut Text,
+    p: &Boxed<RawProc>,
+    pat: &RawPat,
+    x: &RawExpr,
+) -> Result<(), Memory>
+    ensures { OnOk result (text.new ≡ text.old ++ codes "let " ++ pat_text pat.now ++ codes " = " ++ expr_text 0 x.now ++ codes " in " ++ proc_text true p.now) }
+{
+    text.append(b"let ")?;
+    put_pat(text, pat)?;
+    text.append(b" = ")?;
+    put_expr(alloc, text, 0, x)?;
+    text.append(b" in ")?;
+    put_part(alloc, text, p)
+}
+
+#[cycle(process)]
+fn put_part(alloc: Global, text: &mut Text, p: &Boxed<RawProc>) -> Result<(), Memory>
+    ensures { OnOk result (text.new ≡ text.old ++ proc_text true p.now) }
+{
+    put_proc(alloc, text, true, p.get())
+}
+
+/// A part, and what stands behind it.
+#[cycle(process)]
+fn put_left(
+    alloc: Global,
+    text: &mut Text,
+    bracket: bool,
+    p: &Boxed<RawProc>,
+    behind: &[u8],
+) -> Result<(), Memory>
+    ensures { OnOk result (text.new ≡ text.old ++ proc_text bracket p.now ++ behind.now) }
+{
+    put_proc(alloc, text, bracket, p.get())?;
+    text.append(behind)
+}
