@@ -1,0 +1,66 @@
+use Rattle.std.proofs.Common.{suc, ◌+◌, ◌*◌, ◌-◌, ◌≡◌, ◌≤◌, []}
+use Rattle.np_parse.specs.Read.Tuples.{parts}
+use Rattle.np_parse.specs.Read.Expressions.{multiplies, adds, chain, atom, prod, expr}
+use Rattle.np_parse.proofs.expression.+expr.Given as goal
+
+abbrev pub decreases-expr : goal.decreases-expr
+decreases-expr l = 12 * l.levels
+
+abbrev pub decreases-sum : goal.decreases-sum
+decreases-sum l = 12 * l.levels
+
+abbrev pub decreases-prod : goal.decreases-prod
+decreases-prod l = 12 * l.levels
+
+abbrev pub decreases-atom : goal.decreases-atom
+decreases-atom l = 12 * l.levels
+
+abbrev pub decreases-expr_in : goal.decreases-expr_in
+decreases-expr_in l = 12 * l.below + 11
+
+abbrev pub decreases-sum_in : goal.decreases-sum_in
+decreases-sum_in l = 12 * l.below + 9
+
+abbrev pub decreases-prod_in : goal.decreases-prod_in
+decreases-prod_in l = 12 * l.below + 7
+
+abbrev pub decreases-atom_in : goal.decreases-atom_in
+decreases-atom_in l = 12 * l.below + 5
+
+abbrev pub decreases-comparison : goal.decreases-comparison
+decreases-comparison l = 12 * l.below + 1
+
+abbrev pub decreases-terms : goal.decreases-terms
+decreases-terms l = 12 * l.below + 1
+
+abbrev pub decreases-factors : goal.decreases-factors
+decreases-factors l = 12 * l.below + 1
+
+abbrev pub decreases-round : goal.decreases-round
+decreases-round l = 12 * l.below + 1
+
+abbrev pub decreases-tuple : goal.decreases-tuple
+decreases-tuple l = 12 * l.below + 3
+
+abbrev pub decreases-expr_parts : goal.decreases-expr_parts
+decreases-expr_parts l = 12 * l.below + 1
+
+abbrev pub invariant-expr_parts-parts : goal.invariant-expr_parts-parts
+invariant-expr_parts-parts l = record {
+  same : parts (expr l.below) 16 [] 0 l.initial.tokens ≡ parts (expr l.below) (16 - l.counter) l.items l.depth l.tokens;
+  within : l.depth ≤ l.below;
+}
+
+abbrev pub invariant-factors-turns : goal.invariant-factors-turns
+invariant-factors-turns l = record {
+  same : chain multiplies (atom l.below) (suc l.below) (suc l.below) l.initial.left l.initial.tokens
+      ≡ chain multiplies (atom l.below) (suc l.below) (suc l.below - l.counter) l.left l.tokens;
+  within : l.left.1 ≤ l.below + 1;
+}
+
+abbrev pub invariant-terms-turns : goal.invariant-terms-turns
+invariant-terms-turns l = record {
+  same : chain adds (prod l.below) (suc l.below) (suc l.below) l.initial.left l.initial.tokens
+      ≡ chain adds (prod l.below) (suc l.below) (suc l.below - l.counter) l.left l.tokens;
+  within : l.left.1 ≤ l.below + 1;
+}

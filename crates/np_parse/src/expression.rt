@@ -1,0 +1,329 @@
+//! How expressions are read.
+
+ghost use Rattle.std.specs.Prelude.{◌≡◌, ◌≤◌, ◌<◌, ◌+◌, suc, [], IfOk};
+ghost use Rattle.np_parse.specs.Input.{Reads, nothing};
+ghost use Rattle.np_parse.specs.Read.Tuples.{tuple_in, parts};
+ghost use Rattle.np_parse.specs.Read.Expressions as spec;
+
+use super::closing::{closed, closes};
+use super::cursor::Cursor;
+use super::fail::ParseFail;
+use super::operator::{adds, compares, multiplies, operation};
+use np_lex::{Key, Sign, What};
+use np_syntax::{List, Value};
+use np_tree::{RawExpr, RawExprForm};
+use std::alloc::Global;
+
+// ---- atoms without parts
+
+fn begins_atom(what: &What) -> bool
+    ensures { result ≡ spec.begins_atom what.now }
+{
+    match what {
+        What::Number(_) | What::Str(_) | What::Ident(_) => true,
+        What::Word(Key::True | Key::False | Key::Main) => true,
+        What::Sign(Sign::RoundOpen | Sign::SquareOpen) => true,
+        _ => false,
+    }
+}
+
+/// Where no level is left for an expression.
+#[tactic(auto, unfolding(crate::specs::Input::nothing))]
+fn no_expr(tokens: &Cursor<'_>) -> Result<(RawExpr, u32), ParseFail>
+    ensures reads { Reads (nothing spec.begins_atom tokens.now) result tokens.now }
+    ensures within { IfOk result (λ x. x.1 ≡ 0) }
+{
+    if begins_atom(tokens.peek()?) {
+        Err(tokens.too_deep())
+    } else {
+        Err(tokens.syntax())
+    }
+}
+
+fn leaf(tokens: &mut Cursor<'_>, form: RawExprForm) -> Result<(RawExpr, u32), ParseFail>
+    ensures reads { Reads (spec.leaf form tokens.old) result tokens.new }
+    ensures within { IfOk result (λ x. x.1 ≡ 1) }
+{
+    let at = tokens.take()?;
+    Ok((RawExpr { at, form }, 1))
+}
+
+#[tactic(auto, unfolding(crate::specs::Read::Expressions::variable))]
+fn variable(alloc: Global, tokens: &mut Cursor<'_>) -> Result<(RawExpr, u32), ParseFail>
+    ensures reads { Reads (spec.variable tokens.old) result tokens.new }
+    ensures within { IfOk result (λ x. x.1 ≡ 1) }
+{
+    let name = tokens.name(alloc)?;
+    let at = name.at;
+    let form = RawExprForm::Var(name);
+    Ok((RawExpr { at, form }, 1))
+}
+
+// ---- atoms
+
+/// The parts of a tuple, and the closing bracket.
+#[tactic(auto, using(crate::proofs::Steps::parts_refused, crate::proofs::Steps::parts_end, crate::proofs::Steps::parts_step, crate::proofs::Steps::parts_full))]
+#[cycle(expr)]
+fn expr_parts(
+    alloc: Global,
+    tokens: &mut Cursor<'_>,
+    below: u32,
+) -> Result<(List<RawExpr>, u32), ParseFail>
+    requires { below < 200 }
+    ensures reads { Reads (parts (spec.expr below) 16 [] 0 tokens.old) result tokens.new }
+    ensures within { IfOk result (λ x. x.1 ≤ below) }
+{
+    let mut items = List::new(alloc);
+    let mut depth: u32 = 0;
+    'parts: for _ in 0..16u32 {
+        if closes(tokens.peek()?) {
+            return closed(tokens, items, depth);
+        }
+        let (item, deep) = expr(alloc, tokens, below)?;
+        items.add(item)?;
+        depth = depth.max(deep);
+    }
+    closed(tokens, items, depth)
+}
+
+#[tactic(auto, unfolding(crate::specs::Read::Tuples::tuple_in))]
+#[cycle(expr)]
+fn tuple(alloc: Global, tokens: &mut Cursor<'_>, below: u32) -> Result<(RawExpr, u32), ParseFail>
+    requires { below < 200 }
+    ensures reads { Reads (tuple_in (spec.expr below) spec.tuple_expression tokens.old) result tokens.new }
+    ensures within { IfOk result (λ x. x.1 ≤ below + 1) }
+{
+    let at = tokens.take()?;
+    let (items, depth) = expr_parts(alloc, tokens, below)?;
+    let form = RawExprForm::Tuple(items);
+    Ok((RawExpr { at, form }, depth + 1))
+}
+
+/// An expression between round brackets, which count as a level.
+#[tactic(auto, unfolding(crate::specs::Read::Expressions::round))]
+#[cycle(expr)]
+fn round(alloc: Global, tokens: &mut Cursor<'_>, below: u32) -> Result<(RawExpr, u32), ParseFail>
+    requires { below < 200 }
+    ensures reads { Reads (spec.round (spec.expr below) below tokens.old) result tokens.new }
+    ensures within { IfOk result (λ x. x.1 ≤ below + 1) }
+{
+    if below == 0 {
+        return Err(tokens.too_deep());
+    }
+    tokens.take()?;
+    let (inner, depth) = expr(alloc, tokens, below)?;
+    tokens.expect_sign(Sign::RoundClose)?;
+    Ok((inner, depth + 1))
+}
+
+/// An atom, with so many levels below it for its parts.
+#[tactic(auto, unfolding(crate::specs::Read::Expressions::readers, crate::specs::Read::Expressions::atom_in))]
+#[cycle(expr)]
+fn atom_in(alloc: Global, tokens: &mut Cursor<'_>, below: u32) -> Result<(RawExpr, u32), ParseFail>
+    requires { below < 200 }
+    ensures reads { Reads (spec.atom (suc below) tokens.old) result tokens.new }
+    ensures within { IfOk result (λ x. x.1 ≤ below + 1) }
+{
+    match tokens.peek()? {
+        What::Number(number) => leaf(tokens, RawExprForm::Val(Value::Int(*number))),
+        What::Str(text) => {
+            let text = text.copy(alloc)?;
+            leaf(tokens, RawExprForm::Val(Value::Str(text)))
+        }
+        What::Ident(_) => variable(alloc, tokens),
+        What::Word(Key::True) => leaf(tokens, RawExprForm::Val(Value::Truth(true))),
+        What::Word(Key::False) => leaf(tokens, RawExprForm::Val(Value::Truth(false))),
+        What::Word(Key::Main) => leaf(tokens, RawExprForm::Main),
+        What::Sign(Sign::RoundOpen) => round(alloc, tokens, below),
+        What::Sign(Sign::SquareOpen) => tuple(alloc, tokens, below),
+        _ => Err(tokens.syntax()),
+    }
+}
+
+/// An atom of so many levels at most.
+#[tactic(auto, using(crate::proofs::Levels::deeper_atom), unfolding(crate::specs::Read::Expressions::readers))]
+#[cycle(expr)]
+pub fn atom(
+    alloc: Global,
+    tokens: &mut Cursor<'_>,
+    levels: u32,
+) -> Result<(RawExpr, u32), ParseFail>
+    requires { levels ≤ 200 }
+    ensures reads { Reads (spec.atom levels tokens.old) result tokens.new }
+    ensures within { IfOk result (λ x. x.1 ≤ levels) }
+{
+    if levels == 0 {
+        no_expr(tokens)
+    } else {
+        atom_in(alloc, tokens, levels - 1)
+    }
+}
+
+// ---- products and sums
+
+/// What stands behind the first factor of a product.
+#[tactic(auto, using(crate::proofs::Steps::chain_refused, crate::proofs::Steps::chain_done, crate::proofs::Steps::chain_deep, crate::proofs::Steps::chain_stuck, crate::proofs::Steps::chain_right_refused, crate::proofs::Steps::chain_step, crate::proofs::Steps::chain_out))]
+#[cycle(expr)]
+fn factors(
+    alloc: Global,
+    tokens: &mut Cursor<'_>,
+    below: u32,
+    first: (RawExpr, u32),
+) -> Result<(RawExpr, u32), ParseFail>
+    requires levels { below < 200 }
+    requires first { first.1 ≤ below + 1 }
+    ensures reads { Reads (spec.chain spec.multiplies (spec.atom below) (suc below) (suc below) first tokens.old) result tokens.new }
+    ensures within { IfOk result (λ x. x.1 ≤ below + 1) }
+{
+    let mut left = first;
+    'turns: for _ in 0..below + 1 {
+        let Some(op) = multiplies(tokens.peek()?) else {
+            return Ok(left);
+        };
+        if left.1 > below {
+            return Err(tokens.too_deep());
+        }
+        tokens.take()?;
+        let right = atom(alloc, tokens, below)?;
+        left = operation(alloc, op, left, right)?;
+    }
+    Err(tokens.too_deep())
+}
+
+#[tactic(auto, unfolding(crate::specs::Read::Expressions::readers))]
+#[cycle(expr)]
+fn prod_in(alloc: Global, tokens: &mut Cursor<'_>, below: u32) -> Result<(RawExpr, u32), ParseFail>
+    requires { below < 200 }
+    ensures reads { Reads (spec.prod (suc below) tokens.old) result tokens.new }
+    ensures within { IfOk result (λ x. x.1 ≤ below + 1) }
+{
+    let first = atom_in(alloc, tokens, below)?;
+    factors(alloc, tokens, below, first)
+}
+
+/// A product of so many levels at most.
+#[tactic(auto, using(crate::proofs::Levels::deeper_prod), unfolding(crate::specs::Read::Expressions::readers))]
+#[cycle(expr)]
+fn prod(alloc: Global, tokens: &mut Cursor<'_>, levels: u32) -> Result<(RawExpr, u32), ParseFail>
+    requires { levels ≤ 200 }
+    ensures reads { Reads (spec.prod levels tokens.old) result tokens.new }
+    ensures within { IfOk result (λ x. x.1 ≤ levels) }
+{
+    if levels == 0 {
+        no_expr(tokens)
+    } else {
+        prod_in(alloc, tokens, levels - 1)
+    }
+}
+
+/// What stands behind the first term of a sum.
+#[tactic(auto, using(crate::proofs::Steps::chain_refused, crate::proofs::Steps::chain_done, crate::proofs::Steps::chain_deep, crate::proofs::Steps::chain_stuck, crate::proofs::Steps::chain_right_refused, crate::proofs::Steps::chain_step, crate::proofs::Steps::chain_out))]
+#[cycle(expr)]
+fn terms(
+    alloc: Global,
+    tokens: &mut Cursor<'_>,
+    below: u32,
+    first: (RawExpr, u32),
+) -> Result<(RawExpr, u32), ParseFail>
+    requires levels { below < 200 }
+    requires first { first.1 ≤ below + 1 }
+    ensures reads { Reads (spec.chain spec.adds (spec.prod below) (suc below) (suc below) first tokens.old) result tokens.new }
+    ensures within { IfOk result (λ x. x.1 ≤ below + 1) }
+{
+    let mut left = first;
+    'turns: for _ in 0..below + 1 {
+        let Some(op) = adds(tokens.peek()?) else {
+            return Ok(left);
+        };
+        if left.1 > below {
+            return Err(tokens.too_deep());
+        }
+        tokens.take()?;
+        let right = prod(alloc, tokens, below)?;
+        left = operation(alloc, op, left, right)?;
+    }
+    Err(tokens.too_deep())
+}
+
+#[tactic(auto, unfolding(crate::specs::Read::Expressions::readers))]
+#[cycle(expr)]
+fn sum_in(alloc: Global, tokens: &mut Cursor<'_>, below: u32) -> Result<(RawExpr, u32), ParseFail>
+    requires { below < 200 }
+    ensures reads { Reads (spec.sum (suc below) tokens.old) result tokens.new }
+    ensures within { IfOk result (λ x. x.1 ≤ below + 1) }
+{
+    let first = prod_in(alloc, tokens, below)?;
+    terms(alloc, tokens, below, first)
+}
+
+/// A sum of so many levels at most.
+#[tactic(auto, using(crate::proofs::Levels::deeper_sum), unfolding(crate::specs::Read::Expressions::readers))]
+#[cycle(expr)]
+fn sum(alloc: Global, tokens: &mut Cursor<'_>, levels: u32) -> Result<(RawExpr, u32), ParseFail>
+    requires { levels ≤ 200 }
+    ensures reads { Reads (spec.sum levels tokens.old) result tokens.new }
+    ensures within { IfOk result (λ x. x.1 ≤ levels) }
+{
+    if levels == 0 {
+        no_expr(tokens)
+    } else {
+        sum_in(alloc, tokens, levels - 1)
+    }
+}
+
+// ---- expressions
+
+/// What stands behind the first side of a comparison, if this is one.
+#[tactic(auto, unfolding(crate::specs::Read::Expressions::comparison))]
+#[cycle(expr)]
+fn comparison(
+    alloc: Global,
+    tokens: &mut Cursor<'_>,
+    below: u32,
+    left: (RawExpr, u32),
+) -> Result<(RawExpr, u32), ParseFail>
+    requires levels { below < 200 }
+    requires left { left.1 ≤ below + 1 }
+    ensures reads { Reads (spec.comparison (spec.sum below) (suc below) left tokens.old) result tokens.new }
+    ensures within { IfOk result (λ x. x.1 ≤ below + 1) }
+{
+    let Some(op) = compares(tokens.peek()?) else {
+        return Ok(left);
+    };
+    if left.1 > below {
+        return Err(tokens.too_deep());
+    }
+    tokens.take()?;
+    let right = sum(alloc, tokens, below)?;
+    Ok(operation(alloc, op, left, right)?)
+}
+
+#[tactic(auto, unfolding(crate::specs::Read::Expressions::readers))]
+#[cycle(expr)]
+fn expr_in(alloc: Global, tokens: &mut Cursor<'_>, below: u32) -> Result<(RawExpr, u32), ParseFail>
+    requires { below < 200 }
+    ensures reads { Reads (spec.expr (suc below) tokens.old) result tokens.new }
+    ensures within { IfOk result (λ x. x.1 ≤ below + 1) }
+{
+    let left = sum_in(alloc, tokens, below)?;
+    comparison(alloc, tokens, below, left)
+}
+
+/// An expression of so many levels at most.
+#[tactic(auto, using(crate::proofs::Levels::deeper_expr), unfolding(crate::specs::Read::Expressions::readers))]
+#[cycle(expr)]
+pub fn expr(
+    alloc: Global,
+    tokens: &mut Cursor<'_>,
+    levels: u32,
+) -> Result<(RawExpr, u32), ParseFail>
+    requires { levels ≤ 200 }
+    ensures reads { Reads (spec.expr levels tokens.old) result tokens.new }
+    ensures within { IfOk result (λ x. x.1 ≤ levels) }
+{
+    if levels == 0 {
+        no_expr(tokens)
+    } else {
+        expr_in(alloc, tokens, levels - 1)
+    }
+}

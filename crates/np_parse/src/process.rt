@@ -1,0 +1,288 @@
+//! How processes are read.
+
+ghost use Rattle.std.specs.Prelude.{◌≡◌, ◌≤◌, ◌<◌, ◌+◌, suc, IfOk};
+ghost use Rattle.np_parse.specs.Input.{Reads};
+ghost use Rattle.np_parse.specs.Read.Heads.{single_form, double_form, between};
+ghost use Rattle.np_parse.specs.Read.Processes as spec;
+
+use super::cursor::Cursor;
+use super::fail::ParseFail;
+use super::flat::{directed, output, print, stop};
+use super::head::{
+    Double, DoubleForm, Single, SingleForm, agent_head, if_head, iflocal_head, input_head,
+    let_head, migrate_head, new_head, replicated_head,
+};
+use np_lex::{Key, Sign, What};
+use np_syntax::{Boxed, Memory};
+use np_tree::{RawProc, RawProcForm};
+use std::alloc::Global;
+
+/// The form with this process in it.
+fn single_form(head: SingleForm, inner: Boxed<RawProc>) -> RawProcForm
+    ensures { result ≡ single_form head inner }
+{
+    match head {
+        SingleForm::New(name, ty) => RawProcForm::New(name, ty, inner),
+        SingleForm::Inp(channel, pattern) => RawProcForm::Inp(channel, pattern, inner),
+        SingleForm::Rep(channel, pattern) => RawProcForm::Rep(channel, pattern, inner),
+        SingleForm::Migrate(site) => RawProcForm::Migrate(site, inner),
+        SingleForm::Let(pattern, value) => RawProcForm::Let(pattern, value, inner),
+    }
+}
+
+/// The form with these processes in it.
+fn double_form(head: DoubleForm, first: Boxed<RawProc>, second: Boxed<RawProc>) -> RawProcForm
+    ensures { result ≡ double_form head first second }
+{
+    match head {
+        DoubleForm::Agent(name) => RawProcForm::Agent(name, first, second),
+        DoubleForm::IfLocal(agent, channel, value) => {
+            RawProcForm::IfLocal(agent, channel, value, first, second)
+        }
+        DoubleForm::If(test) => RawProcForm::If(test, first, second),
+    }
+}
+
+/// Takes the keyword between the two processes.
+fn between(tokens: &mut Cursor<'_>, head: &DoubleForm) -> Result<u32, ParseFail>
+    ensures { Reads (between head.now tokens.old) result tokens.new }
+{
+    match head {
+        DoubleForm::Agent(_) => tokens.expect_word(Key::In),
+        DoubleForm::IfLocal(_, _, _) => tokens.expect_word(Key::Else),
+        DoubleForm::If(_) => tokens.expect_word(Key::Else),
+    }
+}
+
+fn ends(what: &What) -> bool
+    ensures { result ≡ spec.ends what.now }
+{
+    matches!(what, What::Sign(Sign::RoundClose))
+}
+
+fn divides(what: &What) -> bool
+    ensures { result ≡ spec.divides what.now }
+{
+    matches!(what, What::Sign(Sign::Bar))
+}
+
+/// The composition of both, with its depth.
+fn both(
+    alloc: Global,
+    at: u32,
+    left: (RawProc, u32),
+    right: (RawProc, u32),
+) -> Result<(RawProc, u32), Memory>
+    requires left { left.1 < 200 }
+    requires right { right.1 < 200 }
+    ensures { IfOk result (λ x. x ≡ spec.both at left right) }
+{
+    let (left, deep) = left;
+    let (right, depth) = right;
+    let left = Boxed::of(alloc, left)?;
+    let right = Boxed::of(alloc, right)?;
+    let form = RawProcForm::Par(left, right);
+    Ok((RawProc { at, form }, deep.max(depth) + 1))
+}
+
+/// A form with one process in it, behind what stands before it.
+#[tactic(auto, unfolding(crate::specs::Read::Processes::single))]
+#[cycle(proc)]
+fn single(
+    alloc: Global,
+    tokens: &mut Cursor<'_>,
+    below: u32,
+    head: Single,
+) -> Result<(RawProc, u32), ParseFail>
+    requires { below < 200 }
+    ensures reads { Reads (spec.single (spec.proc 200 below) head tokens.old) result tokens.new }
+    ensures within { IfOk result (λ x. x.1 ≤ below + 1) }
+{
+    let Single { at, form } = head;
+    let (inner, depth) = proc(alloc, tokens, below)?;
+    let inner = Boxed::of(alloc, inner)?;
+    let form = single_form(form, inner);
+    Ok((RawProc { at, form }, depth + 1))
+}
+
+/// A form with two processes in it, behind what stands before the first.
+#[tactic(auto, unfolding(crate::specs::Read::Processes::double))]
+#[cycle(proc)]
+fn double(
+    alloc: Global,
+    tokens: &mut Cursor<'_>,
+    below: u32,
+    head: Double,
+) -> Result<(RawProc, u32), ParseFail>
+    requires { below < 200 }
+    ensures reads { Reads (spec.double (spec.proc 200 below) head tokens.old) result tokens.new }
+    ensures within { IfOk result (λ x. x.1 ≤ below + 1) }
+{
+    let Double { at, form } = head;
+    let (first, deep) = proc(alloc, tokens, below)?;
+    between(tokens, &form)?;
+    let (second, depth) = proc(alloc, tokens, below)?;
+    let first = Boxed::of(alloc, first)?;
+    let second = Boxed::of(alloc, second)?;
+    let form = double_form(form, first, second);
+    Ok((RawProc { at, form }, deep.max(depth) + 1))
+}
+
+/// An output or an input, from the channel's name on.
+#[tactic(auto, unfolding(crate::specs::Read::Processes::on_channel))]
+#[cycle(proc)]
+fn on_channel(
+    alloc: Global,
+    tokens: &mut Cursor<'_>,
+    below: u32,
+) -> Result<(RawProc, u32), ParseFail>
+    requires { below < 200 }
+    ensures reads { Reads (spec.on_channel (spec.proc 200 below) 200 below tokens.old) result tokens.new }
+    ensures within { IfOk result (λ x. x.1 ≤ below + 1) }
+{
+    let channel = tokens.name(alloc)?;
+    match tokens.peek()? {
+        What::Sign(Sign::Bang) => output(alloc, tokens, channel),
+        What::Sign(Sign::Query) => {
+            let head = input_head(alloc, tokens, below, channel)?;
+            single(alloc, tokens, below, head)
+        }
+        _ => Err(tokens.syntax()),
+    }
+}
+
+/// A bracket of processes.
+#[tactic(auto, unfolding(crate::specs::Read::Processes::bracket))]
+#[cycle(proc)]
+fn bracket(alloc: Global, tokens: &mut Cursor<'_>, below: u32) -> Result<(RawProc, u32), ParseFail>
+    requires { below < 200 }
+    ensures reads { Reads (spec.bracket (spec.proc 200 below) below tokens.old) result tokens.new }
+    ensures within { IfOk result (λ x. x.1 ≤ below + 1) }
+{
+    if below == 0 {
+        return Err(tokens.too_deep());
+    }
+    let at = tokens.take()?;
+    let first = proc(alloc, tokens, below)?;
+    tokens.expect_sign(Sign::Bar)?;
+    others(alloc, tokens, below, at, first)
+}
+
+/// What stands behind the first bar of a bracket.
+#[cycle(proc)]
+fn others(
+    alloc: Global,
+    tokens: &mut Cursor<'_>,
+    below: u32,
+    at: u32,
+    first: (RawProc, u32),
+) -> Result<(RawProc, u32), ParseFail>
+    requires levels { below < 200 }
+    requires first { first.1 ≤ below }
+    ensures reads { Reads (spec.others (spec.proc 200 below) below at first tokens.old) result tokens.new }
+    ensures within { IfOk result (λ x. x.1 ≤ below + 1) }
+{
+    let second = proc(alloc, tokens, below)?;
+    let left = both(alloc, at, first, second)?;
+    more(alloc, tokens, below, at, left)
+}
+
+/// The processes of a bracket from the third on, and the closing bracket.
+#[tactic(auto, using(crate::proofs::Steps::more_refused, crate::proofs::Steps::more_ended, crate::proofs::Steps::more_unended, crate::proofs::Steps::more_other, crate::proofs::Steps::more_deep, crate::proofs::Steps::more_right_refused, crate::proofs::Steps::more_step, crate::proofs::Steps::more_stuck, crate::proofs::Steps::more_out))]
+#[cycle(proc)]
+fn more(
+    alloc: Global,
+    tokens: &mut Cursor<'_>,
+    below: u32,
+    at: u32,
+    first: (RawProc, u32),
+) -> Result<(RawProc, u32), ParseFail>
+    requires levels { below < 200 }
+    requires first { first.1 ≤ below + 1 }
+    ensures reads { Reads (spec.more (spec.proc 200 below) (suc below) at (suc below) first tokens.old) result tokens.new }
+    ensures within { IfOk result (λ x. x.1 ≤ below + 1) }
+{
+    let mut left = first;
+    'turns: for _ in 0..below + 1 {
+        let next = tokens.peek()?;
+        if ends(next) {
+            tokens.take()?;
+            return Ok(left);
+        }
+        if !divides(next) {
+            return Err(tokens.syntax());
+        }
+        if left.1 > below {
+            return Err(tokens.too_deep());
+        }
+        tokens.take()?;
+        let right = proc(alloc, tokens, below)?;
+        left = both(alloc, at, left, right)?;
+    }
+    Err(tokens.too_deep())
+}
+
+/// A process, with so many levels below it for its parts.
+#[tactic(auto, unfolding(crate::specs::Read::Processes::proc, crate::specs::Read::Processes::proc_in))]
+#[cycle(proc)]
+fn proc_in(alloc: Global, tokens: &mut Cursor<'_>, below: u32) -> Result<(RawProc, u32), ParseFail>
+    requires { below < 200 }
+    ensures reads { Reads (spec.proc 200 (suc below) tokens.old) result tokens.new }
+    ensures within { IfOk result (λ x. x.1 ≤ below + 1) }
+{
+    match tokens.peek()? {
+        What::Number(number) => stop(tokens, *number),
+        What::Ident(_) => on_channel(alloc, tokens, below),
+        What::Word(Key::New) => {
+            let head = new_head(alloc, tokens, below)?;
+            single(alloc, tokens, below, head)
+        }
+        What::Word(Key::AgentWord) => {
+            let head = agent_head(alloc, tokens, below)?;
+            double(alloc, tokens, below, head)
+        }
+        What::Word(Key::Migrate) => {
+            let head = migrate_head(alloc, tokens, below)?;
+            single(alloc, tokens, below, head)
+        }
+        What::Word(Key::IfLocal) => {
+            let head = iflocal_head(alloc, tokens, below)?;
+            double(alloc, tokens, below, head)
+        }
+        What::Word(Key::If) => {
+            let head = if_head(alloc, tokens, below)?;
+            double(alloc, tokens, below, head)
+        }
+        What::Word(Key::Let) => {
+            let head = let_head(alloc, tokens, below)?;
+            single(alloc, tokens, below, head)
+        }
+        What::Word(Key::Print) => print(alloc, tokens),
+        What::Sign(Sign::RoundOpen) => bracket(alloc, tokens, below),
+        What::Sign(Sign::Star) => {
+            let head = replicated_head(alloc, tokens, below)?;
+            single(alloc, tokens, below, head)
+        }
+        What::Sign(Sign::Less) => directed(alloc, tokens),
+        _ => Err(tokens.syntax()),
+    }
+}
+
+/// A process of so many levels at most.
+#[tactic(auto, using(crate::proofs::Levels::deeper_proc), unfolding(crate::specs::Read::Processes::proc))]
+#[cycle(proc)]
+pub fn proc(
+    alloc: Global,
+    tokens: &mut Cursor<'_>,
+    levels: u32,
+) -> Result<(RawProc, u32), ParseFail>
+    requires { levels ≤ 200 }
+    ensures reads { Reads (spec.proc 200 levels tokens.old) result tokens.new }
+    ensures within { IfOk result (λ x. x.1 ≤ levels) }
+{
+    if levels == 0 {
+        Err(tokens.too_deep())
+    } else {
+        proc_in(alloc, tokens, levels - 1)
+    }
+}
