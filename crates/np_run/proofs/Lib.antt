@@ -10,4 +10,5 @@ mod Readings
 mod Refused
 mod Steps
 mod Taken
+mod Verdicts
 pub mod Outcomes

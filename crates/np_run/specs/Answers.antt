@@ -1,37 +1,26 @@
 -- The program's answers and their causes (docs/LANGUAGE.md, "Reports and refusals"). Want of memory alone has no cause.
-use Rattle.std.specs.Prelude.{◌≡◌, ℕ, ◌+◌, ◌<◌, ◌≤◌, ◌⊎◌, List, [], length, codes, Option, Some, None, IfSome}
+use Rattle.std.specs.Prelude.{◌≡◌, ℕ, ◌+◌, ◌<◌, ◌≤◌, ◌⊎◌, List, length, Option, Some, None, IfSome}
 use Rattle.std.specs.Io.KnownBytes.{Appends, Keeps}
 use Rattle.np_syntax.specs.declared.event.End.{End}
 use Rattle.np_syntax.specs.declared.event.End.TheVariants.{Rest, Spent}
 use Rattle.np_syntax.specs.declared.program.Program.{Program}
 use Rattle.np_io.specs.Causes.{Counts, Rose}
 use Rattle.np_io.specs.Bytes.{Held, AppendsPrefix}
+use Rattle.np_tree.specs.declared.tree.Tree.{Tree}
+use Rattle.np_show.specs.Shown.{shown}
 use Rattle.np_calculus.specs.Config.{Config}
 use Rattle.np_calculus.specs.Serial.{IsSerialRun}
 use Rattle.np_run.specs.Source.Accepted.{Accepts}
+use Rattle.np_run.specs.Faults.{HasTree, Faulty}
 use Rattle.np_run.specs.Words.{plan, texts_read}
+use Rattle.np_run.specs.Lines.{line_of, status_of}
 use Rattle.np_run.specs.Report.{report_text}
 use Rattle.np_run.specs.declared.answer.Answer.{Answer}
 use Rattle.np_run.specs.declared.answer.Record.{Record}
 use Rattle.np_run.specs.declared.refusal.Refusal.{Refusal}
-use Rattle.np_run.specs.declared.refusal.Refusal.TheVariants.{Memory, Usage, ReadFault, TooLong, Unbuilt}
-
--- ---- refusals
-
--- what a refusal writes
-abbrev pub line_of : Refusal → List ℕ
-line_of Memory = []
-line_of Usage = codes "np: 22 Usage\nusage: np MODE FILE [SECOND] [--budget N] [--history] [--high] [--serial] [--links KIND]\n"
-line_of ReadFault = codes "np: 4 ReadFault\n"
-line_of TooLong = codes "np: 5 TooLong\n"
-line_of Unbuilt = codes "np: 19 Unbuilt at 0\n"
-
-abbrev pub status_of : Refusal → ℕ
-status_of Memory = 6
-status_of Usage = 2
-status_of ReadFault = 4
-status_of TooLong = 3
-status_of Unbuilt = 3
+use Rattle.np_run.specs.declared.refusal.Refusal.TheVariants.{Usage, ReadFault, TooLong}
+use Rattle.np_run.specs.declared.words.Mode.{Mode}
+use Rattle.np_run.specs.declared.words.Mode.TheVariants as mode
 
 -- ---- calls
 
@@ -64,15 +53,33 @@ pub record Call : Type 0 where
 
 -- ---- causes
 
+-- the words name a source for this mode, and these are its bytes: they are within the limit, all that was read, and the
+-- text that is held where it is told
+pub record IsRead (words : List (List ℕ)) (texts : Reading) (m : Mode) (bytes : List ℕ) : Type 0 where
+  pub file : List ℕ
+  pub planned : plan words ≡ Some (m, file)
+  pub taken : texts.taken ≡ length bytes
+  pub short : length bytes ≤ 1048576
+  pub whole : IfSome (texts.held file) (λ told. bytes ≡ told)
+
+-- the source was read, and the mode refuses it so
+pub record IsFaulty (words : List (List ℕ)) (texts : Reading) (refusal : Refusal) : Type 0 where
+  pub mode : Mode
+  pub bytes : List ℕ
+  pub read : IsRead words texts mode bytes
+  pub faulty : Faulty mode bytes refusal
+
 -- the refusal has its cause
-abbrev pub Stands : List (List ℕ) → Reading → Refusal → Type 0
-Stands words texts Memory = ⊥
-Stands words texts Usage = plan words ≡ None
-Stands words texts ReadFault = (file : List ℕ) × (plan words ≡ Some file) × Rose (texts.before file) (texts.now file)
-Stands words texts TooLong = (file : List ℕ) × (plan words ≡ Some file) × (1048576 < texts.taken)
-    × IfSome (texts.held file) (λ bytes. 1048576 < length bytes)
-Stands words texts Unbuilt = (file : List ℕ) × (plan words ≡ Some file) × (texts.taken ≤ 1048576)
-    × IfSome (texts.held file) (λ bytes. (length bytes ≤ 1048576) × ((program : Program) → ¬ Accepts bytes program))
+pub data Stands (words : List (List ℕ)) (texts : Reading) : Refusal → Type 0 where
+  -- the words name no mode and file
+  words : plan words ≡ None → Stands words texts Usage
+  -- a read of the file failed
+  fault : {m : Mode} {file : List ℕ} → plan words ≡ Some (m, file) → Rose (texts.before file) (texts.now file) → Stands words texts ReadFault
+  -- more was read than a source may have, and the text has more where it is told
+  long : {m : Mode} {file : List ℕ} → plan words ≡ Some (m, file) → 1048576 < texts.taken → IfSome (texts.held file) (λ bytes. 1048576 < length bytes)
+      → Stands words texts TooLong
+  -- the mode refuses the source
+  source : {refusal : Refusal} → IsFaulty words texts refusal → Stands words texts refusal
 
 -- the record is of a run of the program within the budget, and this is the text of its report
 pub record IsRunOf (program : Program) (made : Record) (text : List ℕ) : Type 0 where
@@ -80,24 +87,48 @@ pub record IsRunOf (program : Program) (made : Record) (text : List ℕ) : Type 
   pub run : IsSerialRun program 10000 made.events last made.end
   pub report : text ≡ report_text program.sites last.said made.end
 
--- the words name an accepted source, and its program was run
-pub record HasRun (words : List (List ℕ)) (texts : Reading) (made : Record) (text : List ℕ) : Type 0 where
-  pub file : List ℕ
-  pub planned : plan words ≡ Some file
-  pub short : texts.taken ≤ 1048576
+-- the source is accepted, and its program was run
+pub record Runs (bytes : List ℕ) (made : Record) (text : List ℕ) : Type 0 where
   pub program : Program
-  pub source : IfSome (texts.held file) (λ bytes. (length bytes ≤ 1048576) × Accepts bytes program)
+  pub accepted : Accepts bytes program
   pub run : IsRunOf program made text
+
+-- the source has a tree, and this is its canonical text
+pub record Shows (bytes text : List ℕ) : Type 0 where
+  pub tree : Tree
+  pub accepted : HasTree bytes tree
+  pub shows : text ≡ shown tree
+
+-- what the mode makes of a source: a run, which is kept, or the canonical text
+abbrev pub Does : Mode → List ℕ → Option Record → List ℕ → Type 0
+Does mode.Run bytes (Some made) text = Runs bytes made text
+Does mode.Run bytes None text = ⊥
+Does mode.Show bytes (Some made) text = ⊥
+Does mode.Show bytes None text = Shows bytes text
+
+-- the words name a source, and this was made of it
+pub record HasMade (words : List (List ℕ)) (texts : Reading) (kept : Option Record) (text : List ℕ) : Type 0 where
+  pub mode : Mode
+  pub bytes : List ℕ
+  pub read : IsRead words texts mode bytes
+  pub does : Does mode bytes kept text
 
 -- ---- answers
 
--- a run was made that ended so, and its report was written
-pub record IsDone (call : Call) (answer : Answer) (how : End) : Type 0 where
-  pub made : Record
-  pub kept : answer.kept ≡ Some made
-  pub ended : made.end ≡ how
+abbrev pub end_status : End → ℕ
+end_status Rest = 0
+end_status Spent = 1
+
+-- the status of what was made, where its text was written: a run may have spent its budget
+abbrev pub status_at : Option Record → ℕ
+status_at None = 0
+status_at (Some made) = end_status made.end
+
+-- it was made, and its text was written
+pub record IsDone (call : Call) (answer : Answer) : Type 0 where
   pub text : List ℕ
-  pub run : HasRun call.words call.texts made text
+  pub made : HasMade call.words call.texts answer.kept text
+  pub status : answer.status ≡ status_at answer.kept
   pub out : Appends call.out.old call.out.new text
   pub err : Keeps call.err.old call.err.new
 
@@ -107,12 +138,16 @@ pub record IsRefused (call : Call) (answer : Answer) (refusal : Refusal) : Type 
   pub out : Keeps call.out.old call.out.new
   pub err : Appends call.err.old call.err.new (line_of refusal)
 
--- a run was made, and its report could not be written whole
+-- some refusal of that status was written
+pub record Refuses (call : Call) (answer : Answer) : Type 0 where
+  pub refusal : Refusal
+  pub status : answer.status ≡ status_of refusal
+  pub refused : IsRefused call answer refusal
+
+-- it was made, and its text could not be written whole
 pub record OutFailed (call : Call) (answer : Answer) : Type 0 where
-  pub made : Record
-  pub kept : answer.kept ≡ Some made
   pub text : List ℕ
-  pub run : HasRun call.words call.texts made text
+  pub made : HasMade call.words call.texts answer.kept text
   pub rose : Rose call.out.before call.out.now
   pub out : AppendsPrefix call.out.old call.out.new text
   pub err : Keeps call.err.old call.err.new
@@ -132,20 +167,15 @@ pub record IsWanting (call : Call) (answer : Answer) : Type 0 where
   pub out : Keeps call.out.old call.out.new
   pub err : Keeps call.err.old call.err.new
 
--- the status of a run that ended so, and whose report was written
-abbrev pub status_at : End → ℕ
-status_at Rest = 0
-status_at Spent = 1
-
 abbrev pub IsStatus : ℕ → Type 0
 IsStatus n = (n ≡ 0) ⊎ (n ≡ 1) ⊎ (n ≡ 2) ⊎ (n ≡ 3) ⊎ (n ≡ 4) ⊎ (n ≡ 5) ⊎ (n ≡ 6)
 
 -- each answer has its cause
 pub record HasCauses (call : Call) (answer : Answer) : Type 0 where
-  pub done : answer.status ≡ 0 → IsDone call answer Rest
-  pub spent : answer.status ≡ 1 → IsDone call answer Spent
+  pub done : answer.status ≡ 0 → IsDone call answer
+  pub spent : answer.status ≡ 1 → IsDone call answer
   pub usage : answer.status ≡ 2 → IsRefused call answer Usage
-  pub source : answer.status ≡ 3 → IsRefused call answer TooLong ⊎ IsRefused call answer Unbuilt
+  pub source : answer.status ≡ 3 → Refuses call answer
   pub read : answer.status ≡ 4 → IsRefused call answer ReadFault
   pub write : answer.status ≡ 5 → OutFailed call answer ⊎ ErrFailed call answer
   pub memory : answer.status ≡ 6 → IsWanting call answer

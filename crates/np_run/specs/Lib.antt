@@ -1,5 +1,7 @@
 pub mod Source
 pub mod Words
 pub mod Report
+pub mod Lines
+pub mod Faults
 pub mod Answers
 pub mod Laws

@@ -1,13 +1,22 @@
 -- Which words the program takes (docs/LANGUAGE.md, "Reports and refusals"), as far as its modes are built.
 use Rattle.std.specs.Prelude.{ℕ, if◌then◌else◌, List, [], ◌∷◌, codes, Option, Some, None}
 use Rattle.std.specs.Str.{bytes_eq}
+use Rattle.np_run.specs.declared.words.Mode.{Mode}
+use Rattle.np_run.specs.declared.words.Mode.TheVariants as mode
 
--- the file that is to be run: the words are `run` and its name
-unfoldable pub plan : List (List ℕ) → Option (List ℕ)
-plan (mode ∷ file ∷ []) = if bytes_eq mode (codes "run") then Some file else None
+abbrev pub mode_of : List ℕ → Option Mode
+mode_of word = if bytes_eq word (codes "run") then Some mode.Run else (if bytes_eq word (codes "show") then Some mode.Show else None)
+
+abbrev pub planned : Option Mode → List ℕ → Option (Mode × List ℕ)
+planned None file = None
+planned (Some m) file = Some (m, file)
+
+-- the mode and the file: the words are a mode's word and the file's name
+unfoldable pub plan : List (List ℕ) → Option (Mode × List ℕ)
+plan (word ∷ file ∷ []) = planned (mode_of word) file
 plan words = None
 
--- how many texts are read where the words name this file, or none
-abbrev pub texts_read : Option (List ℕ) → ℕ
+-- how many texts are read where the words say this, or nothing
+abbrev pub texts_read : Option (Mode × List ℕ) → ℕ
 texts_read None = 0
-texts_read (Some file) = 1
+texts_read (Some p) = 1

@@ -1,15 +1,21 @@
-ghost use Rattle.std.specs.Prelude.{◌≡◌, ◌≢◌, ◌+◌, ◌≤◌, IfOk, IfErr, option_map};
+ghost use Rattle.std.specs.Prelude.{◌≡◌, ◌≢◌, ◌+◌, ◌≤◌, length, IfOk, IfErr};
 ghost use Rattle.np_run.specs.Words.{plan, texts_read};
 ghost use Rattle.np_calculus.specs.Plain.{IsPlain};
-ghost use Rattle.np_run.specs.Answers.{Reading, Stands, HasRun, IsRunOf};
+ghost use Rattle.np_run.specs.Answers.{Reading, Stands, HasMade, IsRunOf, Does};
+ghost use Rattle.np_run.specs.Faults.{Faulty, HasTree};
 
 use super::answer::Record;
 use super::reader::{SourceFail, read_source};
-use super::refusal::Refusal;
+use super::refusal::{Refusal, of_grammar, of_tokens};
 use super::reporting::report;
+use super::words::{Mode, planned};
 use np_calculus::{SerialRun, run_serial};
 use np_io::{ReadFail, Texts, Word, read_all};
+use np_lex::lex;
+use np_parse::parse;
+use np_show::show;
 use np_syntax::{Memory, Program, Text};
+use np_tree::Tree;
 use std::alloc::Global;
 
 /// How many bytes a source may have.
@@ -18,14 +24,14 @@ const SOURCE_LIMIT: usize = 1_048_576;
 /// How many events a run may have.
 const BUDGET: u32 = 10_000;
 
-/// A run, and the text of its report.
+/// What was made: the text that is to be written, and the run if there was one.
 #[derive(Drop)]
 pub(crate) struct Job {
-    pub(crate) made: Record,
+    pub(crate) kept: Option<Record>,
     pub(crate) text: Text,
 }
 
-/// Reads the source that the words name, runs its program and makes the report.
+/// Reads the source that the words name, and does with it what they ask for.
 pub(crate) fn work<T: Texts>(alloc: Global, words: &[Word], texts: &mut T) -> Result<Job, Refusal>
     ensures begins { T.begins texts.new ≤ T.begins texts.old + texts_read (plan words.now) }
     ensures made { let seen : Reading = record {
@@ -35,7 +41,7 @@ pub(crate) fn work<T: Texts>(alloc: Global, words: &[Word], texts: &mut T) -> Re
       taken = T.taken texts.new;
       begun = T.begins texts.old;
       begins = T.begins texts.new;
-    } in IfOk result (λ job. HasRun words.now seen job.made job.text) }
+    } in IfOk result (λ job. HasMade words.now seen job.kept job.text) }
     ensures refused { let seen : Reading = record {
       held = T.held texts.old;
       before = T.faults texts.old;
@@ -45,7 +51,7 @@ pub(crate) fn work<T: Texts>(alloc: Global, words: &[Word], texts: &mut T) -> Re
       begins = T.begins texts.new;
     } in IfErr result (λ refusal. refusal ≢ Refusal.Memory → Stands words.now seen refusal) }
 {
-    let Some(file) = planned(words) else {
+    let Some((mode, file)) = planned(words) else {
         return Err(Refusal::Usage);
     };
     let bytes = match read_all(alloc, texts, file, SOURCE_LIMIT) {
@@ -54,28 +60,71 @@ pub(crate) fn work<T: Texts>(alloc: Global, words: &[Word], texts: &mut T) -> Re
         Err(ReadFail::ReadFault) => return Err(Refusal::ReadFault),
         Err(ReadFail::TooLong) => return Err(Refusal::TooLong),
     };
-    let program = match read_source(alloc, bytes.as_slice()) {
+    match mode {
+        Mode::Run => run_source(alloc, bytes.as_slice()),
+        Mode::Show => show_source(alloc, bytes.as_slice()),
+    }
+}
+
+/// The run of a source.
+fn run_source(alloc: Global, bytes: &[u8]) -> Result<Job, Refusal>
+    requires { length bytes.now ≤ 1048576 }
+    ensures made { IfOk result (λ job. Does Mode.Run bytes.now job.kept job.text) }
+    ensures refused { IfErr result (λ refusal. refusal ≢ Refusal.Memory → Faulty Mode.Run bytes.now refusal) }
+{
+    let program = match read_source(alloc, bytes) {
         Ok(program) => program,
         Err(SourceFail::Memory) => return Err(Refusal::Memory),
         Err(SourceFail::Unbuilt) => return Err(Refusal::Unbuilt),
     };
     match run(alloc, &program) {
-        Ok(job) => Ok(job),
+        Ok((made, text)) => Ok(Job {
+            kept: Some(made),
+            text,
+        }),
         Err(Memory) => Err(Refusal::Memory),
     }
 }
 
+/// The canonical text of a source.
+fn show_source(alloc: Global, bytes: &[u8]) -> Result<Job, Refusal>
+    requires { length bytes.now ≤ 1048576 }
+    ensures made { IfOk result (λ job. Does Mode.Show bytes.now job.kept job.text) }
+    ensures refused { IfErr result (λ refusal. refusal ≢ Refusal.Memory → Faulty Mode.Show bytes.now refusal) }
+{
+    let tree = tree_of(alloc, bytes)?;
+    let shown = show(alloc, &tree);
+    drop(tree);
+    match shown {
+        Ok(text) => Ok(Job { kept: None, text }),
+        Err(Memory) => Err(Refusal::Memory),
+    }
+}
+
+/// The tree of a source.
+fn tree_of(alloc: Global, bytes: &[u8]) -> Result<Tree, Refusal>
+    requires { length bytes.now ≤ 1048576 }
+    ensures found { IfOk result (λ tree. HasTree bytes.now tree) }
+    ensures refused { IfErr result (λ refusal. refusal ≢ Refusal.Memory → Faulty Mode.Show bytes.now refusal) }
+{
+    let tokens = match lex(alloc, bytes) {
+        Ok(tokens) => tokens,
+        Err(fail) => return Err(of_tokens(fail)),
+    };
+    match parse(alloc, &tokens) {
+        Ok(tree) => Ok(tree),
+        Err(fail) => Err(of_grammar(fail)),
+    }
+}
+
 /// Runs the program and makes the report.
-fn run(alloc: Global, program: &Program) -> Result<Job, Memory>
+fn run(alloc: Global, program: &Program) -> Result<(Record, Text), Memory>
     requires { IsPlain program.now }
-    ensures { IfOk result (λ job. IsRunOf program.now job.made job.text) }
+    ensures { IfOk result (λ made. IsRunOf program.now made.0 made.1) }
 {
     let run = run_serial(alloc, program, BUDGET)?;
     let text = report(alloc, &program.sites, run.last.said(), run.end)?;
-    Ok(Job {
-        made: record_of(run),
-        text,
-    })
+    Ok((record_of(run), text))
 }
 
 /// The record of a run, which gives up the last configuration.
@@ -85,15 +134,4 @@ fn record_of(run: SerialRun) -> Record
     let SerialRun { events, last, end } = run;
     drop(last);
     Record { events, end }
-}
-
-/// The file that the words name.
-#[tactic(auto, unfolding(crate::specs::Words::plan))]
-fn planned(words: &[Word]) -> Option<&Word>
-    ensures { option_map (λ word. word.now) result ≡ plan words.now }
-{
-    match words {
-        [mode, file] if mode.text() == "run" => Some(file),
-        _ => None,
-    }
 }

@@ -1,11 +1,11 @@
-ghost use Rattle.np_run.specs.Laws.{Completes, RefusesWords, RefusesLong, RefusesUnbuilt};
+ghost use Rattle.np_run.specs.Laws.{Completes, RefusesWords, RefusesLong, RefusesSources};
 
-/// Where no call failed, an accepted source is run, or memory was wanting.
+/// Where no call failed, what is asked of an accepted source is done, or memory was wanting.
 pub fn law_completes()
     ensures { Completes }
 {}
 
-/// The words are refused exactly where they name no file.
+/// The words are refused exactly where they name no mode and file.
 pub fn law_refuses_words()
     ensures { RefusesWords }
 {}
@@ -15,7 +15,7 @@ pub fn law_refuses_long()
     ensures { RefusesLong }
 {}
 
-/// A source is refused as unbuilt exactly where it is not too long and has no program.
-pub fn law_refuses_unbuilt()
-    ensures { RefusesUnbuilt }
+/// A source that is not too long is refused exactly where the mode refuses it, and so.
+pub fn law_refuses_sources()
+    ensures { RefusesSources }
 {}

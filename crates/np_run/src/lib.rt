@@ -10,9 +10,11 @@ mod reporting;
 #[cfg(test)]
 mod tests;
 mod top;
+mod words;
 
 pub use answer::{Answer, Record};
-pub use laws::{law_completes, law_refuses_long, law_refuses_unbuilt, law_refuses_words};
+pub use laws::{law_completes, law_refuses_long, law_refuses_sources, law_refuses_words};
 pub use refusal::{Refusal, line, status};
 pub use reporting::report;
 pub use top::np;
+pub use words::Mode;

@@ -1,9 +1,15 @@
-ghost use Rattle.std.specs.Prelude.{◌≡◌};
-ghost use Rattle.np_run.specs.Answers.{line_of, status_of};
+ghost use Rattle.std.specs.Prelude.{◌≡◌, ◌++◌, IfOk, codes};
+ghost use Rattle.np_run.specs.Faults.{of_grammar, of_tokens};
+ghost use Rattle.np_run.specs.Lines.{line_of, placed_line, status_of};
 
+use np_lex::LexFail;
+use np_parse::ParseFail;
+use np_syntax::{List, Memory, Text};
+use std::alloc::Global;
 use thiserror::Error;
 
-/// Why no run was made.
+/// Why the program did not do what the words ask for. An offset is that of the place in the source, in
+/// bytes.
 #[derive(Clone, Copy, Debug, PartialEq, Eq, Error)]
 pub enum Refusal {
     #[error("out of memory")]
@@ -16,22 +22,74 @@ pub enum Refusal {
     /// The source has more than 1,048,576 bytes.
     #[error("the source is too long")]
     TooLong,
+    #[error("no token begins at {0}")]
+    BadChar(u32),
+    #[error("no string begins at {0}")]
+    BadString(u32),
+    #[error("the number at {0} is too large")]
+    BigNumber(u32),
+    /// No program begins with the tokens up to that place.
+    #[error("no program goes on with the token at {0}")]
+    Syntax(u32),
+    /// Only programs that are too deep begin with the tokens up to that place.
+    #[error("the source is too deep at {0}")]
+    TooDeep(u32),
     #[error("the source is not of the built form")]
     Unbuilt,
 }
 
+/// A refusal of the tokens.
+pub(crate) fn of_tokens(fail: LexFail) -> Refusal
+    ensures { result ≡ of_tokens fail }
+{
+    match fail {
+        LexFail::Memory => Refusal::Memory,
+        LexFail::BadChar(at) => Refusal::BadChar(at),
+        LexFail::BadString(at) => Refusal::BadString(at),
+        LexFail::BigNumber(at) => Refusal::BigNumber(at),
+    }
+}
+
+/// A refusal of the grammar.
+pub(crate) fn of_grammar(fail: ParseFail) -> Refusal
+    ensures { result ≡ of_grammar fail }
+{
+    match fail {
+        ParseFail::Memory => Refusal::Memory,
+        ParseFail::Syntax(at) => Refusal::Syntax(at),
+        ParseFail::TooDeep(at) => Refusal::TooDeep(at),
+    }
+}
+
 /// What the program writes about a refusal; nothing for want of memory.
-pub fn line(refusal: Refusal) -> &'static [u8]
-    ensures { result.now ≡ line_of refusal }
+pub fn line(alloc: Global, refusal: Refusal) -> Result<Text, Memory>
+    ensures { IfOk result (λ text. text ≡ line_of refusal) }
 {
     match refusal {
-        Refusal::Memory => b"",
-        Refusal::Usage =>
+        Refusal::Memory => Ok(List::new(alloc)),
+        Refusal::Usage => List::from_slice(
+            alloc,
             b"np: 22 Usage\nusage: np MODE FILE [SECOND] [--budget N] [--history] [--high] [--serial] [--links KIND]\n",
-        Refusal::ReadFault => b"np: 4 ReadFault\n",
-        Refusal::TooLong => b"np: 5 TooLong\n",
-        Refusal::Unbuilt => b"np: 19 Unbuilt at 0\n",
+        ),
+        Refusal::ReadFault => List::from_slice(alloc, b"np: 4 ReadFault\n"),
+        Refusal::TooLong => List::from_slice(alloc, b"np: 5 TooLong\n"),
+        Refusal::BadChar(at) => placed_line(alloc, b"np: 7 BadChar at ", at),
+        Refusal::BadString(at) => placed_line(alloc, b"np: 8 BadString at ", at),
+        Refusal::BigNumber(at) => placed_line(alloc, b"np: 9 BigNumber at ", at),
+        Refusal::Syntax(at) => placed_line(alloc, b"np: 10 Syntax at ", at),
+        Refusal::TooDeep(at) => placed_line(alloc, b"np: 11 TooDeep at ", at),
+        Refusal::Unbuilt => placed_line(alloc, b"np: 19 Unbuilt at ", 0),
     }
+}
+
+/// The line of a refusal with its offset.
+fn placed_line(alloc: Global, name: &[u8], at: u32) -> Result<Text, Memory>
+    ensures { IfOk result (λ text. text ≡ placed_line name.now at) }
+{
+    let mut text = List::from_slice(alloc, name)?;
+    text.append(at.to_string(alloc)?.as_bytes())?;
+    text.append(b"\n")?;
+    Ok(text)
 }
 
 pub fn status(refusal: Refusal) -> u8
@@ -41,6 +99,12 @@ pub fn status(refusal: Refusal) -> u8
         Refusal::Memory => 6,
         Refusal::Usage => 2,
         Refusal::ReadFault => 4,
-        Refusal::TooLong | Refusal::Unbuilt => 3,
+        Refusal::TooLong
+        | Refusal::BadChar(_)
+        | Refusal::BadString(_)
+        | Refusal::BigNumber(_)
+        | Refusal::Syntax(_)
+        | Refusal::TooDeep(_)
+        | Refusal::Unbuilt => 3,
     }
 }

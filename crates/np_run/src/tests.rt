@@ -2,6 +2,7 @@ mod faults;
 mod refusals;
 mod runs;
 mod setting;
+mod shows;
 
 use crate::reader::read_source;
 use np_syntax::{Expr, ExprForm, Pat, PatForm, Proc, ProcForm, Value};

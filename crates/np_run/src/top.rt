@@ -1,8 +1,8 @@
-ghost use Rattle.std.specs.Prelude.{◌≡◌};
-ghost use Rattle.np_run.specs.Answers.{HasCauses, status_at};
+ghost use Rattle.std.specs.Prelude.{◌≡◌, None};
+ghost use Rattle.np_run.specs.Answers.{HasCauses, end_status, status_at};
 
-use super::answer::Answer;
-use super::job::work;
+use super::answer::{Answer, Record};
+use super::job::{Job, work};
 use super::refusal::{Refusal, line, status};
 use np_io::{Sink, Texts, Word, write_all};
 use np_syntax::End;
@@ -45,38 +45,55 @@ pub fn np<R: Threads + Wait + Sync, T: Texts, O: Sink, E: Sink>(
 {
     let _ = rt;
     match work(alloc, words, texts) {
-        Ok(job) => match write_all(out, job.text.as_slice()) {
+        Ok(Job { kept, text }) => match write_all(out, text.as_slice()) {
             Ok(()) => Answer {
-                status: end_status(job.made.end),
-                kept: Some(job.made),
+                status: status_at(&kept),
+                kept,
             },
-            Err(_) => Answer {
-                status: 5,
-                kept: Some(job.made),
-            },
+            Err(_) => Answer { status: 5, kept },
         },
-        Err(Refusal::Memory) => Answer {
-            status: 6,
-            kept: None,
-        },
-        Err(refusal) => match write_all(err, line(refusal)) {
-            Ok(()) => Answer {
-                status: status(refusal),
-                kept: None,
+        Err(Refusal::Memory) => wanting(),
+        Err(refusal) => match line(alloc, refusal) {
+            Ok(text) => match write_all(err, text.as_slice()) {
+                Ok(()) => Answer {
+                    status: status(refusal),
+                    kept: None,
+                },
+                Err(_) => Answer {
+                    status: 5,
+                    kept: None,
+                },
             },
-            Err(_) => Answer {
-                status: 5,
-                kept: None,
-            },
+            Err(_) => wanting(),
         },
     }
 }
 
+/// The status of what was made, where its text was written.
+fn status_at(kept: &Option<Record>) -> u8
+    ensures { result ≡ status_at kept.now }
+{
+    match kept {
+        Some(made) => end_status(made.end),
+        None => 0,
+    }
+}
+
 fn end_status(end: End) -> u8
-    ensures { result ≡ status_at end }
+    ensures { result ≡ end_status end }
 {
     match end {
         End::Rest => 0,
         End::Spent => 1,
+    }
+}
+
+/// The answer where memory was wanting.
+fn wanting() -> Answer
+    ensures { result ≡ record { status = 6; kept = None } }
+{
+    Answer {
+        status: 6,
+        kept: None,
     }
 }

@@ -9,14 +9,15 @@ const USAGE: &str =
 #[test]
 fn refuses_words(rt: HostRuntime) -> Result<(), Fail> {
     let alloc = rt.alloc();
-    let cases: [&[&str]; 7] = [
+    let cases: [&[&str]; 8] = [
         &[],
         &["run"],
         &["run", "a", "b"],
         &["run", "a", "--budget", "0"],
-        &["show", "a"],
+        &["check", "a"],
         &["a", "run"],
         &["Run", "a"],
+        &["show"],
     ];
     for words in cases {
         let mut trial = make_trial(alloc, b"sites home ; main at home = 0", 1000)?;

@@ -1,30 +1,39 @@
-use Rattle.std.proofs.Common.{◌≡◌, ℕ, ◌≤◌, List, length, Option, Some, None, IfSome, subst, sym, rules}
-use Rattle.np_syntax.specs.declared.program.Program.{Program}
-use Rattle.np_run.specs.Source.Accepted.{Accepts}
+use Rattle.std.proofs.Common.{◌≡◌, ◌≢◌, ℕ, List, Some, Result, Ok, Err, IfErr, sym, subst, ap, ◌∙◌, rules}
+use Rattle.np_run.specs.Faults.{Faulty}
+use Rattle.np_run.specs.Words.{plan}
+use Rattle.np_run.specs.Answers.{Reading, IsRead, Stands}
+use Rattle.np_run.specs.declared.refusal.Refusal.{Refusal}
+use Rattle.np_run.specs.declared.refusal.Refusal.TheVariants.{Memory}
+use Rattle.np_run.specs.declared.words.Mode.{Mode}
+use Rattle.np_run.specs.declared.words.Mode.TheVariants as mode
 use Rattle.np_run.proofs.job.work.Goals as goal
 
--- what holds of the bytes that were read holds of the text, where it is told
-of_told : (o : Option (List ℕ)) (bytes : List ℕ) (P : List ℕ → Type 0) → IfSome o (λ text. bytes ≡ text) → P bytes → IfSome o P
-of_told None bytes P same p = tt
-of_told (Some text) bytes P same p = subst P same p
+-- a refusal of a source that was read has its cause
+by_mode : {A : Type 0} (words : List (List ℕ)) (texts : Reading) (m : Mode) (bytes given : List ℕ) → given ≡ bytes → IsRead words texts m bytes
+    → (result : Result A Refusal) → IfErr result (λ r. r ≢ Memory → Faulty m given r) → IfErr result (λ r. r ≢ Memory → Stands words texts r)
+by_mode words texts m bytes given same read (Ok a) h = tt
+by_mode words texts m bytes given same read (Err e) h =
+    λ some. Stands.source (record { mode = m; bytes = bytes; read = read; faulty = subst (λ (b : List ℕ). Faulty m b e) same (h some) })
 
-pub returns-in-Err-Unbuilt-clause-refused : goal.returns-in-Err-Unbuilt-clause-refused
-returns-in-Err-Unbuilt-clause-refused g c =
-    let IsUnbuilt : List ℕ → Type 0 = λ bytes. (program : Program) → ¬ Accepts bytes program in
-    let unbuilt : IsUnbuilt c.in-Ok.bytes = subst IsUnbuilt c.as_slice.ensures (c.read_source.ensures.none (search rules)) in
-    let short : length c.in-Ok.bytes ≤ 1048576 = c.in-Ok.ensures.count.0 in
-    λ _. (c.in-Some.file.now, sym c.in-Some.ensures, search rules, of_told _ _ (λ bytes. (length bytes ≤ 1048576) × IsUnbuilt bytes) c.in-Ok.ensures.whole (short, unbuilt))
+pub returns-in_default-clause-refused : goal.returns-in_default-clause-refused
+returns-in_default-clause-refused g c = λ _. Stands.words (search rules)
 
-pub returns-in-Ok-run-clause-made : goal.returns-in-Ok-run-clause-made
-returns-in-Ok-run-clause-made g c =
-    let program = c.in-Ok-read_source.program in
-    let found : Accepts c.in-Ok.bytes program = subst (λ (b : List ℕ). Accepts b program) c.as_slice.ensures c.in-Ok-read_source.ensures.found in
-    let short : length c.in-Ok.bytes ≤ 1048576 = c.in-Ok.ensures.count.0 in
-    record {
-      file = c.in-Some.file.now;
-      planned = sym c.in-Some.ensures;
-      short = search rules;
-      program = program;
-      source = of_told _ _ (λ bytes. (length bytes ≤ 1048576) × Accepts bytes program) c.in-Ok.ensures.whole (short, found);
-      run = c.in-Ok-run.ensures;
-    }
+pub returns-in-Err-ReadFault-clause-refused : goal.returns-in-Err-ReadFault-clause-refused
+returns-in-Err-ReadFault-clause-refused g c = λ _. Stands.fault (sym c.in-Some.ensures) (c.read_all.ensures.cause (search rules))
+
+pub returns-in-Err-TooLong-clause-refused : goal.returns-in-Err-TooLong-clause-refused
+returns-in-Err-TooLong-clause-refused g c = λ _. Stands.long (sym c.in-Some.ensures) (c.read_all.ensures.long (search rules)) (c.read_all.ensures.long_text (search rules))
+
+pub returns-in-Run-clause-refused : goal.returns-in-Run-clause-refused
+returns-in-Run-clause-refused g c =
+    let planned : plan c.args.words.now ≡ Some (mode.Run, c.in-Some.file.now) = sym c.in-Some.ensures ∙ ap (λ (m : Mode). Some (m, c.in-Some.file.now)) c.in-Run.is in
+    by_mode _ _ mode.Run c.in-Ok.bytes _ c.as_slice.ensures
+    (record { file = c.in-Some.file.now; planned = planned; taken = c.in-Ok.ensures.count.1; short = c.in-Ok.ensures.count.0; whole = c.in-Ok.ensures.whole })
+    c.run_source.result c.run_source.ensures.refused
+
+pub returns-clause-refused : goal.returns-clause-refused
+returns-clause-refused g c =
+    let planned : plan c.args.words.now ≡ Some (mode.Show, c.in-Some.file.now) = sym c.in-Some.ensures ∙ ap (λ (m : Mode). Some (m, c.in-Some.file.now)) c.in-Show.is in
+    by_mode _ _ mode.Show c.in-Ok.bytes _ c.as_slice-in-Show.ensures
+    (record { file = c.in-Some.file.now; planned = planned; taken = c.in-Ok.ensures.count.1; short = c.in-Ok.ensures.count.0; whole = c.in-Ok.ensures.whole })
+    c.show_source.result c.show_source.ensures.refused

@@ -1,0 +1,28 @@
+use Rattle.std.proofs.Common.{ℕ, ◌≤◌, List, length, arith, inl, inr, subst}
+use Rattle.np_run.specs.Answers.{Call, IsRefused}
+use Rattle.np_run.specs.Faults.{Faulty}
+use Rattle.np_run.specs.Laws.{Reads}
+use Rattle.np_run.specs.declared.answer.Answer.{Answer}
+use Rattle.np_run.specs.declared.refusal.Refusal.{Refusal}
+use Rattle.np_run.specs.declared.words.Mode.{Mode}
+use Rattle.np_run.proofs.Outcomes.{Outcome, outcome, Says, stands_says, made_accepts}
+use Rattle.np_run.proofs.Verdicts.{not_both, same_fault}
+use Rattle.np_run.proofs.laws.law_refuses_sources.Goals as goal
+
+-- what is said of a source within the limit is what is wrong with it
+faulty : (m : Mode) (bytes : List ℕ) (refusal : Refusal) → length bytes ≤ 1048576 → Says m bytes refusal → Faulty m bytes refusal
+faulty m bytes refusal short (inl s) = let long = s.1 in absurd (omega arith)
+faulty m bytes refusal short (inr s) = s.1
+
+by_outcome : (call : Call) (answer : Answer) (m : Mode) (file bytes : List ℕ) (refusal : Refusal) → Reads call m file bytes → length bytes ≤ 1048576
+    → Faulty m bytes refusal → Outcome call answer → IsRefused call answer refusal
+by_outcome call answer m file bytes refusal r short f (Outcome.made text h) =
+    absurd (not_both m bytes refusal (made_accepts call m file bytes answer.kept text r h).1 f)
+by_outcome call answer m file bytes refusal r short f (Outcome.refused other e s) =
+    subst (λ (x : Refusal). IsRefused call answer x) (same_fault m bytes other refusal (faulty m bytes other short (stands_says call m file bytes other r s.stands)) f) s
+
+pub returns : goal.returns
+returns c = λ call answer m file bytes refusal h r err some short. (
+  λ is. faulty m bytes refusal short (stands_says call m file bytes refusal r is.stands),
+  λ f. by_outcome call answer m file bytes refusal r short f (outcome call answer h err some),
+)
