@@ -1,0 +1,40 @@
+-- Checks one after another: the first that fails ends them, with its rule and its place (docs/LANGUAGE.md, "Types").
+use Rattle.std.specs.Prelude.{ℕ, Bool, true, false, Option, None, Some, Result, Ok, Err, List, [], ◌∷◌}
+use Rattle.np_types.specs.declared.fault.Rule.{Rule}
+use Rattle.np_types.specs.declared.fault.TypeFault.{TypeFault}
+
+-- what a check gives, or the first fault
+abbrev pub Check : Type 0 → Type 0
+Check A = Result A TypeFault
+
+infixl 10 ◌>>=◌
+abbrev pub ◌>>=◌ : {A B : Type 0} → Check A → (A → Check B) → Check B
+(Ok a) >>= f = f a
+(Err e) >>= f = Err e
+
+infixl 10 ◌>>◌
+abbrev pub ◌>>◌ : {A B : Type 0} → Check A → Check B → Check B
+o >> p = o >>= (λ _. p)
+
+-- goes on where the test is met
+abbrev pub ensure : Bool → ℕ → Rule → Check (Unit {0})
+ensure true at rule = Ok tt
+ensure false at rule = Err (record { at = at; rule = rule })
+
+-- goes on with the value where there is one
+abbrev pub want : {A : Type 0} → Option A → ℕ → Rule → Check A
+want (Some a) at rule = Ok a
+want None at rule = Err (record { at = at; rule = rule })
+
+-- all of them in order, or the first fault
+abbrev pub all_ok : {A : Type 0} → List (Check A) → Check (List A)
+all_ok [] = Ok []
+all_ok (c ∷ cs) = do
+  a ← c
+  rest ← all_ok cs
+  Ok (a ∷ rest)
+
+-- the faults that a check finds: none or one
+abbrev pub found : {A : Type 0} → Check A → List TypeFault
+found (Ok a) = []
+found (Err f) = f ∷ []

@@ -1,0 +1,11 @@
+pub mod Checks
+pub mod Covers
+pub mod Laws
+pub mod Least
+pub mod Operands
+pub mod Ordered
+pub mod Sub
+pub mod Told
+pub mod Trails
+pub mod Widths
+pub mod Worlds

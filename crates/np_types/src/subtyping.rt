@@ -1,0 +1,71 @@
+ghost use Rattle.std.specs.Prelude.{◌≡◌};
+ghost use Rattle.np_types.specs.Sub.{sub};
+ghost use Rattle.np_types.specs.Ordered.{Ordered, OrderedAll};
+
+use np_syntax::{Cap, Ty};
+
+/// Whether the type is below the other one. It takes no memory, and looks at each node of the two at most
+/// once.
+pub fn sub(a: &Ty, b: &Ty) -> bool
+    ensures { result ≡ sub a.now b.now }
+{
+    compare(a, b, true)
+}
+
+/// Whether `a` is below `b`, or, where not `up`, above it. What two `^` carry is looked at once, for equality:
+/// to compare it both ways would double the work at each level.
+#[tactic(auto, using(crate::proofs::Comparisons::comparisons))]
+#[cycle(compare)]
+fn compare(a: &Ty, b: &Ty, up: bool) -> bool
+    ensures { result ≡ Ordered up a.now b.now }
+{
+    match a {
+        Ty::Int => matches!(b, Ty::Int),
+        Ty::Bool => matches!(b, Ty::Bool),
+        Ty::Str => matches!(b, Ty::Str),
+        Ty::Site => matches!(b, Ty::Site),
+        Ty::Agent => matches!(b, Ty::Agent),
+        Ty::Chan(c, s) => match b {
+            Ty::Chan(d, t) => match *c {
+                Cap::Both => match *d {
+                    Cap::Both => s.get().same(t.get()),
+                    Cap::Input => up && compare(s.get(), t.get(), true),
+                    Cap::Output => up && compare(s.get(), t.get(), false),
+                },
+                Cap::Input => match *d {
+                    Cap::Both => !up && compare(s.get(), t.get(), false),
+                    Cap::Input => compare(s.get(), t.get(), up),
+                    Cap::Output => false,
+                },
+                Cap::Output => match *d {
+                    Cap::Both => !up && compare(s.get(), t.get(), true),
+                    Cap::Input => false,
+                    Cap::Output => compare(s.get(), t.get(), !up),
+                },
+            },
+            _ => false,
+        },
+        Ty::Tuple(x) => match b {
+            Ty::Tuple(y) => compare_all(x.as_slice(), y.as_slice(), up),
+            _ => false,
+        },
+        Ty::Letter => matches!(b, Ty::Letter),
+        Ty::Places => matches!(b, Ty::Places),
+    }
+}
+
+#[tactic(auto, using(crate::proofs::Comparisons::comparisons))]
+#[cycle(compare)]
+fn compare_all(a: &[Ty], b: &[Ty], up: bool) -> bool
+    ensures { result ≡ OrderedAll up a.now b.now }
+{
+    if a.len() != b.len() {
+        return false;
+    }
+    for i in 0..a.len() {
+        if !compare(&a[i], &b[i], up) {
+            return false;
+        }
+    }
+    true
+}
