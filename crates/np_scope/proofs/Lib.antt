@@ -1,0 +1,11 @@
+pub mod Forms
+pub mod Sizes
+pub mod Weights
+pub mod Leaving
+pub mod Entering
+pub mod Outcomes
+pub mod FromGrammar
+pub mod PatternsSound
+pub mod ProcessesSound
+pub mod ProgramsSound
+pub mod SoundParts

@@ -1,0 +1,8 @@
+use Rattle.std.proofs.Common.{◌∙◌}
+use Rattle.np_scope.proofs.Entering.{entered}
+use Rattle.np_scope.proofs.scope.Scope.enter.Goals as goal
+
+pub invariant_of-self-in-Ok-insert : goal.invariant_of-self-in-Ok-insert
+invariant_of-self-in-Ok-insert c =
+    rw c.in-Ok.ensures.items (entered _ _ _ _ c.self.invariant (c.copied-hidden.ensures ∙ c.get.ensures.value)
+    (λ name. c.in-Ok-insert.ensures.updates.0 (record { ref_ptr = c.args.name.ref_ptr; now = name })))
