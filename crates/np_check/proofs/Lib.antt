@@ -1,0 +1,3 @@
+pub mod Binders
+pub mod Forms
+pub mod Resolved

@@ -1,0 +1,8 @@
+ghost use Rattle.np_check.specs.Laws.{NeedSitesAlone, CountNodesAlone};
+
+/// Of a resolved program, the faults are the same in each world that has its sites, and the type at a `new` is only
+/// asked for the number of its nodes.
+pub fn law_resolved()
+    ensures sites { NeedSitesAlone }
+    ensures nodes { CountNodesAlone }
+{}
