@@ -43,6 +43,8 @@ does_accept mode.Run bytes (Some made) text d = (d.program, d.accepted)
 does_accept mode.Run bytes None text d = absurd d
 does_accept mode.Show bytes (Some made) text d = absurd d
 does_accept mode.Show bytes None text d = (d.tree, d.accepted)
+does_accept mode.Check bytes (Some made) text d = absurd d
+does_accept mode.Check bytes None text d = (d.program, d.accepted)
 
 -- what is made is made of an accepted source
 pub made_accepts : (call : Call) (m : Mode) (file bytes : List ℕ) (kept : Option Record) (text : List ℕ) → Reads call m file bytes

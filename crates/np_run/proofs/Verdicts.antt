@@ -1,5 +1,6 @@
 -- A source is accepted or refused, and refused in one way alone.
-use Rattle.std.proofs.Common.{◌≡◌, ℕ, ◌⊎◌, inl, inr, List, [], ◌∷◌, ◌++◌, drop, append_assoc, refl, sym, subst, ap, ◌∙◌}
+use Rattle.std.proofs.Common.{◌≡◌, ℕ, ◌≤◌, ◌⊎◌, inl, inr, Option, None, Some, List, [], ◌∷◌, ◌++◌, Result, Ok, Err, drop, append_assoc, refl, sym, subst, ap, ◌∙◌, arith}
+use Rattle.np_syntax.specs.declared.program.Program.{Program}
 use Rattle.np_lex.specs.declared.fail.LexFail.{LexFail}
 use Rattle.np_lex.specs.declared.fail.LexFail.TheVariants as lex
 use Rattle.np_lex.specs.declared.token.Token.{Token}
@@ -11,10 +12,19 @@ use Rattle.np_tree.specs.Grammar.{IsProgram}
 use Rattle.np_parse.specs.declared.fail.ParseFail.{ParseFail}
 use Rattle.np_parse.specs.declared.fail.ParseFail.TheVariants as parse
 use Rattle.np_parse.specs.Refusal.{Begins, Why}
+use Rattle.np_parse.specs.Input.{Outcome}
+use Rattle.np_parse.specs.Read.Programs.{program}
 use Rattle.np_parse.specs.Refusal as grammar
-use Rattle.np_run.specs.Faults.{HasTree, HasNoTokens, HasNoTree, Accepted, Faulty, of_tokens, of_grammar}
+use Rattle.np_parse.proofs.CompletePrograms.{complete_program}
+use Rattle.np_scope.specs.declared.fail.ScopeFail.{ScopeFail}
+use Rattle.np_scope.specs.declared.fail.ScopeFail.TheVariants as scope
+use Rattle.np_scope.specs.Resolved.{resolved}
+use Rattle.np_types.specs.declared.fault.TypeFault.{TypeFault as FirstFault}
+use Rattle.np_check.specs.Faults.{faults}
+use Rattle.np_plain.specs.Unbuilt.{first_unbuilt}
+use Rattle.np_run.specs.Faults.{HasTree, HasProgram, HasNoTokens, HasNoTree, HasNoProgram, IsNotBuilt, IsIllTyped, Wrong, Accepted, Faulty, of_tokens, of_grammar, of_scope}
 use Rattle.np_run.specs.declared.refusal.Refusal.{Refusal}
-use Rattle.np_run.specs.declared.refusal.Refusal.TheVariants.{Usage, TooLong, Unbuilt}
+use Rattle.np_run.specs.declared.refusal.Refusal.TheVariants.{Usage, TooLong, TypeFault, Unbuilt}
 use Rattle.np_run.specs.declared.words.Mode.{Mode}
 use Rattle.np_run.specs.declared.words.Mode.TheVariants as mode
 
@@ -83,6 +93,101 @@ refused_once : (depth : ℕ) (ts : List Token) (e f : ParseFail) → grammar.Ref
 refused_once depth ts e f r s =
     by_cuts depth r.pre s.pre r.t s.t e f r.shorter s.shorter r.none s.none r.why s.why (cuts r.pre s.pre r.t s.t r.rest s.rest (sym r.is ∙ s.is))
 
+-- ---- tokens
+
+-- tokens have one tree
+tree_once : (ts : List Token) (a b : Tree) → IsProgram 200 ts a → IsProgram 200 ts b → a ≡ b
+tree_once ts a b x y = same_tree (program 200 ts) (complete_program x 200 (omega arith)) (complete_program y 200 (omega arith))
+  where
+    same_tree : (o : Outcome Tree) → o ≡ Ok (a, []) → o ≡ Ok (b, []) → a ≡ b
+    same_tree o e f = let pair : (let p : Tree × List Token = (a, []) in p) ≡ (b, []) = cc in ap (λ (p : Tree × List Token). p.0) pair
+
+same_resolved : (ts : List Token) (a b : Tree) → IsProgram 200 ts a → IsProgram 200 ts b → resolved a ≡ resolved b
+same_resolved ts a b x y = ap resolved (tree_once ts a b x y)
+
+resolves_or_not : {A : Type 0} (o : Result A ScopeFail) (a : A) (e : ScopeFail) → o ≡ Ok a → o ≡ Err e → ⊥
+resolves_or_not o a e x y = cc
+
+-- tokens with a program are not refused by scope
+program_no_fail : (ts : List Token) (p : Program) (r : Refusal) → HasProgram ts p → HasNoProgram ts r → ⊥
+program_no_fail ts p r h f = resolves_or_not (resolved f.tree) p f.fail (same_resolved ts f.tree h.tree f.parsed h.parsed ∙ h.scoped) f.refused
+
+program_no_grammar : (ts : List Token) (p : Program) (r : Refusal) → HasProgram ts p → HasNoTree ts r → ⊥
+program_no_grammar ts p r h f = no_tree 200 ts h.tree f.fail h.parsed f.refused
+
+same_ok : {A : Type 0} (o : Result A ScopeFail) (a b : A) → o ≡ Ok a → o ≡ Ok b → a ≡ b
+same_ok o a b x y = cc
+
+same_err : {A : Type 0} (o : Result A ScopeFail) (a b : ScopeFail) → o ≡ Err a → o ≡ Err b → a ≡ b
+same_err o a b x y = cc
+
+program_once : (ts : List Token) (p q : Program) → HasProgram ts p → HasProgram ts q → p ≡ q
+program_once ts p q h k = same_ok (resolved h.tree) p q h.scoped (same_resolved ts h.tree k.tree h.parsed k.parsed ∙ k.scoped)
+
+same_first : (o : Option ℕ) (a b : ℕ) → o ≡ Some a → o ≡ Some b → a ≡ b
+same_first o a b e f = cc
+
+some_or_none : (o : Option ℕ) (a : ℕ) → o ≡ None → o ≡ Some a → ⊥
+some_or_none o a e f = cc
+
+tree_refused_once : (ts : List Token) (a b : Refusal) → HasNoTree ts a → HasNoTree ts b → a ≡ b
+tree_refused_once ts a b f g = f.is ∙ ap of_grammar (refused_once 200 ts f.fail g.fail f.refused g.refused) ∙ sym g.is
+
+scope_refused_once : (ts : List Token) (a b : Refusal) → HasNoProgram ts a → HasNoProgram ts b → a ≡ b
+scope_refused_once ts a b f g =
+    f.is ∙ ap of_scope (same_err (resolved f.tree) f.fail g.fail f.refused (same_resolved ts f.tree g.tree f.parsed g.parsed ∙ g.refused)) ∙ sym g.is
+
+unbuilt_once : (ts : List Token) (a b : Refusal) → IsNotBuilt ts a → IsNotBuilt ts b → a ≡ b
+unbuilt_once ts a b f g =
+    let same = ap (first_unbuilt ts) (program_once ts f.program g.program f.read g.read) in
+    f.is ∙ ap Unbuilt (same_first (first_unbuilt ts f.program) f.at g.at f.first (same ∙ g.first)) ∙ sym g.is
+
+types_refused_once : (ts : List Token) (a b : Refusal) → IsIllTyped ts a → IsIllTyped ts b → a ≡ b
+types_refused_once ts a b f g =
+    let same = ap faults (program_once ts f.program g.program f.read g.read) in
+    f.is ∙ ap TypeFault (first_of f.fault g.fault (sym f.first ∙ same ∙ g.first)) ∙ sym g.is
+  where
+    first_of : (a b : FirstFault) → ◌≡◌ {A = List FirstFault} (a ∷ []) (b ∷ []) → a ≡ b
+    first_of a b e = cc
+
+faultless_or_not : (o : List FirstFault) (f : FirstFault) → o ≡ [] → o ≡ f ∷ [] → ⊥
+faultless_or_not o f e g = cc
+
+-- a mode finds one thing wrong with tokens
+wrong_once : (m : Mode) (ts : List Token) (a b : Refusal) → Wrong m ts a → Wrong m ts b → a ≡ b
+wrong_once mode.Show ts a b f g = tree_refused_once ts a b f g
+wrong_once mode.Run ts a b (inl f) (inl g) = tree_refused_once ts a b f g
+wrong_once mode.Run ts a b (inl f) (inr (inl g)) = absurd (no_tree 200 ts g.tree f.fail g.parsed f.refused)
+wrong_once mode.Run ts a b (inl f) (inr (inr g)) = absurd (program_no_grammar ts g.program a g.read f)
+wrong_once mode.Run ts a b (inr (inl f)) (inl g) = absurd (no_tree 200 ts f.tree g.fail f.parsed g.refused)
+wrong_once mode.Run ts a b (inr (inl f)) (inr (inl g)) = scope_refused_once ts a b f g
+wrong_once mode.Run ts a b (inr (inl f)) (inr (inr g)) = absurd (program_no_fail ts g.program a g.read f)
+wrong_once mode.Run ts a b (inr (inr f)) (inl g) = absurd (program_no_grammar ts f.program b f.read g)
+wrong_once mode.Run ts a b (inr (inr f)) (inr (inl g)) = absurd (program_no_fail ts f.program b f.read g)
+wrong_once mode.Run ts a b (inr (inr f)) (inr (inr g)) = unbuilt_once ts a b f g
+wrong_once mode.Check ts a b (inl f) (inl g) = tree_refused_once ts a b f g
+wrong_once mode.Check ts a b (inl f) (inr (inl g)) = absurd (no_tree 200 ts g.tree f.fail g.parsed f.refused)
+wrong_once mode.Check ts a b (inl f) (inr (inr g)) = absurd (program_no_grammar ts g.program a g.read f)
+wrong_once mode.Check ts a b (inr (inl f)) (inl g) = absurd (no_tree 200 ts f.tree g.fail f.parsed g.refused)
+wrong_once mode.Check ts a b (inr (inl f)) (inr (inl g)) = scope_refused_once ts a b f g
+wrong_once mode.Check ts a b (inr (inl f)) (inr (inr g)) = absurd (program_no_fail ts g.program a g.read f)
+wrong_once mode.Check ts a b (inr (inr f)) (inl g) = absurd (program_no_grammar ts f.program b f.read g)
+wrong_once mode.Check ts a b (inr (inr f)) (inr (inl g)) = absurd (program_no_fail ts f.program b f.read g)
+wrong_once mode.Check ts a b (inr (inr f)) (inr (inr g)) = types_refused_once ts a b f g
+
+-- with tokens of a program that is well typed nothing is wrong
+typed_not_wrong : (ts : List Token) (p : Program) (r : Refusal) → HasProgram ts p → faults p ≡ [] → Wrong mode.Check ts r → ⊥
+typed_not_wrong ts p r h none (inl f) = program_no_grammar ts p r h f
+typed_not_wrong ts p r h none (inr (inl f)) = program_no_fail ts p r h f
+typed_not_wrong ts p r h none (inr (inr f)) = faultless_or_not (faults p) f.fault none (ap faults (program_once ts p f.program h f.read) ∙ f.first)
+
+-- with tokens of a program that is built nothing is wrong
+built_not_wrong : (ts : List Token) (p : Program) (r : Refusal) → HasProgram ts p → first_unbuilt ts p ≡ None → Wrong mode.Run ts r → ⊥
+built_not_wrong ts p r h none (inl f) = program_no_grammar ts p r h f
+built_not_wrong ts p r h none (inr (inl f)) = program_no_fail ts p r h f
+built_not_wrong ts p r h none (inr (inr f)) =
+    some_or_none (first_unbuilt ts p) f.at none (ap (first_unbuilt ts) (program_once ts p f.program h f.read) ∙ f.first)
+
 -- ---- sources
 
 tokens_not_both : (bytes : List ℕ) (ts : List Token) (e : LexFail) → Lexes 0 bytes ts → tokens.IsRefused bytes e → ⊥
@@ -93,30 +198,39 @@ tokens_refused_once bytes e f r s = r.is ∙ ap (λ p. tokens.refusal p (drop p 
 
 -- no source is both accepted and refused
 pub not_both : (m : Mode) (bytes : List ℕ) (refusal : Refusal) → Accepted m bytes → Faulty m bytes refusal → ⊥
-not_both mode.Run bytes refusal a f = f.1 a.0 a.1
+not_both mode.Run bytes refusal a (inl f) = tokens_not_both bytes a.1.tokens f.fail a.1.lexed f.refused
+not_both mode.Run bytes refusal a (inr f) =
+    let same : f.tokens ≡ a.1.tokens = once.lexes_once f.lexed a.1.lexed in
+    built_not_wrong a.1.tokens a.0 refusal a.1.read a.1.built (subst (λ (ts : List Token). Wrong mode.Run ts refusal) same f.wrong)
 not_both mode.Show bytes refusal a (inl f) = tokens_not_both bytes a.1.tokens f.fail a.1.lexed f.refused
 not_both mode.Show bytes refusal a (inr f) =
     let same : f.tokens ≡ a.1.tokens = once.lexes_once f.lexed a.1.lexed in
-    no_tree 200 a.1.tokens a.0 f.fail a.1.parsed (subst (λ (ts : List Token). grammar.Refusal 200 ts f.fail) same f.refused)
+    let wrong : HasNoTree a.1.tokens refusal = subst (λ (ts : List Token). Wrong mode.Show ts refusal) same f.wrong in
+    no_tree 200 a.1.tokens a.0 wrong.fail a.1.parsed wrong.refused
+not_both mode.Check bytes refusal a (inl f) = tokens_not_both bytes a.1.tokens f.fail a.1.lexed f.refused
+not_both mode.Check bytes refusal a (inr f) =
+    let same : f.tokens ≡ a.1.tokens = once.lexes_once f.lexed a.1.lexed in
+    typed_not_wrong a.1.tokens a.0 refusal a.1.read a.1.faultless (subst (λ (ts : List Token). Wrong mode.Check ts refusal) same f.wrong)
 
 -- a source is refused in one way
 pub same_fault : (m : Mode) (bytes : List ℕ) (a b : Refusal) → Faulty m bytes a → Faulty m bytes b → a ≡ b
-same_fault mode.Run bytes a b f g = f.0 ∙ sym g.0
-same_fault mode.Show bytes a b (inl f) (inl g) = f.is ∙ ap of_tokens (tokens_refused_once bytes f.fail g.fail f.refused g.refused) ∙ sym g.is
-same_fault mode.Show bytes a b (inl f) (inr g) = absurd (tokens_not_both bytes g.tokens f.fail g.lexed f.refused)
-same_fault mode.Show bytes a b (inr f) (inl g) = absurd (tokens_not_both bytes f.tokens g.fail f.lexed g.refused)
-same_fault mode.Show bytes a b (inr f) (inr g) =
+same_fault m bytes a b (inl f) (inl g) = f.is ∙ ap of_tokens (tokens_refused_once bytes f.fail g.fail f.refused g.refused) ∙ sym g.is
+same_fault m bytes a b (inl f) (inr g) = absurd (tokens_not_both bytes g.tokens f.fail g.lexed f.refused)
+same_fault m bytes a b (inr f) (inl g) = absurd (tokens_not_both bytes f.tokens g.fail f.lexed g.refused)
+same_fault m bytes a b (inr f) (inr g) =
     let same : f.tokens ≡ g.tokens = once.lexes_once f.lexed g.lexed in
-    let there = subst (λ (ts : List Token). grammar.Refusal 200 ts f.fail) same f.refused in
-    f.is ∙ ap of_grammar (refused_once 200 g.tokens f.fail g.fail there g.refused) ∙ sym g.is
+    wrong_once m g.tokens a b (subst (λ (ts : List Token). Wrong m ts a) same f.wrong) g.wrong
 
 -- ---- refusals that are of no source
 
-not_tokens : (bytes : List ℕ) (refusal : Refusal) → ((e : LexFail) → refusal ≡ of_tokens e → ⊥) → ((e : ParseFail) → refusal ≡ of_grammar e → ⊥)
-    → (refusal ≡ Unbuilt → ⊥) → (m : Mode) → Faulty m bytes refusal → ⊥
-not_tokens bytes refusal a b c mode.Run f = c f.0
-not_tokens bytes refusal a b c mode.Show (inl f) = a f.fail f.is
-not_tokens bytes refusal a b c mode.Show (inr f) = b f.fail f.is
+-- a refusal of a source is one of its tokens, of the grammar, of scope, or for want of what is not built
+not_source : (refusal : Refusal) → ((e : LexFail) → refusal ≡ of_tokens e → ⊥) → ((e : ParseFail) → refusal ≡ of_grammar e → ⊥)
+    → ((e : ScopeFail) → refusal ≡ of_scope e → ⊥) → ((at : ℕ) → refusal ≡ Unbuilt at → ⊥)
+    → ((fault : FirstFault) → refusal ≡ TypeFault fault → ⊥) → (m : Mode) (bytes : List ℕ) → Faulty m bytes refusal → ⊥
+not_source refusal a b c d k m bytes (inl f) = a f.fail f.is
+not_source refusal a b c d k mode.Run bytes (inr f) = elim (f.wrong) [ inl w ↦ b w.fail w.is | inr rest ↦ elim rest [ inl w ↦ c w.fail w.is | inr w ↦ d w.at w.is ] ]
+not_source refusal a b c d k mode.Show bytes (inr f) = let w : HasNoTree f.tokens refusal = f.wrong in b w.fail w.is
+not_source refusal a b c d k mode.Check bytes (inr f) = elim (f.wrong) [ inl w ↦ b w.fail w.is | inr rest ↦ elim rest [ inl w ↦ c w.fail w.is | inr w ↦ k w.fault w.is ] ]
 
 long_tokens : (e : LexFail) → TooLong ≡ of_tokens e → ⊥
 long_tokens lex.Memory e = cc
@@ -129,6 +243,13 @@ long_grammar parse.Memory e = cc
 long_grammar (parse.Syntax at) e = cc
 long_grammar (parse.TooDeep at) e = cc
 
+long_scope : (e : ScopeFail) → TooLong ≡ of_scope e → ⊥
+long_scope scope.Memory e = cc
+long_scope (scope.Unbound at) e = cc
+long_scope (scope.SiteTwice at) e = cc
+long_scope (scope.TooManySites at) e = cc
+long_scope (scope.NotASite at) e = cc
+
 usage_tokens : (e : LexFail) → Usage ≡ of_tokens e → ⊥
 usage_tokens lex.Memory e = cc
 usage_tokens (lex.BadChar at) e = cc
@@ -140,8 +261,15 @@ usage_grammar parse.Memory e = cc
 usage_grammar (parse.Syntax at) e = cc
 usage_grammar (parse.TooDeep at) e = cc
 
+usage_scope : (e : ScopeFail) → Usage ≡ of_scope e → ⊥
+usage_scope scope.Memory e = cc
+usage_scope (scope.Unbound at) e = cc
+usage_scope (scope.SiteTwice at) e = cc
+usage_scope (scope.TooManySites at) e = cc
+usage_scope (scope.NotASite at) e = cc
+
 pub not_long : (m : Mode) (bytes : List ℕ) → Faulty m bytes TooLong → ⊥
-not_long m bytes = not_tokens bytes TooLong long_tokens long_grammar (λ e. cc) m
+not_long = not_source TooLong long_tokens long_grammar long_scope (λ at e. cc) (λ fault e. cc)
 
 pub not_usage : (m : Mode) (bytes : List ℕ) → Faulty m bytes Usage → ⊥
-not_usage m bytes = not_tokens bytes Usage usage_tokens usage_grammar (λ e. cc) m
+not_usage = not_source Usage usage_tokens usage_grammar usage_scope (λ at e. cc) (λ fault e. cc)

@@ -1,5 +1,5 @@
 -- The program's answers and their causes (docs/LANGUAGE.md, "Reports and refusals"). Want of memory alone has no cause.
-use Rattle.std.specs.Prelude.{◌≡◌, ℕ, ◌+◌, ◌<◌, ◌≤◌, ◌⊎◌, List, length, Option, Some, None, IfSome}
+use Rattle.std.specs.Prelude.{◌≡◌, ℕ, ◌+◌, ◌<◌, ◌≤◌, ◌⊎◌, List, length, codes, Option, Some, None, IfSome}
 use Rattle.std.specs.Io.KnownBytes.{Appends, Keeps}
 use Rattle.np_syntax.specs.declared.event.End.{End}
 use Rattle.np_syntax.specs.declared.event.End.TheVariants.{Rest, Spent}
@@ -10,8 +10,7 @@ use Rattle.np_tree.specs.declared.tree.Tree.{Tree}
 use Rattle.np_show.specs.Shown.{shown}
 use Rattle.np_calculus.specs.Config.{Config}
 use Rattle.np_calculus.specs.Serial.{IsSerialRun}
-use Rattle.np_run.specs.Source.Accepted.{Accepts}
-use Rattle.np_run.specs.Faults.{HasTree, Faulty}
+use Rattle.np_run.specs.Faults.{HasTree, Accepts, IsWellTyped, Faulty}
 use Rattle.np_run.specs.Words.{plan, texts_read}
 use Rattle.np_run.specs.Lines.{line_of, status_of}
 use Rattle.np_run.specs.Report.{report_text}
@@ -99,12 +98,20 @@ pub record Shows (bytes text : List ℕ) : Type 0 where
   pub accepted : HasTree bytes tree
   pub shows : text ≡ shown tree
 
--- what the mode makes of a source: a run, which is kept, or the canonical text
+-- the source is well typed, and the text says so
+pub record Checks (bytes text : List ℕ) : Type 0 where
+  pub program : Program
+  pub accepted : IsWellTyped bytes program
+  pub says : text ≡ codes "well typed\n"
+
+-- what the mode makes of a source: a run, which is kept, the canonical text, or that it is well typed
 abbrev pub Does : Mode → List ℕ → Option Record → List ℕ → Type 0
 Does mode.Run bytes (Some made) text = Runs bytes made text
 Does mode.Run bytes None text = ⊥
 Does mode.Show bytes (Some made) text = ⊥
 Does mode.Show bytes None text = Shows bytes text
+Does mode.Check bytes (Some made) text = ⊥
+Does mode.Check bytes None text = Checks bytes text
 
 -- the words name a source, and this was made of it
 pub record HasMade (words : List (List ℕ)) (texts : Reading) (kept : Option Record) (text : List ℕ) : Type 0 where

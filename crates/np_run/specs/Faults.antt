@@ -1,6 +1,6 @@
--- What the bytes of a source are, and what is wrong with them, for each mode (docs/LANGUAGE.md, "Tokens", "Grammar" and
--- "The built form").
-use Rattle.std.specs.Prelude.{◌≡◌, ℕ, ◌⊎◌, List}
+-- What the bytes of a source are, and what is wrong with them, for each mode (docs/LANGUAGE.md, "Tokens", "Grammar", "Scope",
+-- "Types" and "The built form").
+use Rattle.std.specs.Prelude.{◌≡◌, ℕ, ◌⊎◌, Option, None, Some, List, [], ◌∷◌, Ok, Err}
 use Rattle.np_syntax.specs.declared.program.Program.{Program}
 use Rattle.np_lex.specs.declared.fail.LexFail.{LexFail}
 use Rattle.np_lex.specs.declared.fail.LexFail.TheVariants as lex
@@ -12,13 +12,18 @@ use Rattle.np_tree.specs.Grammar.{IsProgram}
 use Rattle.np_parse.specs.declared.fail.ParseFail.{ParseFail}
 use Rattle.np_parse.specs.declared.fail.ParseFail.TheVariants as parse
 use Rattle.np_parse.specs.Refusal as grammar
-use Rattle.np_run.specs.Source.Accepted.{Accepts}
+use Rattle.np_scope.specs.declared.fail.ScopeFail.{ScopeFail}
+use Rattle.np_scope.specs.declared.fail.ScopeFail.TheVariants as scope
+use Rattle.np_scope.specs.Resolved.{resolved}
+use Rattle.np_types.specs.declared.fault.TypeFault.{TypeFault as FirstFault}
+use Rattle.np_check.specs.Faults.{faults}
+use Rattle.np_plain.specs.Unbuilt.{first_unbuilt}
 use Rattle.np_run.specs.declared.refusal.Refusal.{Refusal}
-use Rattle.np_run.specs.declared.refusal.Refusal.TheVariants.{Memory, BadChar, BadString, BigNumber, Syntax, TooDeep, Unbuilt}
+use Rattle.np_run.specs.declared.refusal.Refusal.TheVariants.{Memory, BadChar, BadString, BigNumber, Syntax, TooDeep, Unbound, SiteTwice, TooManySites, NotASite, TypeFault, Unbuilt}
 use Rattle.np_run.specs.declared.words.Mode.{Mode}
 use Rattle.np_run.specs.declared.words.Mode.TheVariants as mode
 
--- the refusals of tokens and of the grammar, as the program has them
+-- the refusals of tokens, of the grammar and of scope, as the program has them
 
 abbrev pub of_tokens : LexFail → Refusal
 of_tokens lex.Memory = Memory
@@ -31,11 +36,48 @@ of_grammar parse.Memory = Memory
 of_grammar (parse.Syntax at) = Syntax at
 of_grammar (parse.TooDeep at) = TooDeep at
 
+abbrev pub of_scope : ScopeFail → Refusal
+of_scope scope.Memory = Memory
+of_scope (scope.Unbound at) = Unbound at
+of_scope (scope.SiteTwice at) = SiteTwice at
+of_scope (scope.TooManySites at) = TooManySites at
+of_scope (scope.NotASite at) = NotASite at
+
+-- ---- what is accepted
+
 -- the bytes have these tokens, and the grammar gives them this tree
 pub record HasTree (bytes : List ℕ) (tree : Tree) : Type 0 where
   pub tokens : List Token
   pub lexed : Lexes 0 bytes tokens
   pub parsed : IsProgram 200 tokens tree
+
+-- the grammar gives the tokens a tree, and with its names resolved this is the program
+pub record HasProgram (tokens : List Token) (program : Program) : Type 0 where
+  pub tree : Tree
+  pub parsed : IsProgram 200 tokens tree
+  pub scoped : resolved tree ≡ Ok program
+
+-- the bytes have tokens, these have a program, and all of it is built
+pub record Accepts (bytes : List ℕ) (program : Program) : Type 0 where
+  pub tokens : List Token
+  pub lexed : Lexes 0 bytes tokens
+  pub read : HasProgram tokens program
+  pub built : first_unbuilt tokens program ≡ None
+
+-- the bytes have tokens, these have a program, and it has no fault of types
+pub record IsWellTyped (bytes : List ℕ) (program : Program) : Type 0 where
+  pub tokens : List Token
+  pub lexed : Lexes 0 bytes tokens
+  pub read : HasProgram tokens program
+  pub faultless : faults program ≡ []
+
+-- the mode takes the source
+abbrev pub Accepted : Mode → List ℕ → Type 0
+Accepted mode.Run bytes = (program : Program) × Accepts bytes program
+Accepted mode.Show bytes = (tree : Tree) × HasTree bytes tree
+Accepted mode.Check bytes = (program : Program) × IsWellTyped bytes program
+
+-- ---- what is refused
 
 -- the bytes are no tokens, from the place of the refusal on
 pub record HasNoTokens (bytes : List ℕ) (refusal : Refusal) : Type 0 where
@@ -43,20 +85,48 @@ pub record HasNoTokens (bytes : List ℕ) (refusal : Refusal) : Type 0 where
   pub is : refusal ≡ of_tokens fail
   pub refused : tokens.IsRefused bytes fail
 
--- the bytes have tokens, and these no tree, from the place of the refusal on
-pub record HasNoTree (bytes : List ℕ) (refusal : Refusal) : Type 0 where
+-- the tokens have no tree, from the place of the refusal on
+pub record HasNoTree (ts : List Token) (refusal : Refusal) : Type 0 where
   pub fail : ParseFail
   pub is : refusal ≡ of_grammar fail
+  pub refused : grammar.Refusal 200 ts fail
+
+-- a name of the tree, at the place of the refusal, stands for nothing that it could
+pub record HasNoProgram (ts : List Token) (refusal : Refusal) : Type 0 where
+  pub fail : ScopeFail
+  pub is : refusal ≡ of_scope fail
+  pub tree : Tree
+  pub parsed : IsProgram 200 ts tree
+  pub refused : resolved tree ≡ Err fail
+
+-- the program has a token that is not built, the first at the place of the refusal
+pub record IsNotBuilt (ts : List Token) (refusal : Refusal) : Type 0 where
+  pub at : ℕ
+  pub is : refusal ≡ Unbuilt at
+  pub program : Program
+  pub read : HasProgram ts program
+  pub first : first_unbuilt ts program ≡ Some at
+
+-- the program has a fault of types, the first at the place of the refusal
+pub record IsIllTyped (ts : List Token) (refusal : Refusal) : Type 0 where
+  pub fault : FirstFault
+  pub is : refusal ≡ TypeFault fault
+  pub program : Program
+  pub read : HasProgram ts program
+  pub first : faults program ≡ fault ∷ []
+
+-- what the mode finds wrong with tokens
+abbrev pub Wrong : Mode → List Token → Refusal → Type 0
+Wrong mode.Run ts refusal = HasNoTree ts refusal ⊎ HasNoProgram ts refusal ⊎ IsNotBuilt ts refusal
+Wrong mode.Show ts refusal = HasNoTree ts refusal
+Wrong mode.Check ts refusal = HasNoTree ts refusal ⊎ HasNoProgram ts refusal ⊎ IsIllTyped ts refusal
+
+-- the bytes have tokens, and the mode finds this wrong with them
+pub record AreWrong (m : Mode) (bytes : List ℕ) (refusal : Refusal) : Type 0 where
   pub tokens : List Token
   pub lexed : Lexes 0 bytes tokens
-  pub refused : grammar.Refusal 200 tokens fail
-
--- the mode takes the source
-abbrev pub Accepted : Mode → List ℕ → Type 0
-Accepted mode.Run bytes = (program : Program) × Accepts bytes program
-Accepted mode.Show bytes = (tree : Tree) × HasTree bytes tree
+  pub wrong : Wrong m tokens refusal
 
 -- the mode refuses the source so
 abbrev pub Faulty : Mode → List ℕ → Refusal → Type 0
-Faulty mode.Run bytes refusal = (refusal ≡ Unbuilt) × ((program : Program) → ¬ Accepts bytes program)
-Faulty mode.Show bytes refusal = HasNoTokens bytes refusal ⊎ HasNoTree bytes refusal
+Faulty m bytes refusal = HasNoTokens bytes refusal ⊎ AreWrong m bytes refusal

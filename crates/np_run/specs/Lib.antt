@@ -1,4 +1,3 @@
-pub mod Source
 pub mod Words
 pub mod Report
 pub mod Lines

@@ -5,7 +5,8 @@ use Rattle.np_run.specs.declared.words.Mode.{Mode}
 use Rattle.np_run.specs.declared.words.Mode.TheVariants as mode
 
 abbrev pub mode_of : List ℕ → Option Mode
-mode_of word = if bytes_eq word (codes "run") then Some mode.Run else (if bytes_eq word (codes "show") then Some mode.Show else None)
+mode_of word = if bytes_eq word (codes "run") then Some mode.Run else (if bytes_eq word (codes "show") then Some mode.Show
+    else (if bytes_eq word (codes "check") then Some mode.Check else None))
 
 abbrev pub planned : Option Mode → List ℕ → Option (Mode × List ℕ)
 planned None file = None

@@ -2,20 +2,17 @@ ghost use Rattle.std.specs.Prelude.{◌≡◌, ◌≢◌, ◌+◌, ◌≤◌, le
 ghost use Rattle.np_run.specs.Words.{plan, texts_read};
 ghost use Rattle.np_calculus.specs.Plain.{IsPlain};
 ghost use Rattle.np_run.specs.Answers.{Reading, Stands, HasMade, IsRunOf, Does};
-ghost use Rattle.np_run.specs.Faults.{Faulty, HasTree};
+ghost use Rattle.np_run.specs.Faults.{Faulty};
 
 use super::answer::Record;
-use super::reader::{SourceFail, read_source};
-use super::refusal::{Refusal, of_grammar, of_tokens};
+use super::reading::{checked_program, plain_program, tokens_of, tree_of};
+use super::refusal::Refusal;
 use super::reporting::report;
 use super::words::{Mode, planned};
 use np_calculus::{SerialRun, run_serial};
 use np_io::{ReadFail, Texts, Word, read_all};
-use np_lex::lex;
-use np_parse::parse;
 use np_show::show;
-use np_syntax::{Memory, Program, Text};
-use np_tree::Tree;
+use np_syntax::{List, Memory, Program, Text};
 use std::alloc::Global;
 
 /// How many bytes a source may have.
@@ -63,6 +60,7 @@ pub(crate) fn work<T: Texts>(alloc: Global, words: &[Word], texts: &mut T) -> Re
     match mode {
         Mode::Run => run_source(alloc, bytes.as_slice()),
         Mode::Show => show_source(alloc, bytes.as_slice()),
+        Mode::Check => check_source(alloc, bytes.as_slice()),
     }
 }
 
@@ -72,11 +70,10 @@ fn run_source(alloc: Global, bytes: &[u8]) -> Result<Job, Refusal>
     ensures made { IfOk result (λ job. Does Mode.Run bytes.now job.kept job.text) }
     ensures refused { IfErr result (λ refusal. refusal ≢ Refusal.Memory → Faulty Mode.Run bytes.now refusal) }
 {
-    let program = match read_source(alloc, bytes) {
-        Ok(program) => program,
-        Err(SourceFail::Memory) => return Err(Refusal::Memory),
-        Err(SourceFail::Unbuilt) => return Err(Refusal::Unbuilt),
-    };
+    let tokens = tokens_of(alloc, bytes)?;
+    let read = plain_program(alloc, &tokens);
+    drop(tokens);
+    let program = read?;
     match run(alloc, &program) {
         Ok((made, text)) => Ok(Job {
             kept: Some(made),
@@ -92,7 +89,10 @@ fn show_source(alloc: Global, bytes: &[u8]) -> Result<Job, Refusal>
     ensures made { IfOk result (λ job. Does Mode.Show bytes.now job.kept job.text) }
     ensures refused { IfErr result (λ refusal. refusal ≢ Refusal.Memory → Faulty Mode.Show bytes.now refusal) }
 {
-    let tree = tree_of(alloc, bytes)?;
+    let tokens = tokens_of(alloc, bytes)?;
+    let read = tree_of(alloc, &tokens);
+    drop(tokens);
+    let tree = read?;
     let shown = show(alloc, &tree);
     drop(tree);
     match shown {
@@ -101,19 +101,20 @@ fn show_source(alloc: Global, bytes: &[u8]) -> Result<Job, Refusal>
     }
 }
 
-/// The tree of a source.
-fn tree_of(alloc: Global, bytes: &[u8]) -> Result<Tree, Refusal>
+/// That a source is well typed.
+fn check_source(alloc: Global, bytes: &[u8]) -> Result<Job, Refusal>
     requires { length bytes.now ≤ 1048576 }
-    ensures found { IfOk result (λ tree. HasTree bytes.now tree) }
-    ensures refused { IfErr result (λ refusal. refusal ≢ Refusal.Memory → Faulty Mode.Show bytes.now refusal) }
+    ensures made { IfOk result (λ job. Does Mode.Check bytes.now job.kept job.text) }
+    ensures refused { IfErr result (λ refusal. refusal ≢ Refusal.Memory → Faulty Mode.Check bytes.now refusal) }
 {
-    let tokens = match lex(alloc, bytes) {
-        Ok(tokens) => tokens,
-        Err(fail) => return Err(of_tokens(fail)),
-    };
-    match parse(alloc, &tokens) {
-        Ok(tree) => Ok(tree),
-        Err(fail) => Err(of_grammar(fail)),
+    let tokens = tokens_of(alloc, bytes)?;
+    let read = checked_program(alloc, &tokens);
+    drop(tokens);
+    let checked = read?;
+    drop(checked);
+    match List::from_slice(alloc, b"well typed\n") {
+        Ok(text) => Ok(Job { kept: None, text }),
+        Err(Memory) => Err(Refusal::Memory),
     }
 }
 

@@ -4,7 +4,7 @@
 mod answer;
 mod job;
 mod laws;
-mod reader;
+mod reading;
 mod refusal;
 mod reporting;
 #[cfg(test)]

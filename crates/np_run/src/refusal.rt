@@ -1,10 +1,12 @@
 ghost use Rattle.std.specs.Prelude.{◌≡◌, ◌++◌, IfOk, codes};
-ghost use Rattle.np_run.specs.Faults.{of_grammar, of_tokens};
-ghost use Rattle.np_run.specs.Lines.{line_of, placed_line, status_of};
+ghost use Rattle.np_run.specs.Faults.{of_grammar, of_scope, of_tokens};
+ghost use Rattle.np_run.specs.Lines.{line_of, placed_line, rule_text, status_of};
 
 use np_lex::LexFail;
 use np_parse::ParseFail;
+use np_scope::ScopeFail;
 use np_syntax::{List, Memory, Text};
+use np_types::{Rule, TypeFault};
 use std::alloc::Global;
 use thiserror::Error;
 
@@ -34,8 +36,19 @@ pub enum Refusal {
     /// Only programs that are too deep begin with the tokens up to that place.
     #[error("the source is too deep at {0}")]
     TooDeep(u32),
-    #[error("the source is not of the built form")]
-    Unbuilt,
+    #[error("no site and no binder in scope has the name at {0}")]
+    Unbound(u32),
+    #[error("the site at {0} stands earlier in the list")]
+    SiteTwice(u32),
+    #[error("the site at {0} is one too many")]
+    TooManySites(u32),
+    #[error("no site has the name at {0}")]
+    NotASite(u32),
+    #[error("a check of types fails")]
+    TypeFault(TypeFault),
+    /// The source is a program, of which np does not run that token yet.
+    #[error("the token at {0} is not built yet")]
+    Unbuilt(u32),
 }
 
 /// A refusal of the tokens.
@@ -61,6 +74,19 @@ pub(crate) fn of_grammar(fail: ParseFail) -> Refusal
     }
 }
 
+/// A refusal of scope.
+pub(crate) fn of_scope(fail: ScopeFail) -> Refusal
+    ensures { result ≡ of_scope fail }
+{
+    match fail {
+        ScopeFail::Memory => Refusal::Memory,
+        ScopeFail::Unbound(at) => Refusal::Unbound(at),
+        ScopeFail::SiteTwice(at) => Refusal::SiteTwice(at),
+        ScopeFail::TooManySites(at) => Refusal::TooManySites(at),
+        ScopeFail::NotASite(at) => Refusal::NotASite(at),
+    }
+}
+
 /// What the program writes about a refusal; nothing for want of memory.
 pub fn line(alloc: Global, refusal: Refusal) -> Result<Text, Memory>
     ensures { IfOk result (λ text. text ≡ line_of refusal) }
@@ -78,7 +104,12 @@ pub fn line(alloc: Global, refusal: Refusal) -> Result<Text, Memory>
         Refusal::BigNumber(at) => placed_line(alloc, b"np: 9 BigNumber at ", at),
         Refusal::Syntax(at) => placed_line(alloc, b"np: 10 Syntax at ", at),
         Refusal::TooDeep(at) => placed_line(alloc, b"np: 11 TooDeep at ", at),
-        Refusal::Unbuilt => placed_line(alloc, b"np: 19 Unbuilt at ", 0),
+        Refusal::Unbound(at) => placed_line(alloc, b"np: 12 Unbound at ", at),
+        Refusal::SiteTwice(at) => placed_line(alloc, b"np: 13 SiteTwice at ", at),
+        Refusal::TooManySites(at) => placed_line(alloc, b"np: 14 TooManySites at ", at),
+        Refusal::NotASite(at) => placed_line(alloc, b"np: 15 NotASite at ", at),
+        Refusal::TypeFault(fault) => fault_line(alloc, fault),
+        Refusal::Unbuilt(at) => placed_line(alloc, b"np: 19 Unbuilt at ", at),
     }
 }
 
@@ -88,6 +119,37 @@ fn placed_line(alloc: Global, name: &[u8], at: u32) -> Result<Text, Memory>
 {
     let mut text = List::from_slice(alloc, name)?;
     text.append(at.to_string(alloc)?.as_bytes())?;
+    text.append(b"\n")?;
+    Ok(text)
+}
+
+fn rule_text(rule: Rule) -> &'static [u8]
+    ensures { result.now ≡ rule_text rule }
+{
+    match rule {
+        Rule::NotChannel => b"NotChannel",
+        Rule::NoInput => b"NoInput",
+        Rule::NoOutput => b"NoOutput",
+        Rule::Mismatch => b"Mismatch",
+        Rule::NotAgent => b"NotAgent",
+        Rule::NotSite => b"NotSite",
+        Rule::NotBool => b"NotBool",
+        Rule::NotInt => b"NotInt",
+        Rule::Shape => b"Shape",
+        Rule::NotComparable => b"NotComparable",
+        Rule::NotPrintable => b"NotPrintable",
+        Rule::Wide => b"Wide",
+    }
+}
+
+/// The line of a fault of types, with its rule and its offset.
+fn fault_line(alloc: Global, fault: TypeFault) -> Result<Text, Memory>
+    ensures { IfOk result (λ text. text ≡ line_of (Refusal.TypeFault fault)) }
+{
+    let mut text = List::from_slice(alloc, b"np: 16 TypeFault ")?;
+    text.append(rule_text(fault.rule))?;
+    text.append(b" at ")?;
+    text.append(fault.at.to_string(alloc)?.as_bytes())?;
     text.append(b"\n")?;
     Ok(text)
 }
@@ -105,6 +167,11 @@ pub fn status(refusal: Refusal) -> u8
         | Refusal::BigNumber(_)
         | Refusal::Syntax(_)
         | Refusal::TooDeep(_)
-        | Refusal::Unbuilt => 3,
+        | Refusal::Unbound(_)
+        | Refusal::SiteTwice(_)
+        | Refusal::TooManySites(_)
+        | Refusal::NotASite(_)
+        | Refusal::TypeFault(_)
+        | Refusal::Unbuilt(_) => 3,
     }
 }

@@ -3,11 +3,12 @@ ghost use Rattle.np_run.specs.Words.{mode_of, plan};
 
 use np_io::Word;
 
-/// What the program does with a source: runs it, or shows its canonical text.
+/// What the program does with a source: runs it, shows its canonical text, or checks its types.
 #[derive(Clone, Copy, Debug, PartialEq, Eq)]
 pub enum Mode {
     Run,
     Show,
+    Check,
 }
 
 /// The mode that a word names.
@@ -18,6 +19,8 @@ fn mode_of(word: &str) -> Option<Mode>
         Some(Mode::Run)
     } else if word == "show" {
         Some(Mode::Show)
+    } else if word == "check" {
+        Some(Mode::Check)
     } else {
         None
     }

@@ -59,7 +59,7 @@ fn writes_of_the_report_fail(rt: HostRuntime) -> Result<(), Fail> {
 #[test]
 fn writes_of_a_line_fail(rt: HostRuntime) -> Result<(), Fail> {
     let alloc = rt.alloc();
-    for (call, written) in [(0, ""), (1, "np: "), (2, "np: 19 U")] {
+    for (call, written) in [(0, ""), (1, "np: "), (2, "np: 10 S")] {
         let mut trial = make_trial(alloc, b"", 4)?;
         trial.err.fail(call)?;
         let answer = run_a(&rt, alloc, &mut trial)?;

@@ -31,6 +31,14 @@ fn reports_runs(rt: HostRuntime) -> Result<(), Fail> {
             4,
             "home: 9223372036854775807\nat rest\n",
         ),
+        (
+            "\tnew\r\nc:^Int in(c!1|c?x->print x|0) -- done",
+            6,
+            "home: 1\nat rest\n",
+        ),
+        ("new c : ^Int in c?x -> new x : ^Int in x!1", 1, "at rest\n"),
+        ("new print1 : ^Int in print1!((1))", 1, "at rest\n"),
+        ("new Ints' : ^Int in Ints'!1", 1, "at rest\n"),
     ] {
         let source = at_home(alloc, main)?;
         let mut trial = make_trial(alloc, source.as_bytes(), 1000)?;

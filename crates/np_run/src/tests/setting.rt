@@ -73,3 +73,12 @@ pub(super) fn events_of(answer: &Answer) -> Option<usize> {
 pub(super) fn at_home(alloc: Global, main: &str) -> Result<String, AllocError> {
     format!(in alloc; "sites home ; main at home = {main}")
 }
+
+/// The text so many times.
+pub(super) fn times(alloc: Global, text: &str, count: usize) -> Result<String, AllocError> {
+    let mut all = String::new(alloc);
+    for _ in 0..count {
+        all.push_str(text)?;
+    }
+    Ok(all)
+}

@@ -1,6 +1,6 @@
 //! The canonical text of sources, and how they are refused.
 
-use super::setting::{at_home, call_with, make_trial};
+use super::setting::{at_home, call_with, make_trial, times};
 use np_lex::lex;
 use np_parse::parse;
 use np_show::show;
@@ -8,17 +8,8 @@ use np_tree::{Tree, same_tree};
 use std::alloc::{AllocError, Global};
 use std::test::Fail;
 
-/// The text so many times.
-fn times(alloc: Global, text: &str, count: usize) -> Result<String, AllocError> {
-    let mut all = String::new(alloc);
-    for _ in 0..count {
-        all.push_str(text)?;
-    }
-    Ok(all)
-}
-
 /// Eight sites, and an agent that goes round them twice.
-fn tour(alloc: Global) -> Result<String, AllocError> {
+pub(super) fn tour(alloc: Global) -> Result<String, AllocError> {
     let mut tour = String::from_str(alloc, "0")?;
     for step in 0..16u32 {
         let k = 16 - step;
@@ -30,7 +21,7 @@ fn tour(alloc: Global) -> Result<String, AllocError> {
     )
 }
 
-const SHOP: &str = "sites home shop1 shop2 shop3 ;
+pub(super) const SHOP: &str = "sites home shop1 shop2 shop3 ;
 main at home =
 new offer : ^[Site Int] in
 new ask : ^[Agent Int] in

@@ -1,5 +1,13 @@
-use Rattle.std.proofs.Common.{rules, refl}
 use Rattle.np_run.proofs.job.run_source.Goals as goal
 
-pub returns-in-Err-Unbuilt-clause-refused : goal.returns-in-Err-Unbuilt-clause-refused
-returns-in-Err-Unbuilt-clause-refused c = λ _. (refl, c.read_source.ensures.none (search rules))
+pub returns-in-Ok-clause-made : goal.returns-in-Ok-clause-made
+returns-in-Ok-clause-made c = record {
+  program = c.in_ok-program.program;
+  accepted = record {
+    tokens = c.in_ok-tokens.tokens;
+    lexed = c.in_ok-tokens.ensures.found;
+    read = c.in_ok-program.ensures.found;
+    built = c.in_ok-program.ensures.built;
+  };
+  run = c.in-Ok.ensures;
+}

@@ -31,9 +31,16 @@ returns-in-Run-clause-refused g c =
     (record { file = c.in-Some.file.now; planned = planned; taken = c.in-Ok.ensures.count.1; short = c.in-Ok.ensures.count.0; whole = c.in-Ok.ensures.whole })
     c.run_source.result c.run_source.ensures.refused
 
-pub returns-clause-refused : goal.returns-clause-refused
-returns-clause-refused g c =
+pub returns-in-Show-clause-refused : goal.returns-in-Show-clause-refused
+returns-in-Show-clause-refused g c =
     let planned : plan c.args.words.now ≡ Some (mode.Show, c.in-Some.file.now) = sym c.in-Some.ensures ∙ ap (λ (m : Mode). Some (m, c.in-Some.file.now)) c.in-Show.is in
     by_mode _ _ mode.Show c.in-Ok.bytes _ c.as_slice-in-Show.ensures
     (record { file = c.in-Some.file.now; planned = planned; taken = c.in-Ok.ensures.count.1; short = c.in-Ok.ensures.count.0; whole = c.in-Ok.ensures.whole })
     c.show_source.result c.show_source.ensures.refused
+
+pub returns-clause-refused : goal.returns-clause-refused
+returns-clause-refused g c =
+    let planned : plan c.args.words.now ≡ Some (mode.Check, c.in-Some.file.now) = sym c.in-Some.ensures ∙ ap (λ (m : Mode). Some (m, c.in-Some.file.now)) c.in-Check.is in
+    by_mode _ _ mode.Check c.in-Ok.bytes _ c.as_slice-in-Check.ensures
+    (record { file = c.in-Some.file.now; planned = planned; taken = c.in-Ok.ensures.count.1; short = c.in-Ok.ensures.count.0; whole = c.in-Ok.ensures.whole })
+    c.check_source.result c.check_source.ensures.refused

@@ -1,0 +1,4 @@
+pub mod Forms
+pub mod Free
+pub mod Built
+pub mod Plainly

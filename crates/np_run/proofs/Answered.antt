@@ -1,0 +1,104 @@
+-- The answer to a refusal whose line was written has its cause.
+use Rattle.std.proofs.Common.{◌≡◌, ◌≢◌, ℕ, ◌+◌, ◌≤◌, List, [], Option, None, Some, inl, inr, refl, sym, ◌∙◌, append-nil, arith}
+use Rattle.std.specs.Io.KnownBytes.{Appends, Keeps}
+use Rattle.np_run.specs.Words.{plan, texts_read}
+use Rattle.np_run.specs.Lines.{line_of, status_of}
+use Rattle.np_run.specs.Answers.{Call, HasCauses, IsRefused, IsWanting, Stands}
+use Rattle.np_run.specs.declared.answer.Answer.{Answer}
+use Rattle.np_run.specs.declared.refusal.Refusal.{Refusal}
+use Rattle.np_run.specs.declared.refusal.Refusal.TheVariants.{Memory, Usage, ReadFault, TooLong, BadChar, BadString, BigNumber, Syntax, TooDeep, Unbound, SiteTwice, TooManySites, NotASite, TypeFault, Unbuilt}
+
+abbrev refusing : ℕ → Answer
+refusing status = record { status = status; kept = None }
+
+-- no other text was to begin, and none twice
+abbrev Begins : Call → Type 0
+Begins call = call.texts.begins ≤ call.texts.begun + texts_read (plan call.words)
+
+-- what is written of want of memory is nothing
+nothing_written : (a b : Option (List ℕ)) → Appends a b [] → Keeps a b
+nothing_written None b p = tt
+nothing_written (Some x) None p = absurd p
+nothing_written (Some x) (Some y) p = p ∙ append-nil x
+
+wanting : (call : Call) (status : ℕ) → status ≡ 6 → IsWanting call (refusing status) → Begins call → HasCauses call (refusing status)
+wanting call status is w b = record {
+  done = λ e. absurd (omega (arith, is, e));
+  spent = λ e. absurd (omega (arith, is, e));
+  usage = λ e. absurd (omega (arith, is, e));
+  source = λ e. absurd (omega (arith, is, e));
+  read = λ e. absurd (omega (arith, is, e));
+  write = λ e. absurd (omega (arith, is, e));
+  memory = λ e. w;
+  status = inr (inr (inr (inr (inr (inr is)))));
+  begins = b;
+}
+
+usage : (call : Call) (status : ℕ) → status ≡ 2 → IsRefused call (refusing status) Usage → Begins call → HasCauses call (refusing status)
+usage call status is r b = record {
+  done = λ e. absurd (omega (arith, is, e));
+  spent = λ e. absurd (omega (arith, is, e));
+  usage = λ e. r;
+  source = λ e. absurd (omega (arith, is, e));
+  read = λ e. absurd (omega (arith, is, e));
+  write = λ e. absurd (omega (arith, is, e));
+  memory = λ e. absurd (omega (arith, is, e));
+  status = inr (inr (inl is));
+  begins = b;
+}
+
+fault : (call : Call) (status : ℕ) → status ≡ 4 → IsRefused call (refusing status) ReadFault → Begins call → HasCauses call (refusing status)
+fault call status is r b = record {
+  done = λ e. absurd (omega (arith, is, e));
+  spent = λ e. absurd (omega (arith, is, e));
+  usage = λ e. absurd (omega (arith, is, e));
+  source = λ e. absurd (omega (arith, is, e));
+  read = λ e. r;
+  write = λ e. absurd (omega (arith, is, e));
+  memory = λ e. absurd (omega (arith, is, e));
+  status = inr (inr (inr (inr (inl is))));
+  begins = b;
+}
+
+source : (call : Call) (status : ℕ) (refusal : Refusal) → status ≡ 3 → status_of refusal ≡ 3 → IsRefused call (refusing status) refusal → Begins call → HasCauses call (refusing status)
+source call status refusal is of r b = record {
+  done = λ e. absurd (omega (arith, is, e));
+  spent = λ e. absurd (omega (arith, is, e));
+  usage = λ e. absurd (omega (arith, is, e));
+  source = λ e. record { refusal = refusal; status = is ∙ sym of; refused = r };
+  read = λ e. absurd (omega (arith, is, e));
+  write = λ e. absurd (omega (arith, is, e));
+  memory = λ e. absurd (omega (arith, is, e));
+  status = inr (inr (inr (inl is)));
+  begins = b;
+}
+
+-- the line of the refusal was written
+pub record Told (call : Call) (refusal : Refusal) : Type 0 where
+  pub stands : refusal ≢ Memory → Stands call.words call.texts refusal
+  pub out : Keeps call.out.old call.out.new
+  pub err : Appends call.err.old call.err.new (line_of refusal)
+  pub begins : Begins call
+
+refused : (call : Call) (status : ℕ) (refusal : Refusal) → refusal ≢ Memory → Told call refusal → IsRefused call (refusing status) refusal
+refused call status refusal some t = record { stands = t.stands some; kept = refl; out = t.out; err = t.err }
+
+of_source : (call : Call) (status : ℕ) (refusal : Refusal) → refusal ≢ Memory → status ≡ 3 → status_of refusal ≡ 3 → Told call refusal → HasCauses call (refusing status)
+of_source call status refusal some is of t = source call status refusal is of (refused call status refusal some t) t.begins
+
+pub answered : (call : Call) (status : ℕ) (refusal : Refusal) → status ≡ status_of refusal → Told call refusal → HasCauses call (refusing status)
+answered call status Memory is t = wanting call status is (record { kept = refl; out = t.out; err = nothing_written call.err.old call.err.new t.err }) t.begins
+answered call status Usage is t = usage call status is (refused call status Usage (λ e. cc) t) t.begins
+answered call status ReadFault is t = fault call status is (refused call status ReadFault (λ e. cc) t) t.begins
+answered call status TooLong is t = of_source call status TooLong (λ e. cc) is refl t
+answered call status (BadChar at) is t = of_source call status (BadChar at) (λ e. cc) is refl t
+answered call status (BadString at) is t = of_source call status (BadString at) (λ e. cc) is refl t
+answered call status (BigNumber at) is t = of_source call status (BigNumber at) (λ e. cc) is refl t
+answered call status (Syntax at) is t = of_source call status (Syntax at) (λ e. cc) is refl t
+answered call status (TooDeep at) is t = of_source call status (TooDeep at) (λ e. cc) is refl t
+answered call status (Unbound at) is t = of_source call status (Unbound at) (λ e. cc) is refl t
+answered call status (SiteTwice at) is t = of_source call status (SiteTwice at) (λ e. cc) is refl t
+answered call status (TooManySites at) is t = of_source call status (TooManySites at) (λ e. cc) is refl t
+answered call status (NotASite at) is t = of_source call status (NotASite at) (λ e. cc) is refl t
+answered call status (TypeFault fault) is t = of_source call status (TypeFault fault) (λ e. cc) is refl t
+answered call status (Unbuilt at) is t = of_source call status (Unbuilt at) (λ e. cc) is refl t

@@ -1,6 +1,0 @@
-use Rattle.std.proofs.Common.{◌≡◌, ◌≤◌, take}
-use Rattle.np_run.specs.Source.Tokens.{value}
-use Rattle.np_run.proofs.reader.lexer.bounded.Given as goal
-
-abbrev pub invariant-digits : goal.invariant-digits
-invariant-digits l = record { same : l.number ≡ value (take l.byte-index l.digits); small : l.number ≤ 9223372036854775807 }
