@@ -5,9 +5,10 @@
 #
 # It builds nothing: PROGRAM is the built program, by default crates/np/out/np. Each tree is run ROUNDS times, by
 # default 20. A tree of N leaves has N - 1 forks and N stops; a run has at most 10,000 events. What the start of the
-# process and the reading of the source take is measured on the same tree with a token too many, which is read to its
-# end and then refused; the last column is of the rest, that is of the run alone. In this the copy of the source's
-# process that a run starts with is counted too, also where the budget ends the run before all of it was used.
+# process and the reading of the source take is measured on the same tree beside a process that is not built, which is
+# read whole, its names resolved, and then refused; the last column is of the rest, that is of the run alone. In this the
+# copy of the source's process that a run starts with is counted too, also where the budget ends the run before all of it
+# was used.
 set -euo pipefail
 cd "$(dirname "$0")/.."
 program=${1:-crates/np/out/np}
@@ -21,7 +22,12 @@ tree() {
     for ((level = 0; level < $1; level++)); do
         text="($text|$text)"
     done
-    printf 'sites home ; main at home = %s\n' "$text"
+    echo "$text"
+}
+
+# source_of PROCESS: the source with this process of main
+source_of() {
+    printf 'sites home ; main at home = %s\n' "$1"
 }
 
 # took FILE: nanoseconds of all rounds
@@ -39,8 +45,9 @@ printf '%8s %8s %12s %14s %26s\n' leaves events 'ms a run' 'of it reading' 'even
 for depth in 11 12 13; do
     leaves=$((1 << depth))
     events=$((2 * leaves - 1 > 10000 ? 10000 : 2 * leaves - 1))
-    tree "$depth" >"$folder/tree.np"
-    (cat "$folder/tree.np" && echo 0) >"$folder/refused.np"
+    process=$(tree "$depth")
+    source_of "$process" >"$folder/tree.np"
+    source_of "($process|print true)" >"$folder/refused.np"
     reading=$(took "$folder/refused.np")
     whole=$(took "$folder/tree.np")
     awk -v leaves="$leaves" -v events="$events" -v whole="$whole" -v reading="$reading" -v rounds="$rounds" 'BEGIN {
