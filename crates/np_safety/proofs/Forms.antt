@@ -1,0 +1,299 @@
+-- What a process without a fault is made of, form by form.
+use Rattle.std.proofs.Common.{◌≡◌, ℕ, Bool, true, Option, None, Some, is_some, Ok, refl, subst, sym, ap, ◌∙◌}
+use Rattle.std.specs.FinMap as table
+use Rattle.np_syntax.specs.declared.types.Cap.{Cap}
+use Rattle.np_syntax.specs.declared.types.Ty.{Ty, out-Ty}
+use Rattle.np_syntax.specs.declared.types.Ty as ty
+use Rattle.np_syntax.specs.declared.expression.Expr.{Expr}
+use Rattle.np_syntax.specs.declared.pattern.Pat.{Pat}
+use Rattle.np_syntax.specs.declared.process.Proc.{Proc, fold_out-Proc}
+use Rattle.np_syntax.specs.declared.process.ProcForm.{ProcForm, ProcForm-F, map-ProcForm, fold_out-ProcForm}
+use Rattle.np_types.specs.declared.fault.Rule.{Rule}
+use Rattle.np_types.specs.declared.fault.Rule.TheVariants as rule
+use Rattle.np_types.specs.Sub.{TyLayer, reads, writes, sub, is_bool, is_site, is_agent, is_letter, is_places, as_chan}
+use Rattle.np_types.specs.Widths.{narrow, printable}
+use Rattle.np_types.specs.Checks.{◌>>=◌, ◌>>◌, ensure}
+use Rattle.np_types.specs.Worlds.{World}
+use Rattle.np_types.specs.Least.{Types, least, least_of, channel, input}
+use Rattle.np_types.specs.Covers.{cover}
+use Rattle.np_calculus.specs.Forms.{Layer, layer, as_par, as_new, as_out, as_inp, as_rep, as_agent_form}
+use Rattle.np_calculus.specs.Forms.{as_migrate, as_iflocal, as_send, as_post, as_if, as_let, as_open, as_lookup}
+use Rattle.np_check.specs.Faults.{Checking, is_of, is_printable, is_output, with_names, is_channel, is_for_channels, check_new, check_input}
+use Rattle.np_check.specs.Faults.{check_migrate, check_send, check_post, check_let, check_places, lock_type, check_step, check, check_form}
+use Rattle.np_safety.proofs.Passed.{then, when, done, ensured, wanted}
+
+abbrev pub checks : World → Layer → ProcForm-F (ℕ → Checking) Checking
+checks w y = map-ProcForm ProcForm Proc (ℕ → Checking) Checking (check_form w) (check w) y
+
+pub check-out : (w : World) (p : Proc) → check w p ≡ check_step w (checks w (layer p)) p.at
+unfolding check check_form
+check-out w p =
+    fold_out-Proc (ℕ → Checking) Checking (check_step w) (λ p. p.form p.at) p
+    ∙ ap (λ (f : ℕ → Checking). f p.at) (fold_out-ProcForm (ℕ → Checking) Checking (check_step w) (λ p. p.form p.at) p.form)
+
+-- the process has no fault
+abbrev pub Good : World → Types → Proc → Type 0
+Good w types p = check w p types ≡ Ok tt
+
+-- an expression whose type is of a form
+pub record Tested (w : World) (types : Types) (test : TyLayer → Bool) (e : Expr) : Type 0 where
+  pub type : Ty
+  pub is : least w types e ≡ Ok type
+  pub passes : test (out-Ty type) ≡ true
+
+pub record OnChannel (w : World) (types : Types) (c : Expr) (k : Cap × Ty) : Type 0 where
+  pub type : Ty
+  pub is : least w types c ≡ Ok type
+  pub chan : as_chan (out-Ty type) ≡ Some k
+
+pub record Sending (w : World) (types : Types) (c e : Expr) : Type 0 where
+  pub carries : Cap × Ty
+  pub on : OnChannel w types c carries
+  pub may_write : writes carries.0 ≡ true
+  pub type : Ty
+  pub is : least w types e ≡ Ok type
+  pub below : sub type carries.1 ≡ true
+
+pub record Taking (w : World) (types : Types) (c : Expr) (x : Pat) (p : Proc) : Type 0 where
+  pub carries : Cap × Ty
+  pub on : OnChannel w types c carries
+  pub may_read : reads carries.0 ≡ true
+  pub inner : Types
+  pub covers : cover x carries.1 types ≡ Ok inner
+  pub body : Good w inner p
+
+pub record Naming (w : World) (types : Types) (x : ℕ) (t : Ty) (p : Proc) : Type 0 where
+  pub carries : Cap × Ty
+  pub chan : as_chan (out-Ty t) ≡ Some carries
+  pub small : narrow t ≡ true
+  pub body : Good w (table.insert types x t) p
+
+pub record Letting (w : World) (types : Types) (x : Pat) (e : Expr) (p : Proc) : Type 0 where
+  pub type : Ty
+  pub is : least w types e ≡ Ok type
+  pub inner : Types
+  pub covers : cover x type types ≡ Ok inner
+  pub body : Good w inner p
+
+pub record Saying (w : World) (types : Types) (e : Expr) : Type 0 where
+  pub type : Ty
+  pub is : least w types e ≡ Ok type
+  pub shows : printable type ≡ true
+
+-- what it is to have no fault
+abbrev pub GoodForm : World → Types → Layer → Type 0
+GoodForm w types ProcForm-F.Stop = Unit {0}
+GoodForm w types (ProcForm-F.Par p q) = Good w types p × Good w types q
+GoodForm w types (ProcForm-F.New x t p) = Naming w types x t p
+GoodForm w types (ProcForm-F.Out c e) = Sending w types c e
+GoodForm w types (ProcForm-F.Inp c x p) = Taking w types c x p
+GoodForm w types (ProcForm-F.Rep c x p) = Taking w types c x p
+GoodForm w types (ProcForm-F.Agent b p q) = Good w (table.insert types b ty.Agent) p × Good w (table.insert types b ty.Agent) q
+GoodForm w types (ProcForm-F.Migrate e p) = Tested w types is_site e × Good w types p
+GoodForm w types (ProcForm-F.IfLocal b c e p q) = Tested w types is_agent b × Sending w types c e × Good w types p × Good w types q
+GoodForm w types (ProcForm-F.Send b s c e) = Tested w types is_agent b × Tested w types is_site s × Sending w types c e
+GoodForm w types (ProcForm-F.Post b c e) = Tested w types is_agent b × Sending w types c e
+GoodForm w types (ProcForm-F.If e p q) = Tested w types is_bool e × Good w types p × Good w types q
+GoodForm w types (ProcForm-F.Let x e p) = Letting w types x e p
+GoodForm w types (ProcForm-F.Print e) = Saying w types e
+GoodForm w types (ProcForm-F.Open e) = Tested w types is_letter e
+GoodForm w types (ProcForm-F.Lookup a m x p q) = Tested w types is_agent a × Tested w types is_places m × Good w (table.insert types x lock_type) p × Good w types q
+
+module _ (w : World) (types : Types) where
+  tested : (test : TyLayer → Bool) (r : Rule) (e : Expr) → is_of w test r e types ≡ Ok tt → Tested w types test e
+  unfolding is_of
+  tested test r e h = then (least w types e) (λ t. ensure (test (out-Ty t)) e.at r) h λ t is h. record { type = t; is = is; passes = ensured _ _ _ h }
+
+  sending : (c e : Expr) → is_output w c e types ≡ Ok tt → Sending w types c e
+  sending c e h =
+      then (channel (least_of w types c)) _ h λ k on h. when _ _ _ _ h λ may h. then (least w types e) _ h λ t is h.
+      then (least w types c) _ on λ s first on.
+      record { carries = k; on = record { type = s; is = first; chan = wanted _ _ _ on }; may_write = may; type = t; is = is; below = ensured _ _ _ h }
+
+  taking : (c : Expr) (x : Pat) (p : Proc) → check_input w c x (check w p) types ≡ Ok tt → Taking w types c x p
+  unfolding check_input with_names
+  taking c x p h =
+      then (input (least_of w types c)) (λ t. cover x t types >>= λ inner. check w p inner) h λ t into h.
+      then (cover x t types) (check w p) h λ inner covers h.
+      then (channel (least_of w types c)) _ into λ k on into. when _ _ _ _ into λ may into.
+      then (least w types c) _ on λ s first on.
+      let same : t ≡ k.1 = done into in
+      record {
+        carries = k;
+        on = record { type = s; is = first; chan = wanted _ _ _ on };
+        may_read = may;
+        inner = inner;
+        covers = subst (λ t. cover x t types ≡ Ok inner) same covers;
+        body = h;
+      }
+
+  some_chan : (o : Option (Cap × Ty)) → is_some o ≡ true → (k : Cap × Ty) × (o ≡ Some k)
+  some_chan None h = absurd cc
+  some_chan (Some k) h = (k, refl)
+
+  naming : (x : ℕ) (t : Ty) (p : Proc) (at : ℕ) → check_new x t (check w p) at types ≡ Ok tt → Naming w types x t p
+  unfolding check_new is_for_channels
+  naming x t p at h =
+      then (ensure (narrow t) at rule.Wide >> ensure (is_channel (out-Ty t)) at rule.NotChannel) (λ _. check w p (table.insert types x t)) h λ u first h.
+      when (narrow t) at rule.Wide (ensure (is_channel (out-Ty t)) at rule.NotChannel) first λ small first.
+      let k = some_chan (as_chan (out-Ty t)) (ensured _ _ _ first) in
+      record { carries = k.0; chan = k.1; small = small; body = h }
+
+  letting : (x : Pat) (e : Expr) (p : Proc) → check_let w x e (check w p) types ≡ Ok tt → Letting w types x e p
+  unfolding check_let with_names
+  letting x e p h =
+      then (least w types e) (λ t. cover x t types >>= λ inner. check w p inner) h λ t is h.
+      then (cover x t types) (check w p) h λ inner covers h. record { type = t; is = is; inner = inner; covers = covers; body = h }
+
+  saying : (e : Expr) → is_printable w e types ≡ Ok tt → Saying w types e
+  unfolding is_printable
+  saying e h = then (least w types e) (λ t. ensure (printable t) e.at rule.NotPrintable) h λ t is h. record { type = t; is = is; shows = ensured _ _ _ h }
+
+  migrating : (e : Expr) (p : Proc) → check_migrate w e (check w p) types ≡ Ok tt → Tested w types is_site e × Good w types p
+  unfolding check_migrate
+  migrating e p h = then (is_of w is_site rule.NotSite e types) (λ _. check w p types) h λ u first h. (tested is_site _ e first, h)
+
+  posting : (b c e : Expr) → check_post w b c e types ≡ Ok tt → Tested w types is_agent b × Sending w types c e
+  unfolding check_post
+  posting b c e h = then (is_of w is_agent rule.NotAgent b types) (λ _. is_output w c e types) h λ u first h. (tested is_agent _ b first, sending c e h)
+
+  going : (b s c e : Expr) → check_send w b s c e types ≡ Ok tt → Tested w types is_agent b × Tested w types is_site s × Sending w types c e
+  unfolding check_send
+  going b s c e h =
+      then (is_of w is_agent rule.NotAgent b types) (λ _. is_of w is_site rule.NotSite s types >> is_output w c e types) h λ u first h.
+      then (is_of w is_site rule.NotSite s types) (λ _. is_output w c e types) h λ u second h. (tested is_agent _ b first, tested is_site _ s second, sending c e h)
+
+  finding : (a m : Expr) → check_places w a m types ≡ Ok tt → Tested w types is_agent a × Tested w types is_places m
+  unfolding check_places
+  finding a m h =
+      then (is_of w is_agent rule.NotAgent a types) (λ _. is_of w is_places rule.Mismatch m types) h λ u first h. (tested is_agent _ a first, tested is_places _ m h)
+
+  good_at : (at : ℕ) (l : Layer) → check_step w (checks w l) at types ≡ Ok tt → GoodForm w types l
+  good_at at ProcForm-F.Stop h = tt
+  good_at at (ProcForm-F.Par p q) h = then (check w p types) (λ _. check w q types) h λ u first h. (first, h)
+  good_at at (ProcForm-F.New x t p) h = naming x t p at h
+  good_at at (ProcForm-F.Out c e) h = sending c e h
+  good_at at (ProcForm-F.Inp c x p) h = taking c x p h
+  good_at at (ProcForm-F.Rep c x p) h = taking c x p h
+  good_at at (ProcForm-F.Agent b p q) h =
+      then (check w p (table.insert types b ty.Agent)) (λ _. check w q (table.insert types b ty.Agent)) h λ u first h. (first, h)
+  good_at at (ProcForm-F.Migrate e p) h = migrating e p h
+  good_at at (ProcForm-F.IfLocal b c e p q) h =
+      then (check_post w b c e types) (λ _. check w p types >> check w q types) h λ u first h.
+      then (check w p types) (λ _. check w q types) h λ u second h.
+      let s = posting b c e first in
+      (s.0, s.1, second, h)
+  good_at at (ProcForm-F.Send b s c e) h = going b s c e h
+  good_at at (ProcForm-F.Post b c e) h = posting b c e h
+  good_at at (ProcForm-F.If e p q) h =
+      then (is_of w is_bool rule.NotBool e types) (λ _. check w p types >> check w q types) h λ u first h.
+      then (check w p types) (λ _. check w q types) h λ u second h. (tested is_bool _ e first, second, h)
+  good_at at (ProcForm-F.Let x e p) h = letting x e p h
+  good_at at (ProcForm-F.Print e) h = saying e h
+  good_at at (ProcForm-F.Open e) h = tested is_letter _ e h
+  good_at at (ProcForm-F.Lookup a m x p q) h =
+      then (check_places w a m types) (λ _. check w p (table.insert types x lock_type) >> check w q types) h λ u first h.
+      then (check w p (table.insert types x lock_type)) (λ _. check w q types) h λ u second h.
+      let s = finding a m first in
+      (s.0, s.1, second, h)
+
+pub good-form : (w : World) (types : Types) (p : Proc) → Good w types p → GoodForm w types (layer p)
+good-form w types p h = good_at w types p.at (layer p) (sym (ap (λ (f : Checking). f types) (check-out w p)) ∙ h)
+
+par_is : (l : Layer) (x : Proc × Proc) → as_par l ≡ Some x → l ≡ ProcForm-F.Par x.0 x.1
+par_is (ProcForm-F.Par a b) x e = let same : (a, b) ≡ x = cc in ap (λ (x : Proc × Proc). ProcForm-F.Par x.0 x.1) same
+par_is _ x e = absurd cc
+
+pub good-par : (w : World) (types : Types) (p : Proc) (x : Proc × Proc) → as_par (layer p) ≡ Some x → Good w types p → GoodForm w types (ProcForm-F.Par x.0 x.1)
+good-par w types p x e h = subst (GoodForm w types) (par_is (layer p) x e) (good-form w types p h)
+
+new_is : (l : Layer) (x : ℕ × Ty × Proc) → as_new l ≡ Some x → l ≡ ProcForm-F.New x.0 x.1 x.2
+new_is (ProcForm-F.New a b c) x e = let same : (a, b, c) ≡ x = cc in ap (λ (x : ℕ × Ty × Proc). ProcForm-F.New x.0 x.1 x.2) same
+new_is _ x e = absurd cc
+
+pub good-new : (w : World) (types : Types) (p : Proc) (x : ℕ × Ty × Proc) → as_new (layer p) ≡ Some x → Good w types p → GoodForm w types (ProcForm-F.New x.0 x.1 x.2)
+good-new w types p x e h = subst (GoodForm w types) (new_is (layer p) x e) (good-form w types p h)
+
+out_is : (l : Layer) (x : Expr × Expr) → as_out l ≡ Some x → l ≡ ProcForm-F.Out x.0 x.1
+out_is (ProcForm-F.Out a b) x e = let same : (a, b) ≡ x = cc in ap (λ (x : Expr × Expr). ProcForm-F.Out x.0 x.1) same
+out_is _ x e = absurd cc
+
+pub good-out : (w : World) (types : Types) (p : Proc) (x : Expr × Expr) → as_out (layer p) ≡ Some x → Good w types p → GoodForm w types (ProcForm-F.Out x.0 x.1)
+good-out w types p x e h = subst (GoodForm w types) (out_is (layer p) x e) (good-form w types p h)
+
+inp_is : (l : Layer) (x : Expr × Pat × Proc) → as_inp l ≡ Some x → l ≡ ProcForm-F.Inp x.0 x.1 x.2
+inp_is (ProcForm-F.Inp a b c) x e = let same : (a, b, c) ≡ x = cc in ap (λ (x : Expr × Pat × Proc). ProcForm-F.Inp x.0 x.1 x.2) same
+inp_is _ x e = absurd cc
+
+pub good-inp : (w : World) (types : Types) (p : Proc) (x : Expr × Pat × Proc) → as_inp (layer p) ≡ Some x → Good w types p → GoodForm w types (ProcForm-F.Inp x.0 x.1 x.2)
+good-inp w types p x e h = subst (GoodForm w types) (inp_is (layer p) x e) (good-form w types p h)
+
+rep_is : (l : Layer) (x : Expr × Pat × Proc) → as_rep l ≡ Some x → l ≡ ProcForm-F.Rep x.0 x.1 x.2
+rep_is (ProcForm-F.Rep a b c) x e = let same : (a, b, c) ≡ x = cc in ap (λ (x : Expr × Pat × Proc). ProcForm-F.Rep x.0 x.1 x.2) same
+rep_is _ x e = absurd cc
+
+pub good-rep : (w : World) (types : Types) (p : Proc) (x : Expr × Pat × Proc) → as_rep (layer p) ≡ Some x → Good w types p → GoodForm w types (ProcForm-F.Rep x.0 x.1 x.2)
+good-rep w types p x e h = subst (GoodForm w types) (rep_is (layer p) x e) (good-form w types p h)
+
+agent_is : (l : Layer) (x : ℕ × Proc × Proc) → as_agent_form l ≡ Some x → l ≡ ProcForm-F.Agent x.0 x.1 x.2
+agent_is (ProcForm-F.Agent a b c) x e = let same : (a, b, c) ≡ x = cc in ap (λ (x : ℕ × Proc × Proc). ProcForm-F.Agent x.0 x.1 x.2) same
+agent_is _ x e = absurd cc
+
+pub good-agent : (w : World) (types : Types) (p : Proc) (x : ℕ × Proc × Proc) → as_agent_form (layer p) ≡ Some x → Good w types p → GoodForm w types (ProcForm-F.Agent x.0 x.1 x.2)
+good-agent w types p x e h = subst (GoodForm w types) (agent_is (layer p) x e) (good-form w types p h)
+
+migrate_is : (l : Layer) (x : Expr × Proc) → as_migrate l ≡ Some x → l ≡ ProcForm-F.Migrate x.0 x.1
+migrate_is (ProcForm-F.Migrate a b) x e = let same : (a, b) ≡ x = cc in ap (λ (x : Expr × Proc). ProcForm-F.Migrate x.0 x.1) same
+migrate_is _ x e = absurd cc
+
+pub good-migrate : (w : World) (types : Types) (p : Proc) (x : Expr × Proc) → as_migrate (layer p) ≡ Some x → Good w types p → GoodForm w types (ProcForm-F.Migrate x.0 x.1)
+good-migrate w types p x e h = subst (GoodForm w types) (migrate_is (layer p) x e) (good-form w types p h)
+
+iflocal_is : (l : Layer) (x : Expr × Expr × Expr × Proc × Proc) → as_iflocal l ≡ Some x → l ≡ ProcForm-F.IfLocal x.0 x.1 x.2 x.3 x.4
+iflocal_is (ProcForm-F.IfLocal a b c d f) x e = let same : (a, b, c, d, f) ≡ x = cc in ap (λ (x : Expr × Expr × Expr × Proc × Proc). ProcForm-F.IfLocal x.0 x.1 x.2 x.3 x.4) same
+iflocal_is _ x e = absurd cc
+
+pub good-iflocal : (w : World) (types : Types) (p : Proc) (x : Expr × Expr × Expr × Proc × Proc) → as_iflocal (layer p) ≡ Some x → Good w types p → GoodForm w types (ProcForm-F.IfLocal x.0 x.1 x.2 x.3 x.4)
+good-iflocal w types p x e h = subst (GoodForm w types) (iflocal_is (layer p) x e) (good-form w types p h)
+
+send_is : (l : Layer) (x : Expr × Expr × Expr × Expr) → as_send l ≡ Some x → l ≡ ProcForm-F.Send x.0 x.1 x.2 x.3
+send_is (ProcForm-F.Send a b c d) x e = let same : (a, b, c, d) ≡ x = cc in ap (λ (x : Expr × Expr × Expr × Expr). ProcForm-F.Send x.0 x.1 x.2 x.3) same
+send_is _ x e = absurd cc
+
+pub good-send : (w : World) (types : Types) (p : Proc) (x : Expr × Expr × Expr × Expr) → as_send (layer p) ≡ Some x → Good w types p → GoodForm w types (ProcForm-F.Send x.0 x.1 x.2 x.3)
+good-send w types p x e h = subst (GoodForm w types) (send_is (layer p) x e) (good-form w types p h)
+
+post_is : (l : Layer) (x : Expr × Expr × Expr) → as_post l ≡ Some x → l ≡ ProcForm-F.Post x.0 x.1 x.2
+post_is (ProcForm-F.Post a b c) x e = let same : (a, b, c) ≡ x = cc in ap (λ (x : Expr × Expr × Expr). ProcForm-F.Post x.0 x.1 x.2) same
+post_is _ x e = absurd cc
+
+pub good-post : (w : World) (types : Types) (p : Proc) (x : Expr × Expr × Expr) → as_post (layer p) ≡ Some x → Good w types p → GoodForm w types (ProcForm-F.Post x.0 x.1 x.2)
+good-post w types p x e h = subst (GoodForm w types) (post_is (layer p) x e) (good-form w types p h)
+
+if_is : (l : Layer) (x : Expr × Proc × Proc) → as_if l ≡ Some x → l ≡ ProcForm-F.If x.0 x.1 x.2
+if_is (ProcForm-F.If a b c) x e = let same : (a, b, c) ≡ x = cc in ap (λ (x : Expr × Proc × Proc). ProcForm-F.If x.0 x.1 x.2) same
+if_is _ x e = absurd cc
+
+pub good-if : (w : World) (types : Types) (p : Proc) (x : Expr × Proc × Proc) → as_if (layer p) ≡ Some x → Good w types p → GoodForm w types (ProcForm-F.If x.0 x.1 x.2)
+good-if w types p x e h = subst (GoodForm w types) (if_is (layer p) x e) (good-form w types p h)
+
+let_is : (l : Layer) (x : Pat × Expr × Proc) → as_let l ≡ Some x → l ≡ ProcForm-F.Let x.0 x.1 x.2
+let_is (ProcForm-F.Let a b c) x e = let same : (a, b, c) ≡ x = cc in ap (λ (x : Pat × Expr × Proc). ProcForm-F.Let x.0 x.1 x.2) same
+let_is _ x e = absurd cc
+
+pub good-let : (w : World) (types : Types) (p : Proc) (x : Pat × Expr × Proc) → as_let (layer p) ≡ Some x → Good w types p → GoodForm w types (ProcForm-F.Let x.0 x.1 x.2)
+good-let w types p x e h = subst (GoodForm w types) (let_is (layer p) x e) (good-form w types p h)
+
+open_is : (l : Layer) (x : Expr) → as_open l ≡ Some x → l ≡ ProcForm-F.Open x
+open_is (ProcForm-F.Open a) x e = let same : a ≡ x = cc in ap (λ (x : Expr). ProcForm-F.Open x) same
+open_is _ x e = absurd cc
+
+pub good-open : (w : World) (types : Types) (p : Proc) (x : Expr) → as_open (layer p) ≡ Some x → Good w types p → GoodForm w types (ProcForm-F.Open x)
+good-open w types p x e h = subst (GoodForm w types) (open_is (layer p) x e) (good-form w types p h)
+
+lookup_is : (l : Layer) (x : Expr × Expr × ℕ × Proc × Proc) → as_lookup l ≡ Some x → l ≡ ProcForm-F.Lookup x.0 x.1 x.2 x.3 x.4
+lookup_is (ProcForm-F.Lookup a b c d f) x e = let same : (a, b, c, d, f) ≡ x = cc in ap (λ (x : Expr × Expr × ℕ × Proc × Proc). ProcForm-F.Lookup x.0 x.1 x.2 x.3 x.4) same
+lookup_is _ x e = absurd cc
+
+pub good-lookup : (w : World) (types : Types) (p : Proc) (x : Expr × Expr × ℕ × Proc × Proc) → as_lookup (layer p) ≡ Some x → Good w types p → GoodForm w types (ProcForm-F.Lookup x.0 x.1 x.2 x.3 x.4)
+good-lookup w types p x e h = subst (GoodForm w types) (lookup_is (layer p) x e) (good-form w types p h)

@@ -1,0 +1,67 @@
+-- A resolved program without a fault is typed at its start, and so along each of its runs.
+use Rattle.std.proofs.Common.{◌≡◌, ◌<◌, ℕ, true, inl, inr, Some, Ok, Err, [], length, nat_lt, refl, subst, sym, ◌∙◌, arith}
+use Rattle.std.proofs.lemmas.Bool.Decides.{nat_tests}
+use Rattle.std.specs.FinMap as map
+use Rattle.std.specs.FinMap.{get-empty}
+use Rattle.np_syntax.specs.declared.value.Name.{Name}
+use Rattle.np_syntax.specs.declared.program.Program.{Program}
+use Rattle.np_tables.specs.Names.{name_cmp}
+use Rattle.np_tables.proofs.Tables.{put_cases}
+use Rattle.np_types.specs.Checks.{Check, found}
+use Rattle.np_types.specs.Worlds.{bare}
+use Rattle.np_calculus.specs.Config.{Config}
+use Rattle.np_calculus.specs.Starts.{start_high, main_agent, main_mark, first_atom}
+use Rattle.np_check.specs.Faults.{IsAccepted, check}
+use Rattle.np_check.specs.Laws.{HasSites}
+use Rattle.np_check.proofs.Resolved.{same_check}
+use Rattle.np_safety.specs.Channels.{Channels, world}
+use Rattle.np_safety.specs.Typed.{Typed}
+use Rattle.np_safety.specs.Laws.{StartsTyped, WellTyped}
+use Rattle.np_safety.proofs.Fitting.{Fitting}
+use Rattle.np_safety.proofs.Atoms.{nothing-agrees}
+use Rattle.np_safety.proofs.Literal.{fitting-typed}
+use Rattle.np_safety.proofs.Runs.{stays-typed}
+
+none_found : (o : Check (Unit {0})) → found o ≡ [] → o ≡ Ok tt
+none_found (Ok u) h = refl
+none_found (Err f) h = absurd cc
+
+pub nothing : {X : Type 0} (q : Name) (x : X) → map.get (map.empty {K = Name} {X = X} {R = name_cmp}) q ≡ Some x → ⊥
+nothing q x h = let e = sym (get-empty name_cmp q) ∙ h in cc
+
+below-is : (s n : ℕ) → s < n → nat_lt s n ≡ true
+below-is s n h = grind (arith, nat_tests)
+
+has-sites : (n : ℕ) (g : Channels) → HasSites n (world n g)
+has-sites n g s within = below-is s n within
+
+-- a program that is accepted has no fault in the world of its sites, whatever the channels
+accepted : (p : Program) (g : Channels) → IsAccepted p → check (world (length p.sites) g) p.main map.empty ≡ Ok tt
+accepted p g a =
+    let n : ℕ = length p.sites in
+    (λ i. same_check n (world n g) (has-sites n g) a.sound.main i map.empty) ∙ none_found (check bare p.main map.empty) a.faultless
+
+start-fitting : (p : Program) (g : Channels) → IsAccepted p → Fitting (world (length p.sites) g) (start_high p)
+unfolding start_high
+start-fitting p g a =
+    let n : ℕ = length p.sites in
+    let w = world n g in
+    record {
+      atoms = λ m b is. elim (put_cases map.empty (main_mark n) (first_atom (main_agent n) p.main) m b is) [
+        | inl e ↦ rw e.1 (record { types = map.empty; agrees = nothing-agrees w; good = accepted p g a })
+        | inr old ↦ absurd (nothing m b old)
+      ];
+      packets = λ m q is. absurd (nothing m q is);
+    }
+
+pub starts-typed : StartsTyped
+starts-typed p a = fitting-typed _ (start_high p) (start-fitting p map.empty a)
+
+start-sites : (p : Program) → length p.sites ≡ (start_high p).sites
+unfolding start_high
+start-sites p = refl
+
+pub well-typed : WellTyped
+well-typed p a =
+    let c : Config = start_high p in
+    stays-typed c map.empty (subst (λ n. Typed (world n map.empty) c) (start-sites p) (starts-typed p a)) (λ n k h. absurd (nothing n k h))

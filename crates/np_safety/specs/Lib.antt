@@ -1,0 +1,5 @@
+pub mod Channels
+pub mod Fits
+pub mod Laws
+pub mod Low
+pub mod Typed
