@@ -1,5 +1,5 @@
 -- The names that a program has from the start, and no others.
-use Rattle.std.proofs.Common.{◌≡◌, ℕ, ◌<◌, Bool, true, false, ◌||◌, List, [], ◌∷◌, map, refl, ap, arith}
+use Rattle.std.proofs.Common.{◌≡◌, ℕ, Bool, true, false, ◌||◌, List, [], ◌∷◌, map, refl, ap}
 use Rattle.std.specs.FinSet as set
 use Rattle.np_syntax.specs.declared.value.Name.{Name}
 use Rattle.np_tables.specs.Names.{NameSet, same_name}
@@ -18,16 +18,16 @@ with_all-keeps names (m ∷ more) q h = with_all-keeps (set.insert names m) more
 pub mark-born : (n : ℕ) → set.contains (own_names n) (main_mark n) ≡ true
 mark-born n = with_all-keeps _ (map (own n) (12 ∷ 13 ∷ 14 ∷ 15 ∷ 16 ∷ [])) (main_mark n) (born_here _ (main_mark n))
 
-not_true : (b : Bool) → (b ≡ true → ⊥) → b ≡ false
+pub not_true : (b : Bool) → (b ≡ true → ⊥) → b ≡ false
 not_true true h = absurd (h refl)
 not_true false h = refl
 
--- a name of a site is none of them
-pub with_all-lacks : (names : NameSet) (n : ℕ) (numbers : List ℕ) (q : Name) → q.site < n → set.contains names q ≡ false → set.contains (with_all names (map (own n) numbers)) q ≡ false
-with_all-lacks names n [] q below h = h
-with_all-lacks names n (k ∷ numbers) q below h =
-    let other : same_name q (own n k) ≡ false = not_true _ (λ e. let same : q.site ≡ n = ap (λ (x : Name). x.site) (same_name-is q (own n k) e) in omega arith) in
-    with_all-lacks (set.insert names (own n k)) n numbers q below (rw (born_insert names (own n k) q, other) h)
+-- a name of another number than the program's own is none of them
+with_all-lacks : (names : NameSet) (n : ℕ) (numbers : List ℕ) (q : Name) → (q.site ≡ n → ⊥) → set.contains names q ≡ false → set.contains (with_all names (map (own n) numbers)) q ≡ false
+with_all-lacks names n [] q apart h = h
+with_all-lacks names n (k ∷ numbers) q apart h =
+    let other : same_name q (own n k) ≡ false = not_true _ (λ e. apart (ap (λ (x : Name). x.site) (same_name-is q (own n k) e))) in
+    with_all-lacks (set.insert names (own n k)) n numbers q apart (rw (born_insert names (own n k) q, other) h)
 
-pub own_names-lacks : (n : ℕ) (q : Name) → q.site < n → set.contains (own_names n) q ≡ false
-own_names-lacks n q below = with_all-lacks set.empty n own_numbers q below (contains-none q)
+pub own_names-lacks : (n : ℕ) (q : Name) → (q.site ≡ n → ⊥) → set.contains (own_names n) q ≡ false
+own_names-lacks n q apart = with_all-lacks set.empty n own_numbers q apart (contains-none q)

@@ -1,10 +1,15 @@
--- What is ready in a run of a plain program has an event, and what its event leaves.
-use Rattle.std.proofs.Common.{◌≡◌, ℕ, ◌+◌, ◌≤◌, Bool, true, false, ◌⊎◌, inl, inr, List, [], ◌∷◌, ◌++◌, length, Option, None, Some, refl, sym, ap, subst, ◌∙◌, arith}
+-- Along a run what can go on has an event, and what its event leaves.
+use Rattle.std.proofs.Common.{◌≡◌, ℕ, ◌+◌, ◌≤◌, Bool, true, false, cond, List, [], ◌∷◌, ◌++◌, length, Option, None, Some, IsSome, refl, sym, ap, subst, ◌∙◌, arith}
+use Rattle.std.proofs.lemmas.List.{append-nil}
 use Rattle.std.specs.Prelude.{◌↔◌}
 use Rattle.std.specs.FinMap as map
 use Rattle.std.specs.FinSet as set
 use Rattle.np_syntax.specs.declared.value.Name.{Name}
+use Rattle.np_syntax.specs.declared.value.Value.{Value}
+use Rattle.np_syntax.specs.declared.expression.Expr.{Expr}
+use Rattle.np_syntax.specs.declared.pattern.Pat.{Pat}
 use Rattle.np_syntax.specs.declared.program.Program.{Program}
+use Rattle.np_syntax.specs.declared.process.Proc.{Proc}
 use Rattle.np_syntax.specs.declared.process.ProcForm.{ProcForm-F}
 use Rattle.np_syntax.specs.declared.event.Event.{Event}
 use Rattle.np_syntax.specs.declared.event.End.{End}
@@ -15,161 +20,240 @@ use Rattle.np_syntax.specs.declared.event.Made.{Made}
 use Rattle.np_syntax.specs.declared.event.Made.TheVariants as made
 use Rattle.np_tables.specs.declared.errand.Errand.{Errand}
 use Rattle.np_tables.specs.declared.errand.Errand.TheVariants as errand
-use Rattle.np_tables.specs.Names.{NameSet, same_name}
-use Rattle.np_tables.specs.Errands.{Meet, NothingReady}
+use Rattle.np_tables.specs.declared.errand.Ready.{Ready as Going}
+use Rattle.np_tables.specs.declared.errand.Ready.TheVariants as ready
+use Rattle.np_tables.specs.Errands.{IsReady, Meet}
 use Rattle.np_tables.specs.Mapped.{mapped}
 use Rattle.np_tables.specs.Maybe.{◌>>=◌}
-use Rattle.np_tables.proofs.Maybe.{then}
+use Rattle.np_tables.specs.Names.{NameSet, same_name}
+use Rattle.np_tables.proofs.Maybe.{then, done}
 use Rattle.np_tables.proofs.Mapped.{mapped_there}
-use Rattle.np_tables.proofs.Tables.{born_insert, same_name-is}
+use Rattle.np_tables.proofs.Tables.{born_insert, same_name-is, same_name-itself}
 use Rattle.np_calculus.specs.declared.config.Atom.{Atom}
+use Rattle.np_calculus.specs.declared.config.Place.{Place}
 use Rattle.np_calculus.specs.declared.config.Place.TheVariants as place
 use Rattle.np_calculus.specs.Config.{Config}
 use Rattle.np_calculus.specs.Errands.{errand_of}
-use Rattle.np_calculus.specs.Forms.{Layer, layer, as_stop, as_par, as_new, as_print}
-use Rattle.np_calculus.specs.Idle.{Idle}
-use Rattle.np_calculus.specs.Plain.{IsPlain}
-use Rattle.np_calculus.specs.Reductions.{apply, row, run, one_made}
-use Rattle.np_calculus.specs.Serial.{AreFresh, IsBuilt, IsEnabled, IsReached, IsSerialRun, MakesAtMost, Stands, acting_kind, event_at, made_by}
+use Rattle.np_calculus.specs.Eval.{Env, agent_of, chan_of}
+use Rattle.np_calculus.specs.Forms.{Layer, layer, given_on}
+use Rattle.np_calculus.specs.Idle.{Idle, IsHoused, NoneTravels}
+use Rattle.np_calculus.specs.Reductions.{apply, row, run, none_made, one_made, two_made, is_at, found_here, found_away, sends, offered}
+use Rattle.np_calculus.specs.Serial.{AreFresh, AreNew, IsEnabled, IsReached, IsSerialRun, MakesAtMost, RunsWell, Stands, actor_of, begun_by, event_at, made_by, made_there, taken_by}
 use Rattle.np_calculus.specs.Starts.{start_high}
-use Rattle.np_calculus.specs.Well.{Well, Has}
-use Rattle.np_calculus.proofs.Enabled.{acts-plain, takes-plain, gives-plain, stop-enabled, fork-enabled, new-enabled, print-enabled, comm-enabled}
-use Rattle.np_calculus.proofs.ErrandForms.{mapped_from}
-use Rattle.np_calculus.proofs.OwnNames.{own_names-lacks}
-use Rattle.np_calculus.proofs.PlainRuns.{PlainConfig, plain-reach}
-use Rattle.np_calculus.proofs.PlainWells.{plain-well, well-along}
-use Rattle.np_calculus.proofs.Rests.{quiet-idle}
-use Rattle.np_calculus.proofs.Steps.{stop-step, fork-step, new-step, comm-step, print-step}
+use Rattle.np_calculus.specs.Well.{Has, Ready, Well}
+use Rattle.np_calculus.proofs.Enabled.{alone-begins, meeting-begins}
+use Rattle.np_calculus.proofs.ErrandForms.{gives-form, takes-form, mapped_from}
+use Rattle.np_calculus.proofs.Inversions.{let-step, if-step, agent-step, depart-step, arrive-step, local-step, here-step, away-step, send-step, land-step, open-step, lookup-step, post-step}
+use Rattle.np_calculus.proofs.Housed.{housed-along}
+use Rattle.np_calculus.proofs.OwnNames.{not_true, own_names-lacks}
+use Rattle.np_calculus.proofs.RestTests.{no_way}
+use Rattle.np_calculus.proofs.Steps.{step-offered, stop-step, fork-step, new-step, comm-step, rep-step, print-step}
 
-pub never : {A : Type 0} {a : A} (o : Option A) → None ≡ o → o ≡ Some a → ⊥
-never o e h = let x = e ∙ h in cc
+-- ---- what holds along a run
 
--- an atom has the errand that it is filed under
-pub errand-there : (c : Config) (m : Name) (a : Atom) (e : Errand) → map.get c.atoms m ≡ Some a → map.get (mapped errand_of c.atoms) m ≡ Some e → errand_of a ≡ e
-errand-there c m a e there filed = let x = sym (mapped_there errand_of c.atoms m a there) ∙ filed in cc
+-- each atom's agent has a place
+housed-run : (p : Program) → RunsWell p → (events : List Event) (d : Config) → run (start_high p) events ≡ Some d → IsHoused d
+housed-run p runs = housed-along p runs.agents
 
-stop-kind : (l : Layer) → as_stop l ≡ Some tt → acting_kind l ≡ Some kind.Stop
-stop-kind ProcForm-F.Stop h = refl
-stop-kind _ h = absurd cc
-
-par-kind : (l : Layer) → Has (as_par l) → acting_kind l ≡ Some kind.Fork
-par-kind (ProcForm-F.Par left right) h = refl
-par-kind _ h = absurd (let x = h.1 in cc)
-
-new-kind : (l : Layer) → Has (as_new l) → acting_kind l ≡ Some kind.New
-new-kind (ProcForm-F.New x ty body) h = refl
-new-kind _ h = absurd (let x = h.1 in cc)
-
-print-kind : (l : Layer) → Has (as_print l) → acting_kind l ≡ Some kind.Print
-print-kind (ProcForm-F.Print e) h = refl
-print-kind _ h = absurd (let x = h.1 in cc)
-
-module _ (c : Config) (r : IsReached c) where
-  pub plain_of : PlainConfig c
-  plain_of = plain-reach r.program r.is_plain r.events c r.reaches
-
-  pub well_of : Well c
-  well_of = plain-well c plain_of
-
-  pub standing : (m : Name) (a : Atom) → map.get c.atoms m ≡ Some a → Stands c a.agent
-  standing m a there = let p = plain_of.atoms m a there in (p.site, p.stands)
-
-  -- an atom that acts has a kind of event, which is enabled
-  pub acting-enabled : (m : Name) (a : Atom) (s : ℕ) (n : Name) → map.get c.atoms m ≡ Some a → map.get c.places a.agent ≡ Some (place.At s) → errand_of a ≡ errand.Acts
-      → set.contains c.born n ≡ false → (k : Kind) × (acting_kind (layer a.proc) ≡ Some k) × IsEnabled c (event_at k s m None a (made_by k n)) n
-  acting-enabled m a s n there stands acts fresh =
-      elim (acts-plain c plain_of m a there acts) [
-        | inl stop ↦ (kind.Stop, stop-kind _ stop, record { built = tt; enabled = stop-enabled c well_of m a s there stands stop; made = tt })
-        | inr rest ↦ elim rest [
-          | inl par ↦ (kind.Fork, par-kind _ par, record { built = tt; enabled = fork-enabled c well_of m a s there stands par.0 n par.1 fresh; made = refl })
-          | inr rest ↦ elim rest [
-            | inl new ↦ (kind.New, new-kind _ new, record { built = tt; enabled = new-enabled c well_of m a s there stands new.0 n new.1 fresh; made = refl })
-            | inr print ↦ (kind.Print, print-kind _ print, record { built = tt; enabled = print-enabled c well_of m a s there stands print.0 print.1; made = tt })
-          ]
-        ]
-      ]
-
-  -- the event of that kind is the one
-  pub acting-is : (m : Name) (a : Atom) (s : ℕ) (n : Name) → map.get c.atoms m ≡ Some a → map.get c.places a.agent ≡ Some (place.At s) → errand_of a ≡ errand.Acts
-      → set.contains c.born n ≡ false → (k : Kind) → acting_kind (layer a.proc) ≡ Some k → IsEnabled c (event_at k s m None a (made_by k n)) n
-  acting-is m a s n there stands acts fresh k is =
-      let e = acting-enabled m a s n there stands acts fresh in
-      let same : e.0 ≡ k = let x = sym e.1 ∙ is in cc in
-      subst (λ k. IsEnabled c (event_at k s m None a (made_by k n)) n) same e.2
-
-  -- an input and an output that meet communicate
-  pub meeting-enabled : (i o : Name) (a : Atom) (s : ℕ) → Meet (mapped errand_of c.atoms) i o → map.get c.atoms i ≡ Some a → map.get c.places a.agent ≡ Some (place.At s)
-      → (n : Name) → IsEnabled c (event_at kind.Comm s i (Some o) a made.Nothing) n
-  meeting-enabled i o a s meet there stands n =
-      let taker = mapped_from errand_of c.atoms i (errand.Takes meet.meeting) meet.takes in
-      let giver = mapped_from errand_of c.atoms o (errand.Gives meet.meeting) meet.gives in
-      let same : taker.0 ≡ a = let x = sym taker.1 ∙ there in cc in
-      let takes = takes-plain c plain_of i a there meet.meeting (ap errand_of (sym same) ∙ taker.2) in
-      let gives = gives-plain c well_of o giver.0 giver.1 meet.meeting giver.2 in
-      record {
-        built = tt;
-        enabled = comm-enabled c well_of i a s there stands takes.0 o giver.0 meet.meeting.chan gives.0 takes.1 giver.1 (sym takes.3 ∙ gives.2) takes.2 gives.1;
-        made = tt;
-      }
+pub well-run : (p : Program) → RunsWell p → (events : List Event) (d : Config) → run (start_high p) events ≡ Some d → Well d
+well-run p runs events d reaches =
+    let w = (runs.well events d reaches).each events [] (sym (append-nil events)) in
+    let same : w.0 ≡ d = sym (done (sym w.1 ∙ reaches)) in
+    subst Well same w.2
 
 pub run-push : (c : Config) (es : List Event) (e : Event) (d f : Config) → run c es ≡ Some d → apply d e ≡ Some f → run c (es ++ e ∷ []) ≡ Some f
 run-push c [] e d f h k = let same : c ≡ d = cc in subst (λ (x : Config). (apply x e >>= λ y. Some y) ≡ Some f) (sym same) (ap (λ o. o >>= λ y. Some y) k)
 run-push c (x ∷ es) e d f h k = then (apply c x) (λ y. run y es) h λ y first rest. ap (λ o. o >>= λ z. run z (es ++ e ∷ [])) first ∙ run-push y es e d f rest k
 
+-- an agent that has a place stands at a site where none travels
+stands_at : (c : Config) (agent : Name) (o : Option Place) → map.get c.places agent ≡ o → IsSome o → NoneTravels c.places → Stands c agent
+stands_at c agent None is h still = absurd cc
+stands_at c agent (Some (place.At s)) is h still = (s, is)
+stands_at c agent (Some (place.Way s)) is h still = absurd (no_way c.places agent s is still)
+
+-- ---- what goes on has an event
+
+-- an atom has the errand that it is filed under
+errand-there : (c : Config) (m : Name) (a : Atom) (e : Errand) → map.get c.atoms m ≡ Some a → map.get (mapped errand_of c.atoms) m ≡ Some e → errand_of a ≡ e
+errand-there c m a e there filed = let x = sym (mapped_there errand_of c.atoms m a there) ∙ filed in cc
+
+-- an output on a channel sends a value there
+given-sends : (c : Config) (b : Atom) (n : Name) (l : Layer) (x : Expr) → layer b.proc ≡ l → given_on l ≡ Some x → chan_of x b.env ≡ Some n → Ready c b.env l → (v : Value) × (sends b ≡ Some (n, v))
+given-sends c b n (ProcForm-F.Out y e) x is h on r =
+    let same : x ≡ y = cc in
+    let to : chan_of y b.env ≡ Some n = subst (λ (x : Expr). chan_of x b.env ≡ Some n) same on in
+    (r.1.0, rw (is, to, r.1.1) refl)
+given-sends c b n _ x is h on r = absurd cc
+
+-- what goes on has an atom that acts
+pub actor-there : (c : Config) (r : Going) → IsReady (mapped errand_of c.atoms) r → (a : Atom) × (map.get c.atoms (actor_of r) ≡ Some a)
+actor-there c (ready.Acts mark) h = let f = mapped_from errand_of c.atoms mark errand.Acts h in (f.0, f.1)
+actor-there c (ready.Meets input output) h = let f = mapped_from errand_of c.atoms input (errand.Takes h.meeting) h.takes in (f.0, f.1)
+
+few_if : (t : Bool) (first second : Name) → MakesAtMost (cond t (made.One first) made.Nothing) first second
+few_if true first second = refl
+few_if false first second = tt
+
+few_there : (c : Config) (s : ℕ) (o : Option Name) (first second : Name) → MakesAtMost (made_there c s o first) first second
+few_there c s None first second = tt
+few_there c s (Some agent) first second = few_if (is_at c agent s) first second
+
+-- no atom makes more than two names
+few : (c : Config) (s : ℕ) (env : Env) (l : Layer) (first second : Name) → MakesAtMost (made_by c s env l first second) first second
+few c s env (ProcForm-F.Par left right) first second = refl
+few c s env (ProcForm-F.New x ty body) first second = refl
+few c s env (ProcForm-F.Agent b body rest) first second = (refl, refl)
+few c s env (ProcForm-F.IfLocal b x e met unmet) first second = few_there c s (agent_of b env) first second
+few c s env _ first second = tt
+
+module _ (c : Config) (w : Well c) (s : ℕ) (first second : Name) (new : AreNew c first second) where
+  -- the atom has a kind of event, which is enabled
+  abbrev Begins : Name → Option Name → Atom → Type 0
+  Begins m o a = (k : Kind) × (begun_by (layer a.proc) ≡ Some k) × Has (apply c (event_at k s m o a (made_by c s a.env (layer a.proc) first second)))
+
+  meets : (i o : Name) (a : Atom) → Meet (mapped errand_of c.atoms) i o → map.get c.atoms i ≡ Some a → map.get c.places a.agent ≡ Some (place.At s) → Begins i (Some o) a
+  meets i o a meet there stands =
+      let n : Name = meet.meeting.chan in
+      let giver = mapped_from errand_of c.atoms o (errand.Gives meet.meeting) meet.gives in
+      let b : Atom = giver.0 in
+      let given = gives-form b.agent b.env (layer b.proc) meet.meeting giver.2 in
+      let sent = given-sends c b n (layer b.proc) given.0 refl given.1 given.2.0 (w.ready o b giver.1) in
+      let taken = takes-form a.agent a.env (layer a.proc) meet.meeting (errand-there c i a (errand.Takes meet.meeting) there meet.takes) in
+      let together : a.agent ≡ b.agent = sym taken.2.1 ∙ given.2.1 in
+      let same : same_name a.agent b.agent ≡ true = ap (same_name a.agent) (sym together) ∙ same_name-itself a.agent in
+      let offer : offered c o a.agent n ≡ Some sent.0 = step-offered c o a.agent n sent.0 (record { mate = b; waits = giver.1; together = same; sent = (n, sent.0); sends_it = sent.1; agree = same_name-itself n; is = refl }) in
+      meeting-begins c i a s there stands first second new (layer a.proc) refl taken.0 taken.1 o n sent.0
+      (λ t h.
+      let is : taken.0 ≡ t = done (sym h ∙ taken.1) in
+      let on : chan_of t.0 a.env ≡ Some n = subst (λ (t : Expr × Pat). chan_of t.0 a.env ≡ Some n) is taken.2.0 in
+      (on, w.matches i o a b t n sent.0 there giver.1 together h on sent.1))
+      offer
+
+  begins : (r : Going) (a : Atom) → IsReady (mapped errand_of c.atoms) r → map.get c.atoms (actor_of r) ≡ Some a → map.get c.places a.agent ≡ Some (place.At s) → Begins (actor_of r) (taken_by r) a
+  begins (ready.Acts mark) a h there stands =
+      alone-begins c mark a s there stands first second new (layer a.proc) refl (w.ready mark a there) (errand-there c mark a errand.Acts there h)
+  begins (ready.Meets input output) a h there stands = meets input output a h there stands
+
+module _ (c : Config) (r : IsReached c) where
+  -- the agent of each atom stands at a site where no agent travels
+  pub standing : NoneTravels c.places → (m : Name) (a : Atom) → map.get c.atoms m ≡ Some a → Stands c a.agent
+  standing still m a there = stands_at c a.agent _ refl ((housed-run r.program r.runs r.events c r.reaches).each m a there) still
+
+  module _ (g : Going) (h : IsReady (mapped errand_of c.atoms) g) (a : Atom) (there : map.get c.atoms (actor_of g) ≡ Some a) (s : ℕ) (stands : map.get c.places a.agent ≡ Some (place.At s))
+      (first second : Name) (new : AreNew c first second) where
+    begins_here : Begins c (well-run r.program r.runs r.events c r.reaches) s first second new (actor_of g) (taken_by g) a
+    begins_here = begins c (well-run r.program r.runs r.events c r.reaches) s first second new g a h there stands
+
+    -- what goes on has a kind of event
+    pub begun-some : begun_by (layer a.proc) ≡ None → ⊥
+    begun-some none = let x = sym none ∙ begins_here.1 in cc
+
+    -- and the event of that kind is enabled
+    pub begun-enabled : (k : Kind) → begun_by (layer a.proc) ≡ Some k → IsEnabled c (event_at k s (actor_of g) (taken_by g) a (made_by c s a.env (layer a.proc) first second)) first second
+    begun-enabled k is =
+        let made : Made = made_by c s a.env (layer a.proc) first second in
+        let same : begins_here.0 ≡ k = done (sym is ∙ begins_here.1) in
+        record { enabled = subst (λ k. Has (apply c (event_at k s (actor_of g) (taken_by g) a made))) same begins_here.2; made = few c s a.env (layer a.proc) first second }
+
+-- ---- the names that an event makes
+
+-- the set with the names that were made
+abbrev with_made : NameSet → Made → NameSet
+with_made born made.Nothing = born
+with_made born (made.One m) = set.insert born m
+with_made born (made.Two m n) = set.insert (set.insert born m) n
+
+none_with : (born : NameSet) (x : Made) → none_made x ≡ Some tt → born ≡ with_made born x
+none_with born made.Nothing h = refl
+none_with born _ h = absurd cc
+
+one_with : (born : NameSet) (x : Made) (m : Name) → one_made x ≡ Some m → set.insert born m ≡ with_made born x
+one_with born (made.One n) m h = ap (set.insert born) (done h)
+one_with born _ m h = absurd cc
+
+two_with : (born : NameSet) (x : Made) (m : Name × Name) → two_made x ≡ Some m → set.insert (set.insert born m.0) m.1 ≡ with_made born x
+two_with born (made.Two n o) m h = ap (λ (m : Name × Name). set.insert (set.insert born m.0) m.1) (done h)
+two_with born _ m h = absurd cc
+
+found-born : (t : Bool) (c : Config) (e : Event) (d : Config) (a : Atom) (met unmet : Proc) (b n : Name) (v : Value) → cond t (found_here c e a met b n v) (found_away c e a unmet) ≡ Some d → d.born ≡ with_made c.born e.made
+found-born true c e d a met unmet b n v h = let s = here-step c e a met b n v d h in ap (λ (x : Config). x.born) s.is ∙ one_with c.born e.made s.mark s.made
+found-born false c e d a met unmet b n v h = let s = away-step c e a unmet d h in ap (λ (x : Config). x.born) s.is ∙ none_with c.born e.made s.made
+
+-- each row puts the names that its event makes to those that are born
+births : (k : Kind) (c : Config) (e : Event) (d : Config) → row k c e ≡ Some d → d.born ≡ with_made c.born e.made
+births kind.Stop c e d h = let s = stop-step c e d h in ap (λ (x : Config). x.born) s.is ∙ none_with c.born e.made s.made
+births kind.Fork c e d h = let s = fork-step c e d h in ap (λ (x : Config). x.born) s.is ∙ one_with c.born e.made s.mark s.made
+births kind.New c e d h = let s = new-step c e d h in ap (λ (x : Config). x.born) s.is ∙ one_with c.born e.made s.chan s.made
+births kind.Let c e d h = let s = let-step c e d h in ap (λ (x : Config). x.born) s.is ∙ none_with c.born e.made s.made
+births kind.If c e d h = let s = if-step c e d h in ap (λ (x : Config). x.born) s.is ∙ none_with c.born e.made s.made
+births kind.Comm c e d h = let s = comm-step c e d h in ap (λ (x : Config). x.born) s.is ∙ none_with c.born e.made s.made
+births kind.Rep c e d h = let s = rep-step c e d h in ap (λ (x : Config). x.born) s.is ∙ none_with c.born e.made s.made
+births kind.Agent c e d h = let s = agent-step c e d h in ap (λ (x : Config). x.born) s.is ∙ two_with c.born e.made s.names s.made
+births kind.Depart c e d h = let s = depart-step c e d h in ap (λ (x : Config). x.born) s.is ∙ none_with c.born e.made s.made
+births kind.Arrive c e d h = let s = arrive-step c e d h in ap (λ (x : Config). x.born) s.is ∙ none_with c.born e.made s.made
+births kind.Local c e d h = let s = local-step c e d h in found-born (is_at c s.agent e.site) c e d s.atom s.parts.3 s.parts.4 s.agent s.chan s.value s.is
+births kind.Send c e d h = let s = send-step c e d h in ap (λ (x : Config). x.born) s.is ∙ none_with c.born e.made s.made
+births kind.Land c e d h = let s = land-step c e d h in ap (λ (x : Config). x.born) s.is ∙ none_with c.born e.made s.made
+births kind.Print c e d h = let s = print-step c e d h in ap (λ (x : Config). x.born) s.is ∙ none_with c.born e.made s.made
+births kind.Open c e d h = let s = open-step c e d h in ap (λ (x : Config). x.born) s.is ∙ none_with c.born e.made s.made
+births kind.Lookup c e d h = let s = lookup-step c e d h in ap (λ (x : Config). x.born) s.is ∙ none_with c.born e.made s.made
+births kind.Post c e d h = let s = post-step c e d h in ap (λ (x : Config). x.born) s.is ∙ none_with c.born e.made s.made
+
+other_number : (q m : Name) → (q.n ≡ m.n → ⊥) → same_name q m ≡ false
+other_number q m apart = not_true _ (λ same. apart (ap (λ (x : Name). x.n) (same_name-is q m same)))
+
+lacks_one : (born : NameSet) (m q : Name) → (q.n ≡ m.n → ⊥) → set.contains born q ≡ false → set.contains (set.insert born m) q ≡ false
+lacks_one born m q apart h = rw (born_insert born m q, other_number q m apart) h
+
+-- a name of another number than those that are made is not born by them
+lacks : (born : NameSet) (x : Made) (first second q : Name) → MakesAtMost x first second → (q.n ≡ first.n → ⊥) → (q.n ≡ second.n → ⊥) → set.contains born q ≡ false → set.contains (with_made born x) q ≡ false
+lacks born made.Nothing first second q few a b h = h
+lacks born (made.One m) first second q few a b h = lacks_one born m q (λ e. a (e ∙ ap (λ (x : Name). x.n) few)) h
+lacks born (made.Two m n) first second q few a b h =
+    lacks_one (set.insert born m) n q (λ e. b (e ∙ ap (λ (x : Name). x.n) few.1)) (lacks_one born m q (λ e. a (e ∙ ap (λ (x : Name). x.n) few.0)) h)
+
 pub start-fresh : (p : Program) → AreFresh (start_high p).born (length p.sites) 0
 unfolding start_high
-start-fresh p = record { each = λ q below from. own_names-lacks (length p.sites) q below }
+start-fresh p = record { each = λ q apart from. own_names-lacks (length p.sites) q apart }
 
--- the event makes no name, or one
-abbrev Births : NameSet → NameSet → Made → Type 0
-Births old new made = (new ≡ old) ⊎ ((m : Name) × (one_made made ≡ Some m) × (new ≡ set.insert old m))
-
-births : (k : Kind) (c : Config) (e : Event) (d : Config) → IsBuilt k → row k c e ≡ Some d → Births c.born d.born e.made
-births kind.Stop c e d b h = inl (ap (λ (x : Config). x.born) (stop-step c e d h).is)
-births kind.Fork c e d b h = let s = fork-step c e d h in inr (s.mark, s.made, ap (λ (x : Config). x.born) s.is)
-births kind.New c e d b h = let s = new-step c e d h in inr (s.chan, s.made, ap (λ (x : Config). x.born) s.is)
-births kind.Comm c e d b h = inl (ap (λ (x : Config). x.born) (comm-step c e d h).is)
-births kind.Print c e d b h = inl (ap (λ (x : Config). x.born) (print-step c e d h).is)
-births _ c e d b h = absurd b
-
-at_most : (made : Made) (m n : Name) → MakesAtMost made n → one_made made ≡ Some m → m ≡ n
-at_most made.Nothing m n h e = absurd cc
-at_most (made.One x) m n h e = let same : x ≡ m = cc in sym same ∙ h
-at_most (made.Two x y) m n h e = absurd h
-
-not_true : (b : Bool) → (b ≡ true → ⊥) → b ≡ false
-not_true true h = absurd (h refl)
-not_true false h = refl
-
-pub fresh-after : (c : Config) (e : Event) (d : Config) (n : Name) (sites : ℕ) → IsEnabled c e n → apply c e ≡ Some d → AreFresh c.born sites n.n → AreFresh d.born sites (n.n + 1)
-fresh-after c e d n sites en h fresh = record {
-  each = λ q below from. elim (births e.kind c e d en.built h) [
-    | inl same ↦ rw same (fresh.each q below (omega arith))
-    | inr b ↦
-        let other : same_name q b.0 ≡ false = not_true _ (λ t. let same : q.n ≡ n.n = ap (λ (x : Name). x.n) (same_name-is q b.0 t ∙ at_most e.made b.0 n en.made b.1) in omega arith) in
-        rw (b.2, born_insert c.born b.0 q, other) (fresh.each q below (omega arith))
-  ];
+pub fresh-after : (c : Config) (e : Event) (d : Config) (first second : Name) (sites n : ℕ) → IsEnabled c e first second → apply c e ≡ Some d → first.n ≡ n → second.n ≡ n
+    → AreFresh c.born sites n → AreFresh d.born sites (n + 1)
+fresh-after c e d first second sites n en h is also fresh = record {
+  each = λ q apart from.
+      rw (births e.kind c e d h)
+      (lacks c.born e.made first second q en.made (λ (x : q.n ≡ first.n). omega arith) (λ (x : q.n ≡ second.n). omega arith) (fresh.each q apart (omega arith)));
 }
 
-module _ (p : Program) (is : IsPlain p) (budget : ℕ) (events : List Event) (last : Config) (reaches : run (start_high p) events ≡ Some last) (within : length events ≤ budget) where
-  -- nothing is ready
-  pub rest-run : NothingReady (mapped errand_of last.atoms) → IsSerialRun p budget events last Rest
-  rest-run nothing =
-      let plain = plain-reach p is events last reaches in
-      let idle = quiet-idle last nothing plain.packets plain.at in
-      record {
-        reaches = reaches;
-        well = well-along p is events last reaches;
-        within = within;
-        rest = (λ e. idle, λ i. refl);
-        spent = (λ e. absurd cc, λ h. absurd (h.1 idle));
-      }
+-- the names of a number that is not used yet are new
+pub names-new : (c : Config) (first second : Name) (sites n : ℕ) → AreFresh c.born sites n → first.n ≡ n → second.n ≡ n → (first.site ≡ sites → ⊥) → (second.site ≡ sites → ⊥)
+    → (first.site ≡ second.site → ⊥) → AreNew c first second
+names-new c first second sites n fresh is also one two apart = record {
+  first_new = fresh.each first one (omega arith);
+  second_new = fresh.each second two (omega arith);
+  apart = λ same. apart (ap (λ (x : Name). x.site) same);
+}
+
+-- ---- how a run ends
+
+module _ (p : Program) (runs : RunsWell p) (budget : ℕ) (events : List Event) (last : Config) (reaches : run (start_high p) events ≡ Some last) (within : length events ≤ budget) where
+  pub housed-last : IsHoused last
+  housed-last = housed-run p runs events last reaches
+
+  -- nothing can go on
+  pub rest-run : Idle last → IsSerialRun p budget events last Rest
+  rest-run idle = record {
+    reaches = reaches;
+    well = runs.well events last reaches;
+    within = within;
+    rest = (λ e. idle, λ i. refl);
+    spent = (λ e. absurd cc, λ h. absurd (h.1 idle));
+  }
 
   -- the budget is used
   pub ended-run : (end : End) → length events ≡ budget → ((end ≡ Rest) ↔ Idle last) → ((end ≡ Spent) ↔ (Idle last → ⊥)) → IsSerialRun p budget events last end
   ended-run end used rest spent = record {
     reaches = reaches;
-    well = well-along p is events last reaches;
+    well = runs.well events last reaches;
     within = within;
     rest = rest;
     spent = (λ e. (used, spent.0 e), λ h. spent.1 h.1);

@@ -17,10 +17,10 @@ use Rattle.np_calculus.specs.declared.config.Atom.{Atom}
 use Rattle.np_calculus.specs.declared.config.Place.{Place}
 use Rattle.np_calculus.specs.Config.{Config}
 use Rattle.np_calculus.specs.Eval.{Env, eval, bind, chan_of}
-use Rattle.np_calculus.specs.Forms.{Layer, layer, as_stop, as_par, as_new, as_inp, as_print}
+use Rattle.np_calculus.specs.Forms.{Layer, layer, as_stop, as_par, as_new, as_inp, as_rep, as_print}
 use Rattle.np_syntax.specs.declared.process.ProcForm.{ProcForm-F}
 use Rattle.np_calculus.specs.Moves.{body_at}
-use Rattle.np_calculus.specs.Reductions.{acting, at, same_tag, none_made, one_made, no_other, fresh, goes, goes_under, sends, offered, stop_row, fork_row, new_row, comm_row, print_row}
+use Rattle.np_calculus.specs.Reductions.{acting, at, same_tag, none_made, one_made, no_other, fresh, goes, goes_under, sends, offered, stop_row, fork_row, new_row, comm_row, rep_row, print_row}
 
 pub record Acts (c : Config) (e : Event) (a : Atom) : Type 0 where
   pub there : map.get c.atoms e.actor ≡ Some a
@@ -150,6 +150,33 @@ comm-step c e d h =
 pub step-comm : (c : Config) (e : Event) (d : Config) → Meets c e d → comm_row c e ≡ Some d
 unfolding comm_row
 step-comm c e d s = rw (s.acts, s.form, s.on, s.other, s.offer, s.binds, s.made) (ap Some (sym s.is))
+
+pub record Serves (c : Config) (e : Event) (d : Config) : Type 0 where
+  pub atom : Atom
+  pub acts : acting c e ≡ Some atom
+  pub parts : Expr × Pat × Proc
+  pub form : as_rep (layer atom.proc) ≡ Some parts
+  pub chan : Name
+  pub on : chan_of parts.0 atom.env ≡ Some chan
+  pub mark : Name
+  pub other : e.other ≡ Some mark
+  pub value : Value
+  pub offer : offered c mark atom.agent chan ≡ Some value
+  pub env : Env
+  pub binds : bind parts.1 value atom.env ≡ Some env
+  pub made : none_made e.made ≡ Some tt
+  pub is : d ≡ record c { atoms = map.insert c.atoms mark (goes_under atom parts.2 env) }
+
+pub rep-step : (c : Config) (e : Event) (d : Config) → rep_row c e ≡ Some d → Serves c e d
+unfolding rep_row
+rep-step c e d h =
+    then _ _ h λ a acts h. then _ _ h λ p form h. then (chan_of p.0 a.env) _ h λ n on h. then _ _ h λ o other h. then (offered c o a.agent n) _ h λ v offer h.
+    then _ _ h λ env binds h. then _ _ h λ m made h.
+    record { atom = a; acts = acts; parts = p; form = form; chan = n; on = on; mark = o; other = other; value = v; offer = offer; env = env; binds = binds; made = made; is = done h }
+
+pub step-rep : (c : Config) (e : Event) (d : Config) → Serves c e d → rep_row c e ≡ Some d
+unfolding rep_row
+step-rep c e d s = rw (s.acts, s.form, s.on, s.other, s.offer, s.binds, s.made) (ap Some (sym s.is))
 
 pub record Prints (c : Config) (e : Event) (d : Config) : Type 0 where
   pub atom : Atom

@@ -9,7 +9,7 @@ use Rattle.np_tables.specs.declared.errand.Errand.TheVariants as errand
 use Rattle.np_tables.specs.Names.{NameMap, NameSet}
 use Rattle.np_tables.specs.Mapped.{mapped}
 use Rattle.np_calculus.specs.declared.config.Atom.{Atom}
-use Rattle.np_calculus.specs.declared.config.Place.{Place}
+use Rattle.np_calculus.specs.declared.config.Packet.{Packet}
 use Rattle.np_calculus.specs.Eval.{Env, chan_of}
 use Rattle.np_calculus.specs.Forms.{Layer, layer}
 
@@ -31,9 +31,9 @@ errand_at agent env _ = errand.Acts
 abbrev pub errand_of : Atom → Errand
 errand_of a = errand_at a.agent a.env (layer a.proc)
 
--- What holds of each configuration in code: every atom is filed under its errand, its mark is born, and its agent has a
--- place.
-pub record IsKept (work : NameMap Errand) (atoms : NameMap Atom) (places : NameMap Place) (born : NameSet) : Type 0 where
+-- What holds of each configuration in code: every atom is filed under its errand, and the marks of atoms and of packets
+-- are born.
+pub record IsKept (work : NameMap Errand) (atoms : NameMap Atom) (packets : NameMap Packet) (born : NameSet) : Type 0 where
   pub filed : work ≡ mapped errand_of atoms
   pub marked : (m : Name) → IsSome (map.get atoms m) → set.contains born m ≡ true
-  pub housed : (m : Name) (a : Atom) → map.get atoms m ≡ Some a → IsSome (map.get places a.agent)
+  pub flown : (m : Name) → IsSome (map.get packets m) → set.contains born m ≡ true

@@ -1,5 +1,5 @@
 -- Which sites can act, and rest (docs/LANGUAGE.md, "Reductions").
-use Rattle.std.specs.Prelude.{◌≡◌, ℕ, Bool, true, false, ◌⊎◌, None, Some}
+use Rattle.std.specs.Prelude.{◌≡◌, ℕ, Bool, true, false, ◌⊎◌, None, Some, IsSome}
 use Rattle.std.specs.FinMap as map
 use Rattle.np_syntax.specs.declared.value.Name.{Name}
 use Rattle.np_syntax.specs.declared.expression.Expr.{Expr}
@@ -77,3 +77,7 @@ Idle c = (site : ℕ) → ¬ Can c site
 -- every agent stands at a site
 pub record NoneTravels (places : NameMap Place) : Type 0 where
   pub each : (agent : Name) (p : Place) → map.get places agent ≡ Some p → way p ≡ None
+
+-- the agent of each atom has a place
+pub record IsHoused (c : Config) : Type 0 where
+  pub each : (m : Name) (a : Atom) → map.get c.atoms m ≡ Some a → IsSome (map.get c.places a.agent)

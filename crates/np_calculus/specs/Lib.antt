@@ -1,3 +1,4 @@
+pub mod Agents
 pub mod Applied
 pub mod Bound
 pub mod Config
@@ -7,12 +8,14 @@ pub mod Eval
 pub mod Examples
 pub mod Fitting
 pub mod Forms
+pub mod Going
+pub mod Found
 pub mod Idle
 pub mod Met
 pub mod Moves
 pub mod NotEnabled
 pub mod Overlay
-pub mod Plain
+pub mod Placed
 pub mod Reductions
 pub mod Serial
 pub mod Starts

@@ -1,17 +1,19 @@
 ghost use Rattle.std.specs.Prelude.{◌≡◌, ◌↔◌, IfOk, IfSome, IfNone, IsTrue};
 ghost use Rattle.std.specs.Option.{option_copied};
 ghost use Rattle.std.specs.FinMap as map;
-ghost use Rattle.np_tables.specs.Errands.{IsReady, NothingReady};
-ghost use Rattle.np_tables.specs.Mapped.{mapped};
-ghost use Rattle.np_calculus.specs.Errands.{errand_of};
-ghost use Rattle.np_calculus.specs.Idle.{Idle, NoneTravels};
-ghost use Rattle.np_calculus.specs.Reductions.{acting, fresh, offered};
+ghost use Rattle.np_calculus.specs.Idle.{Idle};
+ghost use Rattle.np_calculus.specs.Reductions.{acting, fresh, is_at, offered, site_of};
+ghost use Rattle.np_calculus.specs.Serial.{IsNext};
 
 use super::config::{Atom, Packet, Place};
+use super::frame::Frame;
+use super::going::any_goes_on;
 use super::operands::chan_of;
+use super::places::Places;
+use super::step::Step;
 use super::values::eval;
-use np_syntax::{Event, List, Memory, Name, ProcForm, Value};
-use np_tables::{Names, Ready, Table, WorkLists};
+use np_syntax::{Event, Expr, List, Memory, Name, ProcForm, Value};
+use np_tables::{Names, Table, WorkLists};
 use std::alloc::Global;
 use std::marker::Model;
 
@@ -20,7 +22,7 @@ use std::marker::Model;
 #[derive(Drop)]
 pub struct Cfg {
     pub(super) sites: u32,
-    pub(super) places: Table<Place>,
+    pub(super) places: Places,
     pub(super) atoms: Table<Atom>,
     pub(super) packets: Table<Packet>,
     pub(super) born: Names,
@@ -48,7 +50,7 @@ impl Model for Cfg {
 
     ghost use Rattle.np_calculus.specs.Errands.{IsKept};
 
-    ghost invariant = { λ cfg. IsKept cfg.work cfg.atoms.items cfg.places.items cfg.born.members };
+    ghost invariant = { λ cfg. IsKept cfg.work cfg.atoms.items cfg.packets.items cfg.born.members };
 }
 
 impl Cfg {
@@ -56,7 +58,7 @@ impl Cfg {
     pub fn place(&self, agent: Name) -> Option<Place>
         ensures { result ≡ map.get self.now.places agent }
     {
-        self.places.get(agent).copied()
+        self.places.get(agent)
     }
 
     /// The atom of a mark.
@@ -87,7 +89,7 @@ impl Cfg {
         let atom = self.atoms.get(e.actor)?;
         let place = self.places.get(atom.agent)?;
         match place {
-            Place::At(site) if *site == e.site && atom.proc.tag == e.tag => Some(atom),
+            Place::At(site) if site == e.site && atom.proc.tag == e.tag => Some(atom),
             _ => None,
         }
     }
@@ -97,6 +99,31 @@ impl Cfg {
         ensures { result ≡ fresh self.now name }
     {
         if self.born.has(name) { None } else { Some(()) }
+    }
+
+    /// The site of the program that an expression names.
+    pub(super) fn site_of(
+        &self,
+        alloc: Global,
+        e: &Expr,
+        env: &Frame,
+    ) -> Result<Option<u32>, Memory>
+        ensures { IfOk result (λ site. site ≡ site_of self.now e.now env.now) }
+    {
+        match eval(alloc, e, env)? {
+            Some(Value::Site(site)) if site < self.sites => Ok(Some(site)),
+            _ => Ok(None),
+        }
+    }
+
+    /// Whether an agent is at a site.
+    pub(super) fn is_at(&self, agent: Name, site: u32) -> bool
+        ensures { result ≡ is_at self.now agent site }
+    {
+        match self.places.get(agent) {
+            Some(Place::At(at)) => at == site,
+            _ => false,
+        }
     }
 
     /// The value that the atom of a mark, in this agent, outputs on this channel.
@@ -124,38 +151,36 @@ impl Cfg {
         eval(alloc, value, &mate.env)
     }
 
-    /// An atom that acts alone, or an input and an output that meet.
-    pub(super) fn next(&mut self) -> Option<Ready>
+    /// What happens next: an agent under way arrives, else a packet lands, else atoms go on.
+    pub(super) fn next(&mut self) -> Option<Step>
         ensures same { self.new ≡ self.old }
-        ensures ready { IfSome result (IsReady (mapped errand_of self.old.atoms)) }
-        ensures none { IfNone result (NothingReady (mapped errand_of self.old.atoms)) }
+        ensures next { IfSome result (IsNext self.old) }
+        ensures none { IfNone result (Idle self.old) }
     {
-        self.work.next()
+        if let Some((agent, site)) = self.places.under_way() {
+            return Some(Step::Arrives(agent, site));
+        }
+        if self.packets.len() > 0 {
+            return Some(Step::Lands(self.packets.key(0)));
+        }
+        Some(Step::Goes(self.work.next()?))
     }
 
-    /// Whether no event is possible. It takes no memory, and walks over the agents alone.
+    /// Whether no site can act. It takes no memory. Where nothing is ready, and where something is under way, it walks
+    /// over nothing; else over the atoms, since those of an agent that has no place stand in the work lists and act
+    /// nowhere.
     pub fn idle(&self) -> bool
         ensures { IsTrue result ↔ Idle self.now }
     {
-        if !self.work.is_quiet() {
-            return false;
-        }
         if !self.packets.is_empty() {
             return false;
         }
-        all_stand(&self.places)
-    }
-}
-
-/// Whether no agent is under way.
-fn all_stand(places: &Table<Place>) -> bool
-    ensures { IsTrue result ↔ NoneTravels places.now.items }
-{
-    for at in 0..places.len() {
-        let agent = places.key(at);
-        if let Some(Place::Way(_)) = places.get(agent) {
+        if self.places.under_way().is_some() {
             return false;
         }
+        if self.work.is_quiet() {
+            return true;
+        }
+        !any_goes_on(&self.atoms, &self.places)
     }
-    true
 }

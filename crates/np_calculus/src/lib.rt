@@ -1,18 +1,28 @@
 //! The two calculi: configurations, the table of reductions, and runs.
 #![tactic(auto)]
 
+mod alone;
 mod cfg;
 mod config;
+mod events;
 mod examples;
 mod fail;
 mod fitting;
 mod frame;
+mod going;
+mod letters;
+mod meets;
+mod messages;
 mod moves;
 mod operands;
+mod outputs;
 mod patterns;
+mod places;
 mod rows;
 mod serial;
 mod start;
+mod step;
+mod travel;
 mod values;
 mod views;
 

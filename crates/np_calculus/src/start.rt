@@ -6,6 +6,7 @@ use super::cfg::Cfg;
 use super::config::{Atom, Place};
 use super::frame::Frame;
 use super::operands::errand_of;
+use super::places::Places;
 use np_syntax::{List, Memory, Name, Program};
 use np_tables::{Names, Table, WorkLists};
 use std::alloc::Global;
@@ -33,8 +34,9 @@ pub fn start_high(alloc: Global, p: &Program) -> Result<Cfg, Memory>
     let agent = Name { site: sites, n: 0 };
     let mark = Name { site: sites, n: 11 };
     let born = names_of(alloc, sites, &OWN_NUMBERS)?;
-    let mut places = Table::new(alloc);
-    places.insert(agent, Place::At(p.at))?;
+    let mut places = Places::new(alloc);
+    places.reserve(1)?;
+    places.put(agent, Place::At(p.at));
     let mut work = WorkLists::new(alloc);
     let env = Frame::new(alloc);
     work.file(mark, errand_of(agent, &p.main, &env))?;
@@ -42,11 +44,12 @@ pub fn start_high(alloc: Global, p: &Program) -> Result<Cfg, Memory>
     atoms.reserve(1)?;
     let proc = p.main.copy(alloc)?;
     atoms.put(mark, Atom { agent, proc, env });
+    let packets = Table::new(alloc);
     Ok(Cfg {
         sites,
         places,
         atoms,
-        packets: Table::new(alloc),
+        packets,
         born,
         said: List::new(alloc),
         work,

@@ -1,8 +1,12 @@
-ghost use Rattle.std.specs.Prelude.{◌≡◌, option_map};
-ghost use Rattle.np_calculus.specs.Forms.{layer, as_stop, as_par, as_new, as_inp, as_print};
-ghost use Rattle.np_calculus.specs.Reductions.{none_made, one_made, no_other};
+ghost use Rattle.std.specs.Prelude.{◌≡◌, nat_eq, not, option_map};
+ghost use Rattle.np_tables.specs.Maybe.{need};
+ghost use Rattle.np_tables.specs.Names.{same_name};
+ghost use Rattle.np_calculus.specs.Forms.{layer, as_stop, as_par, as_new, as_inp, as_rep, as_agent_form, as_migrate};
+ghost use Rattle.np_calculus.specs.Forms.{as_iflocal, as_send, as_post, as_if, as_let, as_print, as_open, as_lookup};
+ghost use Rattle.np_calculus.specs.Reductions.{none_made, one_made, two_made, no_other, way, same_tag};
 
-use np_syntax::{Expr, Made, Name, Pat, Proc, ProcForm, Ty};
+use super::config::Place;
+use np_syntax::{Expr, Made, Name, Pat, Proc, ProcForm, Tag, Ty};
 
 /// `0`.
 pub fn as_stop(p: &Proc) -> Option<()>
@@ -44,12 +48,116 @@ pub fn as_inp(p: &Proc) -> Option<(&Expr, &Pat, &Proc)>
     }
 }
 
+/// The channel, the pattern and the body of a replicated input.
+pub fn as_rep(p: &Proc) -> Option<(&Expr, &Pat, &Proc)>
+    ensures { option_map (λ parts. (parts.0.now, parts.1.now, parts.2.now)) result ≡ as_rep (layer p.now) }
+{
+    match &p.form {
+        ProcForm::Rep(chan, pat, body) => Some((chan, pat, body.get())),
+        _ => None,
+    }
+}
+
+/// The binder of a new agent, its process, and what goes on.
+pub fn as_agent_form(p: &Proc) -> Option<(u32, &Proc, &Proc)>
+    ensures { option_map (λ parts. (parts.0, parts.1.now, parts.2.now)) result ≡ as_agent_form (layer p.now) }
+{
+    match &p.form {
+        ProcForm::Agent(binder, body, rest) => Some((*binder, body.get(), rest.get())),
+        _ => None,
+    }
+}
+
+/// The site of a `migrate`, and its body.
+pub fn as_migrate(p: &Proc) -> Option<(&Expr, &Proc)>
+    ensures { option_map (λ parts. (parts.0.now, parts.1.now)) result ≡ as_migrate (layer p.now) }
+{
+    match &p.form {
+        ProcForm::Migrate(site, body) => Some((site, body.get())),
+        _ => None,
+    }
+}
+
+/// The agent, the channel and the value of a location test, and its two ways to go on.
+pub fn as_iflocal(p: &Proc) -> Option<(&Expr, &Expr, &Expr, &Proc, &Proc)>
+    ensures { option_map (λ parts. (parts.0.now, parts.1.now, parts.2.now, parts.3.now, parts.4.now)) result ≡ as_iflocal (layer p.now) }
+{
+    match &p.form {
+        ProcForm::IfLocal(agent, chan, value, met, unmet) => {
+            Some((agent, chan, value, met.get(), unmet.get()))
+        }
+        _ => None,
+    }
+}
+
+/// The agent, the site, the channel and the value of a message.
+pub fn as_send(p: &Proc) -> Option<(&Expr, &Expr, &Expr, &Expr)>
+    ensures { option_map (λ parts. (parts.0.now, parts.1.now, parts.2.now, parts.3.now)) result ≡ as_send (layer p.now) }
+{
+    match &p.form {
+        ProcForm::Send(agent, site, chan, value) => Some((agent, site, chan, value)),
+        _ => None,
+    }
+}
+
+/// The agent, the channel and the value of a post.
+pub fn as_post(p: &Proc) -> Option<(&Expr, &Expr, &Expr)>
+    ensures { option_map (λ parts. (parts.0.now, parts.1.now, parts.2.now)) result ≡ as_post (layer p.now) }
+{
+    match &p.form {
+        ProcForm::Post(agent, chan, value) => Some((agent, chan, value)),
+        _ => None,
+    }
+}
+
+/// The condition of an `if`, and its two ways to go on.
+pub fn as_if(p: &Proc) -> Option<(&Expr, &Proc, &Proc)>
+    ensures { option_map (λ parts. (parts.0.now, parts.1.now, parts.2.now)) result ≡ as_if (layer p.now) }
+{
+    match &p.form {
+        ProcForm::If(test, met, unmet) => Some((test, met.get(), unmet.get())),
+        _ => None,
+    }
+}
+
+/// The pattern, the value and the body of a `let`.
+pub fn as_let(p: &Proc) -> Option<(&Pat, &Expr, &Proc)>
+    ensures { option_map (λ parts. (parts.0.now, parts.1.now, parts.2.now)) result ≡ as_let (layer p.now) }
+{
+    match &p.form {
+        ProcForm::Let(pat, value, body) => Some((pat, value, body.get())),
+        _ => None,
+    }
+}
+
 /// What a `print` prints.
 pub fn as_print(p: &Proc) -> Option<&Expr>
     ensures { option_map (λ e. e.now) result ≡ as_print (layer p.now) }
 {
     match &p.form {
         ProcForm::Print(e) => Some(e),
+        _ => None,
+    }
+}
+
+/// The letter that an `open` opens.
+pub fn as_open(p: &Proc) -> Option<&Expr>
+    ensures { option_map (λ e. e.now) result ≡ as_open (layer p.now) }
+{
+    match &p.form {
+        ProcForm::Open(e) => Some(e),
+        _ => None,
+    }
+}
+
+/// The agent, the map of places, the binder, and the two ways to go on of a `lookup`.
+pub fn as_lookup(p: &Proc) -> Option<(&Expr, &Expr, u32, &Proc, &Proc)>
+    ensures { option_map (λ parts. (parts.0.now, parts.1.now, parts.2, parts.3.now, parts.4.now)) result ≡ as_lookup (layer p.now) }
+{
+    match &p.form {
+        ProcForm::Lookup(agent, places, binder, met, unmet) => {
+            Some((agent, places, *binder, met.get(), unmet.get()))
+        }
         _ => None,
     }
 }
@@ -74,6 +182,16 @@ pub fn one_made(made: Made) -> Option<Name>
     }
 }
 
+/// The two names that are made.
+pub fn two_made(made: Made) -> Option<(Name, Name)>
+    ensures { result ≡ two_made made }
+{
+    match made {
+        Made::Two(first, second) => Some((first, second)),
+        _ => None,
+    }
+}
+
 /// No output is taken.
 pub fn no_other(other: Option<Name>) -> Option<()>
     ensures { result ≡ no_other other }
@@ -82,4 +200,35 @@ pub fn no_other(other: Option<Name>) -> Option<()>
         None => Some(()),
         Some(_) => None,
     }
+}
+
+/// The names are not one name.
+pub fn two_names(first: Name, second: Name) -> Option<()>
+    ensures { result ≡ need (not (same_name first second)) }
+{
+    if first == second { None } else { Some(()) }
+}
+
+/// The site to which an agent of this place is under way.
+pub fn way(place: Place) -> Option<u32>
+    ensures { result ≡ way place }
+{
+    match place {
+        Place::At(_) => None,
+        Place::Way(site) => Some(site),
+    }
+}
+
+/// The sites are one site.
+pub fn one_site(first: u32, second: u32) -> Option<()>
+    ensures { result ≡ need (nat_eq first second) }
+{
+    if first == second { Some(()) } else { None }
+}
+
+/// The tags are one tag.
+pub fn one_tag(first: Tag, second: Tag) -> Option<()>
+    ensures { result ≡ need (same_tag first second) }
+{
+    if first == second { Some(()) } else { None }
 }

@@ -158,3 +158,7 @@ module _ (inner : Parser ReadProc) (levels place n at : ℕ) (left : ReadProc) (
   pub more_out : n ≤ at → more inner levels place (n - at) left ts ≡ Err (too_deep ts, ts)
   unfolding more
   more_out h = let none : n - at ≡ 0 = omega arith in rw none
+
+pub ruleset chains = (chain_refused, chain_done, chain_deep, chain_stuck, chain_right_refused, chain_step, chain_out)
+
+pub ruleset mores = (more_refused, more_ended, more_unended, more_other, more_deep, more_right_refused, more_step, more_stuck, more_out)

@@ -162,7 +162,7 @@ pub fn atom(
 // ---- products and sums
 
 /// What stands behind the first factor of a product.
-#[tactic(auto, using(crate::proofs::Steps::chain_refused, crate::proofs::Steps::chain_done, crate::proofs::Steps::chain_deep, crate::proofs::Steps::chain_stuck, crate::proofs::Steps::chain_right_refused, crate::proofs::Steps::chain_step, crate::proofs::Steps::chain_out))]
+#[tactic(auto, using(crate::proofs::Steps::chains))]
 #[cycle(expr)]
 fn factors(
     alloc: Global,
@@ -217,7 +217,7 @@ fn prod(alloc: Global, tokens: &mut Cursor<'_>, levels: u32) -> Result<(RawExpr,
 }
 
 /// What stands behind the first term of a sum.
-#[tactic(auto, using(crate::proofs::Steps::chain_refused, crate::proofs::Steps::chain_done, crate::proofs::Steps::chain_deep, crate::proofs::Steps::chain_stuck, crate::proofs::Steps::chain_right_refused, crate::proofs::Steps::chain_step, crate::proofs::Steps::chain_out))]
+#[tactic(auto, using(crate::proofs::Steps::chains))]
 #[cycle(expr)]
 fn terms(
     alloc: Global,

@@ -188,7 +188,7 @@ fn others(
 }
 
 /// The processes of a bracket from the third on, and the closing bracket.
-#[tactic(auto, using(crate::proofs::Steps::more_refused, crate::proofs::Steps::more_ended, crate::proofs::Steps::more_unended, crate::proofs::Steps::more_other, crate::proofs::Steps::more_deep, crate::proofs::Steps::more_right_refused, crate::proofs::Steps::more_step, crate::proofs::Steps::more_stuck, crate::proofs::Steps::more_out))]
+#[tactic(auto, using(crate::proofs::Steps::mores))]
 #[cycle(proc)]
 fn more(
     alloc: Global,

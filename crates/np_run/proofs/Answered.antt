@@ -1,15 +1,19 @@
--- The answer to a refusal whose line was written has its cause.
-use Rattle.std.proofs.Common.{◌≡◌, ◌≢◌, ℕ, ◌+◌, ◌≤◌, List, [], Option, None, Some, inl, inr, refl, sym, ◌∙◌, append-nil, arith}
+-- An answer has its cause, where what was made was written, or the line of a refusal.
+use Rattle.std.proofs.Common.{◌≡◌, ◌≢◌, ℕ, ◌+◌, ◌≤◌, ◌⊎◌, List, [], Option, None, Some, inl, inr, refl, sym, ◌∙◌, append-nil, arith}
 use Rattle.std.specs.Io.KnownBytes.{Appends, Keeps}
+use Rattle.np_syntax.specs.declared.event.End.{End}
+use Rattle.np_syntax.specs.declared.event.End.TheVariants.{Rest, Spent}
+use Rattle.np_calculus.specs.declared.serial.SerialRun.{SerialRun}
 use Rattle.np_run.specs.Words.{plan, texts_read}
 use Rattle.np_run.specs.Lines.{line_of, status_of}
-use Rattle.np_run.specs.Answers.{Call, HasCauses, IsRefused, IsWanting, Stands}
+use Rattle.np_run.specs.Answers.{Call, HasCauses, IsDone, IsRefused, IsStatus, IsWanting, Stands, end_status, status_at}
 use Rattle.np_run.specs.declared.answer.Answer.{Answer}
+use Rattle.np_run.specs.declared.answer.Record.{Record}
 use Rattle.np_run.specs.declared.refusal.Refusal.{Refusal}
-use Rattle.np_run.specs.declared.refusal.Refusal.TheVariants.{Memory, Usage, ReadFault, TooLong, BadChar, BadString, BigNumber, Syntax, TooDeep, Unbound, SiteTwice, TooManySites, NotASite, TypeFault, Unbuilt}
+use Rattle.np_run.specs.declared.refusal.Refusal.TheVariants.{Memory, Usage, ReadFault, TooLong, BadChar, BadString, BigNumber, Syntax, TooDeep, Unbound, SiteTwice, TooManySites, NotASite, TypeFault}
 
 abbrev refusing : ℕ → Answer
-refusing status = record { status = status; kept = None }
+refusing status = record { status = status; kept = None; high = None }
 
 -- no other text was to begin, and none twice
 abbrev Begins : Call → Type 0
@@ -81,13 +85,13 @@ pub record Told (call : Call) (refusal : Refusal) : Type 0 where
   pub begins : Begins call
 
 refused : (call : Call) (status : ℕ) (refusal : Refusal) → refusal ≢ Memory → Told call refusal → IsRefused call (refusing status) refusal
-refused call status refusal some t = record { stands = t.stands some; kept = refl; out = t.out; err = t.err }
+refused call status refusal some t = record { stands = t.stands some; kept = refl; high = refl; out = t.out; err = t.err }
 
 of_source : (call : Call) (status : ℕ) (refusal : Refusal) → refusal ≢ Memory → status ≡ 3 → status_of refusal ≡ 3 → Told call refusal → HasCauses call (refusing status)
 of_source call status refusal some is of t = source call status refusal is of (refused call status refusal some t) t.begins
 
 pub answered : (call : Call) (status : ℕ) (refusal : Refusal) → status ≡ status_of refusal → Told call refusal → HasCauses call (refusing status)
-answered call status Memory is t = wanting call status is (record { kept = refl; out = t.out; err = nothing_written call.err.old call.err.new t.err }) t.begins
+answered call status Memory is t = wanting call status is (record { kept = refl; high = refl; out = t.out; err = nothing_written call.err.old call.err.new t.err }) t.begins
 answered call status Usage is t = usage call status is (refused call status Usage (λ e. cc) t) t.begins
 answered call status ReadFault is t = fault call status is (refused call status ReadFault (λ e. cc) t) t.begins
 answered call status TooLong is t = of_source call status TooLong (λ e. cc) is refl t
@@ -101,4 +105,34 @@ answered call status (SiteTwice at) is t = of_source call status (SiteTwice at) 
 answered call status (TooManySites at) is t = of_source call status (TooManySites at) (λ e. cc) is refl t
 answered call status (NotASite at) is t = of_source call status (NotASite at) (λ e. cc) is refl t
 answered call status (TypeFault fault) is t = of_source call status (TypeFault fault) (λ e. cc) is refl t
-answered call status (Unbuilt at) is t = of_source call status (Unbuilt at) (λ e. cc) is refl t
+
+-- ---- what was made was written
+
+ended : (end : End) → (end_status end ≡ 0) ⊎ (end_status end ≡ 1)
+ended Rest = inl refl
+ended Spent = inr refl
+
+-- the status is 0, or 1 where a run has spent its budget
+made_status : (kept : Option Record) (high : Option SerialRun) → (status_at kept high ≡ 0) ⊎ (status_at kept high ≡ 1)
+made_status (Some made) high = ended made.end
+made_status None (Some made) = ended made.end
+made_status None None = inl refl
+
+by_status : (call : Call) (answer : Answer) → answer.status ≤ 1 → IsStatus answer.status → IsDone call answer → Begins call → HasCauses call answer
+by_status call answer small is d b = record {
+  done = λ e. d;
+  spent = λ e. d;
+  usage = λ e. absurd (omega (arith, small, e));
+  source = λ e. absurd (omega (arith, small, e));
+  read = λ e. absurd (omega (arith, small, e));
+  write = λ e. absurd (omega (arith, small, e));
+  memory = λ e. absurd (omega (arith, small, e));
+  status = is;
+  begins = b;
+}
+
+pub done : (call : Call) (answer : Answer) → IsDone call answer → Begins call → HasCauses call answer
+done call answer d b = elim (made_status answer.kept answer.high) [
+  | inl e ↦ by_status call answer (omega (arith, d.status, e)) (inl (d.status ∙ e)) d b
+  | inr e ↦ by_status call answer (omega (arith, d.status, e)) (inr (inl (d.status ∙ e))) d b
+]

@@ -1,5 +1,5 @@
 -- A source is accepted or refused, and refused in one way alone.
-use Rattle.std.proofs.Common.{◌≡◌, ℕ, ◌≤◌, ◌⊎◌, inl, inr, Option, None, Some, List, [], ◌∷◌, ◌++◌, Result, Ok, Err, drop, append_assoc, refl, sym, subst, ap, ◌∙◌, arith}
+use Rattle.std.proofs.Common.{◌≡◌, ℕ, inl, inr, List, [], ◌∷◌, ◌++◌, Result, Ok, Err, drop, append_assoc, refl, sym, subst, ap, ◌∙◌, arith}
 use Rattle.np_syntax.specs.declared.program.Program.{Program}
 use Rattle.np_lex.specs.declared.fail.LexFail.{LexFail}
 use Rattle.np_lex.specs.declared.fail.LexFail.TheVariants as lex
@@ -21,10 +21,9 @@ use Rattle.np_scope.specs.declared.fail.ScopeFail.TheVariants as scope
 use Rattle.np_scope.specs.Resolved.{resolved}
 use Rattle.np_types.specs.declared.fault.TypeFault.{TypeFault as FirstFault}
 use Rattle.np_check.specs.Faults.{faults}
-use Rattle.np_plain.specs.Unbuilt.{first_unbuilt}
-use Rattle.np_run.specs.Faults.{HasTree, HasProgram, HasNoTokens, HasNoTree, HasNoProgram, IsNotBuilt, IsIllTyped, Wrong, Accepted, Faulty, of_tokens, of_grammar, of_scope}
+use Rattle.np_run.specs.Faults.{HasProgram, HasNoTree, HasNoProgram, IsIllTyped, IsWellTyped, IsNoProgram, Wrong, Accepted, Faulty, of_tokens, of_grammar, of_scope}
 use Rattle.np_run.specs.declared.refusal.Refusal.{Refusal}
-use Rattle.np_run.specs.declared.refusal.Refusal.TheVariants.{Usage, TooLong, TypeFault, Unbuilt}
+use Rattle.np_run.specs.declared.refusal.Refusal.TheVariants.{Usage, TooLong, TypeFault}
 use Rattle.np_run.specs.declared.words.Mode.{Mode}
 use Rattle.np_run.specs.declared.words.Mode.TheVariants as mode
 
@@ -124,23 +123,12 @@ same_err o a b x y = cc
 program_once : (ts : List Token) (p q : Program) → HasProgram ts p → HasProgram ts q → p ≡ q
 program_once ts p q h k = same_ok (resolved h.tree) p q h.scoped (same_resolved ts h.tree k.tree h.parsed k.parsed ∙ k.scoped)
 
-same_first : (o : Option ℕ) (a b : ℕ) → o ≡ Some a → o ≡ Some b → a ≡ b
-same_first o a b e f = cc
-
-some_or_none : (o : Option ℕ) (a : ℕ) → o ≡ None → o ≡ Some a → ⊥
-some_or_none o a e f = cc
-
 tree_refused_once : (ts : List Token) (a b : Refusal) → HasNoTree ts a → HasNoTree ts b → a ≡ b
 tree_refused_once ts a b f g = f.is ∙ ap of_grammar (refused_once 200 ts f.fail g.fail f.refused g.refused) ∙ sym g.is
 
 scope_refused_once : (ts : List Token) (a b : Refusal) → HasNoProgram ts a → HasNoProgram ts b → a ≡ b
 scope_refused_once ts a b f g =
     f.is ∙ ap of_scope (same_err (resolved f.tree) f.fail g.fail f.refused (same_resolved ts f.tree g.tree f.parsed g.parsed ∙ g.refused)) ∙ sym g.is
-
-unbuilt_once : (ts : List Token) (a b : Refusal) → IsNotBuilt ts a → IsNotBuilt ts b → a ≡ b
-unbuilt_once ts a b f g =
-    let same = ap (first_unbuilt ts) (program_once ts f.program g.program f.read g.read) in
-    f.is ∙ ap Unbuilt (same_first (first_unbuilt ts f.program) f.at g.at f.first (same ∙ g.first)) ∙ sym g.is
 
 types_refused_once : (ts : List Token) (a b : Refusal) → IsIllTyped ts a → IsIllTyped ts b → a ≡ b
 types_refused_once ts a b f g =
@@ -153,40 +141,30 @@ types_refused_once ts a b f g =
 faultless_or_not : (o : List FirstFault) (f : FirstFault) → o ≡ [] → o ≡ f ∷ [] → ⊥
 faultless_or_not o f e g = cc
 
+-- one thing is wrong with tokens of no program
+no_program_once : (ts : List Token) (a b : Refusal) → IsNoProgram ts a → IsNoProgram ts b → a ≡ b
+no_program_once ts a b (inl f) (inl g) = tree_refused_once ts a b f g
+no_program_once ts a b (inl f) (inr (inl g)) = absurd (no_tree 200 ts g.tree f.fail g.parsed f.refused)
+no_program_once ts a b (inl f) (inr (inr g)) = absurd (program_no_grammar ts g.program a g.read f)
+no_program_once ts a b (inr (inl f)) (inl g) = absurd (no_tree 200 ts f.tree g.fail f.parsed g.refused)
+no_program_once ts a b (inr (inl f)) (inr (inl g)) = scope_refused_once ts a b f g
+no_program_once ts a b (inr (inl f)) (inr (inr g)) = absurd (program_no_fail ts g.program a g.read f)
+no_program_once ts a b (inr (inr f)) (inl g) = absurd (program_no_grammar ts f.program b f.read g)
+no_program_once ts a b (inr (inr f)) (inr (inl g)) = absurd (program_no_fail ts f.program b f.read g)
+no_program_once ts a b (inr (inr f)) (inr (inr g)) = types_refused_once ts a b f g
+
 -- a mode finds one thing wrong with tokens
 wrong_once : (m : Mode) (ts : List Token) (a b : Refusal) → Wrong m ts a → Wrong m ts b → a ≡ b
+wrong_once mode.Run ts a b f g = no_program_once ts a b f g
+wrong_once mode.High ts a b f g = no_program_once ts a b f g
 wrong_once mode.Show ts a b f g = tree_refused_once ts a b f g
-wrong_once mode.Run ts a b (inl f) (inl g) = tree_refused_once ts a b f g
-wrong_once mode.Run ts a b (inl f) (inr (inl g)) = absurd (no_tree 200 ts g.tree f.fail g.parsed f.refused)
-wrong_once mode.Run ts a b (inl f) (inr (inr g)) = absurd (program_no_grammar ts g.program a g.read f)
-wrong_once mode.Run ts a b (inr (inl f)) (inl g) = absurd (no_tree 200 ts f.tree g.fail f.parsed g.refused)
-wrong_once mode.Run ts a b (inr (inl f)) (inr (inl g)) = scope_refused_once ts a b f g
-wrong_once mode.Run ts a b (inr (inl f)) (inr (inr g)) = absurd (program_no_fail ts g.program a g.read f)
-wrong_once mode.Run ts a b (inr (inr f)) (inl g) = absurd (program_no_grammar ts f.program b f.read g)
-wrong_once mode.Run ts a b (inr (inr f)) (inr (inl g)) = absurd (program_no_fail ts f.program b f.read g)
-wrong_once mode.Run ts a b (inr (inr f)) (inr (inr g)) = unbuilt_once ts a b f g
-wrong_once mode.Check ts a b (inl f) (inl g) = tree_refused_once ts a b f g
-wrong_once mode.Check ts a b (inl f) (inr (inl g)) = absurd (no_tree 200 ts g.tree f.fail g.parsed f.refused)
-wrong_once mode.Check ts a b (inl f) (inr (inr g)) = absurd (program_no_grammar ts g.program a g.read f)
-wrong_once mode.Check ts a b (inr (inl f)) (inl g) = absurd (no_tree 200 ts f.tree g.fail f.parsed g.refused)
-wrong_once mode.Check ts a b (inr (inl f)) (inr (inl g)) = scope_refused_once ts a b f g
-wrong_once mode.Check ts a b (inr (inl f)) (inr (inr g)) = absurd (program_no_fail ts g.program a g.read f)
-wrong_once mode.Check ts a b (inr (inr f)) (inl g) = absurd (program_no_grammar ts f.program b f.read g)
-wrong_once mode.Check ts a b (inr (inr f)) (inr (inl g)) = absurd (program_no_fail ts f.program b f.read g)
-wrong_once mode.Check ts a b (inr (inr f)) (inr (inr g)) = types_refused_once ts a b f g
+wrong_once mode.Check ts a b f g = no_program_once ts a b f g
 
 -- with tokens of a program that is well typed nothing is wrong
-typed_not_wrong : (ts : List Token) (p : Program) (r : Refusal) → HasProgram ts p → faults p ≡ [] → Wrong mode.Check ts r → ⊥
+typed_not_wrong : (ts : List Token) (p : Program) (r : Refusal) → HasProgram ts p → faults p ≡ [] → IsNoProgram ts r → ⊥
 typed_not_wrong ts p r h none (inl f) = program_no_grammar ts p r h f
 typed_not_wrong ts p r h none (inr (inl f)) = program_no_fail ts p r h f
 typed_not_wrong ts p r h none (inr (inr f)) = faultless_or_not (faults p) f.fault none (ap faults (program_once ts p f.program h f.read) ∙ f.first)
-
--- with tokens of a program that is built nothing is wrong
-built_not_wrong : (ts : List Token) (p : Program) (r : Refusal) → HasProgram ts p → first_unbuilt ts p ≡ None → Wrong mode.Run ts r → ⊥
-built_not_wrong ts p r h none (inl f) = program_no_grammar ts p r h f
-built_not_wrong ts p r h none (inr (inl f)) = program_no_fail ts p r h f
-built_not_wrong ts p r h none (inr (inr f)) =
-    some_or_none (first_unbuilt ts p) f.at none (ap (first_unbuilt ts) (program_once ts p f.program h f.read) ∙ f.first)
 
 -- ---- sources
 
@@ -196,21 +174,34 @@ tokens_not_both bytes ts e lexed r = once.not_both lexed r.stuck
 tokens_refused_once : (bytes : List ℕ) (e f : LexFail) → tokens.IsRefused bytes e → tokens.IsRefused bytes f → e ≡ f
 tokens_refused_once bytes e f r s = r.is ∙ ap (λ p. tokens.refusal p (drop p bytes)) (once.stuck_once r.stuck s.stuck) ∙ sym s.is
 
+-- no source is both well typed and refused
+well_typed_not_refused : (bytes : List ℕ) (p : Program) (refusal : Refusal) → IsWellTyped bytes p → Faulty mode.Check bytes refusal → ⊥
+well_typed_not_refused bytes p refusal a (inl f) = tokens_not_both bytes a.tokens f.fail a.lexed f.refused
+well_typed_not_refused bytes p refusal a (inr f) =
+    let same : f.tokens ≡ a.tokens = once.lexes_once f.lexed a.lexed in
+    typed_not_wrong a.tokens p refusal a.read a.faultless (subst (λ (ts : List Token). IsNoProgram ts refusal) same f.wrong)
+
+-- what is wrong with tokens of no program, in each mode that asks for types
+pub of_check : (m : Mode) → ((ts : List Token) (refusal : Refusal) → IsNoProgram ts refusal → Wrong m ts refusal) → (bytes : List ℕ) (refusal : Refusal)
+    → Faulty mode.Check bytes refusal → Faulty m bytes refusal
+of_check m turn bytes refusal (inl f) = inl f
+of_check m turn bytes refusal (inr f) = inr (record { tokens = f.tokens; lexed = f.lexed; wrong = turn f.tokens refusal f.wrong })
+
+to_check : (m : Mode) → ((ts : List Token) (refusal : Refusal) → Wrong m ts refusal → IsNoProgram ts refusal) → (bytes : List ℕ) (refusal : Refusal)
+    → Faulty m bytes refusal → Faulty mode.Check bytes refusal
+to_check m turn bytes refusal (inl f) = inl f
+to_check m turn bytes refusal (inr f) = inr (record { tokens = f.tokens; lexed = f.lexed; wrong = turn f.tokens refusal f.wrong })
+
 -- no source is both accepted and refused
 pub not_both : (m : Mode) (bytes : List ℕ) (refusal : Refusal) → Accepted m bytes → Faulty m bytes refusal → ⊥
-not_both mode.Run bytes refusal a (inl f) = tokens_not_both bytes a.1.tokens f.fail a.1.lexed f.refused
-not_both mode.Run bytes refusal a (inr f) =
-    let same : f.tokens ≡ a.1.tokens = once.lexes_once f.lexed a.1.lexed in
-    built_not_wrong a.1.tokens a.0 refusal a.1.read a.1.built (subst (λ (ts : List Token). Wrong mode.Run ts refusal) same f.wrong)
+not_both mode.Run bytes refusal a f = well_typed_not_refused bytes a.0 refusal a.1 (to_check mode.Run (λ ts r w. w) bytes refusal f)
+not_both mode.High bytes refusal a f = well_typed_not_refused bytes a.0 refusal a.1 (to_check mode.High (λ ts r w. w) bytes refusal f)
 not_both mode.Show bytes refusal a (inl f) = tokens_not_both bytes a.1.tokens f.fail a.1.lexed f.refused
 not_both mode.Show bytes refusal a (inr f) =
     let same : f.tokens ≡ a.1.tokens = once.lexes_once f.lexed a.1.lexed in
     let wrong : HasNoTree a.1.tokens refusal = subst (λ (ts : List Token). Wrong mode.Show ts refusal) same f.wrong in
     no_tree 200 a.1.tokens a.0 wrong.fail a.1.parsed wrong.refused
-not_both mode.Check bytes refusal a (inl f) = tokens_not_both bytes a.1.tokens f.fail a.1.lexed f.refused
-not_both mode.Check bytes refusal a (inr f) =
-    let same : f.tokens ≡ a.1.tokens = once.lexes_once f.lexed a.1.lexed in
-    typed_not_wrong a.1.tokens a.0 refusal a.1.read a.1.faultless (subst (λ (ts : List Token). Wrong mode.Check ts refusal) same f.wrong)
+not_both mode.Check bytes refusal a f = well_typed_not_refused bytes a.0 refusal a.1 f
 
 -- a source is refused in one way
 pub same_fault : (m : Mode) (bytes : List ℕ) (a b : Refusal) → Faulty m bytes a → Faulty m bytes b → a ≡ b
@@ -223,14 +214,15 @@ same_fault m bytes a b (inr f) (inr g) =
 
 -- ---- refusals that are of no source
 
--- a refusal of a source is one of its tokens, of the grammar, of scope, or for want of what is not built
+-- a refusal of a source is one of its tokens, of the grammar, of scope, or of types
 not_source : (refusal : Refusal) → ((e : LexFail) → refusal ≡ of_tokens e → ⊥) → ((e : ParseFail) → refusal ≡ of_grammar e → ⊥)
-    → ((e : ScopeFail) → refusal ≡ of_scope e → ⊥) → ((at : ℕ) → refusal ≡ Unbuilt at → ⊥)
-    → ((fault : FirstFault) → refusal ≡ TypeFault fault → ⊥) → (m : Mode) (bytes : List ℕ) → Faulty m bytes refusal → ⊥
-not_source refusal a b c d k m bytes (inl f) = a f.fail f.is
-not_source refusal a b c d k mode.Run bytes (inr f) = elim (f.wrong) [ inl w ↦ b w.fail w.is | inr rest ↦ elim rest [ inl w ↦ c w.fail w.is | inr w ↦ d w.at w.is ] ]
-not_source refusal a b c d k mode.Show bytes (inr f) = let w : HasNoTree f.tokens refusal = f.wrong in b w.fail w.is
-not_source refusal a b c d k mode.Check bytes (inr f) = elim (f.wrong) [ inl w ↦ b w.fail w.is | inr rest ↦ elim rest [ inl w ↦ c w.fail w.is | inr w ↦ k w.fault w.is ] ]
+    → ((e : ScopeFail) → refusal ≡ of_scope e → ⊥) → ((fault : FirstFault) → refusal ≡ TypeFault fault → ⊥)
+    → (m : Mode) (bytes : List ℕ) → Faulty m bytes refusal → ⊥
+not_source refusal a b c d m bytes (inl f) = a f.fail f.is
+not_source refusal a b c d mode.Run bytes (inr f) = elim (f.wrong) [ inl w ↦ b w.fail w.is | inr rest ↦ elim rest [ inl w ↦ c w.fail w.is | inr w ↦ d w.fault w.is ] ]
+not_source refusal a b c d mode.High bytes (inr f) = elim (f.wrong) [ inl w ↦ b w.fail w.is | inr rest ↦ elim rest [ inl w ↦ c w.fail w.is | inr w ↦ d w.fault w.is ] ]
+not_source refusal a b c d mode.Show bytes (inr f) = let w : HasNoTree f.tokens refusal = f.wrong in b w.fail w.is
+not_source refusal a b c d mode.Check bytes (inr f) = elim (f.wrong) [ inl w ↦ b w.fail w.is | inr rest ↦ elim rest [ inl w ↦ c w.fail w.is | inr w ↦ d w.fault w.is ] ]
 
 long_tokens : (e : LexFail) → TooLong ≡ of_tokens e → ⊥
 long_tokens lex.Memory e = cc
@@ -269,7 +261,7 @@ usage_scope (scope.TooManySites at) e = cc
 usage_scope (scope.NotASite at) e = cc
 
 pub not_long : (m : Mode) (bytes : List ℕ) → Faulty m bytes TooLong → ⊥
-not_long = not_source TooLong long_tokens long_grammar long_scope (λ at e. cc) (λ fault e. cc)
+not_long = not_source TooLong long_tokens long_grammar long_scope (λ fault e. cc)
 
 pub not_usage : (m : Mode) (bytes : List ℕ) → Faulty m bytes Usage → ⊥
-not_usage = not_source Usage usage_tokens usage_grammar usage_scope (λ at e. cc) (λ fault e. cc)
+not_usage = not_source Usage usage_tokens usage_grammar usage_scope (λ fault e. cc)

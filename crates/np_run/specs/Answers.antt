@@ -8,10 +8,10 @@ use Rattle.np_io.specs.Causes.{Counts, Rose}
 use Rattle.np_io.specs.Bytes.{Held, AppendsPrefix}
 use Rattle.np_tree.specs.declared.tree.Tree.{Tree}
 use Rattle.np_show.specs.Shown.{shown}
-use Rattle.np_calculus.specs.Config.{Config}
+use Rattle.np_calculus.specs.declared.serial.SerialRun.{SerialRun}
 use Rattle.np_calculus.specs.Serial.{IsSerialRun}
-use Rattle.np_run.specs.Faults.{HasTree, Accepts, IsWellTyped, Faulty}
-use Rattle.np_run.specs.Words.{plan, texts_read}
+use Rattle.np_run.specs.Faults.{HasTree, IsWellTyped, Faulty}
+use Rattle.np_run.specs.Words.{Plan, plan, texts_read}
 use Rattle.np_run.specs.Lines.{line_of, status_of}
 use Rattle.np_run.specs.Report.{report_text}
 use Rattle.np_run.specs.declared.answer.Answer.{Answer}
@@ -52,73 +52,91 @@ pub record Call : Type 0 where
 
 -- ---- causes
 
--- the words name a source for this mode, and these are its bytes: they are within the limit, all that was read, and the
+-- the words ask for this, and these are the bytes of their source: they are within the limit, all that was read, and the
 -- text that is held where it is told
-pub record IsRead (words : List (List ℕ)) (texts : Reading) (m : Mode) (bytes : List ℕ) : Type 0 where
-  pub file : List ℕ
-  pub planned : plan words ≡ Some (m, file)
+pub record IsRead (words : List (List ℕ)) (texts : Reading) (asked : Plan) (bytes : List ℕ) : Type 0 where
+  pub planned : plan words ≡ Some asked
   pub taken : texts.taken ≡ length bytes
   pub short : length bytes ≤ 1048576
-  pub whole : IfSome (texts.held file) (λ told. bytes ≡ told)
+  pub whole : IfSome (texts.held asked.file) (λ told. bytes ≡ told)
 
 -- the source was read, and the mode refuses it so
 pub record IsFaulty (words : List (List ℕ)) (texts : Reading) (refusal : Refusal) : Type 0 where
-  pub mode : Mode
+  pub asked : Plan
   pub bytes : List ℕ
-  pub read : IsRead words texts mode bytes
-  pub faulty : Faulty mode bytes refusal
+  pub read : IsRead words texts asked bytes
+  pub faulty : Faulty asked.mode bytes refusal
 
 -- the refusal has its cause
 pub data Stands (words : List (List ℕ)) (texts : Reading) : Refusal → Type 0 where
-  -- the words name no mode and file
+  -- the words ask for nothing that the program does
   words : plan words ≡ None → Stands words texts Usage
   -- a read of the file failed
-  fault : {m : Mode} {file : List ℕ} → plan words ≡ Some (m, file) → Rose (texts.before file) (texts.now file) → Stands words texts ReadFault
+  fault : {asked : Plan} → plan words ≡ Some asked → Rose (texts.before asked.file) (texts.now asked.file) → Stands words texts ReadFault
   -- more was read than a source may have, and the text has more where it is told
-  long : {m : Mode} {file : List ℕ} → plan words ≡ Some (m, file) → 1048576 < texts.taken → IfSome (texts.held file) (λ bytes. 1048576 < length bytes)
+  long : {asked : Plan} → plan words ≡ Some asked → 1048576 < texts.taken → IfSome (texts.held asked.file) (λ bytes. 1048576 < length bytes)
       → Stands words texts TooLong
   -- the mode refuses the source
   source : {refusal : Refusal} → IsFaulty words texts refusal → Stands words texts refusal
 
--- the record is of a run of the program within the budget, and this is the text of its report
-pub record IsRunOf (program : Program) (made : Record) (text : List ℕ) : Type 0 where
-  pub last : Config
-  pub run : IsSerialRun program 10000 made.events last made.end
-  pub report : text ≡ report_text program.sites last.said made.end
+-- a run of the program within the budget, and the text of its report
+pub record IsRunOf (program : Program) (budget : ℕ) (made : SerialRun) (text : List ℕ) : Type 0 where
+  pub run : IsSerialRun program budget made.events made.last made.end
+  pub report : text ≡ report_text program.sites made.last.said made.end
 
 -- the source is accepted, and its program was run
-pub record Runs (bytes : List ℕ) (made : Record) (text : List ℕ) : Type 0 where
+pub record Runs (budget : ℕ) (bytes : List ℕ) (made : SerialRun) (text : List ℕ) : Type 0 where
   pub program : Program
-  pub accepted : Accepts bytes program
-  pub run : IsRunOf program made text
+  pub accepted : IsWellTyped bytes program
+  pub run : IsRunOf program budget made text
+
+-- the record of a run
+abbrev pub record_of : SerialRun → Record
+record_of made = record { events = made.events; end = made.end }
+
+-- the record of the run is kept, and nothing else
+pub record KeepsRun (budget : ℕ) (bytes : List ℕ) (kept : Option Record) (high : Option SerialRun) (text : List ℕ) : Type 0 where
+  pub made : SerialRun
+  pub runs : Runs budget bytes made text
+  pub is_kept : kept ≡ Some (record_of made)
+  pub is_high : high ≡ None
+
+-- the run is kept whole, and nothing else
+pub record KeepsHigh (budget : ℕ) (bytes : List ℕ) (kept : Option Record) (high : Option SerialRun) (text : List ℕ) : Type 0 where
+  pub made : SerialRun
+  pub runs : Runs budget bytes made text
+  pub is_kept : kept ≡ None
+  pub is_high : high ≡ Some made
 
 -- the source has a tree, and this is its canonical text
-pub record Shows (bytes text : List ℕ) : Type 0 where
+pub record Shows (bytes : List ℕ) (kept : Option Record) (high : Option SerialRun) (text : List ℕ) : Type 0 where
   pub tree : Tree
   pub accepted : HasTree bytes tree
   pub shows : text ≡ shown tree
+  pub is_kept : kept ≡ None
+  pub is_high : high ≡ None
 
 -- the source is well typed, and the text says so
-pub record Checks (bytes text : List ℕ) : Type 0 where
+pub record Checks (bytes : List ℕ) (kept : Option Record) (high : Option SerialRun) (text : List ℕ) : Type 0 where
   pub program : Program
   pub accepted : IsWellTyped bytes program
   pub says : text ≡ codes "well typed\n"
+  pub is_kept : kept ≡ None
+  pub is_high : high ≡ None
 
--- what the mode makes of a source: a run, which is kept, the canonical text, or that it is well typed
-abbrev pub Does : Mode → List ℕ → Option Record → List ℕ → Type 0
-Does mode.Run bytes (Some made) text = Runs bytes made text
-Does mode.Run bytes None text = ⊥
-Does mode.Show bytes (Some made) text = ⊥
-Does mode.Show bytes None text = Shows bytes text
-Does mode.Check bytes (Some made) text = ⊥
-Does mode.Check bytes None text = Checks bytes text
+-- what the mode makes of a source within a budget: a run, which is kept, the canonical text, or that it is well typed
+abbrev pub Does : Mode → ℕ → List ℕ → Option Record → Option SerialRun → List ℕ → Type 0
+Does mode.Run budget bytes kept high text = KeepsRun budget bytes kept high text
+Does mode.High budget bytes kept high text = KeepsHigh budget bytes kept high text
+Does mode.Show budget bytes kept high text = Shows bytes kept high text
+Does mode.Check budget bytes kept high text = Checks bytes kept high text
 
 -- the words name a source, and this was made of it
-pub record HasMade (words : List (List ℕ)) (texts : Reading) (kept : Option Record) (text : List ℕ) : Type 0 where
-  pub mode : Mode
+pub record HasMade (words : List (List ℕ)) (texts : Reading) (kept : Option Record) (high : Option SerialRun) (text : List ℕ) : Type 0 where
+  pub asked : Plan
   pub bytes : List ℕ
-  pub read : IsRead words texts mode bytes
-  pub does : Does mode bytes kept text
+  pub read : IsRead words texts asked bytes
+  pub does : Does asked.mode asked.budget bytes kept high text
 
 -- ---- answers
 
@@ -127,21 +145,23 @@ end_status Rest = 0
 end_status Spent = 1
 
 -- the status of what was made, where its text was written: a run may have spent its budget
-abbrev pub status_at : Option Record → ℕ
-status_at None = 0
-status_at (Some made) = end_status made.end
+abbrev pub status_at : Option Record → Option SerialRun → ℕ
+status_at (Some made) high = end_status made.end
+status_at None (Some made) = end_status made.end
+status_at None None = 0
 
 -- it was made, and its text was written
 pub record IsDone (call : Call) (answer : Answer) : Type 0 where
   pub text : List ℕ
-  pub made : HasMade call.words call.texts answer.kept text
-  pub status : answer.status ≡ status_at answer.kept
+  pub made : HasMade call.words call.texts answer.kept answer.high text
+  pub status : answer.status ≡ status_at answer.kept answer.high
   pub out : Appends call.out.old call.out.new text
   pub err : Keeps call.err.old call.err.new
 
 pub record IsRefused (call : Call) (answer : Answer) (refusal : Refusal) : Type 0 where
   pub stands : Stands call.words call.texts refusal
   pub kept : answer.kept ≡ None
+  pub high : answer.high ≡ None
   pub out : Keeps call.out.old call.out.new
   pub err : Appends call.err.old call.err.new (line_of refusal)
 
@@ -154,7 +174,7 @@ pub record Refuses (call : Call) (answer : Answer) : Type 0 where
 -- it was made, and its text could not be written whole
 pub record OutFailed (call : Call) (answer : Answer) : Type 0 where
   pub text : List ℕ
-  pub made : HasMade call.words call.texts answer.kept text
+  pub made : HasMade call.words call.texts answer.kept answer.high text
   pub rose : Rose call.out.before call.out.now
   pub out : AppendsPrefix call.out.old call.out.new text
   pub err : Keeps call.err.old call.err.new
@@ -164,6 +184,7 @@ pub record ErrFailed (call : Call) (answer : Answer) : Type 0 where
   pub refusal : Refusal
   pub stands : Stands call.words call.texts refusal
   pub kept : answer.kept ≡ None
+  pub high : answer.high ≡ None
   pub rose : Rose call.err.before call.err.now
   pub out : Keeps call.out.old call.out.new
   pub err : AppendsPrefix call.err.old call.err.new (line_of refusal)
@@ -171,6 +192,7 @@ pub record ErrFailed (call : Call) (answer : Answer) : Type 0 where
 -- memory was wanting, and nothing was written
 pub record IsWanting (call : Call) (answer : Answer) : Type 0 where
   pub kept : answer.kept ≡ None
+  pub high : answer.high ≡ None
   pub out : Keeps call.out.old call.out.new
   pub err : Keeps call.err.old call.err.new
 

@@ -1,6 +1,6 @@
--- What the bytes of a source are, and what is wrong with them, for each mode (docs/LANGUAGE.md, "Tokens", "Grammar", "Scope",
--- "Types" and "The built form").
-use Rattle.std.specs.Prelude.{◌≡◌, ℕ, ◌⊎◌, Option, None, Some, List, [], ◌∷◌, Ok, Err}
+-- What the bytes of a source are, and what is wrong with them, for each mode (docs/LANGUAGE.md, "Tokens", "Grammar", "Scope"
+-- and "Types").
+use Rattle.std.specs.Prelude.{◌≡◌, ℕ, ◌⊎◌, List, [], ◌∷◌, Ok, Err}
 use Rattle.np_syntax.specs.declared.program.Program.{Program}
 use Rattle.np_lex.specs.declared.fail.LexFail.{LexFail}
 use Rattle.np_lex.specs.declared.fail.LexFail.TheVariants as lex
@@ -17,9 +17,8 @@ use Rattle.np_scope.specs.declared.fail.ScopeFail.TheVariants as scope
 use Rattle.np_scope.specs.Resolved.{resolved}
 use Rattle.np_types.specs.declared.fault.TypeFault.{TypeFault as FirstFault}
 use Rattle.np_check.specs.Faults.{faults}
-use Rattle.np_plain.specs.Unbuilt.{first_unbuilt}
 use Rattle.np_run.specs.declared.refusal.Refusal.{Refusal}
-use Rattle.np_run.specs.declared.refusal.Refusal.TheVariants.{Memory, BadChar, BadString, BigNumber, Syntax, TooDeep, Unbound, SiteTwice, TooManySites, NotASite, TypeFault, Unbuilt}
+use Rattle.np_run.specs.declared.refusal.Refusal.TheVariants.{Memory, BadChar, BadString, BigNumber, Syntax, TooDeep, Unbound, SiteTwice, TooManySites, NotASite, TypeFault}
 use Rattle.np_run.specs.declared.words.Mode.{Mode}
 use Rattle.np_run.specs.declared.words.Mode.TheVariants as mode
 
@@ -57,13 +56,6 @@ pub record HasProgram (tokens : List Token) (program : Program) : Type 0 where
   pub parsed : IsProgram 200 tokens tree
   pub scoped : resolved tree ≡ Ok program
 
--- the bytes have tokens, these have a program, and all of it is built
-pub record Accepts (bytes : List ℕ) (program : Program) : Type 0 where
-  pub tokens : List Token
-  pub lexed : Lexes 0 bytes tokens
-  pub read : HasProgram tokens program
-  pub built : first_unbuilt tokens program ≡ None
-
 -- the bytes have tokens, these have a program, and it has no fault of types
 pub record IsWellTyped (bytes : List ℕ) (program : Program) : Type 0 where
   pub tokens : List Token
@@ -71,9 +63,10 @@ pub record IsWellTyped (bytes : List ℕ) (program : Program) : Type 0 where
   pub read : HasProgram tokens program
   pub faultless : faults program ≡ []
 
--- the mode takes the source
+-- the mode takes the source: each but `show` asks for types
 abbrev pub Accepted : Mode → List ℕ → Type 0
-Accepted mode.Run bytes = (program : Program) × Accepts bytes program
+Accepted mode.Run bytes = (program : Program) × IsWellTyped bytes program
+Accepted mode.High bytes = (program : Program) × IsWellTyped bytes program
 Accepted mode.Show bytes = (tree : Tree) × HasTree bytes tree
 Accepted mode.Check bytes = (program : Program) × IsWellTyped bytes program
 
@@ -99,14 +92,6 @@ pub record HasNoProgram (ts : List Token) (refusal : Refusal) : Type 0 where
   pub parsed : IsProgram 200 ts tree
   pub refused : resolved tree ≡ Err fail
 
--- the program has a token that is not built, the first at the place of the refusal
-pub record IsNotBuilt (ts : List Token) (refusal : Refusal) : Type 0 where
-  pub at : ℕ
-  pub is : refusal ≡ Unbuilt at
-  pub program : Program
-  pub read : HasProgram ts program
-  pub first : first_unbuilt ts program ≡ Some at
-
 -- the program has a fault of types, the first at the place of the refusal
 pub record IsIllTyped (ts : List Token) (refusal : Refusal) : Type 0 where
   pub fault : FirstFault
@@ -115,11 +100,16 @@ pub record IsIllTyped (ts : List Token) (refusal : Refusal) : Type 0 where
   pub read : HasProgram ts program
   pub first : faults program ≡ fault ∷ []
 
+-- the tokens have no program that is well typed
+abbrev pub IsNoProgram : List Token → Refusal → Type 0
+IsNoProgram ts refusal = HasNoTree ts refusal ⊎ HasNoProgram ts refusal ⊎ IsIllTyped ts refusal
+
 -- what the mode finds wrong with tokens
 abbrev pub Wrong : Mode → List Token → Refusal → Type 0
-Wrong mode.Run ts refusal = HasNoTree ts refusal ⊎ HasNoProgram ts refusal ⊎ IsNotBuilt ts refusal
+Wrong mode.Run ts refusal = IsNoProgram ts refusal
+Wrong mode.High ts refusal = IsNoProgram ts refusal
 Wrong mode.Show ts refusal = HasNoTree ts refusal
-Wrong mode.Check ts refusal = HasNoTree ts refusal ⊎ HasNoProgram ts refusal ⊎ IsIllTyped ts refusal
+Wrong mode.Check ts refusal = IsNoProgram ts refusal
 
 -- the bytes have tokens, and the mode finds this wrong with them
 pub record AreWrong (m : Mode) (bytes : List ℕ) (refusal : Refusal) : Type 0 where

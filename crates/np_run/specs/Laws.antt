@@ -2,36 +2,35 @@
 use Rattle.std.specs.Prelude.{◌≡◌, ◌≢◌, ℕ, ◌<◌, ◌≤◌, ◌⊎◌, ◌↔◌, List, length, Some, None}
 use Rattle.np_io.specs.Causes.{Rose}
 use Rattle.np_run.specs.Faults.{Accepted, Faulty}
-use Rattle.np_run.specs.Words.{plan}
+use Rattle.np_run.specs.Words.{Plan, plan}
 use Rattle.np_run.specs.Answers.{Call, HasCauses, IsRefused}
 use Rattle.np_run.specs.declared.answer.Answer.{Answer}
 use Rattle.np_run.specs.declared.refusal.Refusal.{Refusal}
 use Rattle.np_run.specs.declared.refusal.Refusal.TheVariants.{TooLong}
-use Rattle.np_run.specs.declared.words.Mode.{Mode}
 
--- the words name a file for this mode, the file holds these bytes, and no read of it failed
-pub record Reads (call : Call) (m : Mode) (file bytes : List ℕ) : Type 0 where
-  pub planned : plan call.words ≡ Some (m, file)
-  pub held : call.texts.held file ≡ Some bytes
-  pub whole : ¬ Rose (call.texts.before file) (call.texts.now file)
+-- the words ask for this, the file that they name holds these bytes, and no read of it failed
+pub record Reads (call : Call) (asked : Plan) (bytes : List ℕ) : Type 0 where
+  pub planned : plan call.words ≡ Some asked
+  pub held : call.texts.held asked.file ≡ Some bytes
+  pub whole : ¬ Rose (call.texts.before asked.file) (call.texts.now asked.file)
 
 -- where no call failed, what is asked of an accepted source is done, or memory was wanting
 abbrev pub Completes : Type 0
-Completes = (call : Call) (answer : Answer) (m : Mode) (file bytes : List ℕ) → HasCauses call answer → Reads call m file bytes
-    → length bytes ≤ 1048576 → Accepted m bytes → ¬ Rose call.out.before call.out.now → ¬ Rose call.err.before call.err.now
+Completes = (call : Call) (answer : Answer) (asked : Plan) (bytes : List ℕ) → HasCauses call answer → Reads call asked bytes
+    → length bytes ≤ 1048576 → Accepted asked.mode bytes → ¬ Rose call.out.before call.out.now → ¬ Rose call.err.before call.err.now
     → (answer.status ≡ 0) ⊎ (answer.status ≡ 1) ⊎ (answer.status ≡ 6)
 
--- the words are refused exactly where they name no mode and file
+-- the words are refused exactly where they ask for nothing that the program does
 abbrev pub RefusesWords : Type 0
 RefusesWords = (call : Call) (answer : Answer) → HasCauses call answer → ¬ Rose call.err.before call.err.now → answer.status ≢ 6
     → (answer.status ≡ 2) ↔ (plan call.words ≡ None)
 
 -- a source is refused as too long exactly where it is
 abbrev pub RefusesLong : Type 0
-RefusesLong = (call : Call) (answer : Answer) (m : Mode) (file bytes : List ℕ) → HasCauses call answer → Reads call m file bytes
+RefusesLong = (call : Call) (answer : Answer) (asked : Plan) (bytes : List ℕ) → HasCauses call answer → Reads call asked bytes
     → ¬ Rose call.err.before call.err.now → answer.status ≢ 6 → IsRefused call answer TooLong ↔ (1048576 < length bytes)
 
 -- a source that is not too long is refused exactly where the mode refuses it, and so
 abbrev pub RefusesSources : Type 0
-RefusesSources = (call : Call) (answer : Answer) (m : Mode) (file bytes : List ℕ) (refusal : Refusal) → HasCauses call answer → Reads call m file bytes
-    → ¬ Rose call.err.before call.err.now → answer.status ≢ 6 → length bytes ≤ 1048576 → IsRefused call answer refusal ↔ Faulty m bytes refusal
+RefusesSources = (call : Call) (answer : Answer) (asked : Plan) (bytes : List ℕ) (refusal : Refusal) → HasCauses call answer → Reads call asked bytes
+    → ¬ Rose call.err.before call.err.now → answer.status ≢ 6 → length bytes ≤ 1048576 → IsRefused call answer refusal ↔ Faulty asked.mode bytes refusal

@@ -4,7 +4,7 @@ use Rattle.std.specs.Fmt.{decimal}
 use Rattle.np_types.specs.declared.fault.Rule.{Rule}
 use Rattle.np_types.specs.declared.fault.Rule.TheVariants as rule
 use Rattle.np_run.specs.declared.refusal.Refusal.{Refusal}
-use Rattle.np_run.specs.declared.refusal.Refusal.TheVariants.{Memory, Usage, ReadFault, TooLong, BadChar, BadString, BigNumber, Syntax, TooDeep, Unbound, SiteTwice, TooManySites, NotASite, TypeFault, Unbuilt}
+use Rattle.np_run.specs.declared.refusal.Refusal.TheVariants.{Memory, Usage, ReadFault, TooLong, BadChar, BadString, BigNumber, Syntax, TooDeep, Unbound, SiteTwice, TooManySites, NotASite, TypeFault}
 
 -- the line of a refusal with its offset
 abbrev pub placed_line : List ℕ → ℕ → List ℕ
@@ -40,7 +40,6 @@ line_of (SiteTwice at) = placed_line (codes "np: 13 SiteTwice at ") at
 line_of (TooManySites at) = placed_line (codes "np: 14 TooManySites at ") at
 line_of (NotASite at) = placed_line (codes "np: 15 NotASite at ") at
 line_of (TypeFault fault) = codes "np: 16 TypeFault " ++ rule_text fault.rule ++ placed_line (codes " at ") fault.at
-line_of (Unbuilt at) = placed_line (codes "np: 19 Unbuilt at ") at
 
 abbrev pub status_of : Refusal → ℕ
 status_of Memory = 6

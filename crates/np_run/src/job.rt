@@ -1,30 +1,29 @@
 ghost use Rattle.std.specs.Prelude.{◌≡◌, ◌≢◌, ◌+◌, ◌≤◌, length, IfOk, IfErr};
 ghost use Rattle.np_run.specs.Words.{plan, texts_read};
-ghost use Rattle.np_calculus.specs.Plain.{IsPlain};
-ghost use Rattle.np_run.specs.Answers.{Reading, Stands, HasMade, IsRunOf, Does};
-ghost use Rattle.np_run.specs.Faults.{Faulty};
+ghost use Rattle.np_run.specs.Answers.{Reading, Stands, HasMade, IsRunOf, Runs, KeepsRun, KeepsHigh, Shows, Checks, Does, record_of};
+ghost use Rattle.np_run.specs.Faults.{Faulty, IsWellTyped};
 
 use super::answer::Record;
-use super::reading::{checked_program, plain_program, tokens_of, tree_of};
+use super::reading::{checked_program, tokens_of, tree_of};
 use super::refusal::Refusal;
 use super::reporting::report;
 use super::words::{Mode, planned};
 use np_calculus::{SerialRun, run_serial};
+use np_check::Checked;
 use np_io::{ReadFail, Texts, Word, read_all};
+use np_safety::law_runs_well;
 use np_show::show;
-use np_syntax::{List, Memory, Program, Text};
+use np_syntax::{List, Memory, Text};
 use std::alloc::Global;
 
 /// How many bytes a source may have.
 const SOURCE_LIMIT: usize = 1_048_576;
 
-/// How many events a run may have.
-const BUDGET: u32 = 10_000;
-
 /// What was made: the text that is to be written, and the run if there was one.
 #[derive(Drop)]
 pub(crate) struct Job {
     pub(crate) kept: Option<Record>,
+    pub(crate) high: Option<SerialRun>,
     pub(crate) text: Text,
 }
 
@@ -38,7 +37,7 @@ pub(crate) fn work<T: Texts>(alloc: Global, words: &[Word], texts: &mut T) -> Re
       taken = T.taken texts.new;
       begun = T.begins texts.old;
       begins = T.begins texts.new;
-    } in IfOk result (λ job. HasMade words.now seen job.kept job.text) }
+    } in IfOk result (λ job. HasMade words.now seen job.kept job.high job.text) }
     ensures refused { let seen : Reading = record {
       held = T.held texts.old;
       before = T.faults texts.old;
@@ -48,7 +47,7 @@ pub(crate) fn work<T: Texts>(alloc: Global, words: &[Word], texts: &mut T) -> Re
       begins = T.begins texts.new;
     } in IfErr result (λ refusal. refusal ≢ Refusal.Memory → Stands words.now seen refusal) }
 {
-    let Some((mode, file)) = planned(words) else {
+    let Some((mode, file, budget)) = planned(words) else {
         return Err(Refusal::Usage);
     };
     let bytes = match read_all(alloc, texts, file, SOURCE_LIMIT) {
@@ -57,36 +56,55 @@ pub(crate) fn work<T: Texts>(alloc: Global, words: &[Word], texts: &mut T) -> Re
         Err(ReadFail::ReadFault) => return Err(Refusal::ReadFault),
         Err(ReadFail::TooLong) => return Err(Refusal::TooLong),
     };
+    job_of(alloc, mode, budget, bytes.as_slice())
+}
+
+/// What is made of a source.
+fn job_of(alloc: Global, mode: Mode, budget: u32, bytes: &[u8]) -> Result<Job, Refusal>
+    requires { length bytes.now ≤ 1048576 }
+    ensures made { IfOk result (λ job. Does mode budget bytes.now job.kept job.high job.text) }
+    ensures refused { IfErr result (λ refusal. refusal ≢ Refusal.Memory → Faulty mode bytes.now refusal) }
+{
     match mode {
-        Mode::Run => run_source(alloc, bytes.as_slice()),
-        Mode::Show => show_source(alloc, bytes.as_slice()),
-        Mode::Check => check_source(alloc, bytes.as_slice()),
+        Mode::Run => run_source(alloc, budget, bytes),
+        Mode::High => high_source(alloc, budget, bytes),
+        Mode::Show => show_source(alloc, bytes),
+        Mode::Check => check_source(alloc, bytes),
     }
 }
 
-/// The run of a source.
-fn run_source(alloc: Global, bytes: &[u8]) -> Result<Job, Refusal>
+/// The record of a source's run.
+fn run_source(alloc: Global, budget: u32, bytes: &[u8]) -> Result<Job, Refusal>
     requires { length bytes.now ≤ 1048576 }
-    ensures made { IfOk result (λ job. Does Mode.Run bytes.now job.kept job.text) }
+    ensures made { IfOk result (λ job. KeepsRun budget bytes.now job.kept job.high job.text) }
     ensures refused { IfErr result (λ refusal. refusal ≢ Refusal.Memory → Faulty Mode.Run bytes.now refusal) }
 {
-    let tokens = tokens_of(alloc, bytes)?;
-    let read = plain_program(alloc, &tokens);
-    drop(tokens);
-    let program = read?;
-    match run(alloc, &program) {
-        Ok((made, text)) => Ok(Job {
-            kept: Some(made),
-            text,
-        }),
-        Err(Memory) => Err(Refusal::Memory),
-    }
+    let (made, text) = run_of(alloc, budget, bytes)?;
+    Ok(Job {
+        kept: Some(record_of(made)),
+        high: None,
+        text,
+    })
+}
+
+/// A source's run at the high level.
+fn high_source(alloc: Global, budget: u32, bytes: &[u8]) -> Result<Job, Refusal>
+    requires { length bytes.now ≤ 1048576 }
+    ensures made { IfOk result (λ job. KeepsHigh budget bytes.now job.kept job.high job.text) }
+    ensures refused { IfErr result (λ refusal. refusal ≢ Refusal.Memory → Faulty Mode.High bytes.now refusal) }
+{
+    let (made, text) = run_of(alloc, budget, bytes)?;
+    Ok(Job {
+        kept: None,
+        high: Some(made),
+        text,
+    })
 }
 
 /// The canonical text of a source.
 fn show_source(alloc: Global, bytes: &[u8]) -> Result<Job, Refusal>
     requires { length bytes.now ≤ 1048576 }
-    ensures made { IfOk result (λ job. Does Mode.Show bytes.now job.kept job.text) }
+    ensures made { IfOk result (λ job. Shows bytes.now job.kept job.high job.text) }
     ensures refused { IfErr result (λ refusal. refusal ≢ Refusal.Memory → Faulty Mode.Show bytes.now refusal) }
 {
     let tokens = tokens_of(alloc, bytes)?;
@@ -96,7 +114,11 @@ fn show_source(alloc: Global, bytes: &[u8]) -> Result<Job, Refusal>
     let shown = show(alloc, &tree);
     drop(tree);
     match shown {
-        Ok(text) => Ok(Job { kept: None, text }),
+        Ok(text) => Ok(Job {
+            kept: None,
+            high: None,
+            text,
+        }),
         Err(Memory) => Err(Refusal::Memory),
     }
 }
@@ -104,35 +126,62 @@ fn show_source(alloc: Global, bytes: &[u8]) -> Result<Job, Refusal>
 /// That a source is well typed.
 fn check_source(alloc: Global, bytes: &[u8]) -> Result<Job, Refusal>
     requires { length bytes.now ≤ 1048576 }
-    ensures made { IfOk result (λ job. Does Mode.Check bytes.now job.kept job.text) }
+    ensures made { IfOk result (λ job. Checks bytes.now job.kept job.high job.text) }
+    ensures refused { IfErr result (λ refusal. refusal ≢ Refusal.Memory → Faulty Mode.Check bytes.now refusal) }
+{
+    let checked = checked_source(alloc, bytes)?;
+    drop(checked);
+    match List::from_slice(alloc, b"well typed\n") {
+        Ok(text) => Ok(Job {
+            kept: None,
+            high: None,
+            text,
+        }),
+        Err(Memory) => Err(Refusal::Memory),
+    }
+}
+
+/// The program of a source, where it is well typed.
+fn checked_source(alloc: Global, bytes: &[u8]) -> Result<Checked, Refusal>
+    requires { length bytes.now ≤ 1048576 }
+    ensures found { IfOk result (IsWellTyped bytes.now) }
     ensures refused { IfErr result (λ refusal. refusal ≢ Refusal.Memory → Faulty Mode.Check bytes.now refusal) }
 {
     let tokens = tokens_of(alloc, bytes)?;
     let read = checked_program(alloc, &tokens);
     drop(tokens);
-    let checked = read?;
-    drop(checked);
-    match List::from_slice(alloc, b"well typed\n") {
-        Ok(text) => Ok(Job { kept: None, text }),
+    read
+}
+
+/// The run of a source, with the text of its report.
+fn run_of(alloc: Global, budget: u32, bytes: &[u8]) -> Result<(SerialRun, Text), Refusal>
+    requires { length bytes.now ≤ 1048576 }
+    ensures made { IfOk result (λ made. Runs budget bytes.now made.0 made.1) }
+    ensures refused { IfErr result (λ refusal. refusal ≢ Refusal.Memory → Faulty Mode.Check bytes.now refusal) }
+{
+    let checked = checked_source(alloc, bytes)?;
+    match run(alloc, budget, &checked) {
+        Ok(made) => Ok(made),
         Err(Memory) => Err(Refusal::Memory),
     }
 }
 
 /// Runs the program and makes the report.
-fn run(alloc: Global, program: &Program) -> Result<(Record, Text), Memory>
-    requires { IsPlain program.now }
-    ensures { IfOk result (λ made. IsRunOf program.now made.0 made.1) }
+fn run(alloc: Global, budget: u32, checked: &Checked) -> Result<(SerialRun, Text), Memory>
+    ensures { IfOk result (λ made. IsRunOf checked.now budget made.0 made.1) }
 {
-    let run = run_serial(alloc, program, BUDGET)?;
-    let text = report(alloc, &program.sites, run.last.said(), run.end)?;
-    Ok((record_of(run), text))
+    law_runs_well();
+    let program = checked.program();
+    let made = run_serial(alloc, program, budget)?;
+    let text = report(alloc, &program.sites, made.last.said(), made.end)?;
+    Ok((made, text))
 }
 
 /// The record of a run, which gives up the last configuration.
-fn record_of(run: SerialRun) -> Record
-    ensures { result ≡ record { events = run.events; end = run.end } }
+fn record_of(made: SerialRun) -> Record
+    ensures { result ≡ record_of made }
 {
-    let SerialRun { events, last, end } = run;
+    let SerialRun { events, last, end } = made;
     drop(last);
     Record { events, end }
 }

@@ -5,7 +5,7 @@ pub fn law_completes()
     ensures { Completes }
 {}
 
-/// The words are refused exactly where they name no mode and file.
+/// The words are refused exactly where they ask for nothing that the program does.
 pub fn law_refuses_words()
     ensures { RefusesWords }
 {}

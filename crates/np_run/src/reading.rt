@@ -1,23 +1,19 @@
 //! From the bytes of a source to its tokens, its tree and its program.
 
-ghost use Rattle.std.specs.Prelude.{◌≡◌, ◌≢◌, ◌≤◌, ◌⊎◌, [], None, length, IfOk, IfErr};
+ghost use Rattle.std.specs.Prelude.{◌≡◌, ◌≢◌, ◌≤◌, ◌⊎◌, [], length, IfOk, IfErr};
 ghost use Rattle.np_lex.specs.Tokens.{Lexes};
 ghost use Rattle.np_tree.specs.Grammar.{IsProgram};
 ghost use Rattle.np_tree.specs.Sizes.{nodes, binders};
 ghost use Rattle.np_scope.specs.Sound.{IsSound};
 ghost use Rattle.np_check.specs.Faults.{faults};
-ghost use Rattle.np_calculus.specs.Plain.{IsPlain};
-ghost use Rattle.np_plain.specs.Unbuilt as spec;
-ghost use Rattle.np_run.specs.Faults.{HasNoTokens, HasNoTree, HasNoProgram, HasProgram, Wrong};
-ghost use Rattle.np_run.specs.declared.words.Mode.TheVariants as mode;
+ghost use Rattle.np_run.specs.Faults.{HasNoTokens, HasNoTree, HasNoProgram, HasProgram, IsNoProgram};
 
 use super::refusal::{Refusal, of_grammar, of_scope, of_tokens};
 use np_check::{CheckFail, Checked, check};
 use np_lex::{Tokens, lex};
 use np_parse::parse;
-use np_plain::first_unbuilt;
 use np_scope::resolve;
-use np_syntax::{Memory, Program};
+use np_syntax::Program;
 use np_tree::Tree;
 use std::alloc::Global;
 
@@ -68,28 +64,12 @@ pub(crate) fn checked_program(alloc: Global, tokens: &Tokens) -> Result<Checked,
     requires { length tokens.now ≤ 1048577 }
     ensures found { IfOk result (λ checked. HasProgram tokens.now checked) }
     ensures faultless { IfOk result (λ checked. faults checked ≡ []) }
-    ensures refused { IfErr result (λ refusal. refusal ≢ Refusal.Memory → Wrong mode.Check tokens.now refusal) }
+    ensures refused { IfErr result (λ refusal. refusal ≢ Refusal.Memory → IsNoProgram tokens.now refusal) }
 {
     let program = program_of(alloc, tokens)?;
     match check(alloc, program) {
         Ok(checked) => Ok(checked),
         Err(CheckFail::Fault(fault)) => Err(Refusal::TypeFault(fault)),
         Err(CheckFail::Memory) => Err(Refusal::Memory),
-    }
-}
-
-/// The program of tokens, where all of it is built.
-pub(crate) fn plain_program(alloc: Global, tokens: &Tokens) -> Result<Program, Refusal>
-    requires { length tokens.now ≤ 1048577 }
-    ensures found { IfOk result (λ program. HasProgram tokens.now program) }
-    ensures built { IfOk result (λ program. spec.first_unbuilt tokens.now program ≡ None) }
-    ensures plain { IfOk result IsPlain }
-    ensures refused { IfErr result (λ refusal. refusal ≢ Refusal.Memory → Wrong mode.Run tokens.now refusal) }
-{
-    let program = program_of(alloc, tokens)?;
-    match first_unbuilt(alloc, tokens, &program) {
-        Ok(None) => Ok(program),
-        Ok(Some(at)) => Err(Refusal::Unbuilt(at)),
-        Err(Memory) => Err(Refusal::Memory),
     }
 }

@@ -46,9 +46,6 @@ pub enum Refusal {
     NotASite(u32),
     #[error("a check of types fails")]
     TypeFault(TypeFault),
-    /// The source is a program, of which np does not run that token yet.
-    #[error("the token at {0} is not built yet")]
-    Unbuilt(u32),
 }
 
 /// A refusal of the tokens.
@@ -109,7 +106,6 @@ pub fn line(alloc: Global, refusal: Refusal) -> Result<Text, Memory>
         Refusal::TooManySites(at) => placed_line(alloc, b"np: 14 TooManySites at ", at),
         Refusal::NotASite(at) => placed_line(alloc, b"np: 15 NotASite at ", at),
         Refusal::TypeFault(fault) => fault_line(alloc, fault),
-        Refusal::Unbuilt(at) => placed_line(alloc, b"np: 19 Unbuilt at ", at),
     }
 }
 
@@ -171,7 +167,6 @@ pub fn status(refusal: Refusal) -> u8
         | Refusal::SiteTwice(_)
         | Refusal::TooManySites(_)
         | Refusal::NotASite(_)
-        | Refusal::TypeFault(_)
-        | Refusal::Unbuilt(_) => 3,
+        | Refusal::TypeFault(_) => 3,
     }
 }

@@ -4,6 +4,7 @@ ghost use Rattle.np_run.specs.Answers.{HasCauses, end_status, status_at};
 use super::answer::{Answer, Record};
 use super::job::{Job, work};
 use super::refusal::{Refusal, line, status};
+use np_calculus::SerialRun;
 use np_io::{Sink, Texts, Word, write_all};
 use np_syntax::End;
 use std::alloc::Global;
@@ -45,12 +46,17 @@ pub fn np<R: Threads + Wait + Sync, T: Texts, O: Sink, E: Sink>(
 {
     let _ = rt;
     match work(alloc, words, texts) {
-        Ok(Job { kept, text }) => match write_all(out, text.as_slice()) {
+        Ok(Job { kept, high, text }) => match write_all(out, text.as_slice()) {
             Ok(()) => Answer {
-                status: status_at(&kept),
+                status: status_at(&kept, &high),
                 kept,
+                high,
             },
-            Err(_) => Answer { status: 5, kept },
+            Err(_) => Answer {
+                status: 5,
+                kept,
+                high,
+            },
         },
         Err(Refusal::Memory) => wanting(),
         Err(refusal) => match line(alloc, refusal) {
@@ -58,10 +64,12 @@ pub fn np<R: Threads + Wait + Sync, T: Texts, O: Sink, E: Sink>(
                 Ok(()) => Answer {
                     status: status(refusal),
                     kept: None,
+                    high: None,
                 },
                 Err(_) => Answer {
                     status: 5,
                     kept: None,
+                    high: None,
                 },
             },
             Err(_) => wanting(),
@@ -70,12 +78,13 @@ pub fn np<R: Threads + Wait + Sync, T: Texts, O: Sink, E: Sink>(
 }
 
 /// The status of what was made, where its text was written.
-fn status_at(kept: &Option<Record>) -> u8
-    ensures { result ≡ status_at kept.now }
+fn status_at(kept: &Option<Record>, high: &Option<SerialRun>) -> u8
+    ensures { result ≡ status_at kept.now high.now }
 {
-    match kept {
-        Some(made) => end_status(made.end),
-        None => 0,
+    match (kept, high) {
+        (Some(made), _) => end_status(made.end),
+        (None, Some(made)) => end_status(made.end),
+        (None, None) => 0,
     }
 }
 
@@ -90,10 +99,11 @@ fn end_status(end: End) -> u8
 
 /// The answer where memory was wanting.
 fn wanting() -> Answer
-    ensures { result ≡ record { status = 6; kept = None } }
+    ensures { result ≡ record { status = 6; kept = None; high = None } }
 {
     Answer {
         status: 6,
         kept: None,
+        high: None,
     }
 }

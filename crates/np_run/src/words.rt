@@ -1,14 +1,37 @@
 ghost use Rattle.std.specs.Prelude.{◌≡◌, option_map};
-ghost use Rattle.np_run.specs.Words.{mode_of, plan};
+ghost use Rattle.std.specs.Char.{is_ascii_digit};
+ghost use Rattle.std.specs.List.{list_all};
+ghost use Rattle.np_run.specs.Words.{Plan, budget_of, is_numeral, mode_of, plan, running_mode_of, within_limit};
 
 use np_io::Word;
 
-/// What the program does with a source: runs it, shows its canonical text, or checks its types.
+/// How many events a run may have where the words do not say it.
+const BUDGET: u32 = 10_000;
+
+/// The largest number of events that the words may say.
+const LARGEST_BUDGET: u32 = 200_000;
+
+/// What the program does with a source: runs it, runs it at the high level, shows its canonical text, or
+/// checks its types.
 #[derive(Clone, Copy, Debug, PartialEq, Eq)]
 pub enum Mode {
     Run,
+    High,
     Show,
     Check,
+}
+
+/// The mode that a word names, where it runs sources.
+fn running_mode_of(word: &str) -> Option<Mode>
+    ensures { result ≡ running_mode_of word.now }
+{
+    if word == "run" {
+        Some(Mode::Run)
+    } else if word == "high" {
+        Some(Mode::High)
+    } else {
+        None
+    }
 }
 
 /// The mode that a word names.
@@ -17,6 +40,8 @@ fn mode_of(word: &str) -> Option<Mode>
 {
     if word == "run" {
         Some(Mode::Run)
+    } else if word == "high" {
+        Some(Mode::High)
     } else if word == "show" {
         Some(Mode::Show)
     } else if word == "check" {
@@ -26,16 +51,67 @@ fn mode_of(word: &str) -> Option<Mode>
     }
 }
 
-/// The mode and the file that the words name.
+fn is_digit(byte: u8) -> bool
+    ensures { result ≡ is_ascii_digit byte }
+{
+    byte.is_ascii_digit()
+}
+
+fn are_digits(bytes: &[u8]) -> bool
+    ensures { result ≡ list_all is_ascii_digit bytes.now }
+{
+    bytes.iter().all(|byte| is_digit(*byte))
+}
+
+/// Whether these are one to six digits.
+fn is_numeral(bytes: &[u8]) -> bool
+    ensures { result ≡ is_numeral bytes.now }
+{
+    0 < bytes.len() && bytes.len() <= 6 && are_digits(bytes)
+}
+
+/// A number of events that the words may say.
+fn within_limit(budget: u32) -> Option<u32>
+    ensures { result ≡ within_limit budget }
+{
+    if 1 <= budget && budget <= LARGEST_BUDGET {
+        Some(budget)
+    } else {
+        None
+    }
+}
+
+/// The number of events that a word gives.
+fn budget_of(word: &str) -> Option<u32>
+    ensures { result ≡ budget_of word.now }
+{
+    if !is_numeral(word.as_bytes()) {
+        return None;
+    }
+    match word.parse::<u32>() {
+        Ok(budget) => within_limit(budget),
+        Err(_) => None,
+    }
+}
+
+/// The mode, the file and the number of events that the words name.
 #[tactic(auto, unfolding(crate::specs::Words::plan))]
-pub(crate) fn planned(words: &[Word]) -> Option<(Mode, &Word)>
-    ensures { option_map (λ p. (p.0, p.1.now)) result ≡ plan words.now }
+pub(crate) fn planned(words: &[Word]) -> Option<(Mode, &Word, u32)>
+    ensures { option_map (λ p. (let asked : Plan = record { mode = p.0; file = p.1.now; budget = p.2 } in asked)) result ≡ plan words.now }
 {
     match words {
-        [word, file] => match mode_of(word.text()) {
-            Some(mode) => Some((mode, file)),
-            None => None,
-        },
+        [word, file] => {
+            let mode = mode_of(word.text())?;
+            Some((mode, file, BUDGET))
+        }
+        [word, file, option, number] => {
+            if option.text() != "--budget" {
+                return None;
+            }
+            let mode = running_mode_of(word.text())?;
+            let budget = budget_of(number.text())?;
+            Some((mode, file, budget))
+        }
         _ => None,
     }
 }

@@ -20,12 +20,12 @@ use Rattle.np_calculus.specs.declared.config.Atom.{Atom}
 use Rattle.np_calculus.specs.Config.{Config}
 use Rattle.np_calculus.specs.Forms.{layer, as_new}
 use Rattle.np_calculus.specs.Reductions.{acting, one_made, is_at, found_here, found_away, row, apply, run}
-use Rattle.np_calculus.proofs.Steps.{stop-step, fork-step, new-step, comm-step, print-step}
+use Rattle.np_calculus.proofs.Steps.{stop-step, fork-step, new-step, comm-step, rep-step, print-step}
 use Rattle.np_safety.specs.Channels.{Channels, makes_at, noted, after, channels_after}
 use Rattle.np_safety.specs.Laws.{HasMade}
 use Rattle.np_safety.proofs.Fitting.{Fitting}
-use Rattle.np_safety.proofs.Rows.{let-step, if-step, rep-step, agent-step, depart-step, arrive-step, local-step}
-use Rattle.np_safety.proofs.Rows.{here-step, away-step, send-step, land-step, post-step, open-step, lookup-step}
+use Rattle.np_calculus.proofs.Inversions.{let-step, if-step, agent-step, depart-step, arrive-step, local-step}
+use Rattle.np_calculus.proofs.Inversions.{here-step, away-step, send-step, land-step, post-step, open-step, lookup-step}
 use Rattle.np_safety.proofs.Kept.{kept-at}
 
 -- ---- names that are made stay made, and the sites stay

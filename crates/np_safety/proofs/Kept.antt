@@ -24,7 +24,7 @@ use Rattle.np_calculus.specs.Config.{Config}
 use Rattle.np_calculus.specs.Eval.{Env, find_place}
 use Rattle.np_calculus.specs.Reductions.{acting, goes, output_in, found_here, found_away, found_on, row, stop_row, fork_row, new_row, let_row, if_row}
 use Rattle.np_calculus.specs.Reductions.{comm_row, rep_row, agent_row, depart_row, arrive_row, local_row, send_row, land_row, print_row, open_row, lookup_row, post_row}
-use Rattle.np_calculus.proofs.Steps.{acting-step, stop-step, fork-step, new-step, comm-step, print-step, Renews}
+use Rattle.np_calculus.proofs.Steps.{acting-step, stop-step, fork-step, new-step, comm-step, rep-step, print-step, Renews}
 use Rattle.np_check.specs.Faults.{lock_type}
 use Rattle.np_safety.specs.Fits.{Fits, Sent}
 use Rattle.np_safety.specs.Channels.{makes_at}
@@ -35,8 +35,8 @@ use Rattle.np_safety.proofs.Evaluates.{agent-kind, chan-kind}
 use Rattle.np_safety.proofs.Matches.{agrees-put, matches}
 use Rattle.np_safety.proofs.Forms.{Good, good-par, good-new, good-inp, good-rep, good-agent, good-migrate}
 use Rattle.np_safety.proofs.Forms.{good-iflocal, good-send, good-post, good-if, good-let, good-open, good-lookup}
-use Rattle.np_safety.proofs.Rows.{let-step, if-step, rep-step, agent-step, depart-step, arrive-step, local-step}
-use Rattle.np_safety.proofs.Rows.{here-step, away-step, send-step, land-step, post-step, open-step, lookup-step}
+use Rattle.np_calculus.proofs.Inversions.{let-step, if-step, agent-step, depart-step, arrive-step, local-step}
+use Rattle.np_calculus.proofs.Inversions.{here-step, away-step, send-step, land-step, post-step, open-step, lookup-step}
 use Rattle.np_safety.proofs.Atoms.{sent_on, letter_sent, places_locked, fits-value, takes, bound-as}
 use Rattle.np_safety.proofs.Atoms.{offered-typed, made-typed, atoms-put, atoms-cut, packets-put, packets-cut}
 

@@ -11,9 +11,9 @@ pub mod Matches
 pub mod Narrowing
 pub mod Passed
 pub mod Processes
-pub mod Rows
 pub mod Runs
 pub mod Shapes
+pub mod SoundAgents
 pub mod Starts
 pub mod Wells
 pub mod Widening

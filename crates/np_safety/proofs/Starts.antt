@@ -16,11 +16,12 @@ use Rattle.np_check.specs.Laws.{HasSites}
 use Rattle.np_check.proofs.Resolved.{same_check}
 use Rattle.np_safety.specs.Channels.{Channels, world}
 use Rattle.np_safety.specs.Typed.{Typed}
-use Rattle.np_safety.specs.Laws.{StartsTyped, WellTyped}
+use Rattle.np_safety.specs.Laws.{RunsWellTyped, StartsTyped, WellTyped}
 use Rattle.np_safety.proofs.Fitting.{Fitting}
 use Rattle.np_safety.proofs.Atoms.{nothing-agrees}
 use Rattle.np_safety.proofs.Literal.{fitting-typed}
 use Rattle.np_safety.proofs.Runs.{stays-typed}
+use Rattle.np_safety.proofs.SoundAgents.{own-agents}
 
 none_found : (o : Check (Unit {0})) → found o ≡ [] → o ≡ Ok tt
 none_found (Ok u) h = refl
@@ -65,3 +66,11 @@ pub well-typed : WellTyped
 well-typed p a =
     let c : Config = start_high p in
     stays-typed c map.empty (subst (λ n. Typed (world n map.empty) c) (start-sites p) (starts-typed p a)) (λ n k h. absurd (nothing n k h))
+
+pub runs-well : RunsWellTyped
+runs-well p a = record {
+  sites = a.sound.sites;
+  at = a.sound.at;
+  agents = own-agents p a.sound;
+  well = λ events d h. (well-typed p a events d h).1;
+}

@@ -9,6 +9,7 @@ use Rattle.np_syntax.specs.declared.event.Event.{Event}
 use Rattle.np_types.specs.Worlds.{World}
 use Rattle.np_calculus.specs.Config.{Config}
 use Rattle.np_calculus.specs.Reductions.{apply, run}
+use Rattle.np_calculus.specs.Serial.{RunsWell}
 use Rattle.np_calculus.specs.Starts.{start_high}
 use Rattle.np_calculus.specs.Well.{Well, WellAlong}
 use Rattle.np_check.specs.Faults.{IsAccepted}
@@ -41,3 +42,7 @@ StartsTyped = (p : Program) → IsAccepted p → Typed (world (length p.sites) m
 abbrev pub WellTyped : Type 0
 WellTyped = (p : Program) → IsAccepted p → (events : List Event) (d : Config) → run (start_high p) events ≡ Some d
     → TypedAlong (start_high p) map.empty events × WellAlong (start_high p) events
+
+-- such a program meets the condition of the serial run
+abbrev pub RunsWellTyped : Type 0
+RunsWellTyped = (p : Program) → IsAccepted p → RunsWell p

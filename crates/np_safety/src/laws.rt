@@ -1,4 +1,4 @@
-ghost use Rattle.np_safety.specs.Laws.{KeepsTyped, StartsTyped, StaysTyped, TypedIsWell, WellTyped};
+ghost use Rattle.np_safety.specs.Laws.{KeepsTyped, RunsWellTyped, StartsTyped, StaysTyped, TypedIsWell, WellTyped};
 ghost use Rattle.np_safety.specs.Low.{LowStartsTyped, LowWellTyped};
 
 /// Each event keeps a configuration typed, and in a typed configuration no value of a wrong type is met: so it is
@@ -21,4 +21,9 @@ pub fn law_well_typed()
 pub fn law_low_well_typed()
     ensures start { LowStartsTyped }
     ensures along { LowWellTyped }
+{}
+
+/// A resolved program without a fault can run: it meets the condition of the serial run.
+pub fn law_runs_well()
+    ensures { RunsWellTyped }
 {}

@@ -3,4 +3,4 @@
 
 mod laws;
 
-pub use laws::{law_low_well_typed, law_typed, law_well_typed};
+pub use laws::{law_low_well_typed, law_runs_well, law_typed, law_well_typed};

@@ -10,6 +10,7 @@ pub ruleset pattern_sizes = (names-form, names-any, names-bind, names-tuple, wei
 
 pub ruleset process_nodes = (nodes-form, nodes-stop, nodes-par, nodes-new, nodes-out, nodes-inp, nodes-rep, nodes-agent, nodes-migrate, nodes-iflocal, nodes-send, nodes-post, nodes-if, nodes-let, nodes-print)
 
-pub ruleset process_binders = (binders-form, binders-stop, binders-par, binders-new, binders-out, binders-inp, binders-rep, binders-agent, binders-migrate, binders-iflocal, binders-send, binders-post, binders-if, binders-let, binders-print)
+pub ruleset process_binders =
+    (binders-form, binders-stop, binders-par, binders-new, binders-out, binders-inp, binders-rep, binders-agent, binders-migrate, binders-iflocal, binders-send, binders-post, binders-if, binders-let, binders-print)
 
 pub ruleset process_sizes = (process_nodes, process_binders)

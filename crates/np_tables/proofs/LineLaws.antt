@@ -183,7 +183,8 @@ module _ {S R : Type 0} (lines : IndexMap Errand NameSet S) (e : Errand) (x : Me
       same false true = refl
       same false false = refl
 
-  pub shuts : (old new : IndexSet Meeting R) → false ≡ has_both lines x → ((k : Meeting) → is_busy new k ≡ cond (same_meeting x k) false (is_busy old k)) → (k : Meeting) → is_busy new k ≡ (is_busy old k && not (is_at e k && not (has_both lines k)))
+  pub shuts : (old new : IndexSet Meeting R) → false ≡ has_both lines x → ((k : Meeting) → is_busy new k ≡ cond (same_meeting x k) false (is_busy old k))
+      → (k : Meeting) → is_busy new k ≡ (is_busy old k && not (is_at e k && not (has_both lines k)))
   shuts old new apart write k = write k ∙ put (same_meeting x k) refl
     where
       rest : (t : Bool) → same_meeting x k ≡ t → (is_at e k && not (has_both lines k)) ≡ t

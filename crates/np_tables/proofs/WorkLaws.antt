@@ -92,7 +92,8 @@ module _ {S : Type 0} (work : Work) where
         and_true true = refl
         and_true false = refl
 
-        by_case : (f : Errand) (q : Name) (s : Bool) → same_errand o f ≡ s → (t : Bool) → same_name q m ≡ t → set.contains (cond s (set.remove (line_of lines o) m) (line_of lines f)) q ≡ is_filed (cond (same_name q m) (Some e) (map.get work q)) f
+        by_case : (f : Errand) (q : Name) (s : Bool) → same_errand o f ≡ s → (t : Bool) → same_name q m ≡ t
+            → set.contains (cond s (set.remove (line_of lines o) m) (line_of lines f)) q ≡ is_filed (cond (same_name q m) (Some e) (map.get work q)) f
         by_case f q true s true t = born_remove (line_of lines o) m q ∙ rw (t, ← same_errand-is o f s) (sym (apart_back o e apart))
         by_case f q true s false t = born_remove (line_of lines o) m q ∙ rw (t, ← same_errand-is o f s) (and.at o q ∙ rw t (or_false (is_filed (map.get work q) o) (same_errand e o)))
         by_case f q false s true t = and.at f q ∙ rw (t, at_name work m q (Some o) is t, s) (and_true (same_errand e f))
@@ -103,7 +104,8 @@ module _ {S : Type 0} (work : Work) where
     pub removed : (new : IndexMap Errand NameSet S) (o : Errand) → Some o ≡ map.get work m → SetsLine lines new o (set.remove (line_of lines o) m) → InLines (map.remove work m) new
     removed new o is sets = record { at = λ f q. ap (λ s. set.contains s q) (sets.at f) ∙ by_case f q (same_errand o f) refl (same_name q m) refl ∙ ap (λ p. is_filed p f) (sym (get-cut work m q)) }
       where
-        by_case : (f : Errand) (q : Name) (s : Bool) → same_errand o f ≡ s → (t : Bool) → same_name q m ≡ t → set.contains (cond s (set.remove (line_of lines o) m) (line_of lines f)) q ≡ is_filed (cond (same_name q m) None (map.get work q)) f
+        by_case : (f : Errand) (q : Name) (s : Bool) → same_errand o f ≡ s → (t : Bool) → same_name q m ≡ t
+            → set.contains (cond s (set.remove (line_of lines o) m) (line_of lines f)) q ≡ is_filed (cond (same_name q m) None (map.get work q)) f
         by_case f q true s true t = born_remove (line_of lines o) m q ∙ rw t refl
         by_case f q true s false t = born_remove (line_of lines o) m q ∙ rw (t, ← same_errand-is o f s) (at.at o q)
         by_case f q false s true t = at.at f q ∙ rw (t, at_name work m q (Some o) (sym is) t) s

@@ -8,7 +8,11 @@ use Rattle.np_tree.specs.declared.tree.RawProc.{RawProc}
 use Rattle.np_tree.specs.declared.tree.RawProcForm as form
 use Rattle.np_tree.specs.Grammar.{ident, pattern, process, IsPat, ArePats, IsProc, AreMany, IsProgram}
 use Rattle.np_tree.specs.Sizes.{names, names_all, nodes, binders}
-use Rattle.np_tree.proofs.Sized.{names-form, names-any, names-bind, names-tuple, nodes-form, nodes-stop, nodes-par, nodes-new, nodes-out, nodes-inp, nodes-rep, nodes-agent, nodes-migrate, nodes-iflocal, nodes-send, nodes-post, nodes-if, nodes-let, nodes-print, binders-form, binders-stop, binders-par, binders-new, binders-out, binders-inp, binders-rep, binders-agent, binders-migrate, binders-iflocal, binders-send, binders-post, binders-if, binders-let, binders-print}
+use Rattle.np_tree.proofs.Sized.{names-form, names-any, names-bind, names-tuple}
+use Rattle.np_tree.proofs.Sized.{nodes-form, nodes-stop, nodes-par, nodes-new, nodes-out, nodes-inp, nodes-rep, nodes-agent, nodes-migrate, nodes-iflocal}
+use Rattle.np_tree.proofs.Sized.{nodes-send, nodes-post, nodes-if, nodes-let, nodes-print}
+use Rattle.np_tree.proofs.Sized.{binders-form, binders-stop, binders-par, binders-new, binders-out, binders-inp, binders-rep, binders-agent, binders-migrate, binders-iflocal}
+use Rattle.np_tree.proofs.Sized.{binders-send, binders-post, binders-if, binders-let, binders-print}
 
 names_all-append : (ps qs : List RawPat) → names_all (ps ++ qs) ≡ names_all ps + names_all qs
 names_all-append [] qs = omega arith

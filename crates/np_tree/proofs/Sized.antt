@@ -146,5 +146,3 @@ binders-let x e p = binders-layer (form.Let x e p) ∙ ap binders_stepped (formv
 
 pub binders-print : (e : RawExpr) → form_binders (form.Print e) ≡ 0
 binders-print e = binders-layer (form.Print e) ∙ ap binders_stepped (formv.outs-Print e)
-
-pub ruleset sizes = (names-form, names-any, names-bind, names-tuple, nodes-form, nodes-stop, nodes-par, nodes-new, nodes-out, nodes-inp, nodes-rep, nodes-agent, nodes-migrate, nodes-iflocal, nodes-send, nodes-post, nodes-if, nodes-let, nodes-print, binders-form, binders-stop, binders-par, binders-new, binders-out, binders-inp, binders-rep, binders-agent, binders-migrate, binders-iflocal, binders-send, binders-post, binders-if, binders-let, binders-print)

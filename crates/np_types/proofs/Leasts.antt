@@ -165,11 +165,14 @@ module _ (w : World) (env : Types) (at : ℕ) where
     pub bin-3 : (e : LeastFail) (s : Ty) → least w env a ≡ Ok s → ensure (takes s) a.at (first_rule o) ≡ Ok tt → Failed e (least w env b) → Failed e (least_form w env (expr.Bin o a b) at)
     bin-3 e s p q h = operated (Err e) (met (Err e) (least w env a) s takes a.at (first_rule o) after_first p q (unanswered e (least w env b) (takes_then s) b.at (second_rule o) (λ _. Ok (type_of o)) h))
 
-    pub bin-4 : (e : LeastFail) (s t : Ty) → least w env a ≡ Ok s → ensure (takes s) a.at (first_rule o) ≡ Ok tt → least w env b ≡ Ok t → Failed e (ensure (takes_then s t) b.at (second_rule o)) → Failed e (least_form w env (expr.Bin o a b) at)
+    pub bin-4 : (e : LeastFail) (s t : Ty) → least w env a ≡ Ok s → ensure (takes s) a.at (first_rule o) ≡ Ok tt → least w env b ≡ Ok t
+        → Failed e (ensure (takes_then s t) b.at (second_rule o)) → Failed e (least_form w env (expr.Bin o a b) at)
     bin-4 e s t p q r h = operated (Err e) (met (Err e) (least w env a) s takes a.at (first_rule o) after_first p q (refused e (least w env b) t (takes_then s) b.at (second_rule o) (λ _. Ok (type_of o)) r h))
 
     pub bin-5 : (s t : Ty) → least w env a ≡ Ok s → ensure (takes s) a.at (first_rule o) ≡ Ok tt → least w env b ≡ Ok t → ensure (takes_then s t) b.at (second_rule o) ≡ Ok tt → least_form w env (expr.Bin o a b) at ≡ Ok (type_of o)
-    bin-5 s t p q r h = let all : Result Ty LeastFail = Ok (type_of o) in operated all (met all (least w env a) s takes a.at (first_rule o) after_first p q (met all (least w env b) t (takes_then s) b.at (second_rule o) (λ _. Ok (type_of o)) r h refl))
+    bin-5 s t p q r h =
+        let all : Result Ty LeastFail = Ok (type_of o) in
+        operated all (met all (least w env a) s takes a.at (first_rule o) after_first p q (met all (least w env b) t (takes_then s) b.at (second_rule o) (λ _. Ok (type_of o)) r h refl))
 
   module _ (a b : Expr) where
     abbrev after_chan : Ty → Check Ty
@@ -234,10 +237,12 @@ module _ (w : World) (env : Types) (at : ℕ) where
     pub with-4 : (e : LeastFail) (s t : Ty) → least w env m ≡ Ok s → ensure (maps s) m.at rule.Mismatch ≡ Ok tt → least w env a ≡ Ok t → Failed e (ensure (acts t) a.at rule.NotAgent) → Failed e (least_form w env (expr.With m a l) at)
     with-4 e s t p q r h = first_met (Err e) s p q (refused e (least w env a) t acts a.at rule.NotAgent (λ _. after_agent) r h)
 
-    second_met : (r : Result Ty LeastFail) (s t : Ty) → least w env m ≡ Ok s → ensure (maps s) m.at rule.Mismatch ≡ Ok tt → least w env a ≡ Ok t → ensure (acts t) a.at rule.NotAgent ≡ Ok tt → Told r after_agent → Told r (least_form w env (expr.With m a l) at)
+    second_met : (r : Result Ty LeastFail) (s t : Ty) → least w env m ≡ Ok s → ensure (maps s) m.at rule.Mismatch ≡ Ok tt → least w env a ≡ Ok t → ensure (acts t) a.at rule.NotAgent ≡ Ok tt
+        → Told r after_agent → Told r (least_form w env (expr.With m a l) at)
     second_met r s t p q u v h = first_met r s p q (met r (least w env a) t acts a.at rule.NotAgent (λ _. after_agent) u v h)
 
-    pub with-5 : (e : LeastFail) (s t : Ty) → least w env m ≡ Ok s → ensure (maps s) m.at rule.Mismatch ≡ Ok tt → least w env a ≡ Ok t → ensure (acts t) a.at rule.NotAgent ≡ Ok tt → Failed e (least w env l) → Failed e (least_form w env (expr.With m a l) at)
+    pub with-5 : (e : LeastFail) (s t : Ty) → least w env m ≡ Ok s → ensure (maps s) m.at rule.Mismatch ≡ Ok tt → least w env a ≡ Ok t → ensure (acts t) a.at rule.NotAgent ≡ Ok tt
+        → Failed e (least w env l) → Failed e (least_form w env (expr.With m a l) at)
     with-5 e s t p q u v h = second_met (Err e) s t p q u v (unanswered e (least w env l) locks l.at rule.Mismatch (λ _. Ok ty.Places) h)
 
     pub with-6 : (e : LeastFail) (s t k : Ty) → least w env m ≡ Ok s → ensure (maps s) m.at rule.Mismatch ≡ Ok tt → least w env a ≡ Ok t → ensure (acts t) a.at rule.NotAgent ≡ Ok tt → least w env l ≡ Ok k

@@ -1,6 +1,6 @@
 //! Types of sources: what is well typed, and the first fault of what is not.
 
-use super::setting::{at_home, call_with, make_trial, times};
+use super::setting::{calls, calls_main, joined, refusal, text, times};
 use super::shows::{SHOP, tour};
 use std::alloc::{AllocError, Global};
 use std::sync::Wait;
@@ -67,63 +67,90 @@ const ILL_TYPED: [(&str, &str); 24] = [
     ),
 ];
 
-/// Checks the source, and answers the status, and what was written to out and to err.
-fn checks<R: Threads + Wait + Sync>(
-    rt: &R,
-    alloc: Global,
-    source: &str,
-    status: u8,
-    out: &str,
-    err: &str,
-) -> Result<bool, Fail> {
-    let mut trial = make_trial(alloc, source.as_bytes(), 1000)?;
-    let answer = call_with(rt, alloc, &["check", "a"], &mut trial)?;
-    Ok(
-        answer.status == status
-            && answer.kept.is_none()
-            && trial.out.bytes() == out.as_bytes()
-            && trial.err.bytes() == err.as_bytes(),
-    )
-}
-
 #[test]
 fn accepts_what_is_well_typed(rt: HostRuntime) -> Result<(), Fail> {
     let alloc = rt.alloc();
     for main in WELL_TYPED {
-        let source = at_home(alloc, main)?;
-        let accepted = checks(&rt, alloc, source.as_str(), 0, "well typed\n", "")?;
+        let accepted = calls_main(&rt, alloc, &["check", "a"], main, text("well typed\n"))?;
         assert!(rt; accepted, "{main}");
     }
-    let inputs = times(alloc, "c?x -> ", 198)?;
-    let nested = format!(in alloc; "new c : ^Int in {inputs}0")?;
-    let deep = at_home(alloc, nested.as_str())?;
-    let tour = tour(alloc)?;
-    for source in [deep.as_str(), tour.as_str(), SHOP] {
-        let accepted = checks(&rt, alloc, source, 0, "well typed\n", "")?;
-        assert!(rt; accepted, "{source}");
-    }
+    let accepted = calls(
+        &rt,
+        alloc,
+        &["check", "a"],
+        SHOP.as_bytes(),
+        text("well typed\n"),
+    )?;
+    assert!(rt; accepted);
     Ok(())
+}
+
+/// A channel that carries 198 times a channel, sent on a channel that carries it.
+fn carried(alloc: Global) -> Result<String, AllocError> {
+    let caps = times(alloc, "^", 198)?;
+    format!(in alloc; "new c : {caps}Int in new d : ^{caps}Int in d!c")
+}
+
+#[test]
+fn accepts_what_is_deep(rt: HostRuntime) -> Result<(), Fail> {
+    let alloc = rt.alloc();
+    let inputs = joined(alloc, "new c : ^Int in ", "c?x -> ", 198, "0")?;
+    let wanted = text("well typed\n");
+    let accepted = calls_main(&rt, alloc, &["check", "a"], inputs.as_str(), wanted)?;
+    assert!(rt; accepted);
+    Ok(())
+}
+
+#[test]
+fn accepts_channels_of_channels(rt: HostRuntime) -> Result<(), Fail> {
+    let alloc = rt.alloc();
+    let channels = carried(alloc)?;
+    let wanted = text("well typed\n");
+    let accepted = calls_main(&rt, alloc, &["check", "a"], channels.as_str(), wanted)?;
+    assert!(rt; accepted);
+    Ok(())
+}
+
+#[test]
+fn accepts_the_tour(rt: HostRuntime) -> Result<(), Fail> {
+    let alloc = rt.alloc();
+    let tour = tour(alloc)?;
+    let wanted = text("well typed\n");
+    assert!(rt; calls(&rt, alloc, &["check", "a"], tour.as_bytes(), wanted)?);
+    Ok(())
+}
+
+/// Whether each mode that checks types answers this first fault of the process.
+fn has_fault<R: Threads + Wait + Sync>(
+    rt: &R,
+    alloc: Global,
+    main: &str,
+    fault: &str,
+) -> Result<bool, Fail> {
+    let line = format!(in alloc; "np: 16 TypeFault {fault}\n")?;
+    for mode in ["check", "run", "high"] {
+        if !calls_main(rt, alloc, &[mode, "a"], main, refusal(3, line.as_str()))? {
+            return Ok(false);
+        }
+    }
+    Ok(true)
 }
 
 #[test]
 fn answers_the_first_fault(rt: HostRuntime) -> Result<(), Fail> {
     let alloc = rt.alloc();
     for (main, fault) in ILL_TYPED {
-        let source = at_home(alloc, main)?;
-        let line = format!(in alloc; "np: 16 TypeFault {fault}\n")?;
-        let refused = checks(&rt, alloc, source.as_str(), 3, "", line.as_str())?;
-        assert!(rt; refused, "{main}");
+        let told = has_fault(&rt, alloc, main, fault)?;
+        assert!(rt; told, "{main}");
     }
-    let unbound = at_home(alloc, "(print main | print x)")?;
-    let refused = checks(
-        &rt,
-        alloc,
-        unbound.as_str(),
-        3,
-        "",
-        "np: 12 Unbound at 48\n",
-    )?;
-    assert!(rt; refused);
+    Ok(())
+}
+
+#[test]
+fn asks_for_names_before_types(rt: HostRuntime) -> Result<(), Fail> {
+    let wanted = refusal(3, "np: 12 Unbound at 48\n");
+    let main = "(print main | print x)";
+    assert!(rt; calls_main(&rt, rt.alloc(), &["high", "a"], main, wanted)?);
     Ok(())
 }
 
@@ -140,13 +167,12 @@ fn wide(alloc: Global, count: usize) -> Result<String, AllocError> {
 #[test]
 fn counts_the_nodes_of_types(rt: HostRuntime) -> Result<(), Fail> {
     let alloc = rt.alloc();
-    for (count, status, out, err) in [
-        (3, 0, "well typed\n", ""),
-        (4, 3, "", "np: 16 TypeFault Wide at 33\n"),
+    for (count, wanted) in [
+        (3, text("well typed\n")),
+        (4, refusal(3, "np: 16 TypeFault Wide at 33\n")),
     ] {
         let main = wide(alloc, count)?;
-        let source = at_home(alloc, main.as_str())?;
-        let told = checks(&rt, alloc, source.as_str(), status, out, err)?;
+        let told = calls_main(&rt, alloc, &["check", "a"], main.as_str(), wanted)?;
         assert!(rt; told, "{count}");
     }
     Ok(())

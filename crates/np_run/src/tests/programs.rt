@@ -1,6 +1,6 @@
 //! The programs of sources: the numbers of their nodes and binders.
 
-use crate::reading::{plain_program, tokens_of};
+use crate::reading::{checked_program, tokens_of};
 use crate::refusal::Refusal;
 use np_syntax::{Expr, ExprForm, Pat, PatForm, Proc, ProcForm, Program, Value};
 use std::alloc::{AllocError, Global};
@@ -62,7 +62,9 @@ fn program_of(alloc: Global, source: &[u8]) -> Result<Program, Refusal> {
         return Err(Refusal::TooLong);
     }
     let tokens = tokens_of(alloc, source)?;
-    plain_program(alloc, &tokens)
+    let read = checked_program(alloc, &tokens);
+    drop(tokens);
+    Ok(read?.into_program())
 }
 
 #[test]

@@ -1,10 +1,8 @@
 //! The refusals of words and of sources.
 
-use super::setting::{at_home, call_with, make_trial, run_a, times};
+use super::setting::{calls, calls_main, joined, kept, refusal, times};
 use std::alloc::{AllocError, Global};
-use std::sync::Wait;
 use std::test::Fail;
-use std::thread::Threads;
 
 const USAGE: &str =
     "np: 22 Usage\nusage: np MODE FILE [SECOND] [--budget N] [--history] [--high] [--serial] [--links KIND]\n";
@@ -12,25 +10,46 @@ const USAGE: &str =
 #[test]
 fn refuses_words(rt: HostRuntime) -> Result<(), Fail> {
     let alloc = rt.alloc();
-    let cases: [&[&str]; 9] = [
+    let cases: [&[&str]; 28] = [
         &[],
         &["run"],
-        &["run", "a", "b"],
-        &["run", "a", "--budget", "0"],
-        &["high", "a"],
+        &["high"],
+        &["show"],
         &["check"],
+        &["run", "a", "b"],
+        &["high", "a", "b"],
         &["a", "run"],
         &["Run", "a"],
-        &["show"],
+        &["replay", "a"],
+        &["run", "a", "--budget"],
+        &["run", "--budget", "5"],
+        &["run", "a", "--budget", "0"],
+        &["high", "a", "--budget", "200001"],
+        &["run", "a", "--budget", "000000"],
+        &["run", "a", "--budget", "0000001"],
+        &["run", "a", "--budget", "+1"],
+        &["run", "a", "--budget", "-1"],
+        &["run", "a", "--budget", ""],
+        &["high", "a", "--budget", "1x"],
+        &["high", "a", "--budget", "1234567"],
+        &["run", "a", "--budget", "99999999999999999999"],
+        &["run", "a", "--budget", "5", "--budget", "5"],
+        &["run", "a", "-budget", "5"],
+        &["run", "a", "5", "--budget"],
+        &["check", "a", "--budget", "5"],
+        &["show", "a", "--budget", "5"],
+        &["high", "a", "--high"],
     ];
     for words in cases {
-        let mut trial = make_trial(alloc, b"sites home ; main at home = 0", 1000)?;
-        let answer = call_with(&rt, alloc, words, &mut trial)?;
         let count = words.len();
-        assert_eq!(rt; answer.status, 2, "{count} words");
-        assert!(rt; answer.kept.is_none());
-        assert_eq!(rt; trial.out.bytes(), b"".as_slice());
-        assert_eq!(rt; trial.err.bytes(), USAGE.as_bytes());
+        let told = calls(
+            &rt,
+            alloc,
+            words,
+            b"sites home ; main at home = 0",
+            refusal(2, USAGE),
+        )?;
+        assert!(rt; told, "{count} words");
     }
     Ok(())
 }
@@ -48,7 +67,7 @@ fn many_sites(alloc: Global, count: u32) -> Result<String, AllocError> {
 }
 
 /// Sources with the lines of their refusals.
-const REFUSED: [(&str, &str); 15] = [
+const REFUSED: [(&str, &str); 14] = [
     ("", "np: 10 Syntax at 0\n"),
     (
         "sites home home ; main at home = 0",
@@ -99,34 +118,19 @@ const REFUSED: [(&str, &str); 15] = [
         "sites home ; main at home = (0 | 0",
         "np: 10 Syntax at 34\n",
     ),
-    (
-        "sites home ; main at home = print \"a\"",
-        "np: 19 Unbuilt at 34\n",
-    ),
 ];
-
-/// Runs the source, which is to be refused with the line.
-fn refuses<R: Threads + Wait + Sync>(
-    rt: &R,
-    alloc: Global,
-    source: &[u8],
-    line: &str,
-) -> Result<bool, Fail> {
-    let mut trial = make_trial(alloc, source, 1000)?;
-    let answer = run_a(rt, alloc, &mut trial)?;
-    Ok(
-        answer.status == 3
-            && answer.kept.is_none()
-            && trial.out.bytes().is_empty()
-            && trial.err.bytes() == line.as_bytes(),
-    )
-}
 
 #[test]
 fn refuses_sources(rt: HostRuntime) -> Result<(), Fail> {
     let alloc = rt.alloc();
     for (source, line) in REFUSED {
-        let refused = refuses(&rt, alloc, source.as_bytes(), line)?;
+        let refused = calls(
+            &rt,
+            alloc,
+            &["run", "a"],
+            source.as_bytes(),
+            refusal(3, line),
+        )?;
         assert!(rt; refused, "{source}");
     }
     Ok(())
@@ -140,16 +144,28 @@ fn refuses_long_sources(rt: HostRuntime) -> Result<(), Fail> {
         (1048577, "np: 5 TooLong\n"),
     ] {
         let spaces = vec![in alloc; b' '; count]?;
-        let refused = refuses(&rt, alloc, spaces.as_slice(), line)?;
+        let refused = calls(
+            &rt,
+            alloc,
+            &["run", "a"],
+            spaces.as_slice(),
+            refusal(3, line),
+        )?;
         assert!(rt; refused, "{line}");
     }
-    let sites = many_sites(alloc, 33)?;
-    let refused = refuses(&rt, alloc, sites.as_bytes(), "np: 14 TooManySites at 125\n")?;
-    assert!(rt; refused);
     Ok(())
 }
 
-/// A repeated process between two others.
+#[test]
+fn refuses_many_sites(rt: HostRuntime) -> Result<(), Fail> {
+    let alloc = rt.alloc();
+    let sites = many_sites(alloc, 33)?;
+    let wanted = refusal(3, "np: 14 TooManySites at 125\n");
+    assert!(rt; calls(&rt, alloc, &["run", "a"], sites.as_bytes(), wanted)?);
+    Ok(())
+}
+
+/// Processes of main in parts, with the lines of their refusals.
 const DEEP: [(&str, &str, usize, &str, &str); 6] = [
     ("", "(", 200, "", "np: 11 TooDeep at 227\n"),
     ("", "(", 100000, "", "np: 11 TooDeep at 227\n"),
@@ -169,37 +185,51 @@ const DEEP: [(&str, &str, usize, &str, &str); 6] = [
 fn refuses_deep_sources(rt: HostRuntime) -> Result<(), Fail> {
     let alloc = rt.alloc();
     for (before, repeated, count, behind, line) in DEEP {
-        let middle = times(alloc, repeated, count)?;
-        let main = format!(in alloc; "{before}{middle}{behind}")?;
-        let source = at_home(alloc, main.as_str())?;
-        let refused = refuses(&rt, alloc, source.as_bytes(), line)?;
+        let main = joined(alloc, before, repeated, count, behind)?;
+        let refused = calls_main(&rt, alloc, &["run", "a"], main.as_str(), refusal(3, line))?;
         assert!(rt; refused, "{line}");
     }
     Ok(())
 }
 
+/// Processes of main in parts, just within the depth, with the number of events.
+const WITHIN: [(&str, &str, usize, &str, usize); 2] = [
+    ("new c : ^Int in ", "c?x -> ", 198, "0", 1),
+    ("(0", " | 0", 199, ")", 399),
+];
+
 #[test]
-fn takes_what_is_just_within_the_limits(rt: HostRuntime) -> Result<(), Fail> {
+fn takes_what_is_just_within_the_depth(rt: HostRuntime) -> Result<(), Fail> {
     let alloc = rt.alloc();
-    let inputs = times(alloc, "c?x -> ", 198)?;
-    let nested = format!(in alloc; "new c : ^Int in {inputs}0")?;
-    let stops = times(alloc, " | 0", 199)?;
-    let bracket = format!(in alloc; "(0{stops})")?;
-    let sites = many_sites(alloc, 32)?;
-    let name = times(alloc, "a", 64)?;
-    let named = format!(in alloc; "sites {name} ; main at {name} = 0")?;
-    let inside = at_home(alloc, nested.as_str())?;
-    let beside = at_home(alloc, bracket.as_str())?;
-    for source in [
-        inside.as_str(),
-        beside.as_str(),
-        sites.as_str(),
-        named.as_str(),
-    ] {
-        let mut trial = make_trial(alloc, source.as_bytes(), 1000)?;
-        let answer = run_a(&rt, alloc, &mut trial)?;
-        assert_eq!(rt; answer.status, 0, "{source}");
-        assert_eq!(rt; trial.out.bytes(), b"at rest\n".as_slice(), "{source}");
+    for (before, repeated, count, behind, events) in WITHIN {
+        let main = joined(alloc, before, repeated, count, behind)?;
+        let wanted = kept(0, events, "at rest\n");
+        let rests = calls_main(&rt, alloc, &["run", "a"], main.as_str(), wanted)?;
+        assert!(rt; rests, "{before}");
     }
+    Ok(())
+}
+
+/// A site with a name of 64 letters.
+fn long_name(alloc: Global) -> Result<String, AllocError> {
+    let name = times(alloc, "a", 64)?;
+    format!(in alloc; "sites {name} ; main at {name} = 0")
+}
+
+#[test]
+fn takes_the_most_sites(rt: HostRuntime) -> Result<(), Fail> {
+    let alloc = rt.alloc();
+    let sites = many_sites(alloc, 32)?;
+    let wanted = kept(0, 1, "at rest\n");
+    assert!(rt; calls(&rt, alloc, &["run", "a"], sites.as_bytes(), wanted)?);
+    Ok(())
+}
+
+#[test]
+fn takes_the_longest_name(rt: HostRuntime) -> Result<(), Fail> {
+    let alloc = rt.alloc();
+    let named = long_name(alloc)?;
+    let wanted = kept(0, 1, "at rest\n");
+    assert!(rt; calls(&rt, alloc, &["run", "a"], named.as_bytes(), wanted)?);
     Ok(())
 }

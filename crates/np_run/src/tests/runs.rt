@@ -1,6 +1,6 @@
 //! The reports and the records of runs.
 
-use super::setting::{at_home, events_of, make_trial, run_a};
+use super::setting::{calls_main, joined, kept};
 use std::alloc::{AllocError, Global};
 use std::test::Fail;
 
@@ -40,13 +40,8 @@ fn reports_runs(rt: HostRuntime) -> Result<(), Fail> {
         ("new print1 : ^Int in print1!((1))", 1, "at rest\n"),
         ("new Ints' : ^Int in Ints'!1", 1, "at rest\n"),
     ] {
-        let source = at_home(alloc, main)?;
-        let mut trial = make_trial(alloc, source.as_bytes(), 1000)?;
-        let answer = run_a(&rt, alloc, &mut trial)?;
-        assert_eq!(rt; answer.status, 0, "{main}");
-        assert_eq!(rt; trial.out.bytes(), report.as_bytes(), "{main}");
-        assert_eq!(rt; trial.err.bytes(), b"".as_slice(), "{main}");
-        assert_eq!(rt; events_of(&answer), Some(events), "{main}");
+        let told = calls_main(&rt, alloc, &["run", "a"], main, kept(0, events, report))?;
+        assert!(rt; told, "{main}");
     }
     Ok(())
 }
@@ -70,31 +65,36 @@ fn beside_trees(alloc: Global, main: &str) -> Result<String, AllocError> {
     Ok(text)
 }
 
+/// So many `new` before a tree of 15 events, beside other trees: with one `new` 10,000 events.
+fn beside_news(alloc: Global, news: usize) -> Result<String, AllocError> {
+    let small = tree(alloc, 3)?;
+    let main = joined(alloc, "", "new c : ^Int in ", news, small.as_str())?;
+    beside_trees(alloc, main.as_str())
+}
+
 #[test]
 fn spends_the_budget(rt: HostRuntime) -> Result<(), Fail> {
     let alloc = rt.alloc();
-    let small = tree(alloc, 3)?;
-    // 16 events and 17.
-    let last = format!(in alloc; "new c : ^Int in {small}")?;
-    let one_more = format!(in alloc; "new c : ^Int in {last}")?;
-    for (main, status, events, report) in [
-        (tree(alloc, 12)?, 0, 8191, "at rest\n"),
-        (tree(alloc, 13)?, 1, 10000, "budget spent\n"),
-        (beside_trees(alloc, last.as_str())?, 0, 10000, "at rest\n"),
-        (
-            beside_trees(alloc, one_more.as_str())?,
-            1,
-            10000,
-            "budget spent\n",
-        ),
+    for (depth, status, events, report) in [
+        (12, 0, 8191, "at rest\n"),
+        (13, 1, 10000, "budget spent\n"),
     ] {
-        let source = at_home(alloc, main.as_str())?;
-        let mut trial = make_trial(alloc, source.as_bytes(), 1000)?;
-        let answer = run_a(&rt, alloc, &mut trial)?;
-        assert_eq!(rt; answer.status, status, "{events} events, {report}");
-        assert_eq!(rt; events_of(&answer), Some(events), "{report}");
-        assert_eq!(rt; trial.out.bytes(), report.as_bytes(), "{events} events");
-        assert_eq!(rt; trial.err.bytes(), b"".as_slice(), "{events} events");
+        let main = tree(alloc, depth)?;
+        let wanted = kept(status, events, report);
+        let told = calls_main(&rt, alloc, &["run", "a"], main.as_str(), wanted)?;
+        assert!(rt; told, "{depth}");
+    }
+    Ok(())
+}
+
+#[test]
+fn rests_with_the_budget_just_spent(rt: HostRuntime) -> Result<(), Fail> {
+    let alloc = rt.alloc();
+    for (news, status, report) in [(1, 0, "at rest\n"), (2, 1, "budget spent\n")] {
+        let main = beside_news(alloc, news)?;
+        let wanted = kept(status, 10000, report);
+        let told = calls_main(&rt, alloc, &["run", "a"], main.as_str(), wanted)?;
+        assert!(rt; told, "{news}");
     }
     Ok(())
 }

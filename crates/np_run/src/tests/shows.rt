@@ -1,12 +1,14 @@
 //! The canonical text of sources, and how they are refused.
 
-use super::setting::{at_home, call_with, make_trial, times};
+use super::setting::{calls, calls_main, joined, refusal, text, times};
 use np_lex::lex;
 use np_parse::parse;
 use np_show::show;
 use np_tree::{Tree, same_tree};
 use std::alloc::{AllocError, Global};
+use std::sync::Wait;
 use std::test::Fail;
+use std::thread::Threads;
 
 /// Eight sites, and an agent that goes round them twice.
 pub(super) fn tour(alloc: Global) -> Result<String, AllocError> {
@@ -74,12 +76,20 @@ fn reads_back(rt: HostRuntime) -> Result<(), Fail> {
     Ok(())
 }
 
+/// Whether the text of the process at one site is this one.
+fn shows<R: Threads + Wait + Sync>(
+    rt: &R,
+    alloc: Global,
+    main: &str,
+    shown: &str,
+) -> Result<bool, Fail> {
+    let want = format!(in alloc; "sites home ; main at home = {shown}\n")?;
+    calls_main(rt, alloc, &["show", "a"], main, text(want.as_str()))
+}
+
 #[test]
 fn shows_sources(rt: HostRuntime) -> Result<(), Fail> {
     let alloc = rt.alloc();
-    let open = times(alloc, "[", 200)?;
-    let close = times(alloc, "]", 200)?;
-    let nested = format!(in alloc; "print {open}{close}")?;
     for (main, shown) in [
         (
             "((0|0)|let x=(1+2)*3 in print x)",
@@ -90,17 +100,24 @@ fn shows_sources(rt: HostRuntime) -> Result<(), Fail> {
             "new c : ^[Int Bool] in <main@home>c![1 true]",
         ),
         ("0 -- no more", "0"),
-        (nested.as_str(), nested.as_str()),
     ] {
-        let source = at_home(alloc, main)?;
-        let mut trial = make_trial(alloc, source.as_bytes(), 1000)?;
-        let answer = call_with(&rt, alloc, &["show", "a"], &mut trial)?;
-        let want = format!(in alloc; "sites home ; main at home = {shown}\n")?;
-        assert_eq!(rt; answer.status, 0, "{main}");
-        assert!(rt; answer.kept.is_none());
-        assert_eq!(rt; trial.out.bytes(), want.as_bytes(), "{main}");
-        assert_eq!(rt; trial.err.bytes(), b"".as_slice(), "{main}");
+        let told = shows(&rt, alloc, main, shown)?;
+        assert!(rt; told, "{main}");
     }
+    Ok(())
+}
+
+/// Tuples in tuples, just within the depth.
+fn nested(alloc: Global) -> Result<String, AllocError> {
+    let close = times(alloc, "]", 200)?;
+    joined(alloc, "print ", "[", 200, close.as_str())
+}
+
+#[test]
+fn shows_what_is_deep(rt: HostRuntime) -> Result<(), Fail> {
+    let alloc = rt.alloc();
+    let main = nested(alloc)?;
+    assert!(rt; shows(&rt, alloc, main.as_str(), main.as_str())?);
     Ok(())
 }
 
@@ -143,15 +160,9 @@ const REFUSED: [(&str, &str, usize, &str, &str); 13] = [
 fn refuses_tokens_and_trees(rt: HostRuntime) -> Result<(), Fail> {
     let alloc = rt.alloc();
     for (before, repeated, count, behind, line) in REFUSED {
-        let middle = times(alloc, repeated, count)?;
-        let main = format!(in alloc; "{before}{middle}{behind}")?;
-        let source = at_home(alloc, main.as_str())?;
-        let mut trial = make_trial(alloc, source.as_bytes(), 1000)?;
-        let answer = call_with(&rt, alloc, &["show", "a"], &mut trial)?;
-        assert_eq!(rt; answer.status, 3, "{line}");
-        assert!(rt; answer.kept.is_none());
-        assert_eq!(rt; trial.out.bytes(), b"".as_slice(), "{line}");
-        assert_eq!(rt; trial.err.bytes(), line.as_bytes());
+        let main = joined(alloc, before, repeated, count, behind)?;
+        let refused = calls_main(&rt, alloc, &["show", "a"], main.as_str(), refusal(3, line))?;
+        assert!(rt; refused, "{line}");
     }
     Ok(())
 }
@@ -165,10 +176,14 @@ fn refuses_blanks(rt: HostRuntime) -> Result<(), Fail> {
         (1048577, "np: 5 TooLong\n"),
     ] {
         let spaces = vec![in alloc; b' '; count]?;
-        let mut trial = make_trial(alloc, spaces.as_slice(), 1000)?;
-        let answer = call_with(&rt, alloc, &["show", "a"], &mut trial)?;
-        assert_eq!(rt; answer.status, 3, "{line}");
-        assert_eq!(rt; trial.err.bytes(), line.as_bytes());
+        let refused = calls(
+            &rt,
+            alloc,
+            &["show", "a"],
+            spaces.as_slice(),
+            refusal(3, line),
+        )?;
+        assert!(rt; refused, "{line}");
     }
     Ok(())
 }

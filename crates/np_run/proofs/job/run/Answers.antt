@@ -1,16 +1,18 @@
-use Rattle.std.proofs.Common.{sym, subst, ◌∙◌, ap}
-use Rattle.np_calculus.specs.Serial.{IsSerialRun}
+use Rattle.std.proofs.Common.{sym, subst, ap, ◌∙◌}
+use Rattle.np_syntax.specs.declared.program.Program.{Program}
+use Rattle.np_calculus.specs.Serial.{RunsWell, IsSerialRun}
 use Rattle.np_run.specs.Report.{report_text}
-use Rattle.np_run.specs.declared.answer.Record.{Record}
 use Rattle.np_run.proofs.job.run.Goals as goal
+
+pub run_serial-requires : goal.run_serial-requires
+run_serial-requires c = subst (λ (p : Program). RunsWell p) (sym c.program-program.ensures.value) (c.law_runs_well.ensures _ c.program-program.ensures.accepted)
 
 pub returns : goal.returns
 returns c =
-    let program = c.args.program.now in
-    let last = c.in_ok-run.run'.last in
+    let made = c.in_ok-made.made in
+    let same = c.program-program.ensures.value in
     record {
-      last = last;
-      run = subst (λ (made : Record). IsSerialRun program 10000 made.events last made.end) (sym c.record_of.ensures) c.in_ok-run.ensures;
-      report = c.in_ok-text.ensures ∙ ap (λ said. report_text program.sites said c.in_ok-run.run'.end) c.said.ensures
-          ∙ ap (λ (made : Record). report_text program.sites last.said made.end) (sym c.record_of.ensures);
+      run = subst (λ (p : Program). IsSerialRun p c.args.budget made.events made.last made.end) same c.in_ok-made.ensures;
+      report = c.in_ok-text.ensures ∙ ap (λ said. report_text c.program-program.result.now.sites said made.end) c.said.ensures
+          ∙ ap (λ (p : Program). report_text p.sites made.last.said made.end) same;
     }

@@ -14,8 +14,8 @@ accepted m bytes refusal short a (inl s) = let long = s.1 in omega arith
 accepted m bytes refusal short a (inr s) = not_both m bytes refusal a s.1
 
 pub returns : goal.returns
-returns c = λ call answer m file bytes h r short a no_out no_err.
-    let none = λ (refusal : Refusal) (s : Stands call.words call.texts refusal). accepted m bytes refusal short a (stands_says call m file bytes refusal r s) in
+returns c = λ call answer asked bytes h r short a no_out no_err.
+    let none = λ (refusal : Refusal) (s : Stands call.words call.texts refusal). accepted asked.mode bytes refusal short a (stands_says call asked bytes refusal r s) in
     elim (h.status) [
       | inl e ↦ inl e
       | inr rest ↦ elim rest [

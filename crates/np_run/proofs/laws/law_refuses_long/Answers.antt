@@ -1,6 +1,7 @@
 use Rattle.std.proofs.Common.{ℕ, ◌<◌, List, length, arith, inl, inr, subst}
 use Rattle.np_run.specs.Answers.{Call, IsRefused}
 use Rattle.np_run.specs.Laws.{Reads}
+use Rattle.np_run.specs.Words.{Plan}
 use Rattle.np_run.specs.declared.answer.Answer.{Answer}
 use Rattle.np_run.specs.declared.refusal.Refusal.{Refusal}
 use Rattle.np_run.specs.declared.refusal.Refusal.TheVariants.{TooLong}
@@ -20,11 +21,13 @@ is_long : (m : Mode) (bytes : List ℕ) → Says m bytes TooLong → 1048576 < l
 is_long m bytes (inl s) = s.1
 is_long m bytes (inr s) = absurd (not_long m bytes s.1)
 
-by_outcome : (call : Call) (answer : Answer) (m : Mode) (file bytes : List ℕ) → Reads call m file bytes → 1048576 < length bytes → Outcome call answer
+by_outcome : (call : Call) (answer : Answer) (asked : Plan) (bytes : List ℕ) → Reads call asked bytes → 1048576 < length bytes → Outcome call answer
     → IsRefused call answer TooLong
-by_outcome call answer m file bytes r l (Outcome.made text h) = let short = (made_accepts call m file bytes answer.kept text r h).0 in absurd (omega arith)
-by_outcome call answer m file bytes r l (Outcome.refused refusal e s) = long call answer m bytes refusal l (stands_says call m file bytes refusal r s.stands) s
+by_outcome call answer asked bytes r l (Outcome.made text h) =
+    let short = (made_accepts call asked bytes answer.kept answer.high text r h).0 in absurd (omega arith)
+by_outcome call answer asked bytes r l (Outcome.refused refusal e s) =
+    long call answer asked.mode bytes refusal l (stands_says call asked bytes refusal r s.stands) s
 
 pub returns : goal.returns
-returns c = λ call answer m file bytes h r err some.
-    (λ is. is_long m bytes (stands_says call m file bytes TooLong r is.stands), λ l. by_outcome call answer m file bytes r l (outcome call answer h err some))
+returns c = λ call answer asked bytes h r err some.
+    (λ is. is_long asked.mode bytes (stands_says call asked bytes TooLong r is.stands), λ l. by_outcome call answer asked bytes r l (outcome call answer h err some))

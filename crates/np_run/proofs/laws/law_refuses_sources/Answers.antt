@@ -2,6 +2,7 @@ use Rattle.std.proofs.Common.{ℕ, ◌≤◌, List, length, arith, inl, inr, sub
 use Rattle.np_run.specs.Answers.{Call, IsRefused}
 use Rattle.np_run.specs.Faults.{Faulty}
 use Rattle.np_run.specs.Laws.{Reads}
+use Rattle.np_run.specs.Words.{Plan}
 use Rattle.np_run.specs.declared.answer.Answer.{Answer}
 use Rattle.np_run.specs.declared.refusal.Refusal.{Refusal}
 use Rattle.np_run.specs.declared.words.Mode.{Mode}
@@ -14,15 +15,16 @@ faulty : (m : Mode) (bytes : List ℕ) (refusal : Refusal) → length bytes ≤ 
 faulty m bytes refusal short (inl s) = let long = s.1 in absurd (omega arith)
 faulty m bytes refusal short (inr s) = s.1
 
-by_outcome : (call : Call) (answer : Answer) (m : Mode) (file bytes : List ℕ) (refusal : Refusal) → Reads call m file bytes → length bytes ≤ 1048576
-    → Faulty m bytes refusal → Outcome call answer → IsRefused call answer refusal
-by_outcome call answer m file bytes refusal r short f (Outcome.made text h) =
-    absurd (not_both m bytes refusal (made_accepts call m file bytes answer.kept text r h).1 f)
-by_outcome call answer m file bytes refusal r short f (Outcome.refused other e s) =
-    subst (λ (x : Refusal). IsRefused call answer x) (same_fault m bytes other refusal (faulty m bytes other short (stands_says call m file bytes other r s.stands)) f) s
+by_outcome : (call : Call) (answer : Answer) (asked : Plan) (bytes : List ℕ) (refusal : Refusal) → Reads call asked bytes → length bytes ≤ 1048576
+    → Faulty asked.mode bytes refusal → Outcome call answer → IsRefused call answer refusal
+by_outcome call answer asked bytes refusal r short f (Outcome.made text h) =
+    absurd (not_both asked.mode bytes refusal (made_accepts call asked bytes answer.kept answer.high text r h).1 f)
+by_outcome call answer asked bytes refusal r short f (Outcome.refused other e s) =
+    let first : Faulty asked.mode bytes other = faulty asked.mode bytes other short (stands_says call asked bytes other r s.stands) in
+    subst (λ (x : Refusal). IsRefused call answer x) (same_fault asked.mode bytes other refusal first f) s
 
 pub returns : goal.returns
-returns c = λ call answer m file bytes refusal h r err some short. (
-  λ is. faulty m bytes refusal short (stands_says call m file bytes refusal r is.stands),
-  λ f. by_outcome call answer m file bytes refusal r short f (outcome call answer h err some),
+returns c = λ call answer asked bytes refusal h r err some short. (
+  λ is. faulty asked.mode bytes refusal short (stands_says call asked bytes refusal r is.stands),
+  λ f. by_outcome call answer asked bytes refusal r short f (outcome call answer h err some),
 )

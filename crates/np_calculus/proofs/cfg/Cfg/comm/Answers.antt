@@ -36,7 +36,7 @@ left c = c.remove-2.ensures.items ∙ ap (λ (x : NameMap Atom). map.remove x c.
 
 pub invariant_of-self-2 : goal.invariant_of-self-2
 invariant_of-self-2 c =
-    kept-as (kept-cut (kept-on c.self.invariant c.args.e.now.actor (met c).atom _ (there c) refl) c.in_ok-met-2.met.mark) _ _
+    kept-as (kept-cut (kept-on c.self.invariant c.args.e.now.actor (met c).atom _ (there c)) c.in_ok-met-2.met.mark) _ _
     (c.remove.ensures ∙ ap (λ (x : Work). map.remove x c.in_ok-met-2.met.mark) (c.in_ok-file.ensures.ok ∙ ap (map.insert c.self.inside.work c.args.e.now.actor) (met c).files))
     (left c)
 

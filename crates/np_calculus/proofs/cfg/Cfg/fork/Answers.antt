@@ -28,7 +28,7 @@ atoms c =
 pub invariant_of-self-2 : goal.invariant_of-self-2
 invariant_of-self-2 c =
     rw (c.in_ok-file_two.ensures.ok, atoms c, c.put.ensures.members, c.in_ok-reserve-2.ensures.members, c.errand_of-stays.ensures, c.errand_of-comes.ensures)
-    (kept-more c.self.invariant c.args.e.now.actor c.in_ok-mark.mark c.in_ok-atom.atom.now _ _ (there c) refl refl)
+    (kept-more c.self.invariant c.args.e.now.actor c.in_ok-mark.mark c.in_ok-atom.atom.now _ _ (there c))
 
 pub returns : goal.returns
 returns c =

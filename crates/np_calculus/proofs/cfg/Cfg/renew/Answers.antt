@@ -26,4 +26,4 @@ atoms c =
 pub invariant_of-self-2 : goal.invariant_of-self-2
 invariant_of-self-2 c =
     rw (c.in_ok-file.ensures.ok, atoms c, c.put.ensures.members, c.in_ok-reserve-2.ensures.members, c.errand_of-errand.ensures)
-    (kept-born (kept-on c.self.invariant c.args.e.now.actor c.in_ok-atom.atom.now _ (there c) refl) c.in_ok-chan.chan)
+    (kept-born (kept-on c.self.invariant c.args.e.now.actor c.in_ok-atom.atom.now _ (there c)) c.in_ok-chan.chan)

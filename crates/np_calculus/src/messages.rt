@@ -1,0 +1,183 @@
+ghost use Rattle.np_calculus.specs.Reductions.{local_row, send_row, land_row, post_row};
+ghost use Rattle.std.specs.Prelude.{◌≡◌, true, false, None, IfOk, MatchOption};
+ghost use Rattle.np_calculus.specs.Applied.{Applied};
+ghost use Rattle.np_calculus.specs.Found.{IsAsked};
+
+use super::cfg::Cfg;
+use super::config::Packet;
+use super::fail::ApplyFail::{self, NotEnabled};
+use super::moves::{chosen, go_on};
+use super::operands::{agent_of, chan_of, errand_of};
+use super::outputs::output_in;
+use super::values::eval;
+use super::views::{
+    as_iflocal, as_post, as_send, no_other, none_made, one_made, one_site, one_tag,
+};
+use np_syntax::{Event, Memory, Name, Value};
+use np_tables::{Errand, Meeting};
+use std::alloc::Global;
+
+/// What a location test finds: its agent, channel and value, whether the agent is here, and what the process waits for
+/// when it goes on.
+#[derive(Drop)]
+struct Asked {
+    agent: Name,
+    chan: Name,
+    value: Value,
+    here: bool,
+    errand: Errand,
+}
+
+// The rows of what goes from one agent to another.
+impl Cfg {
+    #[tactic(auto, using(np_tables::proofs::Tables::puts), unfolding(crate::specs::Reductions::send_row))]
+    pub(super) fn send(&mut self, alloc: Global, e: &Event) -> Result<(), ApplyFail>
+        ensures { Applied (send_row self.old e.now) self.old self.new result }
+    {
+        let atom = self.acting(e).ok_or(NotEnabled)?;
+        let (agent, site, chan, value) = as_send(&atom.proc).ok_or(NotEnabled)?;
+        let agent = agent_of(alloc, agent, &atom.env)?.ok_or(NotEnabled)?;
+        let to = self.site_of(alloc, site, &atom.env)?.ok_or(NotEnabled)?;
+        let chan = chan_of(chan, &atom.env).ok_or(NotEnabled)?;
+        let value = eval(alloc, value, &atom.env)?.ok_or(NotEnabled)?;
+        none_made(e.made).ok_or(NotEnabled)?;
+        no_other(e.other).ok_or(NotEnabled)?;
+        let tag = e.tag;
+        let packet = Packet {
+            to,
+            agent,
+            chan,
+            value,
+            tag,
+        };
+        self.packets.insert(e.actor, packet)?;
+        self.work.remove(e.actor);
+        self.atoms.remove(e.actor);
+        Ok(())
+    }
+
+    #[tactic(auto, using(np_tables::proofs::Tables::puts), unfolding(crate::specs::Reductions::post_row))]
+    pub(super) fn post(&mut self, alloc: Global, e: &Event) -> Result<(), ApplyFail>
+        ensures { Applied (post_row self.old e.now) self.old self.new result }
+    {
+        let atom = self.acting(e).ok_or(NotEnabled)?;
+        let (agent, chan, value) = as_post(&atom.proc).ok_or(NotEnabled)?;
+        let agent = agent_of(alloc, agent, &atom.env)?.ok_or(NotEnabled)?;
+        let chan = chan_of(chan, &atom.env).ok_or(NotEnabled)?;
+        let value = eval(alloc, value, &atom.env)?.ok_or(NotEnabled)?;
+        none_made(e.made).ok_or(NotEnabled)?;
+        no_other(e.other).ok_or(NotEnabled)?;
+        let made = output_in(alloc, agent, chan, value, e.tag);
+        let errand = errand_of(made.agent, &made.proc, &made.env);
+        self.atoms.reserve(1)?;
+        self.work.file(e.actor, errand)?;
+        self.atoms.put(e.actor, made);
+        Ok(())
+    }
+
+    /// A packet whose agent is at its site becomes an output there, and any other is lost.
+    #[tactic(auto, using(np_tables::proofs::Tables::puts), unfolding(crate::specs::Reductions::land_row))]
+    pub(super) fn land(&mut self, alloc: Global, e: &Event) -> Result<(), ApplyFail>
+        ensures { Applied (land_row self.old e.now) self.old self.new result }
+    {
+        let packet = self.packets.get(e.actor).ok_or(NotEnabled)?;
+        one_site(packet.to, e.site).ok_or(NotEnabled)?;
+        one_tag(packet.tag, e.tag).ok_or(NotEnabled)?;
+        none_made(e.made).ok_or(NotEnabled)?;
+        no_other(e.other).ok_or(NotEnabled)?;
+        if !self.is_at(packet.agent, e.site) {
+            self.packets.remove(e.actor);
+            return Ok(());
+        }
+        let agent = packet.agent;
+        let chan = packet.chan;
+        self.atoms.reserve(1)?;
+        self.work
+            .file(e.actor, Errand::Gives(Meeting { agent, chan }))?;
+        let Some(packet) = self.packets.take(e.actor) else {
+            unreachable!();
+        };
+        let made = output_in(alloc, agent, chan, packet.value, e.tag);
+        self.atoms.put(e.actor, made);
+        Ok(())
+    }
+
+    pub(super) fn local(&mut self, alloc: Global, e: &Event) -> Result<(), ApplyFail>
+        ensures { Applied (local_row self.old e.now) self.old self.new result }
+    {
+        let asked = self.asked(alloc, e)?.ok_or(NotEnabled)?;
+        if asked.here {
+            self.found_here(alloc, e, asked)
+        } else {
+            self.found_away(e, &asked)
+        }
+    }
+
+    /// What a location test finds, where the conditions are met that do not depend on it.
+    #[tactic(auto, unfolding(crate::specs::Reductions::local_row))]
+    fn asked(&self, alloc: Global, e: &Event) -> Result<Option<Asked>, Memory>
+        ensures { IfOk result (λ o. MatchOption o (local_row self.now e.now ≡ None) (λ a. IsAsked self.now e.now a.agent a.chan a.value a.here a.errand)) }
+    {
+        let Some(atom) = self.acting(e) else {
+            return Ok(None);
+        };
+        let Some((agent, chan, value, met, unmet)) = as_iflocal(&atom.proc) else {
+            return Ok(None);
+        };
+        let Some(agent) = agent_of(alloc, agent, &atom.env)? else {
+            return Ok(None);
+        };
+        let Some(chan) = chan_of(chan, &atom.env) else {
+            return Ok(None);
+        };
+        let Some(value) = eval(alloc, value, &atom.env)? else {
+            return Ok(None);
+        };
+        let Some(()) = no_other(e.other) else {
+            return Ok(None);
+        };
+        let here = self.is_at(agent, e.site);
+        let errand = errand_of(atom.agent, chosen(met, unmet, here), &atom.env);
+        Ok(Some(Asked {
+            agent,
+            chan,
+            value,
+            here,
+            errand,
+        }))
+    }
+
+    /// A location test that finds its agent: the output is made in it, and the process goes on as the first.
+    #[tactic(auto, using(np_tables::proofs::Tables::puts))]
+    fn found_here(&mut self, alloc: Global, e: &Event, asked: Asked) -> Result<(), ApplyFail>
+        requires { IsAsked self.old e.now asked.agent asked.chan asked.value true asked.errand }
+        ensures { Applied (local_row self.old e.now) self.old self.new result }
+    {
+        let mark = one_made(e.made).ok_or(NotEnabled)?;
+        self.fresh(mark).ok_or(NotEnabled)?;
+        let agent = asked.agent;
+        let chan = asked.chan;
+        self.atoms.reserve(2)?;
+        self.born.reserve(1)?;
+        let comes = Errand::Gives(Meeting { agent, chan });
+        self.work.file_two(mark, comes, e.actor, asked.errand)?;
+        let made = output_in(alloc, agent, chan, asked.value, e.tag);
+        self.atoms.put(mark, made);
+        go_on(&mut self.atoms, e.actor, true);
+        self.born.put(mark);
+        Ok(())
+    }
+
+    /// A location test that does not find its agent: the process goes on as the second.
+    #[tactic(auto, using(np_tables::proofs::Tables::puts))]
+    fn found_away(&mut self, e: &Event, asked: &Asked) -> Result<(), ApplyFail>
+        requires { IsAsked self.old e.now asked.now.agent asked.now.chan asked.now.value false asked.now.errand }
+        ensures { Applied (local_row self.old e.now) self.old self.new result }
+    {
+        none_made(e.made).ok_or(NotEnabled)?;
+        self.atoms.reserve(1)?;
+        self.work.file(e.actor, asked.errand)?;
+        go_on(&mut self.atoms, e.actor, false);
+        Ok(())
+    }
+}

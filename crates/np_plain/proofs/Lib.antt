@@ -1,4 +1,0 @@
-pub mod Forms
-pub mod Free
-pub mod Built
-pub mod Plainly

@@ -1,3 +1,0 @@
-pub mod Tokens
-pub mod Uses
-pub mod Unbuilt

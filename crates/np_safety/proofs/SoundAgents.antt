@@ -1,0 +1,88 @@
+-- A resolved process names no agent but main.
+use Rattle.std.proofs.Common.{◌≡◌, ℕ, List, length, map, refl}
+use Rattle.np_syntax.specs.declared.value.Name.{Name}
+use Rattle.np_syntax.specs.declared.value.Value.{Value}
+use Rattle.np_syntax.specs.declared.value.Value.TheVariants.{outs-Int, outs-Truth, outs-Str, outs-Site}
+use Rattle.np_syntax.specs.declared.value.Value as value
+use Rattle.np_syntax.specs.declared.expression.Expr.{Expr}
+use Rattle.np_syntax.specs.declared.expression.ExprForm.TheVariants as exprs
+use Rattle.np_syntax.specs.declared.process.Proc.{Proc}
+use Rattle.np_syntax.specs.declared.process.ProcForm.TheVariants as forms
+use Rattle.np_syntax.specs.declared.program.Program.{Program}
+use Rattle.np_scope.specs.declared.numbers.Numbers.{Numbers}
+use Rattle.np_scope.specs.Sound.{IsSound, IsSoundExpr, AreSoundExprs, IsSoundProc}
+use Rattle.np_scope.specs.Written.{IsLiteral}
+use Rattle.np_calculus.specs.Agents.{OwnAgents, joined, expr_agents}
+use Rattle.np_calculus.specs.Starts.{main_agent}
+use Rattle.np_calculus.proofs.AgentForms.{Each, OfExpr, OfProc, nobody, both-parts, of-proc}
+use Rattle.np_calculus.proofs.AgentValues.{OfValue, agent-fits, of-value, of-expr, expr_value}
+
+module _ (n : ℕ) where
+  -- the agent is main
+  abbrev P : Name → Type 0
+  P a = a ≡ main_agent n
+
+  literal : {v : Value} → IsLiteral v → OfValue P v
+  literal (IsLiteral.number {n = m}) = of-value P _ _ (outs-Int m) (nobody P)
+  literal (IsLiteral.truth {b = b}) = of-value P _ _ (outs-Truth b) (nobody P)
+  literal (IsLiteral.string {text = text}) = of-value P _ _ (outs-Str text) (nobody P)
+
+  site : (s : ℕ) → OfValue P (value.Site s)
+  site s = of-value P _ _ (outs-Site s) (nobody P)
+
+  mutual
+    sound-expr : {scope : List ℕ} {e : Expr} → IsSoundExpr n scope e → OfExpr P e
+    sound-expr (IsSoundExpr.literal {at = at} {v = v} l) = expr_value P at v (literal l)
+    sound-expr (IsSoundExpr.site {at = at} {s = s} within) = expr_value P at (value.Site s) (site s)
+    sound-expr (IsSoundExpr.main {at = at}) = expr_value P at (value.Agent (main_agent n)) (agent-fits P (main_agent n) refl)
+    sound-expr (IsSoundExpr.variable {x = x} h) = of-expr P _ _ (exprs.outs-Var x) (nobody P)
+    sound-expr (IsSoundExpr.tuple {es = es} hs) = of-expr P _ _ (exprs.outs-Tuple es) (sound-exprs hs)
+    sound-expr (IsSoundExpr.operation {o = o} {a = a} {b = b} g h) = of-expr P _ _ (exprs.outs-Bin o a b) (both-parts P _ _ (sound-expr g) (sound-expr h))
+
+    sound-exprs : {scope : List ℕ} {es : List Expr} → AreSoundExprs n scope es → Each P (joined (map expr_agents es))
+    sound-exprs AreSoundExprs.none = nobody P
+    sound-exprs (AreSoundExprs.more g hs) = both-parts P _ _ (sound-expr g) (sound-exprs hs)
+
+  sound-proc : {scope : List ℕ} {next after : Numbers} {p : Proc} → IsSoundProc n scope next p after → OfProc P p
+  sound-proc IsSoundProc.stop = of-proc P _ _ forms.outs-Stop (nobody P)
+  sound-proc (IsSoundProc.parallel {p = p} {q = q} g h) =
+      let sp = sound-proc g in
+      let sq = sound-proc h in
+      of-proc P _ _ (forms.outs-Par p q) (both-parts P _ _ sp sq)
+  sound-proc {next = next} (IsSoundProc.channel {t = t} {p = p} k g) = let sp = sound-proc g in of-proc P _ _ (forms.outs-New next.binder t p) sp
+  sound-proc (IsSoundProc.output {c = c} {e = e} hc he) = of-proc P _ _ (forms.outs-Out c e) (both-parts P _ _ (sound-expr hc) (sound-expr he))
+  sound-proc (IsSoundProc.input {c = c} {x = x} {p = p} k hc b g) =
+      let sp = sound-proc g in
+      of-proc P _ _ (forms.outs-Inp c x p) (both-parts P _ _ (sound-expr hc) sp)
+  sound-proc (IsSoundProc.replicated {c = c} {x = x} {p = p} k hc b g) =
+      let sp = sound-proc g in
+      of-proc P _ _ (forms.outs-Rep c x p) (both-parts P _ _ (sound-expr hc) sp)
+  sound-proc {next = next} (IsSoundProc.agent {p = p} {q = q} g h) =
+      let sp = sound-proc g in
+      let sq = sound-proc h in
+      of-proc P _ _ (forms.outs-Agent next.binder p q) (both-parts P _ _ sp sq)
+  sound-proc (IsSoundProc.migrate {s = s} {p = p} hs g) =
+      let sp = sound-proc g in
+      of-proc P _ _ (forms.outs-Migrate s p) (both-parts P _ _ (sound-expr hs) sp)
+  sound-proc (IsSoundProc.iflocal {b = b} {c = c} {e = e} {p = p} {q = q} hb hc he g h) =
+      let sp = sound-proc g in
+      let sq = sound-proc h in
+      let operands = both-parts P _ _ (both-parts P _ _ (sound-expr hb) (sound-expr hc)) (sound-expr he) in
+      of-proc P _ _ (forms.outs-IfLocal b c e p q) (both-parts P _ _ (both-parts P _ _ operands sp) sq)
+  sound-proc (IsSoundProc.send {b = b} {s = s} {c = c} {e = e} hb hs hc he) =
+      let operands = both-parts P _ _ (both-parts P _ _ (sound-expr hb) (sound-expr hs)) (sound-expr hc) in
+      of-proc P _ _ (forms.outs-Send b s c e) (both-parts P _ _ operands (sound-expr he))
+  sound-proc (IsSoundProc.post {b = b} {c = c} {e = e} hb hc he) =
+      of-proc P _ _ (forms.outs-Post b c e) (both-parts P _ _ (both-parts P _ _ (sound-expr hb) (sound-expr hc)) (sound-expr he))
+  sound-proc (IsSoundProc.test {e = e} {p = p} {q = q} he g h) =
+      let sp = sound-proc g in
+      let sq = sound-proc h in
+      of-proc P _ _ (forms.outs-If e p q) (both-parts P _ _ (both-parts P _ _ (sound-expr he) sp) sq)
+  sound-proc (IsSoundProc.bind {x = x} {e = e} {p = p} k b he g) =
+      let sp = sound-proc g in
+      of-proc P _ _ (forms.outs-Let x e p) (both-parts P _ _ (sound-expr he) sp)
+  sound-proc (IsSoundProc.print {e = e} he) = of-proc P _ _ (forms.outs-Print e) (sound-expr he)
+
+-- main's process in a resolved program names no agent but main
+pub own-agents : (p : Program) → IsSound p → OwnAgents p
+own-agents p s = record { each = (sound-proc (length p.sites) s.main).each }
