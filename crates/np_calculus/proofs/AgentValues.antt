@@ -19,9 +19,9 @@ use Rattle.np_syntax.specs.declared.pattern.PatForm.{PatForm, PatForm-F, out-Pat
 use Rattle.np_tables.specs.Maybe.{all_some}
 use Rattle.np_tables.proofs.Maybe.{then, done}
 use Rattle.np_calculus.specs.Agents.{Agents, joined, value_step, value_agents, expr_step, expr_agents}
-use Rattle.np_calculus.specs.Eval.{Env, ValueLayer, Binding, as_agent, as_chan, as_places, as_tuple, as_letter, put_place, with_place}
-use Rattle.np_calculus.specs.Eval.{eval, eval_form, eval_step, operate_at, equal_at}
-use Rattle.np_calculus.specs.Eval.{agent_of, letter_of, bind, bind_form, bind_each, bind_step}
+use Rattle.np_eval.specs.Eval.{Env, ValueLayer, Binding, as_agent, as_chan, as_places, as_tuple, as_letter, put_place, with_place}
+use Rattle.np_eval.specs.Eval.{eval, eval_form, eval_step, operate_at, equal_at}
+use Rattle.np_eval.specs.Eval.{agent_of, letter_of, bind, bind_form, bind_each, bind_step}
 use Rattle.np_calculus.proofs.Trees.{With, ExprHyps, expr_of, expr_ind, PatHyps, pat_of, pat_ind}
 use Rattle.np_calculus.proofs.AgentForms.{Each, OfExpr, nobody, first-part, last-part, both-parts}
 

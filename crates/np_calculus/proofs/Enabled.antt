@@ -23,9 +23,9 @@ use Rattle.np_calculus.specs.declared.config.Atom.{Atom}
 use Rattle.np_calculus.specs.declared.config.Packet.{Packet}
 use Rattle.np_calculus.specs.declared.config.Place.TheVariants as place
 use Rattle.np_calculus.specs.Config.{Config}
-use Rattle.np_calculus.specs.Errands.{errand_at}
-use Rattle.np_calculus.specs.Eval.{eval, bind, chan_of, agent_of, truth_of, letter_of, places_of}
-use Rattle.np_calculus.specs.Forms.{Layer, layer, taken_on, as_stop, as_par, as_new, as_inp, as_rep, as_agent_form, as_migrate, as_iflocal, as_send, as_post, as_if, as_let, as_print, as_open, as_lookup}
+use Rattle.np_eval.specs.Errands.{errand_at}
+use Rattle.np_eval.specs.Eval.{eval, bind, chan_of, agent_of, truth_of, letter_of, places_of}
+use Rattle.np_eval.specs.Forms.{Layer, layer, taken_on, as_stop, as_par, as_new, as_inp, as_rep, as_agent_form, as_migrate, as_iflocal, as_send, as_post, as_if, as_let, as_print, as_open, as_lookup}
 use Rattle.np_calculus.specs.Reductions.{acting, apply, is_at, offered, role_index, same_tag, site_of, stop_row, fork_row, new_row, let_row, if_row, comm_row, rep_row, agent_row}
 use Rattle.np_calculus.specs.Reductions.{depart_row, arrive_row, found_here, found_away, local_row, send_row, land_row, print_row, open_row, lookup_row, post_row}
 use Rattle.np_calculus.specs.Serial.{AreNew, arrival, begun_by, event_at, landing, made_by, made_there}

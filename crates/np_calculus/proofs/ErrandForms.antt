@@ -11,10 +11,10 @@ use Rattle.np_tables.specs.declared.errand.Errand.TheVariants as errand
 use Rattle.np_tables.specs.Names.{NameMap}
 use Rattle.np_tables.specs.Mapped.{mapped}
 use Rattle.np_tables.proofs.Mapped.{get-mapped}
-use Rattle.np_calculus.specs.Eval.{Env, chan_of}
-use Rattle.np_calculus.specs.Forms.{Layer, given_on, taken_on}
+use Rattle.np_eval.specs.Eval.{Env, chan_of}
+use Rattle.np_eval.specs.Forms.{Layer, given_on, taken_on}
 use Rattle.np_calculus.specs.Idle.{waits}
-use Rattle.np_calculus.specs.Errands.{giving, taking, errand_at}
+use Rattle.np_eval.specs.Errands.{giving, taking, errand_at}
 
 -- an output and an input do not act alone
 pub giving_waits : (agent : Name) (o : Option Name) → giving agent o ≡ errand.Acts → ⊥

@@ -14,12 +14,12 @@ use Rattle.np_tables.proofs.Tables.{get-put, get-none, put_here, same_name-itsel
 use Rattle.np_calculus.specs.declared.config.Atom.{Atom}
 use Rattle.np_calculus.specs.declared.config.Place.{Place}
 use Rattle.np_calculus.specs.declared.config.Place.TheVariants as place
-use Rattle.np_calculus.specs.Eval.{Env, eval, bind, chan_of}
-use Rattle.np_calculus.specs.Forms.{as_print, as_inp}
+use Rattle.np_eval.specs.Eval.{Env, eval, bind, chan_of}
+use Rattle.np_eval.specs.Forms.{as_print, as_inp}
 use Rattle.np_calculus.specs.Reductions.{acting, apply, sends, offered, rep_row, depart_row, arrive_row}
 use Rattle.np_calculus.specs.Examples.{constant, number, prints, process, gives_five, prints_it, it, takes_it, keeps_taking, leaves, atom, agent_with, one, two, event, TwoPrints, Communication, Replication, Migration}
-use Rattle.np_calculus.proofs.Evals.{eval-form, eval-val}
-use Rattle.np_calculus.proofs.Binds.{bind-form, bind-bind}
+use Rattle.np_eval.proofs.Evals.{eval-form, eval-val}
+use Rattle.np_eval.proofs.Binds.{bind-form, bind-bind}
 use Rattle.np_calculus.proofs.Steps.{step-print, step-comm, step-offered}
 
 same_site : (s : ℕ) → nat_eq s s ≡ true

@@ -10,8 +10,9 @@ use Rattle.np_tables.specs.Stored.{Covers}
 use Rattle.np_calculus.specs.declared.config.Atom.{Atom}
 use Rattle.np_calculus.specs.declared.config.Place.{Place}
 use Rattle.np_calculus.specs.declared.config.Place.TheVariants as place
-use Rattle.np_calculus.specs.Errands.{errand_at, errand_of}
-use Rattle.np_calculus.specs.Forms.{layer}
+use Rattle.np_eval.specs.Errands.{errand_at}
+use Rattle.np_calculus.specs.Errands.{errand_of}
+use Rattle.np_eval.specs.Forms.{layer}
 use Rattle.np_calculus.specs.Going.{GivesAt, AnyGives, GoesOn, AnyGoesOn}
 
 -- what does not hold of the first so many names of a table that covers a map holds of no name of the map

@@ -17,8 +17,8 @@ use Rattle.np_calculus.specs.declared.config.Packet.{Packet}
 use Rattle.np_calculus.specs.declared.config.Place.{Place}
 use Rattle.np_calculus.specs.Agents.{Agents}
 use Rattle.np_calculus.specs.Config.{Config}
-use Rattle.np_calculus.specs.Eval.{Env, eval, chan_of}
-use Rattle.np_calculus.specs.Forms.{layer, as_out}
+use Rattle.np_eval.specs.Eval.{Env, eval, chan_of}
+use Rattle.np_eval.specs.Forms.{layer, as_out}
 use Rattle.np_calculus.specs.Reductions.{goes, goes_under, sends, offered, output, output_in, found_on}
 use Rattle.np_calculus.proofs.Steps.{offered-step}
 use Rattle.np_calculus.proofs.AgentForms.{Each, OfProc, of-proc, both-parts, out-parts}

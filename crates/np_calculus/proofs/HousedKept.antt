@@ -13,7 +13,7 @@ use Rattle.np_calculus.specs.declared.config.Atom.{Atom}
 use Rattle.np_calculus.specs.declared.config.Place.{Place}
 use Rattle.np_calculus.specs.declared.config.Place.TheVariants as place
 use Rattle.np_calculus.specs.Config.{Config}
-use Rattle.np_calculus.specs.Eval.{find_place}
+use Rattle.np_eval.specs.Eval.{find_place}
 use Rattle.np_calculus.specs.Reductions.{acting, goes, output_in, is_at, found_here, found_away, row, stop_row, fork_row, new_row, let_row, if_row}
 use Rattle.np_calculus.specs.Reductions.{comm_row, rep_row, agent_row, depart_row, arrive_row, local_row, send_row, land_row}
 use Rattle.np_calculus.specs.Reductions.{print_row, open_row, lookup_row, post_row}

@@ -17,8 +17,8 @@ use Rattle.np_calculus.specs.declared.config.Packet.{Packet}
 use Rattle.np_calculus.specs.declared.config.Place.{Place}
 use Rattle.np_calculus.specs.declared.config.Place.TheVariants as place
 use Rattle.np_calculus.specs.Config.{Config}
-use Rattle.np_calculus.specs.Eval.{Env, eval, bind, chan_of, agent_of, truth_of, letter_of, places_of, find_place}
-use Rattle.np_calculus.specs.Forms.{layer, as_agent_form, as_migrate, as_iflocal, as_send, as_post, as_if, as_let, as_open, as_lookup}
+use Rattle.np_eval.specs.Eval.{Env, eval, bind, chan_of, agent_of, truth_of, letter_of, places_of, find_place}
+use Rattle.np_eval.specs.Forms.{layer, as_agent_form, as_migrate, as_iflocal, as_send, as_post, as_if, as_let, as_open, as_lookup}
 use Rattle.np_calculus.specs.Reductions.{acting, way, same_tag, none_made, one_made, two_made, no_other, fresh, site_of, goes, goes_under, output_in, is_at, let_row}
 use Rattle.np_calculus.specs.Reductions.{if_row, agent_row, depart_row, arrive_row, found_here, found_away, local_row, send_row, land_row, open_row, found_on, lookup_row, post_row}
 

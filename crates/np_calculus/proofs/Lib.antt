@@ -1,14 +1,8 @@
 pub mod AgentForms
 pub mod AgentValues
-pub mod Binds
-pub mod Chans
 pub mod Enabled
 pub mod ErrandForms
-pub mod Evals
 pub mod ExampleRuns
-pub mod FittingPatterns
-pub mod FittingShapes
-pub mod FittingTuples
 pub mod Goings
 pub mod Housed
 pub mod HousedAtoms
@@ -17,7 +11,6 @@ pub mod Inversions
 pub mod Keeping
 pub mod NewOutputs
 pub mod NotEnabled
-pub mod Overlays
 pub mod OwnNames
 pub mod RestTests
 pub mod Rests

@@ -17,10 +17,11 @@ use Rattle.np_tables.specs.Names.{NameMap, NameSet, same_name}
 use Rattle.np_tables.proofs.Tables.{get-put, same_name-is}
 use Rattle.np_calculus.specs.declared.config.Atom.{Atom}
 use Rattle.np_calculus.specs.declared.config.Packet.{Packet}
-use Rattle.np_calculus.specs.Eval.{Env, as_chan, chan_of}
-use Rattle.np_calculus.specs.Errands.{IsKept, errand_at, errand_of, giving}
+use Rattle.np_eval.specs.Eval.{Env, as_chan, chan_of}
+use Rattle.np_eval.specs.Errands.{errand_at, giving}
+use Rattle.np_calculus.specs.Errands.{IsKept, errand_of}
 use Rattle.np_calculus.specs.Reductions.{output_in}
-use Rattle.np_calculus.proofs.Evals.{eval-form, eval-val}
+use Rattle.np_eval.proofs.Evals.{eval-form, eval-val}
 use Rattle.np_calculus.proofs.Keeping.{kept-mark, kept-put, kept-more}
 
 -- a value as an expression, as it stands in an output that is made

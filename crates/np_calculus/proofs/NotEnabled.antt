@@ -23,13 +23,13 @@ use Rattle.np_calculus.specs.declared.config.Atom.{Atom}
 use Rattle.np_calculus.specs.declared.config.Packet.{Packet}
 use Rattle.np_calculus.specs.declared.config.Place.TheVariants as place
 use Rattle.np_calculus.specs.Config.{Config}
-use Rattle.np_calculus.specs.Eval.{Env, eval, bind, as_site, chan_of, truth_of}
-use Rattle.np_calculus.specs.Forms.{layer, as_stop, as_par, as_new, as_inp, as_rep, as_agent_form, as_migrate, as_iflocal, as_send, as_post, as_if, as_let, as_print, as_open, as_lookup}
+use Rattle.np_eval.specs.Eval.{Env, eval, bind, as_site, chan_of, truth_of}
+use Rattle.np_eval.specs.Forms.{layer, as_stop, as_par, as_new, as_inp, as_rep, as_agent_form, as_migrate, as_iflocal, as_send, as_post, as_if, as_let, as_print, as_open, as_lookup}
 use Rattle.np_calculus.specs.Reductions.{acting, same_tag, none_made, no_other, sends, offered, row}
 use Rattle.np_calculus.specs.Reductions.{stop_row, fork_row, new_row, let_row, if_row, comm_row, rep_row, agent_row, depart_row, arrive_row, local_row, send_row, land_row, print_row, open_row, lookup_row, post_row}
 use Rattle.np_calculus.specs.NotEnabled.{by_atom, asked}
-use Rattle.np_calculus.proofs.Evals.{eval-form, eval-var}
-use Rattle.np_calculus.proofs.Binds.{bind-form, bind-tuple}
+use Rattle.np_eval.proofs.Evals.{eval-form, eval-var}
+use Rattle.np_eval.proofs.Binds.{bind-form, bind-tuple}
 
 none_after : {A B : Type 0} (o : Option A) (f : A → Option B) → ((a : A) → f a ≡ None) → (o >>= f) ≡ None
 none_after None f h = refl

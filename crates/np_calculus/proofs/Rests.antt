@@ -13,11 +13,12 @@ use Rattle.np_calculus.specs.declared.config.Packet.{Packet}
 use Rattle.np_calculus.specs.declared.config.Place.{Place}
 use Rattle.np_calculus.specs.declared.config.Place.TheVariants as place
 use Rattle.np_calculus.specs.Config.{Config}
-use Rattle.np_calculus.specs.Forms.{layer}
+use Rattle.np_eval.specs.Forms.{layer}
 use Rattle.np_calculus.specs.Reductions.{way}
 use Rattle.np_calculus.specs.Going.{AnyGoesOn}
 use Rattle.np_calculus.specs.Idle.{HasWork, HasMeeting, HasPacket, HasArrival, HasAgent, Idle, IsHoused, NoneTravels}
-use Rattle.np_calculus.specs.Errands.{errand_at, errand_of}
+use Rattle.np_eval.specs.Errands.{errand_at}
+use Rattle.np_calculus.specs.Errands.{errand_of}
 use Rattle.np_calculus.proofs.ErrandForms.{free-acts, acts-free, given-errand, taken-errand, gives-form, takes-form, mapped_from}
 
 module _ (c : Config) (agent : Name) where

@@ -34,8 +34,8 @@ use Rattle.np_calculus.specs.declared.config.Place.{Place}
 use Rattle.np_calculus.specs.declared.config.Place.TheVariants as place
 use Rattle.np_calculus.specs.Config.{Config}
 use Rattle.np_calculus.specs.Errands.{errand_of}
-use Rattle.np_calculus.specs.Eval.{Env, agent_of, chan_of}
-use Rattle.np_calculus.specs.Forms.{Layer, layer, given_on}
+use Rattle.np_eval.specs.Eval.{Env, agent_of, chan_of}
+use Rattle.np_eval.specs.Forms.{Layer, layer, given_on}
 use Rattle.np_calculus.specs.Idle.{Idle, IsHoused, NoneTravels}
 use Rattle.np_calculus.specs.Reductions.{apply, row, run, none_made, one_made, two_made, is_at, found_here, found_away, sends, offered}
 use Rattle.np_calculus.specs.Serial.{AreFresh, AreNew, IsEnabled, IsReached, IsSerialRun, MakesAtMost, RunsWell, Stands, actor_of, begun_by, event_at, made_by, made_there, taken_by}

@@ -16,8 +16,8 @@ use Rattle.np_tables.proofs.Maybe.{then, when, done}
 use Rattle.np_calculus.specs.declared.config.Atom.{Atom}
 use Rattle.np_calculus.specs.declared.config.Place.{Place}
 use Rattle.np_calculus.specs.Config.{Config}
-use Rattle.np_calculus.specs.Eval.{Env, eval, bind, chan_of}
-use Rattle.np_calculus.specs.Forms.{Layer, layer, as_stop, as_par, as_new, as_inp, as_rep, as_print}
+use Rattle.np_eval.specs.Eval.{Env, eval, bind, chan_of}
+use Rattle.np_eval.specs.Forms.{Layer, layer, as_stop, as_par, as_new, as_inp, as_rep, as_print}
 use Rattle.np_syntax.specs.declared.process.ProcForm.{ProcForm-F}
 use Rattle.np_calculus.specs.Moves.{body_at}
 use Rattle.np_calculus.specs.Reductions.{acting, at, same_tag, none_made, one_made, no_other, fresh, goes, goes_under, sends, offered, stop_row, fork_row, new_row, comm_row, rep_row, print_row}

@@ -10,8 +10,8 @@ use Rattle.np_tables.specs.Maybe.{◌>>=◌}
 use Rattle.np_tables.specs.declared.errand.Errand.{Errand}
 use Rattle.np_calculus.specs.declared.config.Atom.{Atom}
 use Rattle.np_calculus.specs.Config.{Config}
-use Rattle.np_calculus.specs.Eval.{Env}
-use Rattle.np_calculus.specs.Forms.{Layer, layer, as_iflocal, as_lookup}
+use Rattle.np_eval.specs.Eval.{Env}
+use Rattle.np_eval.specs.Forms.{Layer, layer, as_iflocal, as_lookup}
 use Rattle.np_calculus.specs.Found.{IsAsked, IsLooked, found_env}
 use Rattle.np_calculus.specs.Moves.{way_at, way_in}
 use Rattle.np_calculus.specs.Reductions.{goes_under, found_on, found_here, found_away, local_row, one_made, none_made, fresh}

@@ -23,7 +23,7 @@ use Rattle.np_calculus.specs.declared.config.Place.{Place}
 use Rattle.np_calculus.specs.declared.config.Place.TheVariants as place
 use Rattle.np_tables.specs.Names.{NameMap, same_name}
 use Rattle.np_calculus.specs.Config.{Config}
-use Rattle.np_calculus.specs.Eval.{Env}
+use Rattle.np_eval.specs.Eval.{Env}
 use Rattle.np_calculus.specs.Reductions.{apply, run}
 
 abbrev pub plain : Tag

@@ -10,9 +10,9 @@ use Rattle.np_syntax.specs.declared.event.Event.{Event}
 use Rattle.np_tables.specs.declared.errand.Errand.{Errand}
 use Rattle.np_calculus.specs.declared.config.Atom.{Atom}
 use Rattle.np_calculus.specs.Config.{Config}
-use Rattle.np_calculus.specs.Eval.{Env, eval, chan_of, agent_of, places_of, find_place}
-use Rattle.np_calculus.specs.Forms.{layer, as_iflocal, as_lookup}
-use Rattle.np_calculus.specs.Errands.{errand_at}
+use Rattle.np_eval.specs.Eval.{Env, eval, chan_of, agent_of, places_of, find_place}
+use Rattle.np_eval.specs.Forms.{layer, as_iflocal, as_lookup}
+use Rattle.np_eval.specs.Errands.{errand_at}
 use Rattle.np_calculus.specs.Reductions.{acting, none_made, no_other, goes_under, found_on, is_at}
 
 -- an environment with the channel that was found as a binder's value, if one was

@@ -12,8 +12,8 @@ use Rattle.np_calculus.specs.declared.config.Place.TheVariants as place
 use Rattle.np_tables.specs.Names.{NameMap}
 use Rattle.np_calculus.specs.Reductions.{way}
 use Rattle.np_calculus.specs.Config.{Config}
-use Rattle.np_calculus.specs.Eval.{chan_of}
-use Rattle.np_calculus.specs.Forms.{Layer, layer, given_on, taken_on}
+use Rattle.np_eval.specs.Eval.{chan_of}
+use Rattle.np_eval.specs.Forms.{Layer, layer, given_on, taken_on}
 
 -- an output, an input and a replicated input wait; every other form acts alone
 abbrev pub waits : Layer → Bool

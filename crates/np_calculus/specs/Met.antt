@@ -9,9 +9,9 @@ use Rattle.np_syntax.specs.declared.event.Event.{Event}
 use Rattle.np_tables.specs.declared.errand.Errand.{Errand}
 use Rattle.np_calculus.specs.declared.config.Atom.{Atom}
 use Rattle.np_calculus.specs.Config.{Config}
-use Rattle.np_calculus.specs.Eval.{Env, bind, chan_of}
-use Rattle.np_calculus.specs.Forms.{layer, as_inp, as_rep}
-use Rattle.np_calculus.specs.Errands.{errand_at}
+use Rattle.np_eval.specs.Eval.{Env, bind, chan_of}
+use Rattle.np_eval.specs.Forms.{layer, as_inp, as_rep}
+use Rattle.np_eval.specs.Errands.{errand_at}
 use Rattle.np_calculus.specs.Reductions.{acting, none_made, offered, goes_under}
 
 -- the row of a communication is met: the input takes the output of the mark, and goes on under the environment, with

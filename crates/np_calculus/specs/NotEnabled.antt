@@ -20,8 +20,8 @@ use Rattle.np_calculus.specs.declared.config.Packet.{Packet}
 use Rattle.np_calculus.specs.declared.config.Place.TheVariants as place
 use Rattle.np_tables.specs.Names.{same_name}
 use Rattle.np_calculus.specs.Config.{Config}
-use Rattle.np_calculus.specs.Eval.{Env, eval, bind, as_site, chan_of, truth_of}
-use Rattle.np_calculus.specs.Forms.{Layer, layer, as_stop, as_par, as_new, as_inp, as_rep, as_agent_form, as_migrate, as_iflocal, as_send, as_post, as_if, as_let, as_print, as_open, as_lookup}
+use Rattle.np_eval.specs.Eval.{Env, eval, bind, as_site, chan_of, truth_of}
+use Rattle.np_eval.specs.Forms.{Layer, layer, as_stop, as_par, as_new, as_inp, as_rep, as_agent_form, as_migrate, as_iflocal, as_send, as_post, as_if, as_let, as_print, as_open, as_lookup}
 use Rattle.np_calculus.specs.Reductions.{acting, same_tag, sends, row, stop_row, fork_row, let_row, if_row, comm_row, agent_row, depart_row, arrive_row, land_row, print_row}
 
 -- an arrival and a landing have no acting atom

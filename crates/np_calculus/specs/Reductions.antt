@@ -24,8 +24,8 @@ use Rattle.np_calculus.specs.declared.config.Place.TheVariants as place
 use Rattle.np_tables.specs.Maybe.{◌>>=◌, ◌>>◌, need}
 use Rattle.np_tables.specs.Names.{same_name}
 use Rattle.np_calculus.specs.Config.{Config}
-use Rattle.np_calculus.specs.Eval.{Env, eval, bind, as_site, chan_of, agent_of, truth_of, letter_of, places_of, find_place}
-use Rattle.np_calculus.specs.Forms.{layer, as_stop, as_par, as_new, as_out, as_inp, as_rep, as_agent_form, as_migrate, as_iflocal, as_send, as_post, as_if, as_let, as_print, as_open, as_lookup}
+use Rattle.np_eval.specs.Eval.{Env, eval, bind, as_site, chan_of, agent_of, truth_of, letter_of, places_of, find_place}
+use Rattle.np_eval.specs.Forms.{layer, as_stop, as_par, as_new, as_out, as_inp, as_rep, as_agent_form, as_migrate, as_iflocal, as_send, as_post, as_if, as_let, as_print, as_open, as_lookup}
 
 abbrev pub role_index : Role → ℕ
 role_index role.Plain = 0

@@ -26,8 +26,8 @@ use Rattle.np_calculus.specs.declared.step.Step.TheVariants as step
 use Rattle.np_calculus.specs.Agents.{OwnAgents}
 use Rattle.np_calculus.specs.Config.{Config}
 use Rattle.np_calculus.specs.Errands.{errand_of}
-use Rattle.np_calculus.specs.Eval.{Env, agent_of}
-use Rattle.np_calculus.specs.Forms.{Layer}
+use Rattle.np_eval.specs.Eval.{Env, agent_of}
+use Rattle.np_eval.specs.Forms.{Layer}
 use Rattle.np_calculus.specs.Idle.{Idle, NoneTravels}
 use Rattle.np_calculus.specs.Reductions.{apply, is_at, run}
 use Rattle.np_calculus.specs.Starts.{start_high}

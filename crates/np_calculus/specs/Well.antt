@@ -11,8 +11,8 @@ use Rattle.np_syntax.specs.declared.process.ProcForm.{ProcForm-F}
 use Rattle.np_syntax.specs.declared.event.Event.{Event}
 use Rattle.np_calculus.specs.declared.config.Atom.{Atom}
 use Rattle.np_calculus.specs.Config.{Config}
-use Rattle.np_calculus.specs.Eval.{Env, eval, bind, chan_of, agent_of, truth_of, letter_of, places_of}
-use Rattle.np_calculus.specs.Forms.{Layer, layer, taken_on}
+use Rattle.np_eval.specs.Eval.{Env, eval, bind, chan_of, agent_of, truth_of, letter_of, places_of}
+use Rattle.np_eval.specs.Forms.{Layer, layer, taken_on}
 use Rattle.np_calculus.specs.Reductions.{site_of, sends, run}
 
 -- there is one

@@ -4,12 +4,8 @@ ghost use Rattle.np_calculus.specs.Applied.{Applied};
 use super::cfg::Cfg;
 use super::fail::ApplyFail::{self, NotEnabled};
 use super::moves::{chosen, enter, go_on, split};
-use super::operands::{errand_of, truth_of};
-use super::patterns::bind;
-use super::values::eval;
-use super::views::{
-    as_if, as_let, as_new, as_par, as_print, as_stop, no_other, none_made, one_made,
-};
+use super::views::{no_other, none_made, one_made};
+use np_eval::{as_if, as_let, as_new, as_par, as_print, as_stop, bind, errand_of, eval, truth_of};
 use np_syntax::{Event, Value};
 use std::alloc::Global;
 

@@ -6,12 +6,10 @@ ghost use Rattle.np_calculus.specs.Reductions.{acting, fresh, is_at, offered, si
 ghost use Rattle.np_calculus.specs.Serial.{IsNext};
 
 use super::config::{Atom, Packet, Place};
-use super::frame::Frame;
 use super::going::any_goes_on;
-use super::operands::chan_of;
 use super::places::Places;
 use super::step::Step;
-use super::values::eval;
+use np_eval::{Frame, chan_of, eval};
 use np_syntax::{Event, Expr, List, Memory, Name, ProcForm, Value};
 use np_tables::{Names, Table, WorkLists};
 use std::alloc::Global;

@@ -2,13 +2,13 @@ ghost use Rattle.std.specs.Prelude.{◌≡◌, Some, IfOk};
 ghost use Rattle.std.specs.FinMap as map;
 ghost use Rattle.np_calculus.specs.declared.config.Place.TheVariants as place;
 ghost use Rattle.np_calculus.specs.declared.step.Step.TheVariants as step;
-ghost use Rattle.np_calculus.specs.Forms.{layer};
+ghost use Rattle.np_eval.specs.Forms.{layer};
 ghost use Rattle.np_calculus.specs.Serial.{AreNew, IsEnabled, IsNext, IsReached, Stands, actor_of, arrival, begun_by, landing, made_by, made_there, taken_by};
 
 use super::cfg::Cfg;
 use super::config::{Atom, Packet, Place};
-use super::operands::agent_of;
 use super::step::Step;
+use np_eval::agent_of;
 use np_syntax::{Event, Kind, Made, Memory, Name, Proc, ProcForm, Role, Tag};
 use np_tables::Ready;
 use std::alloc::Global;

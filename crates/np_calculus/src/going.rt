@@ -2,8 +2,8 @@ ghost use Rattle.std.specs.Prelude.{◌↔◌, IsTrue};
 ghost use Rattle.np_calculus.specs.Going.{GivesAt, AnyGives, GoesOn, AnyGoesOn};
 
 use super::config::Atom;
-use super::operands::errand_of;
 use super::places::Places;
+use np_eval::errand_of;
 use np_syntax::Name;
 use np_tables::{Errand, Meeting, Table};
 

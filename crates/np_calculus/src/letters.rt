@@ -5,11 +5,10 @@ ghost use Rattle.np_calculus.specs.Found.{IsLooked, found_env};
 
 use super::cfg::Cfg;
 use super::fail::ApplyFail::{self, NotEnabled};
-use super::frame::Frame;
 use super::moves::{chosen, go_under};
-use super::operands::{agent_of, errand_of, find_place, letter_of, places_of};
 use super::outputs::output_in;
-use super::views::{as_lookup, as_open, no_other, none_made};
+use super::views::{no_other, none_made};
+use np_eval::{Frame, agent_of, as_lookup, as_open, errand_of, find_place, letter_of, places_of};
 use np_syntax::{Event, Memory, Name, Value};
 use np_tables::{Errand, Meeting};
 use std::alloc::Global;

@@ -7,12 +7,9 @@ use super::cfg::Cfg;
 use super::config::Packet;
 use super::fail::ApplyFail::{self, NotEnabled};
 use super::moves::{chosen, go_on};
-use super::operands::{agent_of, chan_of, errand_of};
 use super::outputs::output_in;
-use super::values::eval;
-use super::views::{
-    as_iflocal, as_post, as_send, no_other, none_made, one_made, one_site, one_tag,
-};
+use super::views::{no_other, none_made, one_made, one_site, one_tag};
+use np_eval::{agent_of, as_iflocal, as_post, as_send, chan_of, errand_of, eval};
 use np_syntax::{Event, Memory, Name, Value};
 use np_tables::{Errand, Meeting};
 use std::alloc::Global;

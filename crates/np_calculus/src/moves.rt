@@ -1,11 +1,11 @@
 ghost use Rattle.std.specs.Prelude.{◌≡◌, ◌≤◌, cond, IsSome, option_map};
 ghost use Rattle.np_calculus.specs.Moves.{Splits, par_in, body_at, body_in, Enters, way_at, way_in, GoesOn, GoesUnder, agent_in, Founds};
 ghost use Rattle.np_syntax.specs.declared.process.ProcForm.{out-ProcForm};
-ghost use Rattle.np_calculus.specs.Forms.{layer, as_par, as_agent_form};
+ghost use Rattle.np_eval.specs.Forms.{layer, as_par, as_agent_form};
 ghost use Rattle.np_calculus.specs.Reductions.{goes, goes_under};
 
 use super::config::Atom;
-use super::frame::Frame;
+use np_eval::Frame;
 use np_syntax::{Boxed, Name, Proc, ProcForm};
 use np_tables::Table;
 

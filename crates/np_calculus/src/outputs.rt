@@ -2,7 +2,7 @@ ghost use Rattle.std.specs.Prelude.{◌≡◌};
 ghost use Rattle.np_calculus.specs.Reductions.{output_in};
 
 use super::config::Atom;
-use super::frame::Frame;
+use np_eval::Frame;
 use np_syntax::{Expr, ExprForm, Name, Proc, ProcForm, Tag, Value};
 use std::alloc::Global;
 

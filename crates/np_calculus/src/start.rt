@@ -4,9 +4,8 @@ ghost use Rattle.np_calculus.specs.Starts.{start_high, own, with_all};
 
 use super::cfg::Cfg;
 use super::config::{Atom, Place};
-use super::frame::Frame;
-use super::operands::errand_of;
 use super::places::Places;
+use np_eval::{Frame, errand_of};
 use np_syntax::{List, Memory, Name, Program};
 use np_tables::{Names, Table, WorkLists};
 use std::alloc::Global;

@@ -5,10 +5,8 @@ use super::cfg::Cfg;
 use super::config::Place;
 use super::fail::ApplyFail::{self, NotEnabled};
 use super::moves::{found, go_on};
-use super::operands::errand_of;
-use super::views::{
-    as_agent_form, as_migrate, no_other, none_made, one_site, one_tag, two_made, two_names, way,
-};
+use super::views::{no_other, none_made, one_site, one_tag, two_made, two_names, way};
+use np_eval::{as_agent_form, as_migrate, errand_of};
 use np_syntax::{Event, Role, Tag, Value};
 use std::alloc::Global;
 

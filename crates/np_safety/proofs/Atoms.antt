@@ -28,8 +28,8 @@ use Rattle.np_types.proofs.Leasts.{least-form, least-val, output-parts}
 use Rattle.np_calculus.specs.declared.config.Atom.{Atom}
 use Rattle.np_calculus.specs.declared.config.Packet.{Packet}
 use Rattle.np_calculus.specs.Config.{Config}
-use Rattle.np_calculus.specs.Eval.{Env, eval, bind, chan_of, letter_of, places_of, as_letter, as_places}
-use Rattle.np_calculus.specs.Forms.{layer, as_out}
+use Rattle.np_eval.specs.Eval.{Env, eval, bind, chan_of, letter_of, places_of, as_letter, as_places}
+use Rattle.np_eval.specs.Forms.{layer, as_out}
 use Rattle.np_calculus.specs.Reductions.{sends, offered, output_in}
 use Rattle.np_calculus.specs.Reductions as made
 use Rattle.np_calculus.proofs.Steps.{offered-step}

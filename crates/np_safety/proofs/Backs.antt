@@ -11,7 +11,7 @@ use Rattle.std.proofs.Common.{Bool}
 use Rattle.np_types.specs.Worlds.{World}
 use Rattle.np_types.specs.Least.{Types, input, least_of}
 use Rattle.np_types.proofs.Leasts.{output-parts, input-parts}
-use Rattle.np_calculus.specs.Forms.{Layer, layer}
+use Rattle.np_eval.specs.Forms.{Layer, layer}
 use Rattle.np_check.specs.Faults.{Checking, is_of, is_printable, is_output, with_names, is_for_channels, check_new, check_input}
 use Rattle.np_check.specs.Faults.{check_migrate, check_send, check_post, check_let, check_places, check_step, check}
 use Rattle.np_safety.proofs.Forms.{GoodForm, Tested, Sending, Taking, Naming, Letting, Saying, Good, check-out, checks}

@@ -31,7 +31,7 @@ use Rattle.np_types.proofs.Subs.{sub-out, sub-trans}
 use Rattle.np_types.proofs.Below.{site_below}
 use Rattle.np_types.proofs.ValueTypes.{kind-out}
 use Rattle.np_types.proofs.Leasts.{least_layer, least-out}
-use Rattle.np_calculus.specs.Eval.{Env, eval, eval_form, eval_step, operate, operate_at, equal_at, same_truth, put_place, pack, with_place}
+use Rattle.np_eval.specs.Eval.{Env, eval, eval_form, eval_step, operate, operate_at, equal_at, same_truth, put_place, pack, with_place}
 use Rattle.np_safety.specs.Fits.{Fits}
 use Rattle.np_safety.proofs.Fitting.{Agrees, Valued}
 use Rattle.np_safety.proofs.Passed.{then, when, done, ensured, wanted}

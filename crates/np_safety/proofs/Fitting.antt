@@ -10,7 +10,7 @@ use Rattle.np_types.specs.Least.{Types}
 use Rattle.np_calculus.specs.declared.config.Atom.{Atom}
 use Rattle.np_calculus.specs.declared.config.Packet.{Packet}
 use Rattle.np_calculus.specs.Config.{Config}
-use Rattle.np_calculus.specs.Eval.{Env}
+use Rattle.np_eval.specs.Eval.{Env}
 use Rattle.np_check.specs.Faults.{check}
 use Rattle.np_safety.specs.Fits.{Fits, Sent, LeastTypes}
 

@@ -16,8 +16,8 @@ use Rattle.np_types.specs.Checks.{◌>>=◌, ◌>>◌, ensure}
 use Rattle.np_types.specs.Worlds.{World}
 use Rattle.np_types.specs.Least.{Types, least, least_of, channel, input}
 use Rattle.np_types.specs.Covers.{cover}
-use Rattle.np_calculus.specs.Forms.{Layer, layer, as_par, as_new, as_out, as_inp, as_rep, as_agent_form}
-use Rattle.np_calculus.specs.Forms.{as_migrate, as_iflocal, as_send, as_post, as_if, as_let, as_open, as_lookup}
+use Rattle.np_eval.specs.Forms.{Layer, layer, as_par, as_new, as_out, as_inp, as_rep, as_agent_form}
+use Rattle.np_eval.specs.Forms.{as_migrate, as_iflocal, as_send, as_post, as_if, as_let, as_open, as_lookup}
 use Rattle.np_check.specs.Faults.{Checking, is_of, is_printable, is_output, with_names, is_channel, is_for_channels, check_new, check_input}
 use Rattle.np_check.specs.Faults.{check_migrate, check_send, check_post, check_let, check_places, lock_type, check_step, check, check_form}
 use Rattle.np_safety.proofs.Passed.{then, when, done, ensured, wanted}

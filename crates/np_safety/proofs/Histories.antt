@@ -18,7 +18,7 @@ use Rattle.np_types.specs.Sub.{as_chan}
 use Rattle.np_types.specs.Worlds.{World}
 use Rattle.np_calculus.specs.declared.config.Atom.{Atom}
 use Rattle.np_calculus.specs.Config.{Config}
-use Rattle.np_calculus.specs.Forms.{layer, as_new}
+use Rattle.np_eval.specs.Forms.{layer, as_new}
 use Rattle.np_calculus.specs.Reductions.{acting, one_made, is_at, found_here, found_away, row, apply, run}
 use Rattle.np_calculus.proofs.Steps.{stop-step, fork-step, new-step, comm-step, rep-step, print-step}
 use Rattle.np_safety.specs.Channels.{Channels, makes_at, noted, after, channels_after}

@@ -21,7 +21,7 @@ use Rattle.np_types.proofs.Bools.{and-out}
 use Rattle.np_types.proofs.Subs.{chan-again}
 use Rattle.np_calculus.specs.declared.config.Atom.{Atom}
 use Rattle.np_calculus.specs.Config.{Config}
-use Rattle.np_calculus.specs.Eval.{Env, find_place}
+use Rattle.np_eval.specs.Eval.{Env, find_place}
 use Rattle.np_calculus.specs.Reductions.{acting, goes, output_in, found_here, found_away, found_on, row, stop_row, fork_row, new_row, let_row, if_row}
 use Rattle.np_calculus.specs.Reductions.{comm_row, rep_row, agent_row, depart_row, arrive_row, local_row, send_row, land_row, print_row, open_row, lookup_row, post_row}
 use Rattle.np_calculus.proofs.Steps.{acting-step, stop-step, fork-step, new-step, comm-step, rep-step, print-step, Renews}

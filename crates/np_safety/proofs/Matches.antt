@@ -13,7 +13,7 @@ use Rattle.np_types.specs.Least.{Types}
 use Rattle.np_types.specs.Covers.{Covering, cover, cover_each, cover_step}
 use Rattle.np_types.proofs.Trees.{With, PatHyps, pat_of, pat_ind}
 use Rattle.np_types.proofs.Covers.{cover_layer, cover-out}
-use Rattle.np_calculus.specs.Eval.{Env, Binding, bind, bind_form, bind_each, bind_step}
+use Rattle.np_eval.specs.Eval.{Env, Binding, bind, bind_form, bind_each, bind_step}
 use Rattle.np_safety.specs.Fits.{Fits, LeastOf}
 use Rattle.np_safety.proofs.Fitting.{Agrees, FitAll, Known, Valued}
 use Rattle.np_safety.proofs.Passed.{then, when, take, done}

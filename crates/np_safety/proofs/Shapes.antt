@@ -14,7 +14,7 @@ use Rattle.np_types.proofs.Bools.{and-out}
 use Rattle.np_types.proofs.Subs.{sub-itself, sub-trans}
 use Rattle.np_types.proofs.Below.{int_below, bool_below, str_below, site_below, agent_below, letter_below, places_below, chan_below, tuple_below}
 use Rattle.np_types.proofs.ValueTypes.{kind-out}
-use Rattle.np_calculus.specs.Eval.{ValueLayer}
+use Rattle.np_eval.specs.Eval.{ValueLayer}
 use Rattle.np_safety.specs.Fits.{Fits}
 use Rattle.np_safety.proofs.Fitting.{FitAll}
 

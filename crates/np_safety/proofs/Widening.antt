@@ -8,7 +8,7 @@ use Rattle.np_types.specs.Least.{Types}
 use Rattle.np_types.proofs.Subs.{sub-itself}
 use Rattle.np_calculus.specs.declared.config.Atom.{Atom}
 use Rattle.np_calculus.specs.Config.{Config}
-use Rattle.np_calculus.specs.Eval.{Env}
+use Rattle.np_eval.specs.Eval.{Env}
 use Rattle.np_safety.specs.Fits.{Fits, LeastOf, Sent}
 use Rattle.np_safety.proofs.Fitting.{Valued, Agrees, FittingAtom, Fitting}
 use Rattle.np_safety.proofs.Narrowing.{Wider, Narrower, same-kind, weaker}

@@ -8,7 +8,7 @@ use Rattle.np_syntax.specs.declared.types.Ty.{Ty}
 use Rattle.np_types.specs.Sub.{writes, sub}
 use Rattle.np_types.specs.Worlds.{World, kind}
 use Rattle.np_types.specs.Least.{Types}
-use Rattle.np_calculus.specs.Eval.{Env}
+use Rattle.np_eval.specs.Eval.{Env}
 
 -- the value's least type is below the type
 pub record Fits (w : World) (v : Value) (t : Ty) : Type 0 where

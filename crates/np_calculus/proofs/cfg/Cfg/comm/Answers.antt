@@ -5,7 +5,7 @@ use Rattle.np_tables.specs.Errands.{Work}
 use Rattle.np_calculus.specs.contracts.cfg.Cfg.{the_view}
 use Rattle.np_calculus.specs.declared.config.Atom.{Atom}
 use Rattle.np_calculus.specs.Config.{Config}
-use Rattle.np_calculus.specs.Forms.{layer}
+use Rattle.np_eval.specs.Forms.{layer}
 use Rattle.np_calculus.specs.Met.{IsMet}
 use Rattle.np_calculus.specs.Reductions.{goes_under}
 use Rattle.np_calculus.proofs.Keeping.{kept-on, kept-cut, kept-as}

@@ -11,8 +11,8 @@ use Rattle.np_calculus.specs.declared.config.Place.{Place}
 use Rattle.np_calculus.specs.declared.config.Place.TheVariants as place
 use Rattle.np_calculus.specs.Config.{Config}
 use Rattle.np_calculus.specs.contracts.cfg.Cfg.{the_view}
-use Rattle.np_calculus.specs.Eval.{Env}
-use Rattle.np_calculus.specs.Forms.{layer, as_agent_form}
+use Rattle.np_eval.specs.Eval.{Env}
+use Rattle.np_eval.specs.Forms.{layer, as_agent_form}
 use Rattle.np_calculus.specs.Moves.{agent_in}
 use Rattle.np_calculus.specs.Reductions.{acting, goes_under}
 use Rattle.np_calculus.proofs.Inversions.{step-agent}

@@ -2,7 +2,7 @@ use Rattle.std.proofs.Common.{◌≡◌, true, Some, rules, refl, ap, ◌∙◌}
 use Rattle.std.specs.FinMap as map
 use Rattle.np_calculus.specs.Config.{Config}
 use Rattle.np_calculus.specs.Reductions.{acting}
-use Rattle.np_calculus.specs.Forms.{layer}
+use Rattle.np_eval.specs.Forms.{layer}
 use Rattle.np_calculus.specs.Moves.{way_at}
 use Rattle.np_calculus.specs.Reductions.{goes}
 use Rattle.np_calculus.proofs.Keeping.{kept-on}

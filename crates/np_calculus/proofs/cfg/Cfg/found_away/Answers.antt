@@ -4,7 +4,7 @@ use Rattle.np_tables.specs.Names.{NameMap}
 use Rattle.np_calculus.specs.contracts.cfg.Cfg.{the_view}
 use Rattle.np_calculus.specs.declared.config.Atom.{Atom}
 use Rattle.np_calculus.specs.Config.{Config}
-use Rattle.np_calculus.specs.Forms.{layer}
+use Rattle.np_eval.specs.Forms.{layer}
 use Rattle.np_calculus.specs.Reductions.{goes, local_row}
 use Rattle.np_calculus.proofs.Inversions.{step-away}
 use Rattle.np_calculus.proofs.Keeping.{kept-on, kept-as}

@@ -5,7 +5,7 @@ use Rattle.np_tables.specs.Names.{NameMap, NameSet}
 use Rattle.np_calculus.specs.contracts.cfg.Cfg.{the_view}
 use Rattle.np_calculus.specs.declared.config.Atom.{Atom}
 use Rattle.np_calculus.specs.Config.{Config}
-use Rattle.np_calculus.specs.Forms.{layer}
+use Rattle.np_eval.specs.Forms.{layer}
 use Rattle.np_calculus.specs.Reductions.{goes, output_in, local_row}
 use Rattle.np_calculus.proofs.Inversions.{step-here}
 use Rattle.np_calculus.proofs.Keeping.{kept-absent}

@@ -1,5 +1,5 @@
 use Rattle.std.proofs.Common.{◌≡◌, is_some, rules, refl}
-use Rattle.np_calculus.specs.Eval.{find_place}
+use Rattle.np_eval.specs.Eval.{find_place}
 use Rattle.np_calculus.specs.Found.{found_env}
 use Rattle.np_calculus.proofs.Ways.{found-goes}
 use Rattle.np_calculus.proofs.cfg.Cfg.looked.Goals as goal

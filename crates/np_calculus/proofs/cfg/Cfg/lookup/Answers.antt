@@ -4,7 +4,7 @@ use Rattle.np_tables.specs.Names.{NameMap}
 use Rattle.np_calculus.specs.contracts.cfg.Cfg.{the_view}
 use Rattle.np_calculus.specs.declared.config.Atom.{Atom}
 use Rattle.np_calculus.specs.Config.{Config}
-use Rattle.np_calculus.specs.Forms.{layer}
+use Rattle.np_eval.specs.Forms.{layer}
 use Rattle.np_calculus.specs.Found.{IsLooked}
 use Rattle.np_calculus.specs.Moves.{way_in}
 use Rattle.np_calculus.specs.Reductions.{goes_under}

@@ -1,7 +1,7 @@
 use Rattle.std.proofs.Common.{◌≡◌, Some, rules, refl, ap, ◌∙◌}
 use Rattle.std.specs.FinMap as map
 use Rattle.np_calculus.specs.Config.{Config}
-use Rattle.np_calculus.specs.Forms.{layer}
+use Rattle.np_eval.specs.Forms.{layer}
 use Rattle.np_calculus.specs.Moves.{body_at}
 use Rattle.np_calculus.specs.Reductions.{acting, goes_under}
 use Rattle.np_calculus.proofs.Keeping.{kept-on, kept-born}

@@ -1,7 +1,0 @@
-use Rattle.std.proofs.Common.{◌≡◌, drop, length}
-use Rattle.std.specs.Option.{is_some}
-use Rattle.np_calculus.specs.Eval.{Env, bind_all}
-use Rattle.np_calculus.proofs.fitting.+matches.Given as goal
-
-abbrev pub invariant-matches_all-loop-at : goal.invariant-matches_all-loop-at
-invariant-matches_all-loop-at l = (length l.parts ≡ length l.values) × ((env : Env) → is_some (bind_all l.parts l.values env) ≡ is_some (bind_all (drop l.at l.parts) (drop l.at l.values) env))

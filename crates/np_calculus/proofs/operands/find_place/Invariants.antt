@@ -1,6 +1,0 @@
-use Rattle.std.proofs.Common.{◌≡◌, drop}
-use Rattle.np_calculus.specs.Eval.{find_place}
-use Rattle.np_calculus.proofs.operands.find_place.Given as goal
-
-abbrev pub invariant-loop-pair : goal.invariant-loop-pair
-invariant-loop-pair l = find_place l.pairs l.agent ≡ find_place (drop l.pair-index l.pairs) l.agent

@@ -1,0 +1,7 @@
+pub mod Binds
+pub mod Chans
+pub mod Evals
+pub mod FittingPatterns
+pub mod FittingShapes
+pub mod FittingTuples
+pub mod Overlays

@@ -1,0 +1,19 @@
+//! One process in its frame: the values of expressions, patterns, the forms of processes, and what they wait for.
+#![tactic(auto)]
+
+mod fitting;
+mod forms;
+mod frame;
+mod operands;
+mod patterns;
+mod values;
+
+pub use fitting::fits;
+pub use forms::{
+    as_agent_form, as_if, as_iflocal, as_inp, as_let, as_lookup, as_migrate, as_new, as_open,
+    as_par, as_post, as_print, as_rep, as_send, as_stop,
+};
+pub use frame::Frame;
+pub use operands::{agent_of, chan_of, errand_of, find_place, letter_of, places_of, truth_of};
+pub use patterns::bind;
+pub use values::eval;
