@@ -66,6 +66,7 @@ impl Frame {
         ensures { IfOk result (λ copied. copied ≡ self.now) }
     {
         let mut entries = List::new(alloc);
+        entries.reserve(self.entries.len())?;
         for entry in self.entries.as_slice() {
             entries.add((entry.0, entry.1.copy(alloc)?))?;
         }

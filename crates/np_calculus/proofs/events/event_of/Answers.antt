@@ -3,7 +3,6 @@ use Rattle.std.specs.Option.{option_copied}
 use Rattle.std.specs.FinMap as map
 use Rattle.np_syntax.specs.declared.event.Event.{Event}
 use Rattle.np_calculus.specs.declared.config.Place.TheVariants as place
-use Rattle.np_calculus.specs.declared.step.Step.{Step}
 use Rattle.np_calculus.specs.Serial.{IsEnabled, IsNext}
 use Rattle.np_calculus.proofs.Enabled.{arrival-enabled, landing-enabled}
 use Rattle.np_calculus.proofs.events.event_of.Goals as goal

@@ -1,4 +1,4 @@
-use Rattle.std.proofs.Common.{rules, refl}
+use Rattle.std.proofs.Common.{rules}
 use Rattle.np_calculus.proofs.cfg.Cfg.served.Goals as goal
 
 pub returns : goal.returns
