@@ -4,7 +4,7 @@ use Rattle.std.specs.FinMap as table
 use Rattle.std.specs.FinMap.{get-empty}
 use Rattle.std.specs.Ordering.{nat_cmp}
 use Rattle.np_syntax.specs.declared.value.Name.{Name}
-use Rattle.np_syntax.specs.declared.value.Value.{Value}
+use Rattle.np_syntax.specs.declared.value.Value.{Value, out-Value}
 use Rattle.np_syntax.specs.declared.value.Value as value
 use Rattle.np_syntax.specs.declared.types.Cap.{Cap}
 use Rattle.np_syntax.specs.declared.types.Ty.{Ty}
