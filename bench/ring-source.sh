@@ -1,7 +1,7 @@
 #!/usr/bin/env bash
 # Writes the source of a ring of N agents, N from 1 to 100, that pass one token ten times round.
 #
-#   examples/ring.sh N
+#   bench/ring-source.sh N
 #
 # The token is a number. Each agent that gets it moves to the next site, hands it on as the next number, and tells main
 # what it was; main prints each number once, from 0 to 10 N - 1, and sends the token round again.

@@ -1,0 +1,91 @@
+use std::alloc::{AllocError, Global};
+
+/// A text of an example, by its name.
+#[derive(Drop)]
+pub struct NamedText {
+    pub name: String,
+    pub bytes: Vec<u8>,
+}
+
+/// What may come on out: these lines in any order, and then these in theirs.
+#[derive(Drop)]
+pub struct Outcome {
+    pub unordered: Vec<String>,
+    pub ordered: String,
+}
+
+impl Outcome {
+    pub fn new(alloc: Global) -> Outcome {
+        Outcome {
+            unordered: Vec::new(alloc),
+            ordered: String::new(alloc),
+        }
+    }
+}
+
+/// The numbers of the calls that fail, and how many bytes a sink takes a call.
+#[derive(Drop)]
+pub struct Devices {
+    pub texts: Vec<u64>,
+    pub out: Vec<u64>,
+    pub err: Vec<u64>,
+    pub piece: usize,
+}
+
+/// Calls of np, and what each must do.
+#[derive(Drop)]
+pub struct Example {
+    pub title: String,
+    /// Where the example begins, counted from 1.
+    pub line: u32,
+    /// The words of each call, with single blanks between them.
+    pub calls: Vec<String>,
+    /// What stands under the name `a`: each is tried with each call.
+    pub sources: Vec<String>,
+    pub texts: Vec<NamedText>,
+    pub devices: Devices,
+    pub status: u8,
+    pub events: Option<usize>,
+    pub lines: Option<usize>,
+    pub outcome: Outcome,
+    /// Outcomes that would do as well.
+    pub others: Vec<Outcome>,
+    pub err: String,
+}
+
+/// More bytes than any call writes at once.
+const WHOLE: usize = 16_777_216;
+
+impl Example {
+    pub fn new(alloc: Global, title: &str, line: u32) -> Result<Example, AllocError> {
+        Ok(Example {
+            title: String::from_str(alloc, title)?,
+            line,
+            calls: Vec::new(alloc),
+            sources: Vec::new(alloc),
+            texts: Vec::new(alloc),
+            devices: Devices {
+                texts: Vec::new(alloc),
+                out: Vec::new(alloc),
+                err: Vec::new(alloc),
+                piece: WHOLE,
+            },
+            status: 0,
+            events: None,
+            lines: None,
+            outcome: Outcome::new(alloc),
+            others: Vec::new(alloc),
+            err: String::new(alloc),
+        })
+    }
+
+    /// The bytes of the text of that name.
+    pub fn text(&self, name: &str) -> Option<&[u8]> {
+        for text in self.texts.iter() {
+            if text.name.as_str() == name {
+                return Some(text.bytes.as_slice());
+            }
+        }
+        None
+    }
+}

@@ -1,0 +1,94 @@
+//! A call of np over texts and sinks in memory.
+
+use super::example::Example;
+use super::fail::ExampleFail;
+use np_io::{MemSink, MemTexts, Word};
+use np_run::{Answer, np};
+use np_syntax::List;
+use std::alloc::Global;
+use std::sync::Wait;
+use std::thread::Threads;
+
+/// How many bytes may be written to a sink.
+const ROOM: usize = 2_097_152;
+
+/// What came of a call.
+#[derive(Drop)]
+pub struct Came {
+    pub status: u8,
+    /// How many events the run has that the answer keeps, if it keeps one.
+    pub events: Option<usize>,
+    pub out: MemSink,
+    pub err: MemSink,
+}
+
+/// The words of a call: `""` is the empty one.
+fn words_of(alloc: Global, line: &str) -> Result<List<Word>, ExampleFail> {
+    let mut words = List::new(alloc);
+    for word in line.split_whitespace() {
+        let word = if word == "\"\"" { "" } else { word };
+        words.add(Word::new(alloc, word)?)?;
+    }
+    Ok(words)
+}
+
+/// The texts of an example, and the source under the name `a`.
+fn texts_of(
+    alloc: Global,
+    example: &Example,
+    source: Option<&str>,
+) -> Result<MemTexts, ExampleFail> {
+    let mut texts = MemTexts::new(alloc);
+    for text in example.texts.iter() {
+        let name = Word::new(alloc, text.name.as_str())?;
+        texts.add(name, List::from_slice(alloc, text.bytes.as_slice())?)?;
+    }
+    if let Some(source) = source {
+        let name = Word::new(alloc, "a")?;
+        texts.add(name, List::from_slice(alloc, source.as_bytes())?)?;
+    }
+    for call in example.devices.texts.iter() {
+        texts.fail(*call)?;
+    }
+    Ok(texts)
+}
+
+/// A sink that takes so many bytes a call, at least one, and fails at these calls.
+fn sink_of(alloc: Global, piece: usize, failing: &[u64]) -> Result<MemSink, ExampleFail> {
+    let mut sink = MemSink::new(alloc, piece.max(1));
+    sink.reserve(ROOM)?;
+    for call in failing {
+        sink.fail(*call)?;
+    }
+    Ok(sink)
+}
+
+fn events_of(answer: &Answer) -> Option<usize> {
+    match (&answer.kept, &answer.high) {
+        (Some(made), _) => Some(made.events.len()),
+        (None, Some(made)) => Some(made.events.len()),
+        (None, None) => None,
+    }
+}
+
+/// What comes of the call with these words and this source.
+pub fn came_of<R: Threads + Wait + Sync>(
+    rt: &R,
+    alloc: Global,
+    example: &Example,
+    words: &str,
+    source: Option<&str>,
+) -> Result<Came, ExampleFail> {
+    let words = words_of(alloc, words)?;
+    let mut texts = texts_of(alloc, example, source)?;
+    let devices = &example.devices;
+    let mut out = sink_of(alloc, devices.piece, devices.out.as_slice())?;
+    let mut err = sink_of(alloc, devices.piece, devices.err.as_slice())?;
+    let answer = np(rt, alloc, words.as_slice(), &mut texts, &mut out, &mut err);
+    Ok(Came {
+        status: answer.status,
+        events: events_of(&answer),
+        out,
+        err,
+    })
+}
