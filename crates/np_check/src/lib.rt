@@ -10,6 +10,3 @@ mod programs;
 pub use fail::CheckFail;
 pub use laws::law_resolved;
 pub use programs::{Checked, check};
-
-#[cfg(test)]
-mod tests;

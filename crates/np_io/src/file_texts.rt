@@ -101,28 +101,3 @@ impl<'a, R: Files> Texts for FileTexts<'a, R> {
         }
     }
 }
-
-#[cfg(test)]
-mod tests {
-    use super::*;
-    use std::test::Fail;
-
-    #[test]
-    fn reads_a_file_and_counts_a_missing_one(rt: HostRuntime) -> Result<(), Fail> {
-        fs::write(&rt, "some", "seven bytes")?;
-        let some = Word::new(rt.alloc(), "some")?;
-        let missing = Word::new(rt.alloc(), "missing")?;
-        let mut texts = FileTexts::new(&rt);
-        let mut buffer = [0u8; 8];
-        assert_eq!(rt; texts.begin(&some), Ok(()));
-        assert_eq!(rt; texts.read(&mut buffer), Ok(8));
-        assert_eq!(rt; &buffer, b"seven by");
-        assert_eq!(rt; texts.read(&mut buffer), Ok(3));
-        assert_eq!(rt; &buffer[..3], b"tes".as_slice());
-        assert_eq!(rt; texts.read(&mut buffer), Ok(0));
-        assert_eq!(rt; (texts.faults, texts.taken, texts.begins), (0, 11, 1));
-        assert_eq!(rt; texts.begin(&missing), Err(Fault));
-        assert_eq!(rt; (texts.faults, texts.taken, texts.begins), (1, 0, 2));
-        Ok(())
-    }
-}

@@ -9,8 +9,6 @@ mod mem_texts;
 mod named_text;
 mod sink;
 mod stream;
-#[cfg(test)]
-mod tests;
 mod texts;
 mod word;
 

@@ -10,6 +10,3 @@ mod tokens;
 pub use fail::LexFail;
 pub use token::{Key, Sign, Token, What};
 pub use tokens::{Tokens, lex};
-
-#[cfg(test)]
-mod tests;

@@ -15,6 +15,3 @@ mod types;
 
 pub use fail::ParseFail;
 pub use programs::parse;
-
-#[cfg(test)]
-mod tests;

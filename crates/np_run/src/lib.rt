@@ -7,8 +7,6 @@ mod laws;
 mod reading;
 mod refusal;
 mod reporting;
-#[cfg(test)]
-mod tests;
 mod top;
 mod words;
 

@@ -14,6 +14,3 @@ mod sites;
 
 pub use fail::ScopeFail;
 pub use programs::resolve;
-
-#[cfg(test)]
-mod tests;

@@ -8,6 +8,3 @@ mod types;
 mod written;
 
 pub use written::show;
-
-#[cfg(test)]
-mod tests;

@@ -25,6 +25,3 @@ pub use process::{Proc, ProcForm, Role, Tag};
 pub use program::{LowProgram, Program};
 pub use types::{Cap, Ty};
 pub use value::{Name, Value};
-
-#[cfg(test)]
-mod tests;

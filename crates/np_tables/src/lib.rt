@@ -13,6 +13,3 @@ pub use errand::{Errand, Meeting, Ready};
 pub use names::Names;
 pub use table::Table;
 pub use work_lists::WorkLists;
-
-#[cfg(test)]
-mod tests;

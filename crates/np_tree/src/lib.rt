@@ -6,6 +6,3 @@ mod tree;
 
 pub use same::same_tree;
 pub use tree::{Ident, RawExpr, RawExprForm, RawPat, RawPatForm, RawProc, RawProcForm, Tree};
-
-#[cfg(test)]
-mod tests;

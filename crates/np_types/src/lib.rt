@@ -23,6 +23,3 @@ pub use laws::law_subtyping;
 pub use patterns::cover;
 pub use subtyping::sub;
 pub use widths::{is_narrow, is_printable};
-
-#[cfg(test)]
-mod tests;

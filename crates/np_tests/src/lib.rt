@@ -1,0 +1,18 @@
+//! Tests of what no contract and no example can say: calls over real files and streams, and public calls that no mode of
+//! the program makes, each with ample memory.
+#![tactic(auto)]
+
+#[cfg(test)]
+mod adapters;
+#[cfg(test)]
+mod copies;
+#[cfg(test)]
+mod low_types;
+#[cfg(test)]
+mod low_values;
+#[cfg(test)]
+mod numbers;
+#[cfg(test)]
+mod tables;
+#[cfg(test)]
+mod trees;

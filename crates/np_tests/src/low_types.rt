@@ -1,0 +1,106 @@
+//! The least types of the forms that low programs alone have.
+
+use np_syntax::{Boxed, Cap, Expr, ExprForm, Memory, Ty, Value};
+use np_types::{Env, LeastFail, Rule, TypeFault, least};
+use std::alloc::Global;
+use std::test::Fail;
+
+/// An operand: a number, a truth value or a variable.
+#[derive(Clone, Copy)]
+enum Leaf {
+    Number,
+    Truth,
+    Var(u32),
+}
+
+fn operand(at: u32, leaf: Leaf) -> Expr {
+    let form = match leaf {
+        Leaf::Number => ExprForm::Val(Value::Int(7)),
+        Leaf::Truth => ExprForm::Val(Value::Truth(true)),
+        Leaf::Var(binder) => ExprForm::Var(binder),
+    };
+    Expr { at, form }
+}
+
+fn chan(alloc: Global, cap: Cap, ty: Ty) -> Result<Ty, Memory> {
+    Ok(Ty::Chan(cap, Boxed::of(alloc, ty)?))
+}
+
+/// Binders from 0 on: `^Int`, `?Int`, `^Site`, Agent, Places.
+fn binders(alloc: Global) -> Result<Env, Memory> {
+    let mut env = Env::new(alloc);
+    env.set(0, chan(alloc, Cap::Both, Ty::Int)?)?;
+    env.set(1, chan(alloc, Cap::Input, Ty::Int)?)?;
+    env.set(2, chan(alloc, Cap::Both, Ty::Site)?)?;
+    env.set(3, Ty::Agent)?;
+    env.set(4, Ty::Places)?;
+    Ok(env)
+}
+
+/// The rule and the place of the first fault, if there is one.
+fn fault_of(alloc: Global, form: ExprForm) -> Result<Option<(u32, Rule)>, Memory> {
+    let env = binders(alloc)?;
+    match least(alloc, &env, &Expr { at: 1, form }) {
+        Ok(_) => Ok(None),
+        Err(LeastFail::Fault(TypeFault { at, rule })) => Ok(Some((at, rule))),
+        Err(LeastFail::Memory) => Err(Memory),
+    }
+}
+
+/// `pack(c, e)` has the faults of the output `c!e`.
+fn letter(alloc: Global, chan: Leaf, value: Leaf) -> Result<ExprForm, Memory> {
+    let chan = Boxed::of(alloc, operand(2, chan))?;
+    let value = Boxed::of(alloc, operand(3, value))?;
+    Ok(ExprForm::Pack(chan, value))
+}
+
+#[test]
+fn letters(rt: HostRuntime) -> Result<(), Fail> {
+    for (chan, value, fault) in [
+        (Leaf::Var(3), Leaf::Var(9), Some((2, Rule::NotChannel))),
+        (Leaf::Var(1), Leaf::Truth, Some((2, Rule::NoOutput))),
+        (Leaf::Var(0), Leaf::Truth, Some((3, Rule::Mismatch))),
+        (Leaf::Var(0), Leaf::Number, None),
+    ] {
+        let form = letter(rt.alloc(), chan, value)?;
+        assert_eq!(rt; fault_of(rt.alloc(), form)?, fault);
+    }
+    Ok(())
+}
+
+/// `m with a -> c`.
+fn places(alloc: Global, map: Leaf, agent: Leaf, lock: Leaf) -> Result<ExprForm, Memory> {
+    let map = Boxed::of(alloc, operand(2, map))?;
+    let agent = Boxed::of(alloc, operand(3, agent))?;
+    let lock = Boxed::of(alloc, operand(4, lock))?;
+    Ok(ExprForm::With(map, agent, lock))
+}
+
+#[test]
+fn maps_of_places(rt: HostRuntime) -> Result<(), Fail> {
+    for (map, agent, lock, fault) in [
+        (
+            Leaf::Var(3),
+            Leaf::Truth,
+            Leaf::Truth,
+            Some((2, Rule::Mismatch)),
+        ),
+        (
+            Leaf::Var(4),
+            Leaf::Truth,
+            Leaf::Truth,
+            Some((3, Rule::NotAgent)),
+        ),
+        (
+            Leaf::Var(4),
+            Leaf::Var(3),
+            Leaf::Var(0),
+            Some((4, Rule::Mismatch)),
+        ),
+        (Leaf::Var(4), Leaf::Var(3), Leaf::Var(2), None),
+    ] {
+        let form = places(rt.alloc(), map, agent, lock)?;
+        assert_eq!(rt; fault_of(rt.alloc(), form)?, fault);
+    }
+    Ok(())
+}

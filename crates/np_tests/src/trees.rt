@@ -1,0 +1,63 @@
+//! The comparison of trees, which no mode makes: each part counts, and no offset.
+
+use np_lex::lex;
+use np_parse::parse;
+use np_tree::{Tree, same_tree};
+use std::alloc::Global;
+use std::test::Fail;
+
+/// The tree of a source of at most a thousand bytes, if it has one.
+pub fn tree_of(alloc: Global, source: &str) -> Option<Tree> {
+    if source.len() > 1000 {
+        return None;
+    }
+    let tokens = match lex(alloc, source.as_bytes()) {
+        Ok(tokens) => tokens,
+        Err(_) => return None,
+    };
+    match parse(alloc, &tokens) {
+        Ok(tree) => Some(tree),
+        Err(_) => None,
+    }
+}
+
+/// Whether two sources have the same tree but for offsets.
+fn same_trees(alloc: Global, one: &str, other: &str) -> bool {
+    match (tree_of(alloc, one), tree_of(alloc, other)) {
+        (Some(one), Some(other)) => same_tree(&one, &other),
+        _ => false,
+    }
+}
+
+const PLAIN: &str = "sites a ; main at a = (a![1 + a] | new a : ^Int in a?[a] -> print 1)";
+
+#[test]
+fn no_offset_counts(rt: HostRuntime) -> Result<(), Fail> {
+    let blanks = "sites  a;main at a=(a![(1+a)]|\nnew a:^Int in a?[a]->print 1)";
+    assert!(rt; same_trees(rt.alloc(), PLAIN, blanks));
+    Ok(())
+}
+
+#[test]
+fn each_part_counts(rt: HostRuntime) -> Result<(), Fail> {
+    for other in [
+        "sites b ; main at a = (a![1 + a] | new a : ^Int in a?[a] -> print 1)",
+        "sites a ; main at b = (a![1 + a] | new a : ^Int in a?[a] -> print 1)",
+        "sites a ; main at a = (b![1 + a] | new a : ^Int in a?[a] -> print 1)",
+        "sites a ; main at a = (a![2 + a] | new a : ^Int in a?[a] -> print 1)",
+        "sites a ; main at a = (a![1 - a] | new a : ^Int in a?[a] -> print 1)",
+        "sites a ; main at a = (a![1 + b] | new a : ^Int in a?[a] -> print 1)",
+        "sites a ; main at a = (a![1 + a main] | new a : ^Int in a?[a] -> print 1)",
+        "sites a ; main at a = (a![1 + a] | new b : ^Int in a?[a] -> print 1)",
+        "sites a ; main at a = (a![1 + a] | new a : ?Int in a?[a] -> print 1)",
+        "sites a ; main at a = (a![1 + a] | new a : ^Int in b?[a] -> print 1)",
+        "sites a ; main at a = (a![1 + a] | new a : ^Int in *a?[a] -> print 1)",
+        "sites a ; main at a = (a![1 + a] | new a : ^Int in a?[b] -> print 1)",
+        "sites a ; main at a = (a![1 + a] | new a : ^Int in a?[_] -> print 1)",
+        "sites a ; main at a = (a![1 + a] | new a : ^Int in a?[a] -> print 2)",
+    ] {
+        assert!(rt; tree_of(rt.alloc(), other).is_some(), "{other}");
+        assert!(rt; !same_trees(rt.alloc(), PLAIN, other), "{other}");
+    }
+    Ok(())
+}
