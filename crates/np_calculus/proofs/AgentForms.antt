@@ -6,7 +6,7 @@ use Rattle.np_syntax.specs.declared.expression.Expr.{Expr}
 use Rattle.np_syntax.specs.declared.pattern.Pat.{Pat}
 use Rattle.np_syntax.specs.declared.process.Proc.{Proc, fold_out-Proc}
 use Rattle.np_syntax.specs.declared.process.ProcForm.{ProcForm, ProcForm-F, map-ProcForm, fold-ProcForm, fold_out-ProcForm}
-use Rattle.np_tables.proofs.Maybe.{done}
+use Rattle.np_syntax.proofs.Options.{done}
 use Rattle.np_calculus.specs.Agents.{Agents, IsIn, expr_agents, proc_agents, proc_step}
 use Rattle.np_eval.specs.Forms.{Layer, layer, as_par, as_new, as_out, as_inp, as_rep, as_agent_form}
 use Rattle.np_eval.specs.Forms.{as_migrate, as_iflocal, as_send, as_post, as_if, as_let, as_open, as_lookup}

@@ -16,8 +16,8 @@ use Rattle.np_syntax.specs.declared.expression.ExprForm as expr
 use Rattle.np_syntax.specs.declared.expression.ExprForm.TheVariants.{outs-Val}
 use Rattle.np_syntax.specs.declared.pattern.Pat.{Pat, fold_out-Pat}
 use Rattle.np_syntax.specs.declared.pattern.PatForm.{PatForm, PatForm-F, out-PatForm, map-PatForm, fold_out-PatForm}
-use Rattle.np_tables.specs.Maybe.{all_some}
-use Rattle.np_tables.proofs.Maybe.{then, done}
+use Rattle.np_syntax.specs.Options.{all_some}
+use Rattle.np_syntax.proofs.Options.{then, done}
 use Rattle.np_calculus.specs.Agents.{Agents, joined, value_step, value_agents, expr_step, expr_agents}
 use Rattle.np_eval.specs.Eval.{Env, ValueLayer, Binding, as_agent, as_chan, as_places, as_tuple, as_letter, put_place, with_place}
 use Rattle.np_eval.specs.Eval.{eval, eval_form, eval_step, operate_at, equal_at}

@@ -5,7 +5,7 @@ use Rattle.np_syntax.specs.declared.value.Name.{Name}
 use Rattle.np_syntax.specs.declared.program.Program.{Program}
 use Rattle.np_syntax.specs.declared.event.Event.{Event}
 use Rattle.np_tables.specs.Names.{name_cmp}
-use Rattle.np_tables.proofs.Maybe.{then, done}
+use Rattle.np_syntax.proofs.Options.{then, done}
 use Rattle.np_tables.proofs.Tables.{get-none, put_cases, put_there}
 use Rattle.np_calculus.specs.declared.config.Place.TheVariants as place
 use Rattle.np_calculus.specs.Agents.{OwnAgents}

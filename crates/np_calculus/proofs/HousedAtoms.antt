@@ -10,7 +10,7 @@ use Rattle.np_syntax.specs.declared.process.Proc.{Proc}
 use Rattle.np_syntax.specs.declared.process.ProcForm.TheVariants.{outs-Out}
 use Rattle.np_syntax.specs.declared.process.Tag.{Tag}
 use Rattle.np_tables.specs.Names.{NameMap}
-use Rattle.np_tables.proofs.Maybe.{then, done}
+use Rattle.np_syntax.proofs.Options.{then, done}
 use Rattle.np_tables.proofs.Tables.{put_cases, cut_cases}
 use Rattle.np_calculus.specs.declared.config.Atom.{Atom}
 use Rattle.np_calculus.specs.declared.config.Packet.{Packet}

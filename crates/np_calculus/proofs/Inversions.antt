@@ -11,7 +11,7 @@ use Rattle.np_syntax.specs.declared.process.Role.TheVariants as role
 use Rattle.np_syntax.specs.declared.process.Proc.{Proc}
 use Rattle.np_syntax.specs.declared.event.Event.{Event}
 use Rattle.np_tables.specs.Names.{same_name}
-use Rattle.np_tables.proofs.Maybe.{then, when, done}
+use Rattle.np_syntax.proofs.Options.{then, when, done}
 use Rattle.np_calculus.specs.declared.config.Atom.{Atom}
 use Rattle.np_calculus.specs.declared.config.Packet.{Packet}
 use Rattle.np_calculus.specs.declared.config.Place.{Place}

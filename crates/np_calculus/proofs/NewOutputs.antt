@@ -10,7 +10,7 @@ use Rattle.np_syntax.specs.declared.expression.Expr.{Expr}
 use Rattle.np_syntax.specs.declared.expression.ExprForm as expr
 use Rattle.np_syntax.specs.declared.process.Tag.{Tag}
 use Rattle.np_syntax.specs.declared.process.ProcForm.TheVariants.{outs-Out}
-use Rattle.np_tables.specs.Maybe.{◌>>=◌}
+use Rattle.np_syntax.specs.Options.{◌>>=◌}
 use Rattle.np_tables.specs.declared.errand.Errand.{Errand}
 use Rattle.np_tables.specs.declared.errand.Errand.TheVariants as errand
 use Rattle.np_tables.specs.Names.{NameMap, NameSet, same_name}

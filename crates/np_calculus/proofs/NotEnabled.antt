@@ -17,7 +17,7 @@ use Rattle.np_syntax.specs.declared.event.Event.{Event}
 use Rattle.np_syntax.specs.declared.event.Kind.{Kind}
 use Rattle.np_syntax.specs.declared.event.Kind.TheVariants as kind
 use Rattle.np_syntax.specs.declared.event.Made.TheVariants as made
-use Rattle.np_tables.specs.Maybe.{◌>>=◌}
+use Rattle.np_syntax.specs.Options.{◌>>=◌}
 use Rattle.np_tables.specs.Names.{same_name}
 use Rattle.np_calculus.specs.declared.config.Atom.{Atom}
 use Rattle.np_calculus.specs.declared.config.Packet.{Packet}

@@ -24,9 +24,9 @@ use Rattle.np_tables.specs.declared.errand.Ready.{Ready as Going}
 use Rattle.np_tables.specs.declared.errand.Ready.TheVariants as ready
 use Rattle.np_tables.specs.Errands.{IsReady, Meet}
 use Rattle.np_tables.specs.Mapped.{mapped}
-use Rattle.np_tables.specs.Maybe.{◌>>=◌}
+use Rattle.np_syntax.specs.Options.{◌>>=◌}
 use Rattle.np_tables.specs.Names.{NameSet, same_name}
-use Rattle.np_tables.proofs.Maybe.{then, done}
+use Rattle.np_syntax.proofs.Options.{then, done}
 use Rattle.np_tables.proofs.Mapped.{mapped_there}
 use Rattle.np_tables.proofs.Tables.{born_insert, same_name-is, same_name-itself}
 use Rattle.np_calculus.specs.declared.config.Atom.{Atom}

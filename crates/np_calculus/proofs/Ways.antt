@@ -6,7 +6,7 @@ use Rattle.np_syntax.specs.declared.expression.Expr.{Expr}
 use Rattle.np_syntax.specs.declared.process.Proc.{Proc}
 use Rattle.np_syntax.specs.declared.process.ProcForm.{ProcForm-F}
 use Rattle.np_syntax.specs.declared.event.Event.{Event}
-use Rattle.np_tables.specs.Maybe.{◌>>=◌}
+use Rattle.np_syntax.specs.Options.{◌>>=◌}
 use Rattle.np_tables.specs.declared.errand.Errand.{Errand}
 use Rattle.np_calculus.specs.declared.config.Atom.{Atom}
 use Rattle.np_calculus.specs.Config.{Config}

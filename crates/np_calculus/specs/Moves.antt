@@ -5,7 +5,7 @@ use Rattle.np_syntax.specs.declared.value.Name.{Name}
 use Rattle.np_syntax.specs.declared.process.Proc.{Proc}
 use Rattle.np_calculus.specs.declared.config.Atom.{Atom}
 use Rattle.np_tables.specs.Names.{NameMap}
-use Rattle.np_tables.specs.Maybe.{◌>>=◌}
+use Rattle.np_syntax.specs.Options.{◌>>=◌}
 use Rattle.np_eval.specs.Eval.{Env}
 use Rattle.np_eval.specs.Forms.{Layer, layer, as_par, as_agent_form}
 use Rattle.np_syntax.specs.declared.process.ProcForm.{ProcForm-F}

@@ -21,7 +21,7 @@ use Rattle.np_syntax.specs.declared.event.Made.TheVariants as made
 use Rattle.np_calculus.specs.declared.config.Atom.{Atom}
 use Rattle.np_calculus.specs.declared.config.Place.{Place}
 use Rattle.np_calculus.specs.declared.config.Place.TheVariants as place
-use Rattle.np_tables.specs.Maybe.{◌>>=◌, ◌>>◌, need}
+use Rattle.np_syntax.specs.Options.{◌>>=◌, ◌>>◌, need}
 use Rattle.np_tables.specs.Names.{same_name}
 use Rattle.np_calculus.specs.Config.{Config}
 use Rattle.np_eval.specs.Eval.{Env, eval, bind, as_site, chan_of, agent_of, truth_of, letter_of, places_of, find_place}

@@ -1,5 +1,5 @@
 ghost use Rattle.std.specs.Prelude.{◌≡◌, nat_eq, not};
-ghost use Rattle.np_tables.specs.Maybe.{need};
+ghost use Rattle.np_syntax.specs.Options.{need};
 ghost use Rattle.np_tables.specs.Names.{same_name};
 ghost use Rattle.np_calculus.specs.Reductions.{none_made, one_made, two_made, no_other, way, same_tag};
 

@@ -10,7 +10,8 @@ use Rattle.np_syntax.specs.declared.process.ProcForm as form
 use Rattle.np_syntax.specs.declared.process.ProcForm.TheVariants as layer
 use Rattle.np_types.specs.declared.fault.Rule.TheVariants as rule
 use Rattle.np_types.specs.Sub.{is_bool, is_letter}
-use Rattle.np_types.specs.Checks.{Check, ◌>>◌}
+use Rattle.np_syntax.specs.Results.{◌>>◌}
+use Rattle.np_types.specs.Checks.{Check}
 use Rattle.np_types.specs.Worlds.{World}
 use Rattle.np_types.specs.Least.{Types}
 use Rattle.np_check.specs.Faults.{Checking, is_of, is_printable, is_output, with_binder, check_new, check_input, check_migrate, check_send, check_post, check_let, check_places, lock_type, check_step, check, check_form}

@@ -18,7 +18,8 @@ use Rattle.np_types.specs.declared.fault.Rule.{Rule}
 use Rattle.np_types.specs.declared.fault.Rule.TheVariants as rule
 use Rattle.np_types.specs.Sub.{TyLayer, is_bool, is_site, is_agent}
 use Rattle.np_types.specs.Widths.{narrow, printable}
-use Rattle.np_types.specs.Checks.{◌>>=◌, ◌>>◌, ensure, want}
+use Rattle.np_syntax.specs.Results.{◌>>=◌, ◌>>◌}
+use Rattle.np_types.specs.Checks.{ensure, want}
 use Rattle.np_types.specs.Worlds.{World, bare, kind, kind_step}
 use Rattle.np_types.specs.Least.{Types, least, leasts, least_of, least_form, input, output}
 use Rattle.np_types.proofs.ValueTypes.{kind-out}

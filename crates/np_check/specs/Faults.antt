@@ -15,7 +15,8 @@ use Rattle.np_types.specs.declared.fault.Rule.TheVariants as rule
 use Rattle.np_types.specs.declared.fault.TypeFault.{TypeFault}
 use Rattle.np_types.specs.Sub.{TyLayer, is_bool, is_site, is_agent, is_letter, is_places, as_chan}
 use Rattle.np_types.specs.Widths.{narrow, printable}
-use Rattle.np_types.specs.Checks.{Check, ◌>>=◌, ◌>>◌, ensure, found}
+use Rattle.np_syntax.specs.Results.{◌>>=◌, ◌>>◌}
+use Rattle.np_types.specs.Checks.{Check, ensure, found}
 use Rattle.np_types.specs.Worlds.{World, bare}
 use Rattle.np_types.specs.Least.{Types, least_of, least, output, input}
 use Rattle.np_types.specs.Covers.{cover}

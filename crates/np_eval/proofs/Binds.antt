@@ -8,7 +8,7 @@ use Rattle.np_syntax.specs.declared.pattern.Pat.{Pat, fold_out-Pat}
 use Rattle.np_syntax.specs.declared.pattern.PatForm.{PatForm, PatForm-F, out-PatForm, map-PatForm, fold_out-PatForm}
 use Rattle.np_syntax.specs.declared.pattern.PatForm as pat
 use Rattle.np_syntax.specs.declared.pattern.PatForm.TheVariants.{outs-Any, outs-Bind, outs-Tuple}
-use Rattle.np_tables.specs.Maybe.{◌>>=◌}
+use Rattle.np_syntax.specs.Options.{◌>>=◌}
 use Rattle.np_eval.specs.Eval.{Env, Binding, bind, bind_form, bind_all, bind_each, bind_step, as_tuple}
 
 pub bind-form : (p : Pat) (v : Value) (env : Env) → bind p v env ≡ bind_form p.form v env

@@ -8,7 +8,7 @@ use Rattle.np_syntax.specs.declared.expression.Expr.{Expr, fold_out-Expr}
 use Rattle.np_syntax.specs.declared.expression.ExprForm.{ExprForm, ExprForm-F, out-ExprForm, map-ExprForm, fold_out-ExprForm}
 use Rattle.np_syntax.specs.declared.expression.ExprForm as expr
 use Rattle.np_syntax.specs.declared.expression.ExprForm.TheVariants.{outs-Val, outs-Var, outs-Tuple, outs-Bin, outs-Pack, outs-With}
-use Rattle.np_tables.specs.Maybe.{◌>>=◌, all_some}
+use Rattle.np_syntax.specs.Options.{◌>>=◌, all_some}
 use Rattle.np_eval.specs.Eval.{Env, eval, eval_form, eval_all, eval_step, operate, pack, with_place}
 
 pub eval-form : (e : Expr) (env : Env) → eval e env ≡ eval_form e.form env

@@ -8,7 +8,7 @@ use Rattle.np_syntax.specs.declared.pattern.Pat.{Pat, ind-Pat, roll-Pat}
 use Rattle.np_syntax.specs.declared.pattern.PatForm.{PatForm, PatForm-F, roll-PatForm, map-PatForm}
 use Rattle.np_syntax.specs.declared.pattern.PatForm as pat
 use Rattle.np_syntax.specs.declared.pattern.PatForm.TheVariants.{rolls-Any, rolls-Bind, rolls-Tuple}
-use Rattle.np_tables.specs.Maybe.{◌>>=◌}
+use Rattle.np_syntax.specs.Options.{◌>>=◌}
 use Rattle.np_eval.specs.Eval.{Env, bind, bind_form, bind_all, as_tuple}
 use Rattle.np_eval.proofs.Binds.{bind-form, bind-any, bind-bind, bind-tuple, bind-tuples}
 

@@ -9,7 +9,7 @@ use Rattle.np_syntax.specs.declared.expression.Op.{Op}
 use Rattle.np_syntax.specs.declared.expression.Op.TheVariants as op
 use Rattle.np_syntax.specs.declared.expression.Expr.{Expr}
 use Rattle.np_syntax.specs.declared.expression.ExprForm as expr
-use Rattle.np_tables.specs.Maybe.{◌>>=◌}
+use Rattle.np_syntax.specs.Options.{◌>>=◌}
 use Rattle.np_eval.specs.declared.fitting.Shape.{Shape}
 use Rattle.np_eval.specs.declared.fitting.Shape.TheVariants as shape
 use Rattle.np_eval.specs.Eval.{Env, ValueLayer, eval, eval_form, eval_all, as_chan, as_agent, as_places, operate_at, equal_at, put_place}

@@ -13,7 +13,7 @@ use Rattle.np_syntax.specs.declared.expression.Expr.{Expr, fold-Expr}
 use Rattle.np_syntax.specs.declared.expression.ExprForm.{ExprForm, ExprForm-F, fold-ExprForm}
 use Rattle.np_syntax.specs.declared.pattern.Pat.{Pat, fold-Pat}
 use Rattle.np_syntax.specs.declared.pattern.PatForm.{PatForm, PatForm-F, fold-PatForm}
-use Rattle.np_tables.specs.Maybe.{◌>>=◌, all_some}
+use Rattle.np_syntax.specs.Options.{◌>>=◌, all_some}
 use Rattle.np_tables.specs.Names.{same_name}
 
 -- what binders stand for

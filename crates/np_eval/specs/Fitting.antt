@@ -8,7 +8,7 @@ use Rattle.np_syntax.specs.declared.expression.Expr.{Expr}
 use Rattle.np_syntax.specs.declared.expression.ExprForm.{ExprForm}
 use Rattle.np_syntax.specs.declared.pattern.Pat.{Pat}
 use Rattle.np_syntax.specs.declared.pattern.PatForm as pat
-use Rattle.np_tables.specs.Maybe.{◌>>=◌}
+use Rattle.np_syntax.specs.Options.{◌>>=◌}
 use Rattle.np_eval.specs.declared.fitting.Shape.{Shape}
 use Rattle.np_eval.specs.declared.fitting.Shape.TheVariants as shape
 use Rattle.np_eval.specs.Eval.{Env, ValueLayer, eval, eval_form, eval_all, bind, bind_form, bind_all}

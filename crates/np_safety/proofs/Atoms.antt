@@ -16,7 +16,7 @@ use Rattle.np_syntax.specs.declared.process.Tag.{Tag}
 use Rattle.np_syntax.specs.declared.process.Proc.{Proc}
 use Rattle.np_syntax.specs.declared.process.ProcForm.TheVariants.{outs-Out}
 use Rattle.np_tables.specs.Names.{NameMap}
-use Rattle.np_tables.proofs.Maybe as maybe
+use Rattle.np_syntax.proofs.Options as maybe
 use Rattle.np_tables.proofs.Tables.{put_cases, cut_cases, same_name-is}
 use Rattle.np_types.specs.declared.fault.Rule.TheVariants as rule
 use Rattle.np_types.specs.Sub.{reads, writes, sub, is_letter, is_places}

@@ -16,13 +16,14 @@ use Rattle.np_syntax.specs.declared.expression.Op.{Op}
 use Rattle.np_syntax.specs.declared.expression.Op.TheVariants as op
 use Rattle.np_syntax.specs.declared.expression.Expr.{Expr, fold_out-Expr}
 use Rattle.np_syntax.specs.declared.expression.ExprForm.{ExprForm, ExprForm-F, out-ExprForm, map-ExprForm, fold_out-ExprForm}
-use Rattle.np_tables.specs.Maybe as may
-use Rattle.np_tables.specs.Maybe.{all_some}
+use Rattle.np_syntax.specs.Options as may
+use Rattle.np_syntax.specs.Options.{all_some}
 use Rattle.np_tables.specs.Names.{same_name}
 use Rattle.np_types.specs.declared.fault.Rule.{Rule}
 use Rattle.np_types.specs.declared.fault.Rule.TheVariants as rule
 use Rattle.np_types.specs.Sub.{TyLayer, reads, writes, sub, sub_all, is_int, is_site, is_agent, is_places, as_chan}
-use Rattle.np_types.specs.Checks.{Check, ◌>>=◌, ◌>>◌, ensure, all_ok}
+use Rattle.np_syntax.specs.Results.{◌>>=◌, ◌>>◌, all_ok}
+use Rattle.np_types.specs.Checks.{Check, ensure}
 use Rattle.np_types.specs.Worlds.{World, kind, kinds, is_lock, is_lock_chan, all_locks}
 use Rattle.np_types.specs.Least.{Types, Least, least, least_of, least_step, least_op, basic, same_basic, number, test_of, channel, output, is_lock_type}
 use Rattle.np_types.proofs.Bools.{and-in, and-out}

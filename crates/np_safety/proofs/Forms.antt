@@ -12,7 +12,8 @@ use Rattle.np_types.specs.declared.fault.Rule.{Rule}
 use Rattle.np_types.specs.declared.fault.Rule.TheVariants as rule
 use Rattle.np_types.specs.Sub.{TyLayer, reads, writes, sub, is_bool, is_site, is_agent, is_letter, is_places, as_chan}
 use Rattle.np_types.specs.Widths.{narrow, printable}
-use Rattle.np_types.specs.Checks.{◌>>=◌, ◌>>◌, ensure}
+use Rattle.np_syntax.specs.Results.{◌>>=◌, ◌>>◌}
+use Rattle.np_types.specs.Checks.{ensure}
 use Rattle.np_types.specs.Worlds.{World}
 use Rattle.np_types.specs.Least.{Types, least, least_of, channel, input}
 use Rattle.np_types.specs.Covers.{cover}
@@ -20,7 +21,8 @@ use Rattle.np_eval.specs.Forms.{Layer, layer, as_par, as_new, as_out, as_inp, as
 use Rattle.np_eval.specs.Forms.{as_migrate, as_iflocal, as_send, as_post, as_if, as_let, as_open, as_lookup}
 use Rattle.np_check.specs.Faults.{Checking, is_of, is_printable, is_output, with_names, is_channel, is_for_channels, check_new, check_input}
 use Rattle.np_check.specs.Faults.{check_migrate, check_send, check_post, check_let, check_places, lock_type, check_step, check, check_form}
-use Rattle.np_safety.proofs.Passed.{then, when, done, ensured, wanted}
+use Rattle.np_syntax.proofs.Results.{then, done}
+use Rattle.np_types.proofs.Passed.{when, ensured, wanted}
 
 abbrev pub checks : World → Layer → ProcForm-F (ℕ → Checking) Checking
 checks w y = map-ProcForm ProcForm Proc (ℕ → Checking) Checking (check_form w) (check w) y

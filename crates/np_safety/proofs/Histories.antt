@@ -10,9 +10,9 @@ use Rattle.np_syntax.specs.declared.process.Proc.{Proc}
 use Rattle.np_syntax.specs.declared.event.Event.{Event}
 use Rattle.np_syntax.specs.declared.event.Kind.{Kind}
 use Rattle.np_syntax.specs.declared.event.Kind.TheVariants as kind
-use Rattle.np_tables.specs.Maybe.{need}
+use Rattle.np_syntax.specs.Options.{need}
 use Rattle.np_tables.specs.Names.{NameSet, same_name}
-use Rattle.np_tables.proofs.Maybe.{then, done}
+use Rattle.np_syntax.proofs.Options.{then, done}
 use Rattle.np_tables.proofs.Tables.{get-put, put_here, born_insert, born_here, same_name-is}
 use Rattle.np_types.specs.Sub.{as_chan}
 use Rattle.np_types.specs.Worlds.{World}

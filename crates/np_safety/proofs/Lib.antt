@@ -9,7 +9,6 @@ pub mod Literal
 pub mod Lows
 pub mod Matches
 pub mod Narrowing
-pub mod Passed
 pub mod Processes
 pub mod Runs
 pub mod Shapes

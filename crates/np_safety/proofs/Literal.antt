@@ -2,7 +2,7 @@
 use Rattle.std.proofs.Common.{◌≡◌, true, Option, None, Some, refl, subst, ◌∙◌}
 use Rattle.np_syntax.specs.declared.value.Value.{Value}
 use Rattle.np_syntax.specs.declared.types.Ty.{Ty}
-use Rattle.np_tables.proofs.Maybe.{done}
+use Rattle.np_syntax.proofs.Options.{done}
 use Rattle.np_types.specs.Sub.{sub}
 use Rattle.np_types.specs.Worlds.{World, kind}
 use Rattle.np_calculus.specs.declared.config.Atom.{Atom}

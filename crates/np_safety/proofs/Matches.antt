@@ -16,7 +16,8 @@ use Rattle.np_types.proofs.Covers.{cover_layer, cover-out}
 use Rattle.np_eval.specs.Eval.{Env, Binding, bind, bind_form, bind_each, bind_step}
 use Rattle.np_safety.specs.Fits.{Fits, LeastOf}
 use Rattle.np_safety.proofs.Fitting.{Agrees, FitAll, Known, Valued}
-use Rattle.np_safety.proofs.Passed.{then, when, take, done}
+use Rattle.np_syntax.proofs.Results.{then, done}
+use Rattle.np_types.proofs.Passed.{when, take}
 use Rattle.np_safety.proofs.Shapes.{tuple_value}
 
 abbrev bind_layer : PatForm-F PatForm Pat → PatForm-F Binding Binding

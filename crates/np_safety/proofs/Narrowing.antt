@@ -17,14 +17,15 @@ use Rattle.np_syntax.specs.declared.pattern.Pat.{Pat}
 use Rattle.np_syntax.specs.declared.pattern.PatForm.{PatForm-F}
 use Rattle.np_syntax.specs.declared.process.Proc.{Proc}
 use Rattle.np_syntax.specs.declared.process.ProcForm.{ProcForm-F}
-use Rattle.np_tables.specs.Maybe as may
-use Rattle.np_tables.specs.Maybe.{all_some}
-use Rattle.np_tables.proofs.Maybe as maybe
+use Rattle.np_syntax.specs.Options as may
+use Rattle.np_syntax.specs.Options.{all_some}
+use Rattle.np_syntax.proofs.Options as maybe
 use Rattle.np_types.specs.declared.fault.Rule.{Rule}
 use Rattle.np_types.specs.declared.fault.Rule.TheVariants as rule
 use Rattle.np_types.specs.Sub.{TyLayer, sub, sub_all, sub_at, reads, writes, is_int, is_bool, is_site, is_agent, is_letter, is_places}
 use Rattle.np_types.specs.Widths.{narrow}
-use Rattle.np_types.specs.Checks.{Check, ◌>>=◌, ◌>>◌, ensure, all_ok}
+use Rattle.np_syntax.specs.Results.{◌>>=◌, ◌>>◌, all_ok}
+use Rattle.np_types.specs.Checks.{Check, ensure}
 use Rattle.np_types.specs.Worlds.{World, kind, is_lock_chan, all_locks}
 use Rattle.np_types.specs.Least.{Types, Least, least, least_of, least_step, least_op, number, basic, same_basic, channel, output, test_of, is_lock_type}
 use Rattle.np_types.specs.Covers.{Covering, cover, cover_each, cover_step, as_long}

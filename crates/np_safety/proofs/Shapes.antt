@@ -5,8 +5,8 @@ use Rattle.np_syntax.specs.declared.value.Value.{Value, Value-F, out-Value, map-
 use Rattle.np_syntax.specs.declared.types.Cap.{Cap}
 use Rattle.np_syntax.specs.declared.types.Ty.{Ty, Ty-F, out-Ty}
 use Rattle.np_syntax.specs.declared.types.Ty.TheVariants.{outs-Int, outs-Bool, outs-Str, outs-Site, outs-Agent, outs-Letter, outs-Places, outs-Chan, outs-Tuple}
-use Rattle.np_tables.specs.Maybe.{◌>>=◌, all_some}
-use Rattle.np_tables.proofs.Maybe.{then, when, done}
+use Rattle.np_syntax.specs.Options.{◌>>=◌, all_some}
+use Rattle.np_syntax.proofs.Options.{then, when, done}
 use Rattle.np_types.specs.Sub as sub
 use Rattle.np_types.specs.Sub.{reads, writes, TyLayer, is_int, is_bool, is_str, is_site, is_agent, is_letter, is_places, sub_all}
 use Rattle.np_types.specs.Worlds.{World, kind, kinds, kind_step, all_locks}

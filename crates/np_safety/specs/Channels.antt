@@ -8,7 +8,7 @@ use Rattle.np_syntax.specs.declared.types.Ty.{Ty, out-Ty}
 use Rattle.np_syntax.specs.declared.event.Event.{Event}
 use Rattle.np_syntax.specs.declared.event.Kind.{Kind}
 use Rattle.np_syntax.specs.declared.event.Kind.TheVariants as kind
-use Rattle.np_tables.specs.Maybe.{◌>>=◌}
+use Rattle.np_syntax.specs.Options.{◌>>=◌}
 use Rattle.np_tables.specs.Names.{NameMap}
 use Rattle.np_types.specs.Sub.{as_chan}
 use Rattle.np_types.specs.Worlds.{World}

@@ -25,7 +25,8 @@ use Rattle.np_tree.specs.declared.tree.RawProcForm.TheVariants as formv
 use Rattle.np_scope.specs.declared.numbers.Numbers.{Numbers}
 use Rattle.np_scope.specs.declared.scope.Meaning.TheVariants as meaning
 use Rattle.np_scope.specs.Naming.{Named, meant}
-use Rattle.np_scope.specs.Outcomes.{Outcome, ◌>>=◌}
+use Rattle.np_syntax.specs.Results.{◌>>=◌}
+use Rattle.np_scope.specs.Outcomes.{Outcome}
 use Rattle.np_scope.specs.Resolved.{expression, main_name, ExprIn, ExprAt, in_turn, expr_step, expr_of, expr_form_of, exprs_of}
 use Rattle.np_scope.specs.Resolved.{Bound, bound, pattern, PatIn, PatAt, bound_in_turn, pat_step, pat_of, pat_form_of, pats_of}
 use Rattle.np_scope.specs.Resolved.{ProcIn, FormIn, at_place, proc_step, proc_of, proc_form_of, stop_form, par_form, new_form, out_form, inp_form, rep_form}

@@ -1,7 +1,8 @@
 -- What holds of an outcome, where it is no refusal.
 use Rattle.std.proofs.Common.{◌≡◌, Ok, Err, refl, sym, subst, ap}
 use Rattle.np_scope.specs.declared.fail.ScopeFail.{ScopeFail}
-use Rattle.np_scope.specs.Outcomes.{Outcome, ◌>>=◌}
+use Rattle.np_syntax.specs.Results.{◌>>=◌}
+use Rattle.np_scope.specs.Outcomes.{Outcome}
 
 pub record All {A : Type 0} (P : A → Type 0) (o : Outcome A) : Type 0 where
   pub each : (a : A) → o ≡ Ok a → P a

@@ -11,7 +11,8 @@ use Rattle.np_scope.specs.declared.fail.ScopeFail.{ScopeFail}
 use Rattle.np_scope.specs.declared.fail.ScopeFail.TheVariants as fail
 use Rattle.np_scope.specs.declared.scope.Meaning.{Meaning}
 use Rattle.np_scope.specs.declared.scope.Meaning.TheVariants as meaning
-use Rattle.np_scope.specs.Outcomes.{Outcome, ◌>>=◌}
+use Rattle.np_syntax.specs.Results.{◌>>=◌}
+use Rattle.np_scope.specs.Outcomes.{Outcome}
 
 -- a name, and what it stands for
 abbrev pub Named : Type 0

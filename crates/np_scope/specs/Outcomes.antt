@@ -7,11 +7,6 @@ use Rattle.np_scope.specs.declared.fail.ScopeFail.TheVariants as fail
 abbrev pub Outcome : Type 0 → Type 0
 Outcome A = Result A ScopeFail
 
-infixl 10 ◌>>=◌
-abbrev pub ◌>>=◌ : {A B : Type 0} → Outcome A → (A → Outcome B) → Outcome B
-(Ok a) >>= f = f a
-(Err e) >>= f = Err e
-
 -- the outcome is answered. Memory may run out at any time.
 abbrev pub Gives : {A : Type 0} → Outcome A → Result A ScopeFail → Type 0
 Gives outcome (Ok a) = outcome ≡ Ok a

@@ -30,7 +30,8 @@ use Rattle.np_scope.specs.declared.numbers.Placed.{Placed}
 use Rattle.np_scope.specs.declared.scope.Meaning.{Meaning}
 use Rattle.np_scope.specs.declared.scope.Meaning.TheVariants as meaning
 use Rattle.np_scope.specs.Naming.{Named, meaning_of, meant, use_of}
-use Rattle.np_scope.specs.Outcomes.{Outcome, ◌>>=◌}
+use Rattle.np_syntax.specs.Results.{◌>>=◌}
+use Rattle.np_scope.specs.Outcomes.{Outcome}
 
 -- ---- expressions. Of n sites, `main` stands for the name n.0.
 

@@ -1,1 +1,4 @@
+pub mod Bools
+pub mod Options
+pub mod Results
 pub mod Texts

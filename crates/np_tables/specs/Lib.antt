@@ -2,7 +2,6 @@ pub mod Errands
 pub mod InStep
 pub mod Lines
 pub mod Mapped
-pub mod Maybe
 pub mod Names
 pub mod Queues
 pub mod Stored

@@ -15,7 +15,8 @@ use Rattle.np_types.specs.declared.fault.Rule.{Rule}
 use Rattle.np_types.specs.declared.fault.Rule.TheVariants as rule
 use Rattle.np_types.specs.Sub.{TyLayer, sub, is_int, is_places, is_agent, as_chan, writes}
 use Rattle.np_types.specs.Widths.{narrow}
-use Rattle.np_types.specs.Checks.{Check, ◌>>=◌, ◌>>◌, ensure, want, all_ok}
+use Rattle.np_syntax.specs.Results.{◌>>=◌, ◌>>◌, all_ok}
+use Rattle.np_types.specs.Checks.{Check, ensure, want}
 use Rattle.np_types.specs.Worlds.{World, kind}
 use Rattle.np_types.specs.Least.{Types, Least, Leasts, least, leasts, least_of, least_form, least_op, least_step, test_of, number, output, input, is_lock_type}
 use Rattle.np_types.specs.Operands.{takes_first, first_rule, takes_second, second_rule, type_of, written_on, read_on}

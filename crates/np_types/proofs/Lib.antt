@@ -4,6 +4,7 @@ pub mod Comparisons
 pub mod Counts
 pub mod Covers
 pub mod Leasts
+pub mod Passed
 pub mod Slots
 pub mod Subs
 pub mod Tellings

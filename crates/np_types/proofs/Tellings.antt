@@ -3,7 +3,8 @@ use Rattle.std.proofs.Common.{◌≡◌, ℕ, Bool, Result, Ok, Err, IsErr, IsEr
 use Rattle.np_types.specs.declared.fault.Rule.{Rule}
 use Rattle.np_types.specs.declared.fault.LeastFail.{LeastFail}
 use Rattle.np_types.specs.declared.fault.LeastFail.TheVariants as fail
-use Rattle.np_types.specs.Checks.{Check, ◌>>=◌, ◌>>◌, ensure}
+use Rattle.np_syntax.specs.Results.{◌>>=◌, ◌>>◌}
+use Rattle.np_types.specs.Checks.{Check, ensure}
 use Rattle.np_types.specs.Least.{Types}
 use Rattle.np_types.specs.Told.{Failed, Told, ToldTypes}
 

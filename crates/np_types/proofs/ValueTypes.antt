@@ -6,7 +6,7 @@ use Rattle.np_syntax.specs.declared.value.Value as value
 use Rattle.np_syntax.specs.declared.value.Value.TheVariants.{outs-Int, outs-Truth, outs-Str, outs-Site, outs-Agent, outs-Chan, outs-Tuple, outs-Letter, outs-Places}
 use Rattle.np_syntax.specs.declared.types.Ty.{Ty}
 use Rattle.np_syntax.specs.declared.types.Ty as ty
-use Rattle.np_tables.specs.Maybe.{◌>>=◌, all_some}
+use Rattle.np_syntax.specs.Options.{◌>>=◌, all_some}
 use Rattle.np_types.specs.Worlds.{World, bare, kind, kinds, kind_step}
 
 abbrev kind_layer : World → Value-F Value → Option Ty

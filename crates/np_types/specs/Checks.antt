@@ -7,15 +7,6 @@ use Rattle.np_types.specs.declared.fault.TypeFault.{TypeFault}
 abbrev pub Check : Type 0 → Type 0
 Check A = Result A TypeFault
 
-infixl 10 ◌>>=◌
-abbrev pub ◌>>=◌ : {A B : Type 0} → Check A → (A → Check B) → Check B
-(Ok a) >>= f = f a
-(Err e) >>= f = Err e
-
-infixl 10 ◌>>◌
-abbrev pub ◌>>◌ : {A B : Type 0} → Check A → Check B → Check B
-o >> p = o >>= (λ _. p)
-
 -- goes on where the test is met
 abbrev pub ensure : Bool → ℕ → Rule → Check (Unit {0})
 ensure true at rule = Ok tt
@@ -25,14 +16,6 @@ ensure false at rule = Err (record { at = at; rule = rule })
 abbrev pub want : {A : Type 0} → Option A → ℕ → Rule → Check A
 want (Some a) at rule = Ok a
 want None at rule = Err (record { at = at; rule = rule })
-
--- all of them in order, or the first fault
-abbrev pub all_ok : {A : Type 0} → List (Check A) → Check (List A)
-all_ok [] = Ok []
-all_ok (c ∷ cs) = do
-  a ← c
-  rest ← all_ok cs
-  Ok (a ∷ rest)
 
 -- the faults that a check finds: none or one
 abbrev pub found : {A : Type 0} → Check A → List TypeFault

@@ -13,7 +13,8 @@ use Rattle.np_types.specs.declared.fault.Rule.{Rule}
 use Rattle.np_types.specs.declared.fault.Rule.TheVariants as rule
 use Rattle.np_types.specs.Sub.{reads, writes, sub, is_int, is_bool, is_str, is_site, is_agent, is_places, as_chan, TyLayer}
 use Rattle.np_types.specs.Widths.{narrow}
-use Rattle.np_types.specs.Checks.{Check, ◌>>=◌, ◌>>◌, ensure, want, all_ok}
+use Rattle.np_syntax.specs.Results.{◌>>=◌, ◌>>◌, all_ok}
+use Rattle.np_types.specs.Checks.{Check, ensure, want}
 use Rattle.np_types.specs.Worlds.{World, kind, is_lock_chan}
 
 -- the types of binders

@@ -7,7 +7,8 @@ use Rattle.np_syntax.specs.declared.expression.Op.TheVariants as op
 use Rattle.np_types.specs.declared.fault.Rule.{Rule}
 use Rattle.np_types.specs.declared.fault.Rule.TheVariants as rule
 use Rattle.np_types.specs.Sub.{TyLayer, is_int, as_chan, reads, writes}
-use Rattle.np_types.specs.Checks.{Check, ◌>>=◌, ◌>>◌, ensure, want}
+use Rattle.np_syntax.specs.Results.{◌>>=◌, ◌>>◌}
+use Rattle.np_types.specs.Checks.{Check, ensure, want}
 use Rattle.np_types.specs.Least.{basic, same_basic}
 
 abbrev pub takes_first : Op → TyLayer → Bool

@@ -1,6 +1,6 @@
 use Rattle.std.proofs.Common.{◌+◌, drop, ap, ◌∙◌}
 use Rattle.np_types.specs.Covers.{cover_all}
-use Rattle.np_types.specs.Checks.{◌>>=◌}
+use Rattle.np_syntax.specs.Results.{◌>>=◌}
 use Rattle.np_types.proofs.Tellings.{handed_types, failed_then}
 use Rattle.np_types.proofs.Covers.{cover-tuples, parts-lengths, cover_all-more, cover_all-end, leads_put, leads_then}
 use Rattle.np_types.proofs.patterns.+cover.Goals as goal

@@ -4,7 +4,7 @@ use Rattle.std.specs.FinSet as set
 use Rattle.np_syntax.specs.declared.value.Name.{Name}
 use Rattle.np_syntax.specs.declared.value.Value as value
 use Rattle.np_syntax.specs.declared.process.Proc.{Proc}
-use Rattle.np_tables.specs.Maybe.{need}
+use Rattle.np_syntax.specs.Options.{need}
 use Rattle.np_tables.specs.Names.{NameMap, NameSet, same_name}
 use Rattle.np_calculus.specs.declared.config.Atom.{Atom}
 use Rattle.np_calculus.specs.declared.config.Place.{Place}

@@ -1,14 +1,8 @@
 -- What a check that passed says of each of its steps.
 use Rattle.std.proofs.Common.{◌≡◌, ℕ, Bool, true, false, Option, None, Some, Ok, Err, refl}
 use Rattle.np_types.specs.declared.fault.Rule.{Rule}
-use Rattle.np_types.specs.Checks.{Check, ◌>>=◌, ◌>>◌, ensure, want}
-
-pub then : {A B C : Type 0} (o : Check A) (f : A → Check B) {b : B} → (o >>= f) ≡ Ok b → ((a : A) → o ≡ Ok a → f a ≡ Ok b → C) → C
-then (Err e) f h k = absurd cc
-then (Ok a) f h k = k a refl h
-
-pub done : {A : Type 0} {x y : A} → ◌≡◌ {A = Check A} (Ok x) (Ok y) → y ≡ x
-done e = cc
+use Rattle.np_syntax.specs.Results.{◌>>=◌, ◌>>◌}
+use Rattle.np_types.specs.Checks.{Check, ensure, want}
 
 pub ensured : (t : Bool) (at : ℕ) (rule : Rule) {u : Unit {0}} → ensure t at rule ≡ Ok u → t ≡ true
 ensured true at rule h = refl

@@ -1,6 +1,6 @@
 -- What a chain of conditions that gave a value says of each of its steps.
-use Rattle.std.proofs.Common.{◌≡◌, Bool, true, false, Option, None, Some, refl}
-use Rattle.np_tables.specs.Maybe.{◌>>=◌, ◌>>◌, need}
+use Rattle.std.proofs.Common.{◌≡◌, Bool, true, false, Option, None, Some, IsSome, refl}
+use Rattle.np_syntax.specs.Options.{◌>>=◌, ◌>>◌, need}
 
 -- the first step of a chain, and the rest of it
 pub record Passed {A B : Type 0} (o : Option A) (f : A → Option B) (b : B) : Type 0 where
@@ -27,3 +27,7 @@ when false o e k = absurd cc
 
 pub done : {A : Type 0} {x y : A} → Some x ≡ Some y → y ≡ x
 done e = cc
+
+pub none_there : {X : Type 0} (o : Option X) → IsSome o → o ≡ None → ⊥
+none_there None h e = cc
+none_there (Some x) h e = cc
