@@ -22,7 +22,8 @@ use Rattle.np_calculus.specs.Agents.{Agents, joined, value_step, value_agents, e
 use Rattle.np_eval.specs.Eval.{Env, ValueLayer, Binding, as_agent, as_chan, as_places, as_tuple, as_letter, put_place, with_place}
 use Rattle.np_eval.specs.Eval.{eval, eval_form, eval_step, operate_at, equal_at}
 use Rattle.np_eval.specs.Eval.{agent_of, letter_of, bind, bind_form, bind_each, bind_step}
-use Rattle.np_calculus.proofs.Trees.{With, ExprHyps, expr_of, expr_ind, PatHyps, pat_of, pat_ind}
+use Rattle.np_syntax.proofs.Trees.{With, ExprHyps, expr_of, expr_ind, PatHyps, pat_of, pat_ind}
+use Rattle.np_eval.proofs.Layers.{eval_layer, eval-out, bind_layer, bind-out}
 use Rattle.np_calculus.proofs.AgentForms.{Each, OfExpr, nobody, first-part, last-part, both-parts}
 
 -- the agents in a value's form
@@ -36,28 +37,12 @@ value-out v = fold_out-Value Agents value_step v
 value-of : (v : Value) (l : ValueLayer) → out-Value v ≡ l → value_agents v ≡ layer_agents l
 value-of v l is = value-out v ∙ ap layer_agents is
 
-abbrev eval_layer : Env → ExprForm-F ExprForm Expr → ExprForm-F (Option Value) (Option Value)
-eval_layer env y = map-ExprForm ExprForm Expr (Option Value) (Option Value) (λ f. eval_form f env) (λ e. eval e env) y
-
-eval-out : (env : Env) (e : Expr) → eval e env ≡ eval_step env (eval_layer env (out-ExprForm e.form))
-unfolding eval eval_form
-eval-out env e =
-    fold_out-Expr (Option Value) (Option Value) (eval_step env) (λ e. e.form) e
-    ∙ fold_out-ExprForm (Option Value) (Option Value) (eval_step env) (λ e. e.form) e.form
-
 abbrev expr_layer : ExprForm-F ExprForm Expr → ExprForm-F Agents Agents
 expr_layer y = map-ExprForm ExprForm Expr Agents Agents (fold-ExprForm Agents Agents expr_step (λ e. e.form)) expr_agents y
 
 expr-out : (e : Expr) → expr_agents e ≡ expr_step (expr_layer (out-ExprForm e.form))
 unfolding expr_agents
 expr-out e = fold_out-Expr Agents Agents expr_step (λ e. e.form) e ∙ fold_out-ExprForm Agents Agents expr_step (λ e. e.form) e.form
-
-abbrev bind_layer : PatForm-F PatForm Pat → PatForm-F Binding Binding
-bind_layer y = map-PatForm PatForm Pat Binding Binding bind_form bind y
-
-bind-out : (p : Pat) → bind p ≡ bind_step (bind_layer (out-PatForm p.form))
-unfolding bind bind_form
-bind-out p = fold_out-Pat Binding Binding bind_step (λ p. p.form) p ∙ fold_out-PatForm Binding Binding bind_step (λ p. p.form) p.form
 
 slot_put : (m : Env) (k : ℕ) (v : Value) (q : ℕ) → table.get (table.insert m k v) q ≡ cond (eq_by_cmp nat_cmp q k) (Some v) (table.get m q)
 slot_put = get-insert nat_cmp_total

@@ -17,5 +17,4 @@ pub mod Rests
 pub mod SerialEvents
 pub mod Steps
 pub mod Travels
-pub mod Trees
 pub mod Ways

@@ -22,7 +22,7 @@ use Rattle.np_syntax.specs.Results.{◌>>=◌, ◌>>◌}
 use Rattle.np_types.specs.Checks.{ensure, want}
 use Rattle.np_types.specs.Worlds.{World, bare, kind, kind_step}
 use Rattle.np_types.specs.Least.{Types, least, leasts, least_of, least_form, input, output}
-use Rattle.np_types.proofs.ValueTypes.{kind-out}
+use Rattle.np_types.proofs.ValueTypes.{kind_of}
 use Rattle.np_types.proofs.Leasts.{least-form, least-val, least-var, least-tuple, least-bin, least_parts, tupling, operation}
 use Rattle.np_scope.specs.declared.numbers.Numbers.{Numbers}
 use Rattle.np_scope.specs.Resolved.{expression, main_name}
@@ -31,12 +31,6 @@ use Rattle.np_scope.specs.Sound.{IsSoundExpr, AreSoundExprs, IsSoundProc, proces
 use Rattle.np_check.specs.Faults.{Checking, is_of, is_printable, is_output, with_binder, with_names, is_channel, is_for_channels, check_new, check_input, check_migrate, check_send, check_post, check_let, check, check_form}
 use Rattle.np_check.specs.Laws.{HasSites}
 use Rattle.np_check.proofs.Forms.{check-form, form-stop, form-par, form-new, form-out, form-inp, form-rep, form-agent, form-migrate, form-iflocal, form-send, form-post, form-if, form-let, form-print}
-
-abbrev kind_layer : World → Value-F Value → Option Ty
-kind_layer w y = kind_step w (map-Value Value (Option Ty) (kind w) y)
-
-kind_of : (w : World) (v : Value) (y : Value-F Value) → out-Value v ≡ y → kind w v ≡ kind_layer w y
-kind_of w v y is = kind-out w v ∙ ap (kind_layer w) is
 
 -- the type of a site where each number is a site, or none is
 abbrev kind_site : Bool → Option Ty

@@ -11,16 +11,13 @@ use Rattle.np_syntax.specs.declared.expression.Expr.{Expr}
 use Rattle.np_syntax.specs.declared.expression.ExprForm as expr
 use Rattle.np_syntax.specs.declared.pattern.Pat.{Pat}
 use Rattle.np_syntax.specs.declared.pattern.PatForm as pat
-use Rattle.np_tables.specs.Maybe.{◌>>=◌}
+use Rattle.np_syntax.specs.Options.{◌>>=◌}
+use Rattle.np_syntax.proofs.Bools.{and-false}
 use Rattle.np_eval.specs.Eval.{Env, ValueLayer, eval, eval_all, bind, bind_form, bind_all, as_tuple, as_chan, as_agent, as_places, operate_at, equal_at}
 use Rattle.np_eval.specs.Fitting.{fits, fits_tuple, fits_all}
 use Rattle.np_eval.proofs.Binds.{bind-tuple, bind-tuples}
 use Rattle.np_eval.proofs.Evals.{eval-form, eval-val, eval-var, eval-tuple, eval-bin, eval-pack, eval-with}
 use Rattle.np_eval.proofs.FittingPatterns.{bind_all-cons, rest}
-
-and-false : (b : Bool) → (b && false) ≡ false
-and-false true = refl
-and-false false = refl
 
 -- the first part of two tuples beside the others
 fits_both : (o : Option Value) (os : Option (List Value)) (p : Pat) (ps : List Pat) (env : Env)

@@ -4,4 +4,5 @@ pub mod Evals
 pub mod FittingPatterns
 pub mod FittingShapes
 pub mod FittingTuples
+pub mod Layers
 pub mod Overlays

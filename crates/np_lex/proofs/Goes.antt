@@ -89,7 +89,7 @@ no_skip byte rest blank minus = rw (blank, minus)
 
 word_skip : (text rest : List ℕ) → is_word text ≡ true → skip_len (text ++ rest) ≡ 0
 word_skip [] rest word = cc
-word_skip (byte ∷ bytes) rest word = let letter = (both_true (is_letter byte) _ word).0 in no_skip byte (bytes ++ rest) (grind (arith, nat_tests)) (grind (arith, nat_tests))
+word_skip (byte ∷ bytes) rest word = let letter = (and-out (is_letter byte) _ word).0 in no_skip byte (bytes ++ rest) (grind (arith, nat_tests)) (grind (arith, nat_tests))
 
 digit_skip : (byte : ℕ) (rest : List ℕ) → is_digit byte ≡ true → skip_len (byte ∷ rest) ≡ 0
 digit_skip byte rest digit = no_skip byte rest (grind (arith, nat_tests)) (grind (arith, nat_tests))

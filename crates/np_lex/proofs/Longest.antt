@@ -3,6 +3,7 @@ use Rattle.std.proofs.Common.{◌≡◌, ℕ, ◌⊎◌, inl, inr, List, [], ◌
 use Rattle.std.specs.Prelude.{Bool, true, false, ◌&&◌, ◌||◌, ◌==◌}
 use Rattle.std.specs.List.{prefix_len, list_all}
 use Rattle.std.proofs.lemmas.Bool.Decides.{nat_tests}
+use Rattle.np_syntax.proofs.Bools.{and-out, clash}
 use Rattle.np_lex.specs.declared.token.Key.{Key}
 use Rattle.np_lex.specs.declared.token.Key.TheVariants as keys
 use Rattle.np_lex.specs.declared.token.Sign.{Sign}
@@ -74,9 +75,6 @@ abbrev pub tail : List ℕ → List ℕ
 tail [] = []
 tail (byte ∷ bytes) = bytes
 
-pub clash : {b : Bool} → b ≡ false → b ≡ true → ⊥
-clash fails passes = cc
-
 pub differ : (a b : ℕ) → (a == b) ≡ false → a ≡ b → ⊥
 differ a b fails same = grind (arith, nat_tests)
 
@@ -115,14 +113,9 @@ key_word k = refl
 pub name_word : (byte : ℕ) (bytes : List ℕ) → is_letter byte ≡ true → Each goes_on bytes → is_word (byte ∷ bytes) ≡ true
 name_word byte bytes letter each = rw (letter, all_of goes_on bytes each)
 
-pub both_true : (a b : Bool) → (a && b) ≡ true → (a ≡ true) × (b ≡ true)
-both_true true true e = (refl, refl)
-both_true true false e = cc
-both_true false b e = cc
-
 pub word_form : (text : List ℕ) → is_word text ≡ true → IsForm text
 word_form [] word = cc
-word_form (byte ∷ bytes) word = let h = both_true (is_letter byte) (list_all goes_on bytes) word in t.word h.0 (each_of goes_on bytes h.1)
+word_form (byte ∷ bytes) word = let h = and-out (is_letter byte) (list_all goes_on bytes) word in t.word h.0 (each_of goes_on bytes h.1)
 
 pub sign_head : (s : Sign) → starts (head (sign_text s)) ≡ false
 sign_head signs.Semi = refl
@@ -212,7 +205,7 @@ form_some (t.sign s) e = clash (ap shaped e) (sign_shaped s)
 pub word_longest : (text rest : List ℕ) → is_word text ≡ true → Stops goes_on rest → IsLongest text rest
 word_longest [] rest word stops = cc
 word_longest (byte ∷ bytes) rest word stops = λ more after e f.
-    stops more after e (each_rest goes_on bytes more (form_word f byte (bytes ++ more) refl (both_true (is_letter byte) (list_all goes_on bytes) word).0))
+    stops more after e (each_rest goes_on bytes more (form_word f byte (bytes ++ more) refl (and-out (is_letter byte) (list_all goes_on bytes) word).0))
 
 pub digits_longest : (byte : ℕ) (bytes rest : List ℕ) → is_digit byte ≡ true → Stops is_digit rest → IsLongest (byte ∷ bytes) rest
 digits_longest byte bytes rest digit stops more after e f = stops more after e (each_rest is_digit bytes more (form_digits f byte (bytes ++ more) refl digit))

@@ -17,7 +17,7 @@ use Rattle.np_lex.specs.Tokens as t
 use Rattle.np_lex.specs.Tokens.{is_digit, is_letter, goes_on, Each, IsForm, IsBody, IsToken, IsLongest, Begins, key_text, sign_text, value}
 use Rattle.np_lex.specs.Lexing.{sized, key_of, word_by, word_kind, number_len, bounded, numbered, number_kind, is_pair, sign_len, sign_of, signed, sign_kind, front, first_token}
 use Rattle.np_lex.specs.Strings.{unquoted, limited, string}
-use Rattle.np_lex.proofs.Longest.{Run, run_of, head, tail, clash, starts, key_word, name_word, word_form, sign_splits, Signed, form_some, word_longest, digits_longest, nought_longest, Alone, single_longest, pair_longest, same_longest}
+use Rattle.np_lex.proofs.Longest.{Run, run_of, head, tail, starts, key_word, name_word, word_form, sign_splits, Signed, form_some, word_longest, digits_longest, nought_longest, Alone, single_longest, pair_longest, same_longest}
 use Rattle.np_lex.proofs.Quotes.{body_read, read_body, string_longest}
 
 -- ---- what a token is, by its first byte

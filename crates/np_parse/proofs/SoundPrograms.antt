@@ -30,7 +30,7 @@ abbrev pub AnyProgram : List Token → Type 0
 AnyProgram pre = (depth : ℕ) × Begins depth pre
 
 -- what begins with more begins with less
-shorter : (d : ℕ) (s more : List Token) → Begins d (s ++ more) → Begins d s
+pub shorter : (d : ℕ) (s more : List Token) → Begins d (s ++ more) → Begins d s
 shorter d s more v = (more ++ v.0, v.1, subst (λ l. IsProgram d l v.1) (append_assoc s more v.0) v.2)
 
 -- ---- up to main's process

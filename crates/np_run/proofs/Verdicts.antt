@@ -16,6 +16,7 @@ use Rattle.np_parse.specs.Input.{Outcome}
 use Rattle.np_parse.specs.Read.Programs.{program}
 use Rattle.np_parse.specs.Refusal as grammar
 use Rattle.np_parse.proofs.CompletePrograms.{complete_program}
+use Rattle.np_parse.proofs.SoundPrograms.{shorter}
 use Rattle.np_scope.specs.declared.fail.ScopeFail.{ScopeFail}
 use Rattle.np_scope.specs.declared.fail.ScopeFail.TheVariants as scope
 use Rattle.np_scope.specs.Resolved.{resolved}
@@ -60,9 +61,6 @@ cuts (x ∷ a) (y ∷ b) t u r s e =
 -- ---- the grammar
 
 -- what begins a program whole, begins one up to each token
-begins_before : (depth : ℕ) (pre m : List Token) → Begins depth (pre ++ m) → Begins depth pre
-begins_before depth pre m (more, tree, d) = (m ++ more, tree, subst (λ (l : List Token). IsProgram depth l tree) (append_assoc pre m more) d)
-
 -- tokens with a tree are not refused
 no_tree : (depth : ℕ) (ts : List Token) (tree : Tree) (e : ParseFail) → IsProgram depth ts tree → grammar.Refusal depth ts e → ⊥
 no_tree depth ts tree e d r =
@@ -84,8 +82,8 @@ by_cuts : (depth : ℕ) (a b : List Token) (t u : Token) (e f : ParseFail) → B
 by_cuts depth a b t u e f s z n k w v (Cuts.same p q) =
     let there : Why b t e = subst (λ (l : List Token). Why l t e) p w in
     why_once b u e f (subst (λ (x : Token). Why b x e) q there) v
-by_cuts depth a b t u e f s z n k w v (Cuts.later m p) = absurd (n (begins_before depth (a ++ t ∷ []) m (subst (Begins depth) p z)))
-by_cuts depth a b t u e f s z n k w v (Cuts.sooner m p) = absurd (k (begins_before depth (b ++ u ∷ []) m (subst (Begins depth) p s)))
+by_cuts depth a b t u e f s z n k w v (Cuts.later m p) = absurd (n (shorter depth (a ++ t ∷ []) m (subst (Begins depth) p z)))
+by_cuts depth a b t u e f s z n k w v (Cuts.sooner m p) = absurd (k (shorter depth (b ++ u ∷ []) m (subst (Begins depth) p s)))
 
 -- tokens are refused in one way
 refused_once : (depth : ℕ) (ts : List Token) (e f : ParseFail) → grammar.Refusal depth ts e → grammar.Refusal depth ts f → e ≡ f

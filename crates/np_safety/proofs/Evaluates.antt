@@ -26,31 +26,21 @@ use Rattle.np_syntax.specs.Results.{◌>>=◌, ◌>>◌, all_ok}
 use Rattle.np_types.specs.Checks.{Check, ensure}
 use Rattle.np_types.specs.Worlds.{World, kind, kinds, is_lock, is_lock_chan, all_locks}
 use Rattle.np_types.specs.Least.{Types, Least, least, least_of, least_step, least_op, basic, same_basic, number, test_of, channel, output, is_lock_type}
-use Rattle.np_types.proofs.Bools.{and-in, and-out}
-use Rattle.np_types.proofs.Trees.{With, ExprHyps, expr_of, expr_ind}
+use Rattle.np_syntax.proofs.Bools.{and-in, and-out}
+use Rattle.np_syntax.proofs.Trees.{With, ExprHyps, expr_of, expr_ind}
 use Rattle.np_types.proofs.Subs.{sub-out, sub-trans}
 use Rattle.np_types.proofs.Below.{site_below}
-use Rattle.np_types.proofs.ValueTypes.{kind-out}
+use Rattle.np_types.proofs.ValueTypes.{kind_of, kind-out, kinds-map}
 use Rattle.np_types.proofs.Leasts.{least_layer, least-out}
 use Rattle.np_eval.specs.Eval.{Env, eval, eval_form, eval_step, operate, operate_at, equal_at, same_truth, put_place, pack, with_place}
 use Rattle.np_safety.specs.Fits.{Fits}
 use Rattle.np_safety.proofs.Fitting.{Agrees, Valued}
-use Rattle.np_safety.proofs.Passed.{then, when, done, ensured, wanted}
-use Rattle.np_safety.proofs.Shapes.{kind_layer, kinds-map, fits-itself, int_value, truth_value, text_value, places_value, chan_value, site_value, agent_value}
-
-abbrev eval_layer : Env → ExprForm-F ExprForm Expr → ExprForm-F (Option Value) (Option Value)
-eval_layer env y = map-ExprForm ExprForm Expr (Option Value) (Option Value) (λ f. eval_form f env) (λ e. eval e env) y
-
-eval-out : (env : Env) (e : Expr) → eval e env ≡ eval_step env (eval_layer env (out-ExprForm e.form))
-unfolding eval eval_form
-eval-out env e =
-    fold_out-Expr (Option Value) (Option Value) (eval_step env) (λ e. e.form) e
-    ∙ fold_out-ExprForm (Option Value) (Option Value) (eval_step env) (λ e. e.form) e.form
+use Rattle.np_syntax.proofs.Results.{then, done}
+use Rattle.np_types.proofs.Passed.{when, ensured, wanted}
+use Rattle.np_eval.proofs.Layers.{eval_layer, eval-out}
+use Rattle.np_safety.proofs.Shapes.{fits-itself, int_value, truth_value, text_value, places_value, chan_value, site_value, agent_value}
 
 -- ---- the least types of values
-
-kind_of : (w : World) (v : Value) (y : Value-F Value) → out-Value v ≡ y → kind w v ≡ kind_layer w y
-kind_of w v y is = kind-out w v ∙ ap (kind_layer w) is
 
 pub int-kind : (w : World) (i : ℤ) → kind w (value.Int i) ≡ Some ty.Int
 int-kind w i = kind_of w (value.Int i) _ (outs.outs-Int i)

@@ -17,7 +17,7 @@ use Rattle.np_tables.specs.Names.{same_name}
 use Rattle.np_types.specs.Sub.{TyLayer, is_site, as_chan}
 use Rattle.np_types.specs.Worlds.{World, is_lock, is_lock_chan, all_locks}
 use Rattle.np_types.specs.Least.{Types}
-use Rattle.np_types.proofs.Bools.{and-out}
+use Rattle.np_syntax.proofs.Bools.{and-out}
 use Rattle.np_types.proofs.Subs.{chan-again}
 use Rattle.np_calculus.specs.declared.config.Atom.{Atom}
 use Rattle.np_calculus.specs.Config.{Config}

@@ -12,7 +12,7 @@ use Rattle.np_syntax.specs.declared.program.LowProgram.{LowProgram}
 use Rattle.np_tables.specs.Names.{NameSet}
 use Rattle.np_tables.proofs.Tables.{put_cases, born_here}
 use Rattle.np_types.specs.Worlds.{World}
-use Rattle.np_types.proofs.Bools.{and-out}
+use Rattle.np_syntax.proofs.Bools.{and-out}
 use Rattle.np_calculus.specs.Config.{Config}
 use Rattle.np_calculus.specs.Starts.{own, own_numbers, own_names, with_all, start_low, main_agent, main_mark, daemon_agent, daemon_mark, first_atom}
 use Rattle.np_calculus.proofs.OwnNames.{with_all-keeps}

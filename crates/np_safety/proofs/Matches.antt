@@ -11,21 +11,15 @@ use Rattle.np_syntax.specs.declared.pattern.PatForm.{PatForm, PatForm-F, out-Pat
 use Rattle.np_types.specs.Worlds.{World, kind}
 use Rattle.np_types.specs.Least.{Types}
 use Rattle.np_types.specs.Covers.{Covering, cover, cover_each, cover_step}
-use Rattle.np_types.proofs.Trees.{With, PatHyps, pat_of, pat_ind}
+use Rattle.np_syntax.proofs.Trees.{With, PatHyps, pat_of, pat_ind}
 use Rattle.np_types.proofs.Covers.{cover_layer, cover-out}
 use Rattle.np_eval.specs.Eval.{Env, Binding, bind, bind_form, bind_each, bind_step}
+use Rattle.np_eval.proofs.Layers.{bind_layer, bind-out}
 use Rattle.np_safety.specs.Fits.{Fits, LeastOf}
 use Rattle.np_safety.proofs.Fitting.{Agrees, FitAll, Known, Valued}
 use Rattle.np_syntax.proofs.Results.{then, done}
 use Rattle.np_types.proofs.Passed.{when, take}
 use Rattle.np_safety.proofs.Shapes.{tuple_value}
-
-abbrev bind_layer : PatForm-F PatForm Pat → PatForm-F Binding Binding
-bind_layer y = map-PatForm PatForm Pat Binding Binding bind_form bind y
-
-bind-out : (p : Pat) → bind p ≡ bind_step (bind_layer (out-PatForm p.form))
-unfolding bind bind_form
-bind-out p = fold_out-Pat Binding Binding bind_step (λ p. p.form) p ∙ fold_out-PatForm Binding Binding bind_step (λ p. p.form) p.form
 
 module _ {X : Type 0} where
   pub slot_put : (m : table.FinMap nat_cmp X) (k : ℕ) (v : X) (q : ℕ) → table.get (table.insert m k v) q ≡ cond (eq_by_cmp nat_cmp q k) (Some v) (table.get m q)

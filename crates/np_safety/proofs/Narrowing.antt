@@ -29,16 +29,16 @@ use Rattle.np_types.specs.Checks.{Check, ensure}
 use Rattle.np_types.specs.Worlds.{World, kind, is_lock_chan, all_locks}
 use Rattle.np_types.specs.Least.{Types, Least, least, least_of, least_step, least_op, number, basic, same_basic, channel, output, test_of, is_lock_type}
 use Rattle.np_types.specs.Covers.{Covering, cover, cover_each, cover_step, as_long}
-use Rattle.np_types.proofs.Bools.{and-in, and-out}
-use Rattle.np_types.proofs.Trees.{With, ValueHyps, value_of, value_ind, ExprHyps, expr_of, expr_ind, PatHyps, pat_of, pat_ind}
+use Rattle.np_syntax.proofs.Bools.{and-in, and-out}
+use Rattle.np_syntax.proofs.Trees.{With, ValueHyps, value_of, value_ind, ExprHyps, expr_of, expr_ind, PatHyps, pat_of, pat_ind}
 use Rattle.np_types.proofs.Subs.{sub-out, sub-itself, sub-trans}
 use Rattle.np_types.proofs.Below.{Down, int_below, bool_below, site_below, agent_below, letter_below, places_below, chan_below, tuple_below, as_many, printable_below}
-use Rattle.np_types.proofs.ValueTypes.{kind-out}
+use Rattle.np_types.proofs.ValueTypes.{kind_layer, kind-out}
 use Rattle.np_types.proofs.Leasts.{least_layer, least-out}
 use Rattle.np_types.proofs.Covers.{cover_layer, cover-out}
 use Rattle.np_check.specs.Faults.{lock_type}
-use Rattle.np_safety.proofs.Passed.{then, when, take, done, ensured, wanted}
-use Rattle.np_safety.proofs.Shapes.{kind_layer}
+use Rattle.np_syntax.proofs.Results.{then, done}
+use Rattle.np_types.proofs.Passed.{when, take, ensured, wanted}
 use Rattle.np_safety.proofs.Evaluates.{lock_is, both_ways}
 use Rattle.np_safety.proofs.Matches.{slot_put}
 use Rattle.np_safety.proofs.Forms.{Good, GoodForm, Tested, OnChannel, Sending, Taking, good-form}

@@ -3,7 +3,7 @@ use Rattle.std.proofs.Common.{◌≡◌, ℕ, subst, sym, ◌∙◌}
 use Rattle.np_syntax.specs.declared.process.Tag.{Tag}
 use Rattle.np_syntax.specs.declared.process.Proc.{Proc, ind-Proc, roll-Proc}
 use Rattle.np_syntax.specs.declared.process.ProcForm.{ProcForm, ProcForm-F, out-ProcForm, roll-ProcForm, map-ProcForm, out-roll-ProcForm}
-use Rattle.np_types.proofs.Trees.{With}
+use Rattle.np_syntax.proofs.Trees.{With}
 
 module _ (P : Proc → Type 0) where
   abbrev pub OfProcForm : ProcForm → Type 0

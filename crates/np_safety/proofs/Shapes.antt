@@ -10,20 +10,13 @@ use Rattle.np_syntax.proofs.Options.{then, when, done}
 use Rattle.np_types.specs.Sub as sub
 use Rattle.np_types.specs.Sub.{reads, writes, TyLayer, is_int, is_bool, is_str, is_site, is_agent, is_letter, is_places, sub_all}
 use Rattle.np_types.specs.Worlds.{World, kind, kinds, kind_step, all_locks}
-use Rattle.np_types.proofs.Bools.{and-out}
+use Rattle.np_syntax.proofs.Bools.{and-out}
 use Rattle.np_types.proofs.Subs.{sub-itself, sub-trans}
 use Rattle.np_types.proofs.Below.{int_below, bool_below, str_below, site_below, agent_below, letter_below, places_below, chan_below, tuple_below}
-use Rattle.np_types.proofs.ValueTypes.{kind-out}
+use Rattle.np_types.proofs.ValueTypes.{kind_layer, kind-out, kinds-map}
 use Rattle.np_eval.specs.Eval.{ValueLayer}
 use Rattle.np_safety.specs.Fits.{Fits}
 use Rattle.np_safety.proofs.Fitting.{FitAll}
-
-abbrev pub kind_layer : World → ValueLayer → Option Ty
-kind_layer w y = kind_step w (map-Value Value (Option Ty) (kind w) y)
-
-pub kinds-map : (w : World) (vs : List Value) → all_some (map (kind w) vs) ≡ kinds w vs
-kinds-map w [] = refl
-kinds-map w (v ∷ vs) = ap (λ o. kind w v >>= λ t. o >>= λ ts. Some (t ∷ ts)) (kinds-map w vs)
 
 -- how a value and its least type agree
 abbrev pub Shaped : World → ValueLayer → TyLayer → Type 0

@@ -13,8 +13,8 @@ use Rattle.np_types.specs.Widths.{printable, every}
 use Rattle.np_types.specs.Widths as widths
 use Rattle.np_types.specs.Worlds.{World, kind, kinds}
 use Rattle.np_types.specs.Least.{Types, least}
-use Rattle.np_types.proofs.Bools.{and-in, and-out}
-use Rattle.np_types.proofs.Trees.{With, ValueHyps, value_of, value_ind}
+use Rattle.np_syntax.proofs.Bools.{and-in, and-out}
+use Rattle.np_syntax.proofs.Trees.{With, ValueHyps, value_of, value_ind}
 use Rattle.np_types.proofs.Below.{printable-out, printable_below}
 use Rattle.np_calculus.specs.Config.{Config}
 use Rattle.np_eval.specs.Eval.{Env, eval, chan_of, agent_of, truth_of}

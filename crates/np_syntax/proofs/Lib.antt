@@ -2,3 +2,4 @@ pub mod Bools
 pub mod Options
 pub mod Results
 pub mod Texts
+pub mod Trees

@@ -4,6 +4,7 @@ use Rattle.std.specs.Map.{lookup, keys_of}
 use Rattle.std.specs.FinMap as map
 use Rattle.std.specs.FinMap.{get-from_entries, find}
 use Rattle.np_syntax.specs.declared.value.Name.{Name}
+use Rattle.np_syntax.proofs.Options.{none_there}
 use Rattle.np_tables.specs.Names.{name_cmp, same_name}
 use Rattle.np_tables.specs.Stored.{map_of, Stands}
 use Rattle.np_tables.proofs.Tables.{total, same_name-is, same_name-itself, same_name-swap, same_tables, get-none, get-put, get-cut, put_here}
@@ -72,10 +73,6 @@ module _ {X : Type 0} where
   pub none_of_empty : (es : List (Name × X)) → map_of es ≡ map.empty → length es ≡ 0
   none_of_empty [] e = refl
   none_of_empty (x ∷ es) e = absurd (none_some (sym (get-none x.0) ∙ sym (ap (λ m. map.get m x.0) e) ∙ put_here (map_of es) x.0 x.1))
-
-none_there : {X : Type 0} (o : Option X) → IsSome o → o ≡ None → ⊥
-none_there None h e = cc
-none_there (Some x) h e = cc
 
 -- a name that is there is found
 pub found_there : {X : Type 0} (es : List (Name × X)) (q : Name) → IsSome (map.get (map_of es) q) → found es q ≡ None → ⊥

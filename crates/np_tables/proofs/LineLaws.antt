@@ -8,6 +8,7 @@ use Rattle.indexmap.specs.IndexMap as index_map
 use Rattle.indexmap.specs.IndexMap.{IndexMap}
 use Rattle.indexmap.specs.IndexSet.{IndexSet}
 use Rattle.np_syntax.specs.declared.value.Name.{Name}
+use Rattle.np_syntax.proofs.Bools.{and-out, and-true, and-false}
 use Rattle.np_tables.specs.Names.{NameSet, name_cmp, same_name}
 use Rattle.np_tables.specs.declared.errand.Meeting.{Meeting}
 use Rattle.np_tables.specs.declared.errand.Errand.{Errand}
@@ -17,14 +18,9 @@ use Rattle.np_tables.specs.Lines.{line_of, has_some, has_both, is_here, is_at, i
 use Rattle.np_tables.proofs.Keyed.{alike, alike-same}
 use Rattle.np_tables.proofs.Tables.{same_name-is, same_names, born_remove, born_here, contains-none}
 
-both : (s t : Bool) → (s && t) ≡ true → (s ≡ true) × (t ≡ true)
-both true true e = (refl, refl)
-both true false e = absurd cc
-both false t e = absurd cc
-
 pub same_meeting-is : (a b : Meeting) → same_meeting a b ≡ true → a ≡ b
 same_meeting-is a b e =
-    let h = both (alike a.agent b.agent) (alike a.chan b.chan) e in
+    let h = and-out (alike a.agent b.agent) (alike a.chan b.chan) e in
     let p = same_name-is a.agent b.agent (sym (alike-same a.agent b.agent) ∙ h.0) in
     let q = same_name-is a.chan b.chan (sym (alike-same a.chan b.chan) ∙ h.1) in
     λ i. record { agent = p i; chan = q i }
@@ -61,11 +57,7 @@ true_false e = cc
 
 -- no name can be taken out of the empty set
 empty-cut : (m : Name) → set.remove (set.empty {R = name_cmp}) m ≡ set.empty
-empty-cut m = same_names _ _ λ q. born_remove set.empty m q ∙ ap (λ b. not (same_name q m) && b) (contains-none q) ∙ and_false (not (same_name q m)) ∙ sym (contains-none q)
-  where
-    and_false : (t : Bool) → (t && false) ≡ false
-    and_false true = refl
-    and_false false = refl
+empty-cut m = same_names _ _ λ q. born_remove set.empty m q ∙ ap (λ b. not (same_name q m) && b) (contains-none q) ∙ and-false (not (same_name q m)) ∙ sym (contains-none q)
 
 module _ {S : Type 0} where
   -- an errand with no line stays as it is where a mark leaves it
@@ -201,12 +193,8 @@ module _ {S R : Type 0} (lines : IndexMap Errand NameSet S) (e : Errand) (x : Me
       put t h = ap (λ b. cond b false (is_busy old k)) h ∙ cut t (is_busy old k) ∙ ap (λ b. is_busy old k && not b) (sym (rest t h))
 
   pub stays_open : (busy : IndexSet Meeting R) → true ≡ has_both lines x → (k : Meeting) → is_busy busy k ≡ (is_busy busy k && not (is_at e k && not (has_both lines k)))
-  stays_open busy meets k = and_true _ ∙ ap (λ b. is_busy busy k && not b) (sym (rest (same_meeting x k) refl))
+  stays_open busy meets k = sym (and-true _) ∙ ap (λ b. is_busy busy k && not b) (sym (rest (same_meeting x k) refl))
     where
-      and_true : (b : Bool) → b ≡ (b && true)
-      and_true true = refl
-      and_true false = refl
-
       rest : (t : Bool) → same_meeting x k ≡ t → (is_at e k && not (has_both lines k)) ≡ false
       rest true h = ap (λ b. b && not (has_both lines k)) (here e x there k ∙ h) ∙ ap (λ l. not (has_both lines l)) (sym (same_meeting-is x k h)) ∙ ap not (sym meets)
       rest false h = ap (λ b. b && not (has_both lines k)) (here e x there k ∙ h)

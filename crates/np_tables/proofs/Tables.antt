@@ -29,7 +29,7 @@ exact a b e =
     let n = nat_cmp-IsAntisymmetric a.n b.n both.1 in
     λ i. record { site = s i; n = n i }
 
-is_equal : (r : Ordering) → is_eq r ≡ true → r ≡ Equal
+pub is_equal : (r : Ordering) → is_eq r ≡ true → r ≡ Equal
 is_equal Less e = absurd cc
 is_equal Equal e = refl
 is_equal Greater e = absurd cc

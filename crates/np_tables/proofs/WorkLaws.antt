@@ -6,6 +6,7 @@ use Rattle.std.specs.FinSet as set
 use Rattle.indexmap.specs.IndexMap.{IndexMap}
 use Rattle.indexmap.specs.IndexSet.{IndexSet}
 use Rattle.np_syntax.specs.declared.value.Name.{Name}
+use Rattle.np_syntax.proofs.Bools.{and-out, and-true}
 use Rattle.np_tables.specs.Names.{NameSet, same_name}
 use Rattle.np_tables.specs.declared.errand.Meeting.{Meeting}
 use Rattle.np_tables.specs.declared.errand.Errand.{Errand}
@@ -54,17 +55,13 @@ module _ {S : Type 0} (work : Work) where
         → (f : Errand) (q : Name) → (is_filed (map.get work q) f || (same_errand e f && same_name q m)) ≡ is_filed (map.get (map.insert work m e) q) f
     filed_now o is only f q = by_case (same_name q m) refl ∙ ap (λ p. is_filed p f) (sym (get-put work m e q))
       where
-        and_true : (b : Bool) → (b && true) ≡ b
-        and_true true = refl
-        and_true false = refl
-
         or_false : (b c : Bool) → (b || (c && false)) ≡ b
         or_false true c = refl
         or_false false true = refl
         or_false false false = refl
 
         by_case : (t : Bool) → same_name q m ≡ t → (is_filed (map.get work q) f || (same_errand e f && same_name q m)) ≡ is_filed (cond (same_name q m) (Some e) (map.get work q)) f
-        by_case true t = rw (t, and_true (same_errand e f), at_name work m q o is t) (only f)
+        by_case true t = rw (t, and-true (same_errand e f), at_name work m q o is t) (only f)
         by_case false t = rw t (or_false (is_filed (map.get work q) f) (same_errand e f))
 
     -- it was filed under none
@@ -88,15 +85,11 @@ module _ {S : Type 0} (work : Work) where
         or_false false true = refl
         or_false false false = refl
 
-        and_true : (b : Bool) → (b && true) ≡ b
-        and_true true = refl
-        and_true false = refl
-
         by_case : (f : Errand) (q : Name) (s : Bool) → same_errand o f ≡ s → (t : Bool) → same_name q m ≡ t
             → set.contains (cond s (set.remove (line_of lines o) m) (line_of lines f)) q ≡ is_filed (cond (same_name q m) (Some e) (map.get work q)) f
         by_case f q true s true t = born_remove (line_of lines o) m q ∙ rw (t, ← same_errand-is o f s) (sym (apart_back o e apart))
         by_case f q true s false t = born_remove (line_of lines o) m q ∙ rw (t, ← same_errand-is o f s) (and.at o q ∙ rw t (or_false (is_filed (map.get work q) o) (same_errand e o)))
-        by_case f q false s true t = and.at f q ∙ rw (t, at_name work m q (Some o) is t, s) (and_true (same_errand e f))
+        by_case f q false s true t = and.at f q ∙ rw (t, at_name work m q (Some o) is t, s) (and-true (same_errand e f))
         by_case f q false s false t = and.at f q ∙ rw t (or_false (is_filed (map.get work q) f) (same_errand e f))
 
   module _ (lines : IndexMap Errand NameSet S) (m : Name) (at : InLines work lines) where
@@ -132,11 +125,6 @@ some_member s some none = true_false (sym some ∙ ap has_some (same_names s set
     by_case q true h = absurd (none q h)
     by_case q false h = h
 
-halves : (s t : Bool) → (s && t) ≡ true → (s ≡ true) × (t ≡ true)
-halves true true e = (refl, refl)
-halves true false e = absurd cc
-halves false t e = absurd cc
-
 module _ {S R : Type 0} (work : Work) (lines : IndexMap Errand NameSet S) (busy : IndexSet Meeting R) (at : InLines work lines) (met : BusyAt lines busy) where
   -- where nothing is due, nothing is ready
   pub nothing_ready : NoneDue lines busy → NothingReady work
@@ -159,7 +147,7 @@ module _ {S R : Type 0} (work : Work) (lines : IndexMap Errand NameSet S) (busy 
       no_alone false h = h
 
       meets_none : (k : Meeting) → has_both lines k ≡ true → ⊥
-      meets_none k h = let p = halves (has_some (line_of lines (Takes k))) (has_some (line_of lines (Gives k))) h in
+      meets_none k h = let p = and-out (has_some (line_of lines (Takes k))) (has_some (line_of lines (Gives k))) h in
           some_member (line_of lines (Takes k)) p.0 λ i takes. some_member (line_of lines (Gives k)) p.1 λ o gives.
           nothing.apart i o (record { meeting = k; takes = filed_there work lines at (Takes k) i takes; gives = filed_there work lines at (Gives k) o gives })
 

@@ -5,8 +5,9 @@ use Rattle.np_syntax.specs.declared.types.Cap.TheVariants as cap
 use Rattle.np_syntax.specs.declared.types.Ty.{Ty, Ty-F, out-Ty, map-Ty, fold_out-Ty}
 use Rattle.np_types.specs.Sub.{reads, writes, TyLayer, sub, sub_at, sub_all, is_int, is_bool, is_str, is_site, is_agent, is_letter, is_places, as_chan, as_tuple}
 use Rattle.np_types.specs.Widths.{nodes, nodes_step, sum_all, printable, printable_step, every}
-use Rattle.np_types.proofs.Bools.{and-in, and-out, imp-out}
-use Rattle.np_types.proofs.Trees.{With, TyHyps, ty_of, ty_ind}
+use Rattle.np_syntax.proofs.Bools.{and-in, and-out}
+use Rattle.np_types.proofs.Implies.{imp-out}
+use Rattle.np_syntax.proofs.Trees.{With, TyHyps, ty_of, ty_ind}
 use Rattle.np_types.proofs.Subs.{sub-out}
 
 -- a form that holds of each type below one that has it

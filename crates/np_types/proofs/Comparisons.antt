@@ -5,6 +5,7 @@ use Rattle.np_syntax.specs.declared.types.Cap.TheVariants as cap
 use Rattle.np_syntax.specs.declared.types.Ty.{Ty, Ty-F, out-Ty, roll-Ty, roll-out-Ty}
 use Rattle.np_syntax.specs.declared.types.Ty as ty
 use Rattle.np_syntax.specs.declared.types.Ty.TheVariants.{outs-Int, outs-Bool, outs-Str, outs-Site, outs-Agent, outs-Letter, outs-Places, outs-Chan, outs-Tuple, rolls-Chan}
+use Rattle.np_syntax.proofs.Bools.{and-in, and-false}
 use Rattle.np_types.specs.Ordered.{Ordered, OrderedAll}
 use Rattle.np_types.specs.Sub.{◌⇒◌, reads, writes, TyLayer, sub, sub_at, sub_all, is_int, is_bool, is_str, is_site, is_agent, is_letter, is_places}
 use Rattle.np_types.proofs.Subs.{sub-out, sub-exact, sub-itself}
@@ -143,17 +144,10 @@ pub sub_all-lengths : (ss ts : List Ty) → ¬ (length ss ≡ length ts) → sub
 sub_all-lengths [] [] h = absurd (h refl)
 sub_all-lengths [] (t ∷ ts) h = refl
 sub_all-lengths (s ∷ ss) [] h = refl
-sub_all-lengths (s ∷ ss) (t ∷ ts) h = ap (λ b. sub s t && b) (sub_all-lengths ss ts (λ e. h (ap suc e))) ∙ last (sub s t)
-  where
-    last : (b : Bool) → (b && false) ≡ false
-    last true = refl
-    last false = refl
+sub_all-lengths (s ∷ ss) (t ∷ ts) h = ap (λ b. sub s t && b) (sub_all-lengths ss ts (λ e. h (ap suc e))) ∙ and-false (sub s t)
 
 both : (r : Bool) (s t : Ty) (b c : Bool) → sub s t ≡ b → sub t s ≡ c → (r ≡ true → s ≡ t) → (s ≡ t → r ≡ true) → r ≡ (b && c)
-both true s t b c h k f g = let e = f refl in sym (and_both (sym h ∙ ap (λ x. sub s x) (sym e) ∙ sub-itself s) (sym k ∙ ap (λ x. sub t x) e ∙ sub-itself t))
-  where
-    and_both : {b c : Bool} → b ≡ true → c ≡ true → (b && c) ≡ true
-    and_both {b} {c} h k = rw (h, k) refl
+both true s t b c h k f g = let e = f refl in sym (and-in (sym h ∙ ap (λ x. sub s x) (sym e) ∙ sub-itself s) (sym k ∙ ap (λ x. sub t x) e ∙ sub-itself t))
 both false s t true true h k f g = g (sub-exact s t h k)
 both false s t true false h k f g = refl
 both false s t false c h k f g = refl

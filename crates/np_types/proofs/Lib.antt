@@ -1,12 +1,11 @@
 pub mod Below
-pub mod Bools
 pub mod Comparisons
 pub mod Counts
 pub mod Covers
+pub mod Implies
 pub mod Leasts
 pub mod Passed
 pub mod Slots
 pub mod Subs
 pub mod Tellings
-pub mod Trees
 pub mod ValueTypes

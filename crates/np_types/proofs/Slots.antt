@@ -8,6 +8,8 @@ use Rattle.std.specs.Map.{lookup}
 use Rattle.std.specs.FinMap as map
 use Rattle.std.specs.FinMap.{get-from_entries, find, get-insert, get-remove, same_map, nat_cmp-IsAntisymmetric}
 use Rattle.np_syntax.specs.declared.types.Ty.{Ty}
+use Rattle.np_syntax.proofs.Options.{none_there}
+use Rattle.np_tables.proofs.Tables.{is_equal}
 use Rattle.np_types.specs.Least.{Types}
 use Rattle.np_types.specs.Trails.{restored, rewound, Held}
 
@@ -17,17 +19,8 @@ same_key q k = eq_by_cmp nat_cmp q k
 same_key-swap : (q k : ℕ) → same_key q k ≡ same_key k q
 same_key-swap q k = (eq_by_cmp_equiv nat_cmp_total).symm q k
 
-is_equal : (r : Ordering) → is_eq r ≡ true → r ≡ Equal
-is_equal Less h = absurd cc
-is_equal Equal h = refl
-is_equal Greater h = absurd cc
-
 equal_key : (q k : ℕ) → same_key q k ≡ true → q ≡ k
 equal_key q k h = nat_cmp-IsAntisymmetric q k (is_equal (nat_cmp q k) h)
-
-none_there : {X : Type 0} (o : Option X) → IsSome o → o ≡ None → ⊥
-none_there None h e = cc
-none_there (Some x) h e = cc
 
 module _ {X : Type 0} where
   abbrev pub stored : List (ℕ × X) → map.FinMap nat_cmp X

@@ -8,8 +8,9 @@ use Rattle.np_syntax.specs.declared.types.Ty as ty
 use Rattle.np_syntax.specs.declared.types.Ty.TheVariants.{outs-Chan}
 use Rattle.std.proofs.Common.{Some}
 use Rattle.np_types.specs.Sub.{as_chan}
-use Rattle.np_types.proofs.Bools.{and-in, and-out, imp-in, imp-out}
-use Rattle.np_types.proofs.Trees.{With, TyHyps, ty_of, ty_ind}
+use Rattle.np_syntax.proofs.Bools.{and-in, and-out, and-true, and-false}
+use Rattle.np_types.proofs.Implies.{imp-in, imp-out}
+use Rattle.np_syntax.proofs.Trees.{With, TyHyps, ty_of, ty_ind}
 
 pub order-out : (t : Ty) → order t ≡ order_step (map-Ty Ty Order order (out-Ty t))
 unfolding order
@@ -170,20 +171,12 @@ pub sub-exact : (s : Ty) → Exact s
 sub-exact = ty_ind Exact (λ s y is t h k. sym (roll-out-Ty s) ∙ ap roll-Ty (is ∙ exact_layer y (out-Ty t)
     (ap (λ x. sub_at x (out-Ty t)) (sym is) ∙ sym (sub-out s t) ∙ h) (ap (sub_at (out-Ty t)) (sym is) ∙ sym (sub-out t s) ∙ k)) ∙ roll-out-Ty t)
 
-right_true : (b : Bool) → (b && true) ≡ b
-right_true true = refl
-right_true false = refl
-
-right_false : (b : Bool) → (b && false) ≡ false
-right_false true = refl
-right_false false = refl
-
 chans_table : (c d : Cap) (s t : Ty) → sub_at (Ty-F.Chan c s) (Ty-F.Chan d t) ≡ chans_at c s d t
 chans_table cap.Both cap.Both s t = refl
-chans_table cap.Both cap.Input s t = right_true (sub s t)
+chans_table cap.Both cap.Input s t = and-true (sub s t)
 chans_table cap.Both cap.Output s t = refl
-chans_table cap.Input cap.Both s t = right_false (sub s t)
-chans_table cap.Input cap.Input s t = right_true (sub s t)
+chans_table cap.Input cap.Both s t = and-false (sub s t)
+chans_table cap.Input cap.Input s t = and-true (sub s t)
 chans_table cap.Input cap.Output s t = refl
 chans_table cap.Output cap.Both s t = refl
 chans_table cap.Output cap.Input s t = refl

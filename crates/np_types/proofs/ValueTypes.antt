@@ -9,46 +9,46 @@ use Rattle.np_syntax.specs.declared.types.Ty as ty
 use Rattle.np_syntax.specs.Options.{◌>>=◌, all_some}
 use Rattle.np_types.specs.Worlds.{World, bare, kind, kinds, kind_step}
 
-abbrev kind_layer : World → Value-F Value → Option Ty
+abbrev pub kind_layer : World → Value-F Value → Option Ty
 kind_layer w y = kind_step w (map-Value Value (Option Ty) (kind w) y)
 
 pub kind-out : (w : World) (v : Value) → kind w v ≡ kind_step w (map-Value Value (Option Ty) (kind w) (out-Value v))
 unfolding kind
 kind-out w v = fold_out-Value (Option Ty) (kind_step w) v
 
-kind_of : (v : Value) (y : Value-F Value) → out-Value v ≡ y → kind bare v ≡ kind_layer bare y
-kind_of v y is = kind-out bare v ∙ ap (kind_layer bare) is
+pub kind_of : (w : World) (v : Value) (y : Value-F Value) → out-Value v ≡ y → kind w v ≡ kind_layer w y
+kind_of w v y is = kind-out w v ∙ ap (kind_layer w) is
 
 pub kind-int : (i : ℤ) → kind bare (value.Int i) ≡ Some ty.Int
-kind-int i = kind_of (value.Int i) (Value-F.Int i) (outs-Int i)
+kind-int i = kind_of bare (value.Int i) (Value-F.Int i) (outs-Int i)
 
 pub kind-truth : (b : Bool) → kind bare (value.Truth b) ≡ Some ty.Bool
-kind-truth b = kind_of (value.Truth b) (Value-F.Truth b) (outs-Truth b)
+kind-truth b = kind_of bare (value.Truth b) (Value-F.Truth b) (outs-Truth b)
 
 pub kind-str : (s : List ℕ) → kind bare (value.Str s) ≡ Some ty.Str
-kind-str s = kind_of (value.Str s) (Value-F.Str s) (outs-Str s)
+kind-str s = kind_of bare (value.Str s) (Value-F.Str s) (outs-Str s)
 
 pub kind-site : (s : ℕ) → kind bare (value.Site s) ≡ Some ty.Site
-kind-site s = kind_of (value.Site s) (Value-F.Site s) (outs-Site s)
+kind-site s = kind_of bare (value.Site s) (Value-F.Site s) (outs-Site s)
 
 pub kind-agent : (a : Name) → kind bare (value.Agent a) ≡ Some ty.Agent
-kind-agent a = kind_of (value.Agent a) (Value-F.Agent a) (outs-Agent a)
+kind-agent a = kind_of bare (value.Agent a) (Value-F.Agent a) (outs-Agent a)
 
 pub kind-chan : (c : Name) → kind bare (value.Chan c) ≡ None
-kind-chan c = kind_of (value.Chan c) (Value-F.Chan c) (outs-Chan c)
+kind-chan c = kind_of bare (value.Chan c) (Value-F.Chan c) (outs-Chan c)
 
 pub kind-letter : (c : Name) (v : Value) → kind bare (value.Letter c v) ≡ None
-kind-letter c v = kind_of (value.Letter c v) (Value-F.Letter c v) (outs-Letter c v)
+kind-letter c v = kind_of bare (value.Letter c v) (Value-F.Letter c v) (outs-Letter c v)
 
-all_some-map : (w : World) (vs : List Value) → all_some (map (kind w) vs) ≡ kinds w vs
-all_some-map w [] = refl
-all_some-map w (v ∷ vs) = ap (λ o. kind w v >>= λ t. o >>= λ ts. Some (t ∷ ts)) (all_some-map w vs)
+pub kinds-map : (w : World) (vs : List Value) → all_some (map (kind w) vs) ≡ kinds w vs
+kinds-map w [] = refl
+kinds-map w (v ∷ vs) = ap (λ o. kind w v >>= λ t. o >>= λ ts. Some (t ∷ ts)) (kinds-map w vs)
 
 pub kind-tuple : (vs : List Value) → kind bare (value.Tuple vs) ≡ (kinds bare vs >>= λ ts. Some (ty.Tuple ts))
-kind-tuple vs = kind_of (value.Tuple vs) (Value-F.Tuple vs) (outs-Tuple vs) ∙ ap (λ o. o >>= λ ts. Some (ty.Tuple ts)) (all_some-map bare vs)
+kind-tuple vs = kind_of bare (value.Tuple vs) (Value-F.Tuple vs) (outs-Tuple vs) ∙ ap (λ o. o >>= λ ts. Some (ty.Tuple ts)) (kinds-map bare vs)
 
 kind-places : (ps : List (Name × Name)) → kind bare (value.Places ps) ≡ kind_layer bare (Value-F.Places ps)
-kind-places ps = kind_of (value.Places ps) (Value-F.Places ps) (outs-Places ps)
+kind-places ps = kind_of bare (value.Places ps) (Value-F.Places ps) (outs-Places ps)
 
 pub places_none : (ps : List (Name × Name)) → length ps ≡ 0 → kind bare (value.Places ps) ≡ Some ty.Places
 places_none [] e = kind-places []

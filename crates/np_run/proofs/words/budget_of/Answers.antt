@@ -12,25 +12,17 @@ use Rattle.np_run.proofs.words.budget_of.Goals as goal
 own : IsNumeralModel (λ ds. list_all is_ascii_digit ds ≡ true) (digits_value 10)
 own = numerals_by_value _ (search rules)
 
-both : (a b : Bool) → (a && b) ≡ true → (a ≡ true) × (b ≡ true)
-both true b e = (refl, e)
-both false b e = cc
-
 -- a numeral is of digits, and not empty
 digits : (word : List ℕ) → is_numeral word ≡ true → (list_all is_ascii_digit word ≡ true) × (0 < length word)
 digits word e =
-    let long = both (nat_lt 0 (length word) && nat_le (length word) 6) _ e in
-    let some = both (nat_lt 0 (length word)) _ long.0 in
+    let long = and-out (nat_lt 0 (length word) && nat_le (length word) 6) _ e in
+    let some = and-out (nat_lt 0 (length word)) _ long.0 in
     (long.1, grind (arith, nat_tests, some.0))
 
 -- the number that was read, if it is not too large
 abbrev read : {E : Type 0} → Result ℕ E → Option ℕ
 read (Ok n) = within_limit n
 read (Err e) = None
-
-never : (b : Bool) → (b && false) ≡ false
-never true = refl
-never false = refl
 
 large : (n : ℕ) → ¬ (n < 2 ^ 32) → within_limit n ≡ None
 large n h = let above : nat_le n 200000 ≡ false = grind (arith, nat_tests) in rw (above, never (nat_le 1 n)) refl
