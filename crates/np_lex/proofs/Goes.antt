@@ -12,8 +12,9 @@ use Rattle.np_lex.specs.declared.token.Sign.{Sign}
 use Rattle.np_lex.specs.declared.token.Sign.TheVariants as signs
 use Rattle.np_lex.specs.Tokens as t
 use Rattle.np_lex.specs.Tokens.{is_digit, is_letter, is_blank, goes_on, skip_len, Each, IsToken, IsLegal, IsLongest, Lexes, token, sign_at, word_at, name_at, sign_text, key_text}
-use Rattle.np_lex.specs.Spelling.{quoted}
-use Rattle.np_lex.proofs.Longest.{Stops, Alone, head, clash, both_true, is_word, key_word, name_word, word_longest, digits_longest, nought_longest, single_longest, pair_longest}
+use Rattle.np_syntax.specs.Printed.{quoted}
+use Rattle.np_syntax.proofs.Bools.{and-out, clash}
+use Rattle.np_lex.proofs.Longest.{Stops, Alone, head, is_word, key_word, name_word, word_longest, digits_longest, nought_longest, single_longest, pair_longest}
 use Rattle.np_lex.proofs.Quotes.{string_longest}
 use Rattle.np_lex.proofs.Spelling.{spelling_token}
 

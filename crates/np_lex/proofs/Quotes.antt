@@ -1,12 +1,13 @@
 -- A string is read up to its first quote that is no escape's.
-use Rattle.std.proofs.Common.{◌≡◌, ℕ, suc, ◌+◌, List, [], ◌∷◌, ◌++◌, length, Option, Some, None, refl, sym, ap, ◌∙◌, subst, arith, append_assoc, length-append}
+use Rattle.std.proofs.Common.{◌≡◌, ℕ, suc, ◌+◌, List, [], ◌∷◌, ◌++◌, length, Option, Some, None, inl, inr, refl, sym, ap, ◌∙◌, subst, arith, append_assoc, length-append}
 use Rattle.std.specs.Prelude.{Bool, true, false, ◌==◌}
 use Rattle.std.proofs.lemmas.Bool.Decides.{nat_tests}
+use Rattle.np_syntax.specs.Escapes.{escapes, IsEscapeIn, IsEscape}
 use Rattle.np_lex.specs.declared.strings.Part.{Part}
 use Rattle.np_lex.specs.declared.strings.Part.TheVariants as part
 use Rattle.np_lex.specs.Tokens as t
 use Rattle.np_lex.specs.Tokens.{is_plain, IsBody, IsForm, IsLongest}
-use Rattle.np_lex.specs.Strings.{part_of, behind, unquoted}
+use Rattle.np_lex.specs.Strings.{meant_by, part_of, behind, unquoted}
 use Rattle.np_lex.proofs.Longest.{form_string}
 
 -- ---- what a string writes is read
@@ -41,13 +42,18 @@ read_escape byte b rest n text p e =
     let inner : unquoted true (byte ∷ rest) ≡ Some (suc n, b ∷ text) = one_step true byte rest ∙ ap (λ q. step q rest) p ∙ read_byte b rest n text e in
     one_step false 92 (byte ∷ rest) ∙ ap (behind 1 []) inner ∙ ap (λ k. Some (k, b ∷ text)) (omega arith)
 
+escape_part : (byte letter : ℕ) → IsEscape byte letter → part_of true letter ≡ part.Byte byte
+escape_part byte letter (inl e) = rw (e.0, e.1) refl
+escape_part byte letter (inr (inl e)) = rw (e.0, e.1) refl
+escape_part byte letter (inr (inr (inl e))) = rw (e.0, e.1) refl
+escape_part byte letter (inr (inr (inr e))) = absurd e
+
 pub body_read : {bytes text : List ℕ} → IsBody bytes text → (rest : List ℕ) → unquoted false (bytes ++ 34 ∷ rest) ≡ Some (suc (length bytes), text)
 body_read t.nothing rest = refl
 body_read (t.plain {byte = byte} {bytes = bytes} {text = text} plain body) rest =
     one_step false byte (bytes ++ 34 ∷ rest) ∙ ap (λ q. step q (bytes ++ 34 ∷ rest)) (plain_part byte plain) ∙ read_byte byte (bytes ++ 34 ∷ rest) (suc (length bytes)) text (body_read body rest)
-body_read (t.newline {bytes = bytes} {text = text} body) rest = read_escape 110 10 (bytes ++ 34 ∷ rest) (suc (length bytes)) text refl (body_read body rest)
-body_read (t.quote {bytes = bytes} {text = text} body) rest = read_escape 34 34 (bytes ++ 34 ∷ rest) (suc (length bytes)) text refl (body_read body rest)
-body_read (t.backslash {bytes = bytes} {text = text} body) rest = read_escape 92 92 (bytes ++ 34 ∷ rest) (suc (length bytes)) text refl (body_read body rest)
+body_read (t.escape {byte = byte} {letter = letter} {bytes = bytes} {text = text} is body) rest =
+    read_escape letter byte (bytes ++ 34 ∷ rest) (suc (length bytes)) text (escape_part byte letter is) (body_read body rest)
 
 -- ---- what is read is what a string writes
 
@@ -77,29 +83,16 @@ plain_says byte = quote (byte == 34) refl
     quote true e = let same : byte ≡ 34 = grind (arith, nat_tests) in rw e (refl, same)
     quote false e = slash (byte == 92) refl e
 
-escape_says : (byte : ℕ) → PartSays true byte (part_of true byte)
-escape_says byte = newline (byte == 110) refl
+escape_says : (table : List (ℕ × ℕ)) → ((byte letter : ℕ) → IsEscapeIn table byte letter → IsEscape byte letter) → (letter : ℕ) → PartSays true letter (meant_by table letter)
+escape_says [] all letter = tt
+escape_says (escape ∷ others) all letter = go (letter == escape.1) refl (escape_says others (λ byte letter is. all byte letter (inr is)) letter)
   where
-    at_byte : (a b : ℕ) → byte ≡ a → ((bytes text : List ℕ) → IsBody bytes text → IsBody (92 ∷ a ∷ bytes) (b ∷ text)) → (bytes text : List ℕ) → IsBody bytes text → IsBody (92 ∷ byte ∷ bytes) (b ∷ text)
-    at_byte a b e h bytes text body = subst (λ x. IsBody (92 ∷ x ∷ bytes) (b ∷ text)) (sym e) (h bytes text body)
-
-    itself : (a : ℕ) → byte ≡ a → ((bytes text : List ℕ) → IsBody bytes text → IsBody (92 ∷ a ∷ bytes) (a ∷ text)) → (bytes text : List ℕ) → IsBody bytes text → IsBody (92 ∷ byte ∷ bytes) (byte ∷ text)
-    itself a e h bytes text body = subst (λ x. IsBody (92 ∷ x ∷ bytes) (x ∷ text)) (sym e) (h bytes text body)
-
-    slash : (test : Bool) → (byte == 92) ≡ test → (byte == 34) ≡ false → (byte == 110) ≡ false → PartSays true byte (part_of true byte)
-    slash true e q n = rw (n, q, e) (itself 92 (grind (arith, nat_tests)) (λ bytes text body. t.backslash body))
-    slash false e q n = rw (n, q, e) tt
-
-    quote : (test : Bool) → (byte == 34) ≡ test → (byte == 110) ≡ false → PartSays true byte (part_of true byte)
-    quote true e n = rw (n, e) (itself 34 (grind (arith, nat_tests)) (λ bytes text body. t.quote body))
-    quote false e n = slash (byte == 92) refl e n
-
-    newline : (test : Bool) → (byte == 110) ≡ test → PartSays true byte (part_of true byte)
-    newline true e = rw e (at_byte 110 10 (grind (arith, nat_tests)) (λ bytes text body. t.newline body))
-    newline false e = quote (byte == 34) refl e
+    go : (test : Bool) → (letter == escape.1) ≡ test → PartSays true letter (meant_by others letter) → PartSays true letter (meant_by (escape ∷ others) letter)
+    go true e more = let same : letter ≡ escape.1 = grind (arith, nat_tests) in rw e (λ bytes text body. t.escape (all escape.0 letter (inl (refl, same))) body)
+    go false e more = rw e more
 
 part_says : (escaped : Bool) (byte : ℕ) → PartSays escaped byte (part_of escaped byte)
-part_says true byte = escape_says byte
+part_says true byte = escape_says escapes (λ byte letter is. is) byte
 part_says false byte = plain_says byte
 
 -- a string's bytes up to its closing quote

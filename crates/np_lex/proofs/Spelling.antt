@@ -1,16 +1,19 @@
 -- Each token has one text.
-use Rattle.std.proofs.Common.{◌≡◌, ℕ, ℤ, ◌+◌, ◌-◌, ◌*◌, true, false, List, [], ◌∷◌, ◌++◌, decimal, refl, sym, ap, arith, subst, ◌∙◌}
+use Rattle.std.proofs.Common.{◌≡◌, ℕ, ℤ, ◌+◌, ◌-◌, ◌*◌, true, false, List, [], ◌∷◌, ◌++◌, decimal, inl, inr, refl, sym, ap, arith, subst, ◌∙◌}
 use Rattle.std.specs.Prelude.{fold, ◌==◌}
 use Rattle.std.specs.Fmt.{signed_decimal}
+use Rattle.std.specs.List.{flat_map}
 use Rattle.std.proofs.lemmas.Bool.Decides.{nat_tests}
 use Rattle.std.specs.Int.{IsInRange}
 use Rattle.std.proofs.lemmas.Str.Parse.{IsNumeralModel, numerals_by_fold}
 use Rattle.std.proofs.lemmas.Fmt.{decimal-digits_value, decimal_digit}
+use Rattle.np_syntax.specs.Escapes.{IsEscape}
+use Rattle.np_syntax.specs.Printed.{escaped}
 use Rattle.np_lex.specs.declared.token.What.{What}
 use Rattle.np_lex.specs.declared.token.What.TheVariants as what
 use Rattle.np_lex.specs.Tokens as t
 use Rattle.np_lex.specs.Tokens.{is_digit, is_plain, Each, IsBody, IsToken, IsLegal, value}
-use Rattle.np_lex.specs.Spelling.{escaped, spelling}
+use Rattle.np_lex.specs.Spelling.{spelling}
 
 -- ---- numbers
 
@@ -36,19 +39,28 @@ number_text (t.number {byte = byte} {bytes = bytes} digit other each same small)
 
 -- ---- strings
 
-plain_escaped : (byte : ℕ) (text : List ℕ) → is_plain byte ≡ true → escaped (byte ∷ text) ≡ byte ∷ escaped text
-plain_escaped byte text plain =
+plain_escaped : (byte : ℕ) → is_plain byte ≡ true → escaped byte ≡ byte ∷ []
+plain_escaped byte plain =
     let no_newline : (byte == 10) ≡ false = grind (arith, nat_tests) in
     let no_quote : (byte == 34) ≡ false = grind (arith, nat_tests) in
     let no_backslash : (byte == 92) ≡ false = grind (arith, nat_tests) in
     rw (no_newline, no_quote, no_backslash)
 
-body_text : {bytes text : List ℕ} → IsBody bytes text → bytes ≡ escaped text
+escape_escaped : (byte letter : ℕ) → IsEscape byte letter → escaped byte ≡ 92 ∷ letter ∷ []
+escape_escaped byte letter (inl e) = rw (e.0, e.1) refl
+escape_escaped byte letter (inr (inl e)) = rw (e.0, e.1) refl
+escape_escaped byte letter (inr (inr (inl e))) = rw (e.0, e.1) refl
+escape_escaped byte letter (inr (inr (inr e))) = absurd e
+
+-- a byte that is written so, and what stands behind it
+written : (byte : ℕ) (bytes front text : List ℕ) → escaped byte ≡ front → bytes ≡ flat_map escaped text → front ++ bytes ≡ flat_map escaped (byte ∷ text)
+written byte bytes front text e same = ap (λ l. front ++ l) same ∙ ap (λ l. l ++ flat_map escaped text) (sym e)
+
+body_text : {bytes text : List ℕ} → IsBody bytes text → bytes ≡ flat_map escaped text
 body_text t.nothing = refl
-body_text (t.plain {byte = byte} {text = text} plain body) = ap (λ l. byte ∷ l) (body_text body) ∙ sym (plain_escaped byte text plain)
-body_text (t.newline body) = ap (λ l. 92 ∷ 110 ∷ l) (body_text body)
-body_text (t.quote body) = ap (λ l. 92 ∷ 34 ∷ l) (body_text body)
-body_text (t.backslash body) = ap (λ l. 92 ∷ 92 ∷ l) (body_text body)
+body_text (t.plain {byte = byte} {bytes = bytes} {text = text} plain body) = written byte bytes (byte ∷ []) text (plain_escaped byte plain) (body_text body)
+body_text (t.escape {byte = byte} {letter = letter} {bytes = bytes} {text = text} is body) =
+    written byte bytes (92 ∷ letter ∷ []) text (escape_escaped byte letter is) (body_text body)
 
 -- ---- tokens
 

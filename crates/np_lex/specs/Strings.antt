@@ -6,9 +6,13 @@ use Rattle.np_lex.specs.declared.token.What.{What}
 use Rattle.np_lex.specs.declared.token.What.TheVariants as what
 use Rattle.np_lex.specs.Tokens.{is_plain}
 
+abbrev pub meant_by : List (ℕ × ℕ) → ℕ → Part
+meant_by [] letter = part.Wrong
+meant_by (escape ∷ others) letter = if letter == escape.1 then part.Byte escape.0 else meant_by others letter
+
 -- what a byte is within the quotes, behind a backslash or not
 abbrev pub part_of : Bool → ℕ → Part
-part_of true byte = if byte == 110 then part.Byte 10 else (if byte == 34 || byte == 92 then part.Byte byte else part.Wrong)
+part_of true byte = meant_by escapes byte
 part_of false byte = if byte == 34 then part.Close else (if byte == 92 then part.Backslash else (if is_plain byte then part.Byte byte else part.Wrong))
 
 -- behind so many bytes, which wrote this text

@@ -105,13 +105,11 @@ sign_text signs.Underscore = codes "_"
 
 -- ---- one token
 
--- the bytes that stand between the quotes of a string, and the text that they write: plain bytes and the escapes `\n`, `\"` and `\\`
+-- the bytes that stand between the quotes of a string, and the text that they write: plain bytes and escapes
 pub data IsBody : List ℕ → List ℕ → Type 0 where
   nothing : IsBody [] []
   plain : {byte : ℕ} {bytes text : List ℕ} → is_plain byte ≡ true → IsBody bytes text → IsBody (byte ∷ bytes) (byte ∷ text)
-  newline : {bytes text : List ℕ} → IsBody bytes text → IsBody (92 ∷ 110 ∷ bytes) (10 ∷ text)
-  quote : {bytes text : List ℕ} → IsBody bytes text → IsBody (92 ∷ 34 ∷ bytes) (34 ∷ text)
-  backslash : {bytes text : List ℕ} → IsBody bytes text → IsBody (92 ∷ 92 ∷ bytes) (92 ∷ text)
+  escape : {byte letter : ℕ} {bytes text : List ℕ} → IsEscape byte letter → IsBody bytes text → IsBody (92 ∷ letter ∷ bytes) (byte ∷ text)
 
 -- the forms of tokens, with no limit: words, `0` alone, other digits that begin with no `0`, strings and signs
 pub data IsForm : List ℕ → Type 0 where

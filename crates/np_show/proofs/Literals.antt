@@ -15,21 +15,9 @@ use Rattle.np_lex.proofs.Goes.{Goes, Soft, key_goes, number_goes, string_goes}
 use Rattle.np_tree.specs.Grammar as g
 use Rattle.np_tree.specs.Grammar.{IsLiteral}
 
-one_escape : (a b c : Bool) (byte : ℕ) (rest : List ℕ) → (if a then codes "\\n" else if b then codes "\\\"" else if c then codes "\\\\" else byte ∷ []) ++ rest
-    ≡ (if a then 92 ∷ 110 ∷ rest else (if b then 92 ∷ 34 ∷ rest else (if c then 92 ∷ 92 ∷ rest else byte ∷ rest)))
-one_escape true b c byte rest = refl
-one_escape false true c byte rest = refl
-one_escape false false true byte rest = refl
-one_escape false false false byte rest = refl
-
--- a string is printed as it is written in a source
-same_escapes : (text : List ℕ) → flat_map printed.escaped text ≡ spelled.escaped text
-same_escapes [] = refl
-same_escapes (byte ∷ text) = ap (λ l. printed.escaped byte ++ l) (same_escapes text) ∙ one_escape (byte == 10) (byte == 34) (byte == 92) byte (spelled.escaped text)
-
 pub literal_text : {w : What} {v : Value} → IsLiteral w v → value_text [] v ≡ spelling w
 literal_text (g.number {n = n}) = text-int [] n
-literal_text (g.string {text = text}) = text-str [] text ∙ ap (λ l. 34 ∷ (l ++ 34 ∷ [])) (same_escapes text)
+literal_text (g.string {text = text}) = text-str [] text
 literal_text g.truth = text-truth [] true
 literal_text g.falsehood = text-truth [] false
 

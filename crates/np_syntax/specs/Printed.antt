@@ -2,11 +2,16 @@
 use Rattle.std.specs.Prelude.{ℕ, Bool, true, false, ◌==◌, List, [], ◌∷◌, ◌++◌, map, codes, slice_index_or, if◌then◌else◌}
 use Rattle.std.specs.Fmt.{signed_decimal}
 use Rattle.std.specs.List.{flat_map}
+use Rattle.np_syntax.specs.Escapes.{escapes}
 use Rattle.np_syntax.specs.declared.value.Value.{Value, Value-F, fold-Value}
 
--- a byte of a string: a line feed, a double quote and a backslash are written as escapes
+abbrev pub escaped_by : List (ℕ × ℕ) → ℕ → List ℕ
+escaped_by [] byte = byte ∷ []
+escaped_by (escape ∷ others) byte = if byte == escape.0 then codes "\\" ++ escape.1 ∷ [] else escaped_by others byte
+
+-- a byte of a string, as its escape where it has one
 abbrev pub escaped : ℕ → List ℕ
-escaped byte = if byte == 10 then codes "\\n" else if byte == 34 then codes "\\\"" else if byte == 92 then codes "\\\\" else byte ∷ []
+escaped = escaped_by escapes
 
 abbrev pub quoted : List ℕ → List ℕ
 quoted text = codes "\"" ++ flat_map escaped text ++ codes "\""
