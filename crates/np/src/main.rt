@@ -2,27 +2,23 @@
 #![tactic(auto)]
 
 use np_io::{ErrSink, FileTexts, OutSink, Word};
-use np_run::np;
+use np_run::{BAD_USAGE, NO_MEMORY, np};
 use np_syntax::{List, Memory};
 use std::alloc::Global;
 use std::env;
 use std::io::{Error, ErrorKind};
 use std::process::ExitCode;
 
-const USAGE: u8 = 2;
-
-const WANT_OF_MEMORY: u8 = 6;
-
 fn main(rt: HostRuntime) -> ExitCode {
     let texts: Vec<String> = match env::args(&rt) {
         Ok(args) => match args.collect(rt.alloc()) {
             Ok(texts) => texts,
-            Err(_) => return ExitCode::from(WANT_OF_MEMORY),
+            Err(_) => return ExitCode::from(NO_MEMORY),
         },
         Err(error) => return ExitCode::from(status_of(&error)),
     };
     let Ok(words) = words_of(rt.alloc(), texts.as_slice()) else {
-        return ExitCode::from(WANT_OF_MEMORY);
+        return ExitCode::from(NO_MEMORY);
     };
     let mut files = FileTexts::new(&rt);
     let mut out = OutSink::new(rt.stdout());
@@ -41,9 +37,9 @@ fn main(rt: HostRuntime) -> ExitCode {
 /// The status where the words cannot be read: memory is wanting, or one is no UTF-8.
 fn status_of(error: &Error) -> u8 {
     if error.kind() == ErrorKind::OutOfMemory {
-        WANT_OF_MEMORY
+        NO_MEMORY
     } else {
-        USAGE
+        BAD_USAGE
     }
 }
 

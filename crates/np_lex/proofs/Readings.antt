@@ -6,6 +6,8 @@ use Rattle.std.specs.Str.{bytes_eq}
 use Rattle.std.proofs.lemmas.Bool.Decides.{nat_tests}
 use Rattle.std.proofs.Math.Seq.{take-append_seam}
 use Rattle.std.proofs.lemmas.Slice.Eq.{bytes_eq-Decides}
+use Rattle.np_syntax.specs.declared.limits.TheConstants.{LONGEST_NAME, LONGEST_STRING}
+use Rattle.np_syntax.proofs.Bools.{clash}
 use Rattle.np_lex.specs.declared.token.Key.{Key}
 use Rattle.np_lex.specs.declared.token.Key.TheVariants as keys
 use Rattle.np_lex.specs.declared.token.Sign.{Sign}
@@ -114,21 +116,21 @@ unfolding word_kind
 word_only (t.key k) h = ap (λ o. word_by o (key_text k)) (key_back k)
 word_only (t.name {byte = byte} {bytes = bytes} letter each few other) h =
     ap (λ o. word_by o (byte ∷ bytes)) (no_key (byte ∷ bytes) other)
-    ∙ ap (λ b. if b then Some (what.Ident (byte ∷ bytes)) else None) (few_test (length (byte ∷ bytes)) 64 few)
+    ∙ ap (λ b. if b then Some (what.Ident (byte ∷ bytes)) else None) (few_test (length (byte ∷ bytes)) LONGEST_NAME few)
 word_only p h = let k = lead_is p in absurd (omega arith)
 
 word_means : (byte : ℕ) (bytes : List ℕ) (w : What) → is_letter byte ≡ true → Each goes_on bytes → word_kind (byte ∷ bytes) ≡ Some w → IsToken (byte ∷ bytes) w
 unfolding word_kind
 word_means byte bytes w letter each e = go (key_of (byte ∷ bytes)) refl e
   where
-    named : (few : Bool) → nat_le (length (byte ∷ bytes)) 64 ≡ few → key_of (byte ∷ bytes) ≡ None → (if few then Some (what.Ident (byte ∷ bytes)) else None) ≡ Some w → IsToken (byte ∷ bytes) w
+    named : (few : Bool) → nat_le (length (byte ∷ bytes)) LONGEST_NAME ≡ few → key_of (byte ∷ bytes) ≡ None → (if few then Some (what.Ident (byte ∷ bytes)) else None) ≡ Some w → IsToken (byte ∷ bytes) w
     named true few none k = let same : what.Ident (byte ∷ bytes) ≡ w = cc in
-        subst (IsToken (byte ∷ bytes)) same (t.name letter each (few_is (length (byte ∷ bytes)) 64 few) (key_none (byte ∷ bytes) none))
+        subst (IsToken (byte ∷ bytes)) same (t.name letter each (few_is (length (byte ∷ bytes)) LONGEST_NAME few) (key_none (byte ∷ bytes) none))
     named false few none k = cc
 
     go : (o : Option Key) → key_of (byte ∷ bytes) ≡ o → word_by o (byte ∷ bytes) ≡ Some w → IsToken (byte ∷ bytes) w
     go (Some k) h m = let same : what.Word k ≡ w = cc in subst (λ l. IsToken l w) (key_is (byte ∷ bytes) k h) (subst (IsToken (key_text k)) same (t.key k))
-    go None h m = named (nat_le (length (byte ∷ bytes)) 64) refl h m
+    go None h m = named (nat_le (length (byte ∷ bytes)) LONGEST_NAME) refl h m
 
 bounded_says : (text : List ℕ) → value text ≤ 9223372036854775807 → bounded text ≡ Some (value text)
 bounded_says text small = ap (λ b. if b then Some (value text) else None) (few_test (value text) 9223372036854775807 small)
@@ -310,17 +312,17 @@ abbrev limited_by : Bool → ℕ × List ℕ → Option (ℕ × What)
 limited_by few read = if few then Some (1 + read.0, what.Str read.1) else None
 
 limited_is : (o : Option (ℕ × List ℕ)) (n : ℕ) (w : What) → limited o ≡ Some (n, w)
-    → (read : ℕ × List ℕ) × (o ≡ Some read) × (length read.1 ≤ 1024) × (1 + read.0 ≡ n) × (what.Str read.1 ≡ w)
+    → (read : ℕ × List ℕ) × (o ≡ Some read) × (length read.1 ≤ LONGEST_STRING) × (1 + read.0 ≡ n) × (what.Str read.1 ≡ w)
 limited_is None n w e = cc
-limited_is (Some read) n w e = go (nat_le (length read.1) 1024) refl e
+limited_is (Some read) n w e = go (nat_le (length read.1) LONGEST_STRING) refl e
   where
-    go : (few : Bool) → nat_le (length read.1) 1024 ≡ few → limited_by few read ≡ Some (n, w)
-        → (r : ℕ × List ℕ) × (Some read ≡ Some r) × (length r.1 ≤ 1024) × (1 + r.0 ≡ n) × (what.Str r.1 ≡ w)
-    go true few k = let same = same_first (1 + read.0, what.Str read.1) (n, w) k in (read, refl, few_is (length read.1) 1024 few, same.0, same.1)
+    go : (few : Bool) → nat_le (length read.1) LONGEST_STRING ≡ few → limited_by few read ≡ Some (n, w)
+        → (r : ℕ × List ℕ) × (Some read ≡ Some r) × (length r.1 ≤ LONGEST_STRING) × (1 + r.0 ≡ n) × (what.Str r.1 ≡ w)
+    go true few k = let same = same_first (1 + read.0, what.Str read.1) (n, w) k in (read, refl, few_is (length read.1) LONGEST_STRING few, same.0, same.1)
     go false few k = cc
 
-limited_says : (n : ℕ) (text : List ℕ) → length text ≤ 1024 → limited (Some (n, text)) ≡ Some (1 + n, what.Str text)
-limited_says n text few = ap (λ b. limited_by b (n, text)) (few_test (length text) 1024 few)
+limited_says : (n : ℕ) (text : List ℕ) → length text ≤ LONGEST_STRING → limited (Some (n, text)) ≡ Some (1 + n, what.Str text)
+limited_says n text few = ap (λ b. limited_by b (n, text)) (few_test (length text) LONGEST_STRING few)
 
 string_says : (rest : List ℕ) → Says (34 ∷ rest) (string rest)
 unfolding string
@@ -338,7 +340,7 @@ string_says rest = record {
   only = λ n w g. reads n g.rest g.means g.is g.counts;
 }
   where
-    string_token : {w : What} (n : ℕ) (after bytes text : List ℕ) → IsBody bytes text → length text ≤ 1024 → 34 ∷ rest ≡ (34 ∷ (bytes ++ 34 ∷ [])) ++ after → length (34 ∷ (bytes ++ 34 ∷ [])) ≡ n
+    string_token : {w : What} (n : ℕ) (after bytes text : List ℕ) → IsBody bytes text → length text ≤ LONGEST_STRING → 34 ∷ rest ≡ (34 ∷ (bytes ++ 34 ∷ [])) ++ after → length (34 ∷ (bytes ++ 34 ∷ [])) ≡ n
         → what.Str text ≡ w → limited (unquoted false rest) ≡ Some (n, w)
     string_token n after bytes text body few e counts same =
         let inner : rest ≡ bytes ++ 34 ∷ after = ap tail e ∙ append_assoc bytes (34 ∷ []) after in

@@ -2,6 +2,7 @@
 use Rattle.std.specs.Prelude.{ℕ, pos, Bool, ◌&&◌, ◌||◌, nat_le, ◌==◌, if◌then◌else◌, List, [], ◌∷◌, length, take, Option, Some, None}
 use Rattle.std.specs.List.{prefix_len, find}
 use Rattle.std.specs.Str.{bytes_eq}
+use Rattle.np_syntax.specs.declared.limits.TheConstants.{LONGEST_NAME}
 use Rattle.np_lex.specs.declared.token.Key.{Key}
 use Rattle.np_lex.specs.declared.token.Sign.{Sign}
 use Rattle.np_lex.specs.declared.token.TheConstants.{KEYS, SIGNS}
@@ -20,7 +21,7 @@ key_of text = find (λ k. bytes_eq (key_text k) text) KEYS
 
 abbrev pub word_by : Option Key → List ℕ → Option What
 word_by (Some k) text = Some (what.Word k)
-word_by None text = if nat_le (length text) 64 then Some (what.Ident text) else None
+word_by None text = if nat_le (length text) LONGEST_NAME then Some (what.Ident text) else None
 
 -- the keyword or the name that a word is
 unfoldable pub word_kind : List ℕ → Option What

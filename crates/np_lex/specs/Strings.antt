@@ -1,5 +1,7 @@
 -- The string at the front of bytes, as it is read from left to right.
-use Rattle.std.specs.Prelude.{ℕ, ◌+◌, Bool, true, false, ◌||◌, nat_le, ◌==◌, if◌then◌else◌, List, [], ◌∷◌, ◌++◌, length, Option, Some, None}
+use Rattle.std.specs.Prelude.{ℕ, ◌+◌, Bool, true, false, nat_le, ◌==◌, if◌then◌else◌, List, [], ◌∷◌, ◌++◌, length, Option, Some, None}
+use Rattle.np_syntax.specs.Escapes.{escapes}
+use Rattle.np_syntax.specs.declared.limits.TheConstants.{LONGEST_STRING}
 use Rattle.np_lex.specs.declared.strings.Part.{Part}
 use Rattle.np_lex.specs.declared.strings.Part.TheVariants as part
 use Rattle.np_lex.specs.declared.token.What.{What}
@@ -32,7 +34,7 @@ unquoted escaped (byte ∷ rest) = elim (part_of escaped byte) [
 
 abbrev pub limited : Option (ℕ × List ℕ) → Option (ℕ × What)
 limited None = None
-limited (Some read) = if nat_le (length read.1) 1024 then Some (1 + read.0, what.Str read.1) else None
+limited (Some read) = if nat_le (length read.1) LONGEST_STRING then Some (1 + read.0, what.Str read.1) else None
 
 -- the string whose opening quote stands before these bytes, with its length
 unfoldable pub string : List ℕ → Option (ℕ × What)

@@ -2,6 +2,8 @@
 use Rattle.std.specs.Prelude.{◌≡◌, ◌≢◌, ℕ, pos, ◌+◌, ◌*◌, ◌-◌, ◌<◌, ◌≤◌, Bool, true, ◌&&◌, ◌||◌, not, nat_le, ◌==◌, if◌then◌else◌}
 use Rattle.std.specs.Prelude.{List, [], ◌∷◌, ◌++◌, length, drop, fold, codes}
 use Rattle.std.specs.List.{prefix_len}
+use Rattle.np_syntax.specs.Escapes.{IsEscape}
+use Rattle.np_syntax.specs.declared.limits.TheConstants.{LONGEST_NAME, LONGEST_STRING}
 use Rattle.np_lex.specs.declared.token.Key.{Key}
 use Rattle.np_lex.specs.declared.token.Key.TheVariants as keys
 use Rattle.np_lex.specs.declared.token.Sign.{Sign}
@@ -126,12 +128,12 @@ value = fold (λ number digit. 10 * number + (digit - 48)) 0
 -- the text is this token: it is of a form, and within the limit of its form
 pub data IsToken : List ℕ → What → Type 0 where
   key : (k : Key) → IsToken (key_text k) (what.Word k)
-  name : {byte : ℕ} {bytes : List ℕ} → is_letter byte ≡ true → Each goes_on bytes → length (byte ∷ bytes) ≤ 64 → ((k : Key) → key_text k ≢ byte ∷ bytes)
+  name : {byte : ℕ} {bytes : List ℕ} → is_letter byte ≡ true → Each goes_on bytes → length (byte ∷ bytes) ≤ LONGEST_NAME → ((k : Key) → key_text k ≢ byte ∷ bytes)
       → IsToken (byte ∷ bytes) (what.Ident (byte ∷ bytes))
   nought : IsToken (48 ∷ []) (what.Number (pos 0))
   number : {byte n : ℕ} {bytes : List ℕ} → is_digit byte ≡ true → byte ≢ 48 → Each is_digit bytes → value (byte ∷ bytes) ≡ n → n ≤ 9223372036854775807
       → IsToken (byte ∷ bytes) (what.Number (pos n))
-  string : {bytes text : List ℕ} → IsBody bytes text → length text ≤ 1024 → IsToken (34 ∷ (bytes ++ 34 ∷ [])) (what.Str text)
+  string : {bytes text : List ℕ} → IsBody bytes text → length text ≤ LONGEST_STRING → IsToken (34 ∷ (bytes ++ 34 ∷ [])) (what.Str text)
   sign : (s : Sign) → IsToken (sign_text s) (what.Sign s)
 
 -- Behind the text stand these bytes, and no longer front of both is of a form. A form that is over its limit is a form

@@ -9,14 +9,11 @@ ghost use Rattle.np_lex.specs.Refusals.{refusal as refusal_of};
 use super::fail::LexFail;
 use super::strings::string;
 use super::token::{KEYS, Key, SIGNS, Sign, What};
-use np_syntax::{List, Memory};
+use np_syntax::{LONGEST_NAME, List, Memory};
 use std::alloc::Global;
 
 /// The largest number.
 const LARGEST: u64 = 9223372036854775807;
-
-/// How long a name may be, in bytes.
-const LONGEST_NAME: usize = 64;
 
 fn is_digit(byte: u8) -> bool
     ensures { result ≡ spec.is_digit byte }

@@ -4,11 +4,8 @@ ghost use Rattle.std.specs.Prelude.{◌≡◌, IfOk};
 ghost use Rattle.np_lex.specs.Strings as strings;
 
 use super::token::What;
-use np_syntax::{List, Memory};
+use np_syntax::{LONGEST_STRING, List, Memory};
 use std::alloc::Global;
-
-/// How long the text of a string may be, in bytes.
-const LONGEST_STRING: usize = 1024;
 
 /// What a byte is within the quotes of a string.
 #[derive(Clone, Copy)]

@@ -3,6 +3,7 @@ use Rattle.std.proofs.Common.{◌≡◌, ℕ, zero, suc, ◌+◌, ◌<◌, ◌�
 use Rattle.std.specs.Prelude.{nat_le, false, Option, Some, None}
 use Rattle.std.proofs.lemmas.Bool.Decides.{nat_tests}
 use Rattle.np_syntax.specs.declared.expression.Op.{Op}
+use Rattle.np_syntax.specs.declared.limits.TheConstants.{MOST_PARTS}
 use Rattle.np_lex.specs.declared.token.Sign.TheVariants as sign
 use Rattle.np_lex.specs.declared.token.Token.{Token}
 use Rattle.np_lex.specs.declared.token.What.{What}
@@ -94,12 +95,12 @@ module _ {A : Type 0} (Is : ℕ → List Token → A → Type 0) (Stop : List To
   comes (Are.part {room = n} {d = d} {ts = ts} {us = us} {x = x} {xs = xs} p q) h k rest s =
       one_more n k d us ts xs x rest (f.opens q rest) (comes p h (suc k) (ts ++ rest) (f.stops q rest)) (c.give q h rest s)
 
-  pub tuple_given : (made : ℕ → List A → A) {d : ℕ} {us : List Token} {xs : List A} → Are Is 16 d us xs → d ≤ b → (at end i j : ℕ) (rest : List Token)
+  pub tuple_given : (made : ℕ → List A → A) {d : ℕ} {us : List Token} {xs : List A} → Are Is MOST_PARTS d us xs → d ≤ b → (at end i j : ℕ) (rest : List Token)
       → Gives (suc d) (tuple_in inner made (sign_at at end sign.SquareOpen ∷ (us ++ sign_at i j sign.SquareClose ∷ rest))) rest (made at xs)
   unfolding tuple_in take
   tuple_given made {us = us} {xs = xs} p h at end i j rest =
       let k = comes p h 0 (sign_at i j sign.SquareClose ∷ rest) (f.close i j rest) in
-      let all : parts inner 16 [] 0 (us ++ sign_at i j sign.SquareClose ∷ rest) ≡ Ok ((xs, k.depth), rest) = k.reads ∙ parts_end inner k.room xs k.depth i j rest in
+      let all : parts inner MOST_PARTS [] 0 (us ++ sign_at i j sign.SquareClose ∷ rest) ≡ Ok ((xs, k.depth), rest) = k.reads ∙ parts_end inner k.room xs k.depth i j rest in
       record { depth = k.depth + 1; within = omega (arith, k.within); some = omega arith; reads = rw all }
 
 -- ---- operators

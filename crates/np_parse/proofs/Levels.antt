@@ -1,5 +1,6 @@
 -- A number of levels that is not 0 is one more than another.
 use Rattle.std.proofs.Common.{◌≡◌, ℕ, suc, ◌-◌, ◌<◌}
+use Rattle.np_syntax.specs.declared.limits.TheConstants.{DEEPEST}
 use Rattle.np_parse.specs.Read.Types.{chan, type}
 use Rattle.np_parse.specs.Read.Patterns.{pat}
 use Rattle.np_parse.specs.Read.Expressions.{atom, prod, sum, expr}
@@ -27,5 +28,5 @@ deeper_sum n some = deeper sum n some
 pub deeper_expr : (n : ℕ) → 0 < n → expr n ≡ expr (suc (n - 1))
 deeper_expr n some = deeper expr n some
 
-pub deeper_proc : (n : ℕ) → 0 < n → proc 200 n ≡ proc 200 (suc (n - 1))
-deeper_proc n some = deeper (proc 200) n some
+pub deeper_proc : (n : ℕ) → 0 < n → proc DEEPEST n ≡ proc DEEPEST (suc (n - 1))
+deeper_proc n some = deeper (proc DEEPEST) n some

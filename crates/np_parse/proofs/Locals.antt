@@ -3,6 +3,7 @@ use Rattle.std.proofs.Common.{◌≡◌, ℕ, zero, suc, max, List, [], ◌∷�
 use Rattle.std.specs.Prelude.{Bool, true, false, if◌then◌else◌, Option, Some, None}
 use Rattle.np_syntax.specs.declared.types.Cap.{Cap}
 use Rattle.np_syntax.specs.declared.expression.Op.{Op}
+use Rattle.np_syntax.specs.declared.limits.TheConstants.{MOST_PARTS}
 use Rattle.np_lex.specs.declared.token.Key.{Key}
 use Rattle.np_lex.specs.declared.token.Key.TheVariants as key
 use Rattle.np_lex.specs.declared.token.Sign.{Sign}
@@ -140,7 +141,7 @@ local_parts inner l (suc room) items depth = local_then peek (part_by (parts inn
 
 local_tuple : {A : Type 0} (inner : Parser (Sized A)) (made : ℕ → List A → A) → Local inner → Local (tuple_in inner made)
 unfolding tuple_in
-local_tuple inner made l = local_then take (λ at. parts inner 16 [] 0 >>= (λ xs. pure _)) local_take (λ at. local_then (parts inner 16 [] 0) _ (local_parts inner l 16 [] 0) (λ xs. local_pure _))
+local_tuple inner made l = local_then take (λ at. parts inner MOST_PARTS [] 0 >>= (λ xs. pure _)) local_take (λ at. local_then (parts inner MOST_PARTS [] 0) _ (local_parts inner l MOST_PARTS [] 0) (λ xs. local_pure _))
 
 -- ---- types
 

@@ -1,5 +1,6 @@
 -- A tuple that is read is in the grammar, and what is refused in one cannot go on.
 use Rattle.std.proofs.Common.{◌≡◌, ℕ, zero, suc, ◌+◌, ◌<◌, ◌≤◌, max, inl, inr, List, [], ◌∷◌, ◌++◌, Ok, refl, sym, subst, append_assoc, append-nil, add-one, arith}
+use Rattle.np_syntax.specs.declared.limits.TheConstants.{MOST_PARTS}
 use Rattle.np_lex.specs.declared.token.Sign.TheVariants as sign
 use Rattle.np_lex.specs.declared.token.Token.{Token}
 use Rattle.np_lex.specs.declared.token.What.{What}
@@ -12,19 +13,19 @@ use Rattle.np_parse.proofs.Parts.{Are, raise_are, raise_room}
 
 -- a part of the grammar that has tuples of these parts
 pub record Tuples {A : Type 0} (Is W : ℕ → List Token → A → Type 0) (made : ℕ → List A → A) : Type 0 where
-  pub tuple : {d at end : ℕ} {ts : List Token} {xs : List A} (a b : ℕ) → Are Is 16 d ts xs
+  pub tuple : {d at end : ℕ} {ts : List Token} {xs : List A} (a b : ℕ) → Are Is MOST_PARTS d ts xs
       → W (suc d) (sign_at at end sign.SquareOpen ∷ (ts ++ sign_at a b sign.SquareClose ∷ [])) (made at xs)
 
 module _ {A : Type 0} (Is W : ℕ → List Token → A → Type 0) (made : ℕ → List A → A) (raises : Raises Is) (tuples : Tuples Is W made) where
   -- the tuple whose parts so far these are, with a bracket behind them
-  ends_here : (b at end i j n m : ℕ) (u : List Token) (items : List A) → n ≤ 16 → m ≤ b → Are Is n m u items
+  ends_here : (b at end i j n m : ℕ) (u : List Token) (items : List A) → n ≤ MOST_PARTS → m ≤ b → Are Is n m u items
       → W (suc b) ((sign_at at end sign.SquareOpen ∷ u) ++ sign_at i j sign.SquareClose ∷ []) (made at items)
-  ends_here b at end i j n m u items few low p = tuples.tuple i j (raise_are raises (raise_room p 16 few) b low)
+  ends_here b at end i j n m u items few low p = tuples.tuple i j (raise_are raises (raise_room p MOST_PARTS few) b low)
 
-  parts_begin : (b at end n m : ℕ) (u : List Token) (items : List A) → n ≤ 16 → m ≤ b → Are Is n m u items → BeginsIn W (suc b) (sign_at at end sign.SquareOpen ∷ u)
+  parts_begin : (b at end n m : ℕ) (u : List Token) (items : List A) → n ≤ MOST_PARTS → m ≤ b → Are Is n m u items → BeginsIn W (suc b) (sign_at at end sign.SquareOpen ∷ u)
   parts_begin b at end n m u items few low p = (sign_at 0 0 sign.SquareClose ∷ [], _, ends_here b at end 0 0 n m u items few low p)
 
-  one_more : (b at end n m : ℕ) (u : List Token) (items : List A) → n < 16 → m ≤ b → Are Is n m u items → (s : List Token) → BeginsIn Is b s
+  one_more : (b at end n m : ℕ) (u : List Token) (items : List A) → n < MOST_PARTS → m ≤ b → Are Is n m u items → (s : List Token) → BeginsIn Is b s
       → BeginsIn W (suc b) ((sign_at at end sign.SquareOpen ∷ u) ++ s)
   one_more b at end n m u items few low p s v =
       let close_ = sign_at 0 0 sign.SquareClose ∷ [] in
@@ -35,14 +36,14 @@ module _ {A : Type 0} (Is W : ℕ → List Token → A → Type 0) (made : ℕ �
             (ends_here b at end 0 0 (suc n) b (u ++ (s ++ v.0)) (items ++ v.1 ∷ []) (omega arith) (omega arith) (Are.part (raise_are raises p b low) v.2)),
       )
 
-  part_begins : (b at end n m : ℕ) (u : List Token) (items : List A) → n < 16 → m ≤ b → Are Is n m u items → (s : List Token) → OrEmpty (BeginsIn Is b) s
+  part_begins : (b at end n m : ℕ) (u : List Token) (items : List A) → n < MOST_PARTS → m ≤ b → Are Is n m u items → (s : List Token) → OrEmpty (BeginsIn Is b) s
       → OrEmpty (BeginsIn W (suc b)) ((sign_at at end sign.SquareOpen ∷ u) ++ s)
   part_begins b at end n m u items few low p s (inl empty) =
       let same : (sign_at at end sign.SquareOpen ∷ u) ++ s ≡ sign_at at end sign.SquareOpen ∷ u = rw (empty, append-nil (sign_at at end sign.SquareOpen ∷ u)) in
       subst (OrEmpty (BeginsIn W (suc b))) (sym same) (inr (parts_begin b at end n m u items (omega arith) low p))
   part_begins b at end n m u items few low p s (inr v) = inr (one_more b at end n m u items few low p s v)
 
-  part_any : (at end n m : ℕ) (u : List Token) (items : List A) → n < 16 → Are Is n m u items → (s : List Token) → AnyIn Is s → AnyIn W ((sign_at at end sign.SquareOpen ∷ u) ++ s)
+  part_any : (at end n m : ℕ) (u : List Token) (items : List A) → n < MOST_PARTS → Are Is n m u items → (s : List Token) → AnyIn Is s → AnyIn W ((sign_at at end sign.SquareOpen ∷ u) ++ s)
   part_any at end n m u items few p s v =
       let b : ℕ = max m v.0 in
       (suc b, one_more b at end n m u items few (omega arith) p s (v.1.0, v.1.1, raises.raise v.1.2 b (omega arith)))
@@ -53,10 +54,10 @@ module _ {A : Type 0} (Is W : ℕ → List Token → A → Type 0) (made : ℕ �
 
   module _ (b at end : ℕ) (inner : Parser (Sized A)) (l : Reader Is b inner) where
     abbrev PartsFine : ℕ → Type 0
-    PartsFine room = (n m : ℕ) (items : List A) (u : List Token) → n + room ≡ 16 → m ≤ b → Are Is n m u items → (ts : List Token)
+    PartsFine room = (n m : ℕ) (items : List A) (u : List Token) → n + room ≡ MOST_PARTS → m ≤ b → Are Is n m u items → (ts : List Token)
         → Fine (OrEmpty (BeginsIn W (suc b))) (AnyIn W) (Closed b at) (sign_at at end sign.SquareOpen ∷ u) ts (parts inner room items m ts)
 
-    next_part : (room : ℕ) → PartsFine room → (n m : ℕ) (items : List A) (u : List Token) → n + suc room ≡ 16 → m ≤ b → Are Is n m u items → (ts : List Token)
+    next_part : (room : ℕ) → PartsFine room → (n m : ℕ) (items : List A) (u : List Token) → n + suc room ≡ MOST_PARTS → m ≤ b → Are Is n m u items → (ts : List Token)
         → Fine (OrEmpty (BeginsIn W (suc b))) (AnyIn W) (Closed b at) (sign_at at end sign.SquareOpen ∷ u) ts
         (and_then (inner ts) (λ x. parts inner room (items ++ x.0 ∷ []) (max m x.1)))
     next_part room again n m items u few low p ts =
@@ -97,7 +98,7 @@ module _ {A : Type 0} (Is W : ℕ → List Token → A → Type 0) (made : ℕ �
     tuple_fine ts =
         let V : List Token → Type 0 = OrEmpty (BeginsIn W (suc b)) in
         let open_ = sign_at at end sign.SquareOpen in
-        fine_take V (AnyIn W) (ReadIn W (suc b)) [] open_ ts (and_then (parts inner 16 [] 0 ts) (λ xs r. Ok ((made at xs.0, xs.1 + 1), r)))
-        (fine_then V (AnyIn W) (Closed b at) (ReadIn W (suc b)) (open_ ∷ []) ts (parts inner 16 [] 0 ts) (λ xs r. Ok ((made at xs.0, xs.1 + 1), r))
-        (parts_fine 16 0 0 [] [] (omega arith) (omega arith) Are.none ts)
+        fine_take V (AnyIn W) (ReadIn W (suc b)) [] open_ ts (and_then (parts inner MOST_PARTS [] 0 ts) (λ xs r. Ok ((made at xs.0, xs.1 + 1), r)))
+        (fine_then V (AnyIn W) (Closed b at) (ReadIn W (suc b)) (open_ ∷ []) ts (parts inner MOST_PARTS [] 0 ts) (λ xs r. Ok ((made at xs.0, xs.1 + 1), r))
+        (parts_fine MOST_PARTS 0 0 [] [] (omega arith) (omega arith) Are.none ts)
         (λ xs now rest q. fine_done (ReadIn W (suc b)) now rest (made at xs.0, xs.1 + 1) (omega (arith, q.0), omega arith, rw add-one q.1)))

@@ -4,6 +4,7 @@ use Rattle.std.specs.Prelude.{Bool, true, false, if◌then◌else◌, nat_le, Op
 use Rattle.std.proofs.lemmas.Bool.Decides.{nat_tests}
 use Rattle.np_syntax.specs.declared.types.Cap.{Cap}
 use Rattle.np_syntax.specs.declared.expression.Op.{Op}
+use Rattle.np_syntax.specs.declared.limits.TheConstants.{MOST_PARTS}
 use Rattle.np_lex.specs.declared.token.Key.TheVariants as key
 use Rattle.np_lex.specs.declared.token.Sign.TheVariants as sign
 use Rattle.np_lex.specs.declared.token.Token.{Token}
@@ -81,8 +82,8 @@ under_parts p q u (suc room) items depth = under_behind peek (part_by (parts p r
 
 under_tuple : {A : Type 0} (p q : Parser (Sized A)) (made : ℕ → List A → A) → Under p q → Under (tuple_in p made) (tuple_in q made)
 unfolding tuple_in
-under_tuple p q made u = under_behind take (λ at. parts p 16 [] 0 >>= (λ xs. pure _)) (λ at. parts q 16 [] 0 >>= (λ xs. pure _))
-    (λ at. under_then (parts p 16 [] 0) (parts q 16 [] 0) _ _ (under_parts p q u 16 [] 0) (λ xs. under_refl _))
+under_tuple p q made u = under_behind take (λ at. parts p MOST_PARTS [] 0 >>= (λ xs. pure _)) (λ at. parts q MOST_PARTS [] 0 >>= (λ xs. pure _))
+    (λ at. under_then (parts p MOST_PARTS [] 0) (parts q MOST_PARTS [] 0) _ _ (under_parts p q u MOST_PARTS [] 0) (λ xs. under_refl _))
 
 -- ---- types
 

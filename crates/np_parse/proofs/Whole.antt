@@ -2,6 +2,7 @@
 use Rattle.std.proofs.Common.{◌≡◌, ℕ, suc, ◌≤◌, max, ◌⊎◌, inl, inr, List, [], ◌∷◌, ◌++◌, length, Ok, Err, Result, sym, ap, ◌∙◌, subst, append_assoc, append-nil, arith}
 use Rattle.std.specs.Prelude.{◌≢◌, IfOk, IfErr}
 use Rattle.std.proofs.lemmas.List.{append_cancel_right}
+use Rattle.np_syntax.specs.declared.limits.TheConstants.{DEEPEST}
 use Rattle.np_lex.specs.declared.token.Token.{Token}
 use Rattle.np_lex.specs.declared.token.What.TheVariants as what
 use Rattle.np_lex.specs.Tokens.{token, AreTokens}
@@ -98,24 +99,24 @@ module _ (b : ℕ) (ts : List Token) (t : Ended ts) where
 
 -- ---- what the code ensures
 
-pub found : (ts new : List Token) (r : Result Tree ParseFail) → AreTokens ts → Reads (program 200 ts) r new → IfOk r (λ x. IsProgram 200 ts x)
+pub found : (ts new : List Token) (r : Result Tree ParseFail) → AreTokens ts → Reads (program DEEPEST ts) r new → IfOk r (λ x. IsProgram DEEPEST ts x)
 found ts new (Ok x) t e = parse_ok 198 ts (tokens_ended t) new x e
 found ts new (Err f) t e = tt
 
-pub only : (ts new : List Token) (r : Result Tree ParseFail) → AreTokens ts → Reads (program 200 ts) r new → IfOk r (λ x. (y : Tree) → IsProgram 200 ts y → y ≡ x)
-only ts new (Ok x) t e = λ y p. let k : program 200 ts ≡ Ok (y, []) = complete_program p 200 (omega arith) in
+pub only : (ts new : List Token) (r : Result Tree ParseFail) → AreTokens ts → Reads (program DEEPEST ts) r new → IfOk r (λ x. (y : Tree) → IsProgram DEEPEST ts y → y ≡ x)
+only ts new (Ok x) t e = λ y p. let k : program DEEPEST ts ≡ Ok (y, []) = complete_program p DEEPEST (omega arith) in
     let pair : (let q : Tree × List Token = (x, new) in q) ≡ (y, []) = cc in sym (ap (λ (q : Tree × List Token). q.0) pair)
 only ts new (Err f) t e = tt
 
-pub complete : (ts new : List Token) (r : Result Tree ParseFail) → AreTokens ts → Reads (program 200 ts) r new → IfErr r (λ e. e ≢ fail.Memory → (y : Tree) → IsProgram 200 ts y → ⊥)
+pub complete : (ts new : List Token) (r : Result Tree ParseFail) → AreTokens ts → Reads (program DEEPEST ts) r new → IfErr r (λ e. e ≢ fail.Memory → (y : Tree) → IsProgram DEEPEST ts y → ⊥)
 complete ts new (Ok x) t e = tt
-complete ts new (Err f) t e = λ n y p. err_not_ok (program 200 ts) (f, new) (y, []) (e n) (complete_program p 200 (omega arith))
+complete ts new (Err f) t e = λ n y p. err_not_ok (program DEEPEST ts) (f, new) (y, []) (e n) (complete_program p DEEPEST (omega arith))
 
-pub refused : (ts new : List Token) (r : Result Tree ParseFail) → AreTokens ts → Reads (program 200 ts) r new → IfErr r (λ e. e ≢ fail.Memory → Refusal 200 ts e)
+pub refused : (ts new : List Token) (r : Result Tree ParseFail) → AreTokens ts → Reads (program DEEPEST ts) r new → IfErr r (λ e. e ≢ fail.Memory → Refusal DEEPEST ts e)
 refused ts new (Ok x) t e = tt
 refused ts new (Err f) t e = λ n. parse_err 198 ts (tokens_ended t) new f (e n)
 
-pub sizes : (ts new : List Token) (r : Result Tree ParseFail) → AreTokens ts → Reads (program 200 ts) r new
+pub sizes : (ts new : List Token) (r : Result Tree ParseFail) → AreTokens ts → Reads (program DEEPEST ts) r new
     → IfOk r (λ x. (nodes x.main ≤ length ts) × (binders x.main ≤ length ts))
 sizes ts new (Ok x) t e = counted (parse_ok 198 ts (tokens_ended t) new x e)
 sizes ts new (Err f) t e = tt

@@ -10,7 +10,7 @@ use super::cursor::Cursor;
 use super::fail::ParseFail;
 use super::operator::{adds, compares, multiplies, operation};
 use np_lex::{Key, Sign, What};
-use np_syntax::{List, Value};
+use np_syntax::{DEEPEST, List, MOST_PARTS, Value};
 use np_tree::{RawExpr, RawExprForm};
 use std::alloc::Global;
 
@@ -69,13 +69,13 @@ fn expr_parts(
     tokens: &mut Cursor<'_>,
     below: u32,
 ) -> Result<(List<RawExpr>, u32), ParseFail>
-    requires { below < 200 }
-    ensures reads { Reads (parts (spec.expr below) 16 [] 0 tokens.old) result tokens.new }
+    requires { below < DEEPEST }
+    ensures reads { Reads (parts (spec.expr below) MOST_PARTS [] 0 tokens.old) result tokens.new }
     ensures within { IfOk result (λ x. x.1 ≤ below) }
 {
     let mut items = List::new(alloc);
     let mut depth: u32 = 0;
-    'parts: for _ in 0..16u32 {
+    'parts: for _ in 0..MOST_PARTS {
         if closes(tokens.peek()?) {
             return closed(tokens, items, depth);
         }
@@ -89,7 +89,7 @@ fn expr_parts(
 #[tactic(auto, unfolding(crate::specs::Read::Tuples::tuple_in))]
 #[cycle(expr)]
 fn tuple(alloc: Global, tokens: &mut Cursor<'_>, below: u32) -> Result<(RawExpr, u32), ParseFail>
-    requires { below < 200 }
+    requires { below < DEEPEST }
     ensures reads { Reads (tuple_in (spec.expr below) spec.tuple_expression tokens.old) result tokens.new }
     ensures within { IfOk result (λ x. x.1 ≤ below + 1) }
 {
@@ -103,7 +103,7 @@ fn tuple(alloc: Global, tokens: &mut Cursor<'_>, below: u32) -> Result<(RawExpr,
 #[tactic(auto, unfolding(crate::specs::Read::Expressions::round))]
 #[cycle(expr)]
 fn round(alloc: Global, tokens: &mut Cursor<'_>, below: u32) -> Result<(RawExpr, u32), ParseFail>
-    requires { below < 200 }
+    requires { below < DEEPEST }
     ensures reads { Reads (spec.round (spec.expr below) below tokens.old) result tokens.new }
     ensures within { IfOk result (λ x. x.1 ≤ below + 1) }
 {
@@ -120,7 +120,7 @@ fn round(alloc: Global, tokens: &mut Cursor<'_>, below: u32) -> Result<(RawExpr,
 #[tactic(auto, unfolding(crate::specs::Read::Expressions::readers, crate::specs::Read::Expressions::atom_in))]
 #[cycle(expr)]
 fn atom_in(alloc: Global, tokens: &mut Cursor<'_>, below: u32) -> Result<(RawExpr, u32), ParseFail>
-    requires { below < 200 }
+    requires { below < DEEPEST }
     ensures reads { Reads (spec.atom (suc below) tokens.old) result tokens.new }
     ensures within { IfOk result (λ x. x.1 ≤ below + 1) }
 {
@@ -148,7 +148,7 @@ pub fn atom(
     tokens: &mut Cursor<'_>,
     levels: u32,
 ) -> Result<(RawExpr, u32), ParseFail>
-    requires { levels ≤ 200 }
+    requires { levels ≤ DEEPEST }
     ensures reads { Reads (spec.atom levels tokens.old) result tokens.new }
     ensures within { IfOk result (λ x. x.1 ≤ levels) }
 {
@@ -170,7 +170,7 @@ fn factors(
     below: u32,
     first: (RawExpr, u32),
 ) -> Result<(RawExpr, u32), ParseFail>
-    requires levels { below < 200 }
+    requires levels { below < DEEPEST }
     requires first { first.1 ≤ below + 1 }
     ensures reads { Reads (spec.chain spec.multiplies (spec.atom below) (suc below) (suc below) first tokens.old) result tokens.new }
     ensures within { IfOk result (λ x. x.1 ≤ below + 1) }
@@ -193,7 +193,7 @@ fn factors(
 #[tactic(auto, unfolding(crate::specs::Read::Expressions::readers))]
 #[cycle(expr)]
 fn prod_in(alloc: Global, tokens: &mut Cursor<'_>, below: u32) -> Result<(RawExpr, u32), ParseFail>
-    requires { below < 200 }
+    requires { below < DEEPEST }
     ensures reads { Reads (spec.prod (suc below) tokens.old) result tokens.new }
     ensures within { IfOk result (λ x. x.1 ≤ below + 1) }
 {
@@ -205,7 +205,7 @@ fn prod_in(alloc: Global, tokens: &mut Cursor<'_>, below: u32) -> Result<(RawExp
 #[tactic(auto, using(crate::proofs::Levels::deeper_prod), unfolding(crate::specs::Read::Expressions::readers))]
 #[cycle(expr)]
 fn prod(alloc: Global, tokens: &mut Cursor<'_>, levels: u32) -> Result<(RawExpr, u32), ParseFail>
-    requires { levels ≤ 200 }
+    requires { levels ≤ DEEPEST }
     ensures reads { Reads (spec.prod levels tokens.old) result tokens.new }
     ensures within { IfOk result (λ x. x.1 ≤ levels) }
 {
@@ -225,7 +225,7 @@ fn terms(
     below: u32,
     first: (RawExpr, u32),
 ) -> Result<(RawExpr, u32), ParseFail>
-    requires levels { below < 200 }
+    requires levels { below < DEEPEST }
     requires first { first.1 ≤ below + 1 }
     ensures reads { Reads (spec.chain spec.adds (spec.prod below) (suc below) (suc below) first tokens.old) result tokens.new }
     ensures within { IfOk result (λ x. x.1 ≤ below + 1) }
@@ -248,7 +248,7 @@ fn terms(
 #[tactic(auto, unfolding(crate::specs::Read::Expressions::readers))]
 #[cycle(expr)]
 fn sum_in(alloc: Global, tokens: &mut Cursor<'_>, below: u32) -> Result<(RawExpr, u32), ParseFail>
-    requires { below < 200 }
+    requires { below < DEEPEST }
     ensures reads { Reads (spec.sum (suc below) tokens.old) result tokens.new }
     ensures within { IfOk result (λ x. x.1 ≤ below + 1) }
 {
@@ -260,7 +260,7 @@ fn sum_in(alloc: Global, tokens: &mut Cursor<'_>, below: u32) -> Result<(RawExpr
 #[tactic(auto, using(crate::proofs::Levels::deeper_sum), unfolding(crate::specs::Read::Expressions::readers))]
 #[cycle(expr)]
 fn sum(alloc: Global, tokens: &mut Cursor<'_>, levels: u32) -> Result<(RawExpr, u32), ParseFail>
-    requires { levels ≤ 200 }
+    requires { levels ≤ DEEPEST }
     ensures reads { Reads (spec.sum levels tokens.old) result tokens.new }
     ensures within { IfOk result (λ x. x.1 ≤ levels) }
 {
@@ -282,7 +282,7 @@ fn comparison(
     below: u32,
     left: (RawExpr, u32),
 ) -> Result<(RawExpr, u32), ParseFail>
-    requires levels { below < 200 }
+    requires levels { below < DEEPEST }
     requires left { left.1 ≤ below + 1 }
     ensures reads { Reads (spec.comparison (spec.sum below) (suc below) left tokens.old) result tokens.new }
     ensures within { IfOk result (λ x. x.1 ≤ below + 1) }
@@ -301,7 +301,7 @@ fn comparison(
 #[tactic(auto, unfolding(crate::specs::Read::Expressions::readers))]
 #[cycle(expr)]
 fn expr_in(alloc: Global, tokens: &mut Cursor<'_>, below: u32) -> Result<(RawExpr, u32), ParseFail>
-    requires { below < 200 }
+    requires { below < DEEPEST }
     ensures reads { Reads (spec.expr (suc below) tokens.old) result tokens.new }
     ensures within { IfOk result (λ x. x.1 ≤ below + 1) }
 {
@@ -317,7 +317,7 @@ pub fn expr(
     tokens: &mut Cursor<'_>,
     levels: u32,
 ) -> Result<(RawExpr, u32), ParseFail>
-    requires { levels ≤ 200 }
+    requires { levels ≤ DEEPEST }
     ensures reads { Reads (spec.expr levels tokens.old) result tokens.new }
     ensures within { IfOk result (λ x. x.1 ≤ levels) }
 {

@@ -8,11 +8,9 @@ use super::cursor::Cursor;
 use super::expression::{atom, expr};
 use super::fail::ParseFail;
 use np_lex::{Sign, What};
+use np_syntax::DEEPEST;
 use np_tree::{Ident, RawExpr, RawProc, RawProcForm};
 use std::alloc::Global;
-
-/// How deep each process, expression, pattern and type may be.
-pub const LIMIT: u32 = 200;
 
 /// The process `0`, where a number comes next.
 pub fn stop(tokens: &mut Cursor<'_>, number: i64) -> Result<(RawProc, u32), ParseFail>
@@ -31,11 +29,11 @@ pub fn stop(tokens: &mut Cursor<'_>, number: i64) -> Result<(RawProc, u32), Pars
 
 #[tactic(auto, unfolding(crate::specs::Read::Heads::print))]
 pub fn print(alloc: Global, tokens: &mut Cursor<'_>) -> Result<(RawProc, u32), ParseFail>
-    ensures reads { Reads (spec.print 200 tokens.old) result tokens.new }
+    ensures reads { Reads (spec.print DEEPEST tokens.old) result tokens.new }
     ensures within { IfOk result (λ x. x.1 ≡ 1) }
 {
     let at = tokens.take()?;
-    let (value, _) = expr(alloc, tokens, LIMIT)?;
+    let (value, _) = expr(alloc, tokens, DEEPEST)?;
     let form = RawProcForm::Print(value);
     Ok((RawProc { at, form }, 1))
 }
@@ -47,11 +45,11 @@ pub fn output(
     tokens: &mut Cursor<'_>,
     channel: Ident,
 ) -> Result<(RawProc, u32), ParseFail>
-    ensures reads { Reads (spec.output 200 channel tokens.old) result tokens.new }
+    ensures reads { Reads (spec.output DEEPEST channel tokens.old) result tokens.new }
     ensures within { IfOk result (λ x. x.1 ≡ 1) }
 {
     tokens.take()?;
-    let (value, _) = expr(alloc, tokens, LIMIT)?;
+    let (value, _) = expr(alloc, tokens, DEEPEST)?;
     let at = channel.at;
     let form = RawProcForm::Out(channel, value);
     Ok((RawProc { at, form }, 1))
@@ -60,11 +58,11 @@ pub fn output(
 /// The channel and the value of a message to an agent.
 #[tactic(auto, unfolding(crate::specs::Read::Heads::message))]
 pub fn message(alloc: Global, tokens: &mut Cursor<'_>) -> Result<(Ident, RawExpr), ParseFail>
-    ensures { Reads (spec.message 200 tokens.old) result tokens.new }
+    ensures { Reads (spec.message DEEPEST tokens.old) result tokens.new }
 {
     let channel = tokens.name(alloc)?;
     tokens.expect_sign(Sign::Bang)?;
-    let (value, _) = expr(alloc, tokens, LIMIT)?;
+    let (value, _) = expr(alloc, tokens, DEEPEST)?;
     Ok((channel, value))
 }
 
@@ -76,7 +74,7 @@ fn post(
     at: u32,
     agent: RawExpr,
 ) -> Result<(RawProc, u32), ParseFail>
-    ensures reads { Reads (spec.post 200 at agent tokens.old) result tokens.new }
+    ensures reads { Reads (spec.post DEEPEST at agent tokens.old) result tokens.new }
     ensures within { IfOk result (λ x. x.1 ≡ 1) }
 {
     tokens.take()?;
@@ -94,10 +92,10 @@ fn send(
     at: u32,
     agent: RawExpr,
 ) -> Result<(RawProc, u32), ParseFail>
-    ensures reads { Reads (spec.send 200 at agent tokens.old) result tokens.new }
+    ensures reads { Reads (spec.send DEEPEST at agent tokens.old) result tokens.new }
     ensures within { IfOk result (λ x. x.1 ≡ 1) }
 {
-    let (site, _) = atom(alloc, tokens, LIMIT)?;
+    let (site, _) = atom(alloc, tokens, DEEPEST)?;
     tokens.expect_sign(Sign::Greater)?;
     let (channel, value) = message(alloc, tokens)?;
     let form = RawProcForm::Send(agent, site, channel, value);
@@ -107,11 +105,11 @@ fn send(
 /// A message to an agent, from `<` on.
 #[tactic(auto, unfolding(crate::specs::Read::Heads::directed))]
 pub fn directed(alloc: Global, tokens: &mut Cursor<'_>) -> Result<(RawProc, u32), ParseFail>
-    ensures reads { Reads (spec.directed 200 tokens.old) result tokens.new }
+    ensures reads { Reads (spec.directed DEEPEST tokens.old) result tokens.new }
     ensures within { IfOk result (λ x. x.1 ≡ 1) }
 {
     let at = tokens.take()?;
-    let (agent, _) = atom(alloc, tokens, LIMIT)?;
+    let (agent, _) = atom(alloc, tokens, DEEPEST)?;
     tokens.expect_sign(Sign::At)?;
     match tokens.peek()? {
         What::Sign(Sign::Query) => post(alloc, tokens, at, agent),

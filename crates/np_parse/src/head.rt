@@ -7,11 +7,11 @@ ghost use Rattle.np_parse.specs.Read.Heads as spec;
 use super::cursor::Cursor;
 use super::expression::{atom, expr};
 use super::fail::ParseFail;
-use super::flat::{LIMIT, message};
+use super::flat::message;
 use super::pattern::pat;
 use super::types::chan;
 use np_lex::{Key, Sign};
-use np_syntax::Ty;
+use np_syntax::{DEEPEST, Ty};
 use np_tree::{Ident, RawExpr, RawPat};
 use std::alloc::Global;
 
@@ -50,7 +50,7 @@ pub enum DoubleForm {
 /// From `new` to `in`.
 #[tactic(auto, unfolding(crate::specs::Read::Heads::new_head))]
 pub fn new_head(alloc: Global, tokens: &mut Cursor<'_>, below: u32) -> Result<Single, ParseFail>
-    ensures { Reads (spec.new_head 200 below tokens.old) result tokens.new }
+    ensures { Reads (spec.new_head DEEPEST below tokens.old) result tokens.new }
 {
     if below == 0 {
         return Err(tokens.too_deep());
@@ -58,7 +58,7 @@ pub fn new_head(alloc: Global, tokens: &mut Cursor<'_>, below: u32) -> Result<Si
     let at = tokens.take()?;
     let name = tokens.name(alloc)?;
     tokens.expect_sign(Sign::Colon)?;
-    let (ty, _) = chan(alloc, tokens, LIMIT)?;
+    let (ty, _) = chan(alloc, tokens, DEEPEST)?;
     tokens.expect_word(Key::In)?;
     let form = SingleForm::New(name, ty);
     Ok(Single { at, form })
@@ -72,13 +72,13 @@ pub fn input_head(
     below: u32,
     channel: Ident,
 ) -> Result<Single, ParseFail>
-    ensures { Reads (spec.input_head 200 below channel tokens.old) result tokens.new }
+    ensures { Reads (spec.input_head DEEPEST below channel tokens.old) result tokens.new }
 {
     if below == 0 {
         return Err(tokens.too_deep());
     }
     tokens.take()?;
-    let (pattern, _) = pat(alloc, tokens, LIMIT)?;
+    let (pattern, _) = pat(alloc, tokens, DEEPEST)?;
     tokens.expect_sign(Sign::Arrow)?;
     let at = channel.at;
     let form = SingleForm::Inp(channel, pattern);
@@ -92,7 +92,7 @@ pub fn replicated_head(
     tokens: &mut Cursor<'_>,
     below: u32,
 ) -> Result<Single, ParseFail>
-    ensures { Reads (spec.replicated_head 200 below tokens.old) result tokens.new }
+    ensures { Reads (spec.replicated_head DEEPEST below tokens.old) result tokens.new }
 {
     if below == 0 {
         return Err(tokens.too_deep());
@@ -100,7 +100,7 @@ pub fn replicated_head(
     let at = tokens.take()?;
     let channel = tokens.name(alloc)?;
     tokens.expect_sign(Sign::Query)?;
-    let (pattern, _) = pat(alloc, tokens, LIMIT)?;
+    let (pattern, _) = pat(alloc, tokens, DEEPEST)?;
     tokens.expect_sign(Sign::Arrow)?;
     let form = SingleForm::Rep(channel, pattern);
     Ok(Single { at, form })
@@ -109,14 +109,14 @@ pub fn replicated_head(
 /// From `migrate` to `->`.
 #[tactic(auto, unfolding(crate::specs::Read::Heads::migrate_head))]
 pub fn migrate_head(alloc: Global, tokens: &mut Cursor<'_>, below: u32) -> Result<Single, ParseFail>
-    ensures { Reads (spec.migrate_head 200 below tokens.old) result tokens.new }
+    ensures { Reads (spec.migrate_head DEEPEST below tokens.old) result tokens.new }
 {
     if below == 0 {
         return Err(tokens.too_deep());
     }
     let at = tokens.take()?;
     tokens.expect_word(Key::To)?;
-    let (site, _) = expr(alloc, tokens, LIMIT)?;
+    let (site, _) = expr(alloc, tokens, DEEPEST)?;
     tokens.expect_sign(Sign::Arrow)?;
     let form = SingleForm::Migrate(site);
     Ok(Single { at, form })
@@ -125,15 +125,15 @@ pub fn migrate_head(alloc: Global, tokens: &mut Cursor<'_>, below: u32) -> Resul
 /// From `let` to `in`.
 #[tactic(auto, unfolding(crate::specs::Read::Heads::let_head))]
 pub fn let_head(alloc: Global, tokens: &mut Cursor<'_>, below: u32) -> Result<Single, ParseFail>
-    ensures { Reads (spec.let_head 200 below tokens.old) result tokens.new }
+    ensures { Reads (spec.let_head DEEPEST below tokens.old) result tokens.new }
 {
     if below == 0 {
         return Err(tokens.too_deep());
     }
     let at = tokens.take()?;
-    let (pattern, _) = pat(alloc, tokens, LIMIT)?;
+    let (pattern, _) = pat(alloc, tokens, DEEPEST)?;
     tokens.expect_sign(Sign::Equals)?;
-    let (value, _) = expr(alloc, tokens, LIMIT)?;
+    let (value, _) = expr(alloc, tokens, DEEPEST)?;
     tokens.expect_word(Key::In)?;
     let form = SingleForm::Let(pattern, value);
     Ok(Single { at, form })
@@ -157,14 +157,14 @@ pub fn agent_head(alloc: Global, tokens: &mut Cursor<'_>, below: u32) -> Result<
 /// From `iflocal` to `then`.
 #[tactic(auto, unfolding(crate::specs::Read::Heads::iflocal_head))]
 pub fn iflocal_head(alloc: Global, tokens: &mut Cursor<'_>, below: u32) -> Result<Double, ParseFail>
-    ensures { Reads (spec.iflocal_head 200 below tokens.old) result tokens.new }
+    ensures { Reads (spec.iflocal_head DEEPEST below tokens.old) result tokens.new }
 {
     if below == 0 {
         return Err(tokens.too_deep());
     }
     let at = tokens.take()?;
     tokens.expect_sign(Sign::Less)?;
-    let (agent, _) = atom(alloc, tokens, LIMIT)?;
+    let (agent, _) = atom(alloc, tokens, DEEPEST)?;
     tokens.expect_sign(Sign::Greater)?;
     let (channel, value) = message(alloc, tokens)?;
     tokens.expect_word(Key::Then)?;
@@ -175,13 +175,13 @@ pub fn iflocal_head(alloc: Global, tokens: &mut Cursor<'_>, below: u32) -> Resul
 /// From `if` to `then`.
 #[tactic(auto, unfolding(crate::specs::Read::Heads::if_head))]
 pub fn if_head(alloc: Global, tokens: &mut Cursor<'_>, below: u32) -> Result<Double, ParseFail>
-    ensures { Reads (spec.if_head 200 below tokens.old) result tokens.new }
+    ensures { Reads (spec.if_head DEEPEST below tokens.old) result tokens.new }
 {
     if below == 0 {
         return Err(tokens.too_deep());
     }
     let at = tokens.take()?;
-    let (test, _) = expr(alloc, tokens, LIMIT)?;
+    let (test, _) = expr(alloc, tokens, DEEPEST)?;
     tokens.expect_word(Key::Then)?;
     let form = DoubleForm::If(test);
     Ok(Double { at, form })

@@ -4,7 +4,7 @@ ghost use Rattle.std.specs.Prelude.{◌≡◌, ◌<◌, IfOk};
 ghost use Rattle.np_parse.specs.Read.Expressions as spec;
 
 use np_lex::{Sign, What};
-use np_syntax::{Boxed, Memory, Op};
+use np_syntax::{Boxed, DEEPEST, Memory, Op};
 use np_tree::{RawExpr, RawExprForm};
 use std::alloc::Global;
 
@@ -44,8 +44,8 @@ pub fn operation(
     left: (RawExpr, u32),
     right: (RawExpr, u32),
 ) -> Result<(RawExpr, u32), Memory>
-    requires left { left.1 < 200 }
-    requires right { right.1 < 200 }
+    requires left { left.1 < DEEPEST }
+    requires right { right.1 < DEEPEST }
     ensures { IfOk result (λ x. x ≡ spec.operation op left right) }
 {
     let (left, deep) = left;

@@ -9,7 +9,7 @@ use super::closing::{closed, closes};
 use super::cursor::Cursor;
 use super::fail::ParseFail;
 use np_lex::{Sign, What};
-use np_syntax::List;
+use np_syntax::{DEEPEST, List, MOST_PARTS};
 use np_tree::{RawPat, RawPatForm};
 use std::alloc::Global;
 
@@ -65,13 +65,13 @@ fn pat_parts(
     tokens: &mut Cursor<'_>,
     below: u32,
 ) -> Result<(List<RawPat>, u32), ParseFail>
-    requires { below < 200 }
-    ensures reads { Reads (parts (spec.pat below) 16 [] 0 tokens.old) result tokens.new }
+    requires { below < DEEPEST }
+    ensures reads { Reads (parts (spec.pat below) MOST_PARTS [] 0 tokens.old) result tokens.new }
     ensures within { IfOk result (λ x. x.1 ≤ below) }
 {
     let mut items = List::new(alloc);
     let mut depth: u32 = 0;
-    'parts: for _ in 0..16u32 {
+    'parts: for _ in 0..MOST_PARTS {
         if closes(tokens.peek()?) {
             return closed(tokens, items, depth);
         }
@@ -85,7 +85,7 @@ fn pat_parts(
 #[tactic(auto, unfolding(crate::specs::Read::Tuples::tuple_in))]
 #[cycle(pat)]
 fn tuple_pat(alloc: Global, tokens: &mut Cursor<'_>, below: u32) -> Result<(RawPat, u32), ParseFail>
-    requires { below < 200 }
+    requires { below < DEEPEST }
     ensures reads { Reads (tuple_in (spec.pat below) spec.tuple_pattern tokens.old) result tokens.new }
     ensures within { IfOk result (λ x. x.1 ≤ below + 1) }
 {
@@ -99,7 +99,7 @@ fn tuple_pat(alloc: Global, tokens: &mut Cursor<'_>, below: u32) -> Result<(RawP
 #[tactic(auto, unfolding(crate::specs::Read::Patterns::pat, crate::specs::Read::Patterns::pat_in))]
 #[cycle(pat)]
 fn pat_in(alloc: Global, tokens: &mut Cursor<'_>, below: u32) -> Result<(RawPat, u32), ParseFail>
-    requires { below < 200 }
+    requires { below < DEEPEST }
     ensures reads { Reads (spec.pat (suc below) tokens.old) result tokens.new }
     ensures within { IfOk result (λ x. x.1 ≤ below + 1) }
 {
@@ -115,7 +115,7 @@ fn pat_in(alloc: Global, tokens: &mut Cursor<'_>, below: u32) -> Result<(RawPat,
 #[tactic(auto, using(crate::proofs::Levels::deeper_pat), unfolding(crate::specs::Read::Patterns::pat))]
 #[cycle(pat)]
 pub fn pat(alloc: Global, tokens: &mut Cursor<'_>, levels: u32) -> Result<(RawPat, u32), ParseFail>
-    requires { levels ≤ 200 }
+    requires { levels ≤ DEEPEST }
     ensures reads { Reads (spec.pat levels tokens.old) result tokens.new }
     ensures within { IfOk result (λ x. x.1 ≤ levels) }
 {

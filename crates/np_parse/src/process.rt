@@ -13,7 +13,7 @@ use super::head::{
     let_head, migrate_head, new_head, replicated_head,
 };
 use np_lex::{Key, Sign, What};
-use np_syntax::{Boxed, Memory};
+use np_syntax::{Boxed, DEEPEST, Memory};
 use np_tree::{RawProc, RawProcForm};
 use std::alloc::Global;
 
@@ -73,8 +73,8 @@ fn both(
     left: (RawProc, u32),
     right: (RawProc, u32),
 ) -> Result<(RawProc, u32), Memory>
-    requires left { left.1 < 200 }
-    requires right { right.1 < 200 }
+    requires left { left.1 < DEEPEST }
+    requires right { right.1 < DEEPEST }
     ensures { IfOk result (λ x. x ≡ spec.both at left right) }
 {
     let (left, deep) = left;
@@ -94,8 +94,8 @@ fn single(
     below: u32,
     head: Single,
 ) -> Result<(RawProc, u32), ParseFail>
-    requires { below < 200 }
-    ensures reads { Reads (spec.single (spec.proc 200 below) head tokens.old) result tokens.new }
+    requires { below < DEEPEST }
+    ensures reads { Reads (spec.single (spec.proc DEEPEST below) head tokens.old) result tokens.new }
     ensures within { IfOk result (λ x. x.1 ≤ below + 1) }
 {
     let Single { at, form } = head;
@@ -114,8 +114,8 @@ fn double(
     below: u32,
     head: Double,
 ) -> Result<(RawProc, u32), ParseFail>
-    requires { below < 200 }
-    ensures reads { Reads (spec.double (spec.proc 200 below) head tokens.old) result tokens.new }
+    requires { below < DEEPEST }
+    ensures reads { Reads (spec.double (spec.proc DEEPEST below) head tokens.old) result tokens.new }
     ensures within { IfOk result (λ x. x.1 ≤ below + 1) }
 {
     let Double { at, form } = head;
@@ -136,8 +136,8 @@ fn on_channel(
     tokens: &mut Cursor<'_>,
     below: u32,
 ) -> Result<(RawProc, u32), ParseFail>
-    requires { below < 200 }
-    ensures reads { Reads (spec.on_channel (spec.proc 200 below) 200 below tokens.old) result tokens.new }
+    requires { below < DEEPEST }
+    ensures reads { Reads (spec.on_channel (spec.proc DEEPEST below) DEEPEST below tokens.old) result tokens.new }
     ensures within { IfOk result (λ x. x.1 ≤ below + 1) }
 {
     let channel = tokens.name(alloc)?;
@@ -155,8 +155,8 @@ fn on_channel(
 #[tactic(auto, unfolding(crate::specs::Read::Processes::bracket))]
 #[cycle(proc)]
 fn bracket(alloc: Global, tokens: &mut Cursor<'_>, below: u32) -> Result<(RawProc, u32), ParseFail>
-    requires { below < 200 }
-    ensures reads { Reads (spec.bracket (spec.proc 200 below) below tokens.old) result tokens.new }
+    requires { below < DEEPEST }
+    ensures reads { Reads (spec.bracket (spec.proc DEEPEST below) below tokens.old) result tokens.new }
     ensures within { IfOk result (λ x. x.1 ≤ below + 1) }
 {
     if below == 0 {
@@ -177,9 +177,9 @@ fn others(
     at: u32,
     first: (RawProc, u32),
 ) -> Result<(RawProc, u32), ParseFail>
-    requires levels { below < 200 }
+    requires levels { below < DEEPEST }
     requires first { first.1 ≤ below }
-    ensures reads { Reads (spec.others (spec.proc 200 below) below at first tokens.old) result tokens.new }
+    ensures reads { Reads (spec.others (spec.proc DEEPEST below) below at first tokens.old) result tokens.new }
     ensures within { IfOk result (λ x. x.1 ≤ below + 1) }
 {
     let second = proc(alloc, tokens, below)?;
@@ -197,9 +197,9 @@ fn more(
     at: u32,
     first: (RawProc, u32),
 ) -> Result<(RawProc, u32), ParseFail>
-    requires levels { below < 200 }
+    requires levels { below < DEEPEST }
     requires first { first.1 ≤ below + 1 }
-    ensures reads { Reads (spec.more (spec.proc 200 below) (suc below) at (suc below) first tokens.old) result tokens.new }
+    ensures reads { Reads (spec.more (spec.proc DEEPEST below) (suc below) at (suc below) first tokens.old) result tokens.new }
     ensures within { IfOk result (λ x. x.1 ≤ below + 1) }
 {
     let mut left = first;
@@ -226,8 +226,8 @@ fn more(
 #[tactic(auto, unfolding(crate::specs::Read::Processes::proc, crate::specs::Read::Processes::proc_in))]
 #[cycle(proc)]
 fn proc_in(alloc: Global, tokens: &mut Cursor<'_>, below: u32) -> Result<(RawProc, u32), ParseFail>
-    requires { below < 200 }
-    ensures reads { Reads (spec.proc 200 (suc below) tokens.old) result tokens.new }
+    requires { below < DEEPEST }
+    ensures reads { Reads (spec.proc DEEPEST (suc below) tokens.old) result tokens.new }
     ensures within { IfOk result (λ x. x.1 ≤ below + 1) }
 {
     match tokens.peek()? {
@@ -276,8 +276,8 @@ pub fn proc(
     tokens: &mut Cursor<'_>,
     levels: u32,
 ) -> Result<(RawProc, u32), ParseFail>
-    requires { levels ≤ 200 }
-    ensures reads { Reads (spec.proc 200 levels tokens.old) result tokens.new }
+    requires { levels ≤ DEEPEST }
+    ensures reads { Reads (spec.proc DEEPEST levels tokens.old) result tokens.new }
     ensures within { IfOk result (λ x. x.1 ≤ levels) }
 {
     if levels == 0 {

@@ -10,10 +10,9 @@ ghost use Rattle.np_tree.specs.declared.tree.Tree.{Tree as AnyTree};
 
 use super::cursor::Cursor;
 use super::fail::ParseFail;
-use super::flat::LIMIT;
 use super::process::proc;
 use np_lex::{Key, Sign, Tokens, What};
-use np_syntax::List;
+use np_syntax::{DEEPEST, List};
 use np_tree::{Ident, Tree};
 use std::alloc::Global;
 
@@ -57,10 +56,10 @@ fn program_head(alloc: Global, tokens: &mut Cursor<'_>) -> Result<(List<Ident>, 
 
 #[tactic(auto, unfolding(crate::specs::Read::Programs::program))]
 fn program(alloc: Global, tokens: &mut Cursor<'_>) -> Result<Tree, ParseFail>
-    ensures { Reads (spec.program 200 tokens.old) result tokens.new }
+    ensures { Reads (spec.program DEEPEST tokens.old) result tokens.new }
 {
     let (sites, at) = program_head(alloc, tokens)?;
-    let (main, _) = proc(alloc, tokens, LIMIT)?;
+    let (main, _) = proc(alloc, tokens, DEEPEST)?;
     tokens.expect_end()?;
     Ok(Tree { sites, at, main })
 }
@@ -68,13 +67,13 @@ fn program(alloc: Global, tokens: &mut Cursor<'_>) -> Result<Tree, ParseFail>
 /// The tree of the tokens.
 pub fn parse(alloc: Global, tokens: &Tokens) -> Result<Tree, ParseFail>
     // The grammar gives the tokens this tree,
-    ensures found { IfOk result (λ tree. IsProgram 200 tokens.now tree) }
+    ensures found { IfOk result (λ tree. IsProgram DEEPEST tokens.now tree) }
     // and no other.
-    ensures only { IfOk result (λ tree. (other : AnyTree) → IsProgram 200 tokens.now other → other ≡ tree) }
+    ensures only { IfOk result (λ tree. (other : AnyTree) → IsProgram DEEPEST tokens.now other → other ≡ tree) }
     // Nothing is refused that has a tree, unless memory runs out.
-    ensures complete { IfErr result (λ e. e ≢ ParseFail.Memory → (tree : AnyTree) → IsProgram 200 tokens.now tree → ⊥) }
+    ensures complete { IfErr result (λ e. e ≢ ParseFail.Memory → (tree : AnyTree) → IsProgram DEEPEST tokens.now tree → ⊥) }
     // The shortest beginning of the tokens that begins no program shows which refusal it is, and where.
-    ensures refused { IfErr result (λ e. e ≢ ParseFail.Memory → Refusal 200 tokens.now e) }
+    ensures refused { IfErr result (λ e. e ≢ ParseFail.Memory → Refusal DEEPEST tokens.now e) }
     // No more processes and binders are numbered than there are tokens.
     ensures sizes { IfOk result (λ tree. (nodes tree.main ≤ length tokens.now) × (binders tree.main ≤ length tokens.now)) }
 {

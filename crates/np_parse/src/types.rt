@@ -9,7 +9,7 @@ use super::closing::{closed, closes};
 use super::cursor::Cursor;
 use super::fail::ParseFail;
 use np_lex::{Key, Sign, What};
-use np_syntax::{Boxed, Cap, List, Ty};
+use np_syntax::{Boxed, Cap, DEEPEST, List, MOST_PARTS, Ty};
 use std::alloc::Global;
 
 fn begins_chan(what: &What) -> bool
@@ -72,7 +72,7 @@ fn carried(
     below: u32,
     cap: Cap,
 ) -> Result<(Ty, u32), ParseFail>
-    requires { below < 200 }
+    requires { below < DEEPEST }
     ensures reads { Reads (spec.carried (spec.type below) below cap tokens.old) result tokens.new }
     ensures within { IfOk result (λ x. x.1 ≤ below + 1) }
 {
@@ -92,13 +92,13 @@ fn type_parts(
     tokens: &mut Cursor<'_>,
     below: u32,
 ) -> Result<(List<Ty>, u32), ParseFail>
-    requires { below < 200 }
-    ensures reads { Reads (parts (spec.type below) 16 [] 0 tokens.old) result tokens.new }
+    requires { below < DEEPEST }
+    ensures reads { Reads (parts (spec.type below) MOST_PARTS [] 0 tokens.old) result tokens.new }
     ensures within { IfOk result (λ x. x.1 ≤ below) }
 {
     let mut items = List::new(alloc);
     let mut depth: u32 = 0;
-    'parts: for _ in 0..16u32 {
+    'parts: for _ in 0..MOST_PARTS {
         if closes(tokens.peek()?) {
             return closed(tokens, items, depth);
         }
@@ -112,7 +112,7 @@ fn type_parts(
 #[tactic(auto, unfolding(crate::specs::Read::Tuples::tuple_in))]
 #[cycle(ty)]
 fn tuple_type(alloc: Global, tokens: &mut Cursor<'_>, below: u32) -> Result<(Ty, u32), ParseFail>
-    requires { below < 200 }
+    requires { below < DEEPEST }
     ensures reads { Reads (tuple_in (spec.type below) spec.tuple_type tokens.old) result tokens.new }
     ensures within { IfOk result (λ x. x.1 ≤ below + 1) }
 {
@@ -125,7 +125,7 @@ fn tuple_type(alloc: Global, tokens: &mut Cursor<'_>, below: u32) -> Result<(Ty,
 #[tactic(auto, unfolding(crate::specs::Read::Types::readers, crate::specs::Read::Types::type_in))]
 #[cycle(ty)]
 fn type_in(alloc: Global, tokens: &mut Cursor<'_>, below: u32) -> Result<(Ty, u32), ParseFail>
-    requires { below < 200 }
+    requires { below < DEEPEST }
     ensures reads { Reads (spec.type (suc below) tokens.old) result tokens.new }
     ensures within { IfOk result (λ x. x.1 ≤ below + 1) }
 {
@@ -147,7 +147,7 @@ fn type_in(alloc: Global, tokens: &mut Cursor<'_>, below: u32) -> Result<(Ty, u3
 #[tactic(auto, using(crate::proofs::Levels::deeper_type), unfolding(crate::specs::Read::Types::readers))]
 #[cycle(ty)]
 fn ty(alloc: Global, tokens: &mut Cursor<'_>, levels: u32) -> Result<(Ty, u32), ParseFail>
-    requires { levels ≤ 200 }
+    requires { levels ≤ DEEPEST }
     ensures reads { Reads (spec.type levels tokens.old) result tokens.new }
     ensures within { IfOk result (λ x. x.1 ≤ levels) }
 {
@@ -161,7 +161,7 @@ fn ty(alloc: Global, tokens: &mut Cursor<'_>, levels: u32) -> Result<(Ty, u32), 
 /// A channel type, with so many levels below it for its parts.
 #[tactic(auto, unfolding(crate::specs::Read::Types::readers, crate::specs::Read::Types::chan_in))]
 fn chan_in(alloc: Global, tokens: &mut Cursor<'_>, below: u32) -> Result<(Ty, u32), ParseFail>
-    requires { below < 200 }
+    requires { below < DEEPEST }
     ensures reads { Reads (spec.chan (suc below) tokens.old) result tokens.new }
     ensures within { IfOk result (λ x. x.1 ≤ below + 1) }
 {
@@ -176,7 +176,7 @@ fn chan_in(alloc: Global, tokens: &mut Cursor<'_>, below: u32) -> Result<(Ty, u3
 /// A channel type of so many levels at most.
 #[tactic(auto, using(crate::proofs::Levels::deeper_chan), unfolding(crate::specs::Read::Types::readers))]
 pub fn chan(alloc: Global, tokens: &mut Cursor<'_>, levels: u32) -> Result<(Ty, u32), ParseFail>
-    requires { levels ≤ 200 }
+    requires { levels ≤ DEEPEST }
     ensures reads { Reads (spec.chan levels tokens.old) result tokens.new }
     ensures within { IfOk result (λ x. x.1 ≤ levels) }
 {

@@ -1,5 +1,6 @@
 -- What an answer can be where no call failed and memory was not wanting.
 use Rattle.std.proofs.Common.{◌≡◌, ◌≢◌, ℕ, ◌≤◌, ◌<◌, ◌⊎◌, List, length, Option, Some, None, IfSome, inl, inr, refl, subst}
+use Rattle.np_syntax.specs.declared.limits.TheConstants.{LONGEST_SOURCE}
 use Rattle.np_io.specs.Causes.{Rose}
 use Rattle.np_io.specs.Bytes.{Held}
 use Rattle.np_run.specs.Faults.{Accepted, Faulty}
@@ -43,15 +44,15 @@ does_accept mode.Check budget bytes kept high text d = (d.program, d.accepted)
 
 -- what is made is made of an accepted source
 pub made_accepts : (call : Call) (asked : Plan) (bytes : List ℕ) (kept : Option Record) (high : Option SerialRun) (text : List ℕ) → Reads call asked bytes
-    → HasMade call.words call.texts kept high text → (length bytes ≤ 1048576) × Accepted asked.mode bytes
+    → HasMade call.words call.texts kept high text → (length bytes ≤ LONGEST_SOURCE) × Accepted asked.mode bytes
 made_accepts call asked bytes kept high text r h =
-    of_read call asked bytes r h.asked h.bytes h.read (λ n b. (length b ≤ 1048576) × Accepted n b)
+    of_read call asked bytes r h.asked h.bytes h.read (λ n b. (length b ≤ LONGEST_SOURCE) × Accepted n b)
     (h.read.short, does_accept h.asked.mode h.asked.budget h.bytes kept high text h.does)
 
 -- ---- what a refusal says of the source
 
 abbrev pub Says : Mode → List ℕ → Refusal → Type 0
-Says m bytes refusal = ((refusal ≡ TooLong) × (1048576 < length bytes)) ⊎ ((length bytes ≤ 1048576) × Faulty m bytes refusal)
+Says m bytes refusal = ((refusal ≡ TooLong) × (LONGEST_SOURCE < length bytes)) ⊎ ((length bytes ≤ LONGEST_SOURCE) × Faulty m bytes refusal)
 
 -- there is a plan
 planned_not : (call : Call) (asked : Plan) (bytes : List ℕ) → Reads call asked bytes → plan call.words ≡ None → ⊥
@@ -63,9 +64,9 @@ stands_says call asked bytes refusal r (Stands.words none) = absurd (planned_not
 stands_says call asked bytes refusal r (Stands.fault {asked = other} planned rose) =
     absurd (r.whole (subst (λ (x : Plan). Rose (call.texts.before x.file) (call.texts.now x.file)) (one other asked (plan call.words) planned r.planned) rose))
 stands_says call asked bytes refusal r (Stands.long {asked = other} planned taken more) =
-    inl (refl, told call.texts.held other asked bytes (λ b. 1048576 < length b) (one other asked (plan call.words) planned r.planned) r.held more)
+    inl (refl, told call.texts.held other asked bytes (λ b. LONGEST_SOURCE < length b) (one other asked (plan call.words) planned r.planned) r.held more)
 stands_says call asked bytes refusal r (Stands.source s) =
-    inr (of_read call asked bytes r s.asked s.bytes s.read (λ n b. (length b ≤ 1048576) × Faulty n b refusal) (s.read.short, s.faulty))
+    inr (of_read call asked bytes r s.asked s.bytes s.read (λ n b. (length b ≤ LONGEST_SOURCE) × Faulty n b refusal) (s.read.short, s.faulty))
 
 -- ---- outcomes
 

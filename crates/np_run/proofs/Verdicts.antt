@@ -1,6 +1,7 @@
 -- A source is accepted or refused, and refused in one way alone.
 use Rattle.std.proofs.Common.{◌≡◌, ℕ, inl, inr, List, [], ◌∷◌, ◌++◌, Result, Ok, Err, drop, append_assoc, refl, sym, subst, ap, ◌∙◌, arith}
 use Rattle.np_syntax.specs.declared.program.Program.{Program}
+use Rattle.np_syntax.specs.declared.limits.TheConstants.{DEEPEST}
 use Rattle.np_lex.specs.declared.fail.LexFail.{LexFail}
 use Rattle.np_lex.specs.declared.fail.LexFail.TheVariants as lex
 use Rattle.np_lex.specs.declared.token.Token.{Token}
@@ -93,13 +94,13 @@ refused_once depth ts e f r s =
 -- ---- tokens
 
 -- tokens have one tree
-tree_once : (ts : List Token) (a b : Tree) → IsProgram 200 ts a → IsProgram 200 ts b → a ≡ b
-tree_once ts a b x y = same_tree (program 200 ts) (complete_program x 200 (omega arith)) (complete_program y 200 (omega arith))
+tree_once : (ts : List Token) (a b : Tree) → IsProgram DEEPEST ts a → IsProgram DEEPEST ts b → a ≡ b
+tree_once ts a b x y = same_tree (program DEEPEST ts) (complete_program x DEEPEST (omega arith)) (complete_program y DEEPEST (omega arith))
   where
     same_tree : (o : Outcome Tree) → o ≡ Ok (a, []) → o ≡ Ok (b, []) → a ≡ b
     same_tree o e f = let pair : (let p : Tree × List Token = (a, []) in p) ≡ (b, []) = cc in ap (λ (p : Tree × List Token). p.0) pair
 
-same_resolved : (ts : List Token) (a b : Tree) → IsProgram 200 ts a → IsProgram 200 ts b → resolved a ≡ resolved b
+same_resolved : (ts : List Token) (a b : Tree) → IsProgram DEEPEST ts a → IsProgram DEEPEST ts b → resolved a ≡ resolved b
 same_resolved ts a b x y = ap resolved (tree_once ts a b x y)
 
 resolves_or_not : {A : Type 0} (o : Result A ScopeFail) (a : A) (e : ScopeFail) → o ≡ Ok a → o ≡ Err e → ⊥
@@ -110,7 +111,7 @@ program_no_fail : (ts : List Token) (p : Program) (r : Refusal) → HasProgram t
 program_no_fail ts p r h f = resolves_or_not (resolved f.tree) p f.fail (same_resolved ts f.tree h.tree f.parsed h.parsed ∙ h.scoped) f.refused
 
 program_no_grammar : (ts : List Token) (p : Program) (r : Refusal) → HasProgram ts p → HasNoTree ts r → ⊥
-program_no_grammar ts p r h f = no_tree 200 ts h.tree f.fail h.parsed f.refused
+program_no_grammar ts p r h f = no_tree DEEPEST ts h.tree f.fail h.parsed f.refused
 
 same_ok : {A : Type 0} (o : Result A ScopeFail) (a b : A) → o ≡ Ok a → o ≡ Ok b → a ≡ b
 same_ok o a b x y = cc
@@ -122,7 +123,7 @@ program_once : (ts : List Token) (p q : Program) → HasProgram ts p → HasProg
 program_once ts p q h k = same_ok (resolved h.tree) p q h.scoped (same_resolved ts h.tree k.tree h.parsed k.parsed ∙ k.scoped)
 
 tree_refused_once : (ts : List Token) (a b : Refusal) → HasNoTree ts a → HasNoTree ts b → a ≡ b
-tree_refused_once ts a b f g = f.is ∙ ap of_grammar (refused_once 200 ts f.fail g.fail f.refused g.refused) ∙ sym g.is
+tree_refused_once ts a b f g = f.is ∙ ap of_grammar (refused_once DEEPEST ts f.fail g.fail f.refused g.refused) ∙ sym g.is
 
 scope_refused_once : (ts : List Token) (a b : Refusal) → HasNoProgram ts a → HasNoProgram ts b → a ≡ b
 scope_refused_once ts a b f g =
@@ -142,9 +143,9 @@ faultless_or_not o f e g = cc
 -- one thing is wrong with tokens of no program
 no_program_once : (ts : List Token) (a b : Refusal) → IsNoProgram ts a → IsNoProgram ts b → a ≡ b
 no_program_once ts a b (inl f) (inl g) = tree_refused_once ts a b f g
-no_program_once ts a b (inl f) (inr (inl g)) = absurd (no_tree 200 ts g.tree f.fail g.parsed f.refused)
+no_program_once ts a b (inl f) (inr (inl g)) = absurd (no_tree DEEPEST ts g.tree f.fail g.parsed f.refused)
 no_program_once ts a b (inl f) (inr (inr g)) = absurd (program_no_grammar ts g.program a g.read f)
-no_program_once ts a b (inr (inl f)) (inl g) = absurd (no_tree 200 ts f.tree g.fail f.parsed g.refused)
+no_program_once ts a b (inr (inl f)) (inl g) = absurd (no_tree DEEPEST ts f.tree g.fail f.parsed g.refused)
 no_program_once ts a b (inr (inl f)) (inr (inl g)) = scope_refused_once ts a b f g
 no_program_once ts a b (inr (inl f)) (inr (inr g)) = absurd (program_no_fail ts g.program a g.read f)
 no_program_once ts a b (inr (inr f)) (inl g) = absurd (program_no_grammar ts f.program b f.read g)
@@ -198,7 +199,7 @@ not_both mode.Show bytes refusal a (inl f) = tokens_not_both bytes a.1.tokens f.
 not_both mode.Show bytes refusal a (inr f) =
     let same : f.tokens ≡ a.1.tokens = once.lexes_once f.lexed a.1.lexed in
     let wrong : HasNoTree a.1.tokens refusal = subst (λ (ts : List Token). Wrong mode.Show ts refusal) same f.wrong in
-    no_tree 200 a.1.tokens a.0 wrong.fail a.1.parsed wrong.refused
+    no_tree DEEPEST a.1.tokens a.0 wrong.fail a.1.parsed wrong.refused
 not_both mode.Check bytes refusal a f = well_typed_not_refused bytes a.0 refusal a.1 f
 
 -- a source is refused in one way

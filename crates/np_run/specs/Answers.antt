@@ -4,6 +4,7 @@ use Rattle.std.specs.Io.KnownBytes.{Appends, Keeps}
 use Rattle.np_syntax.specs.declared.event.End.{End}
 use Rattle.np_syntax.specs.declared.event.End.TheVariants.{Rest, Spent}
 use Rattle.np_syntax.specs.declared.program.Program.{Program}
+use Rattle.np_syntax.specs.declared.limits.TheConstants.{LONGEST_SOURCE}
 use Rattle.np_io.specs.Causes.{Counts, Rose}
 use Rattle.np_io.specs.Bytes.{Held, AppendsPrefix}
 use Rattle.np_tree.specs.declared.tree.Tree.{Tree}
@@ -18,6 +19,7 @@ use Rattle.np_run.specs.declared.answer.Answer.{Answer}
 use Rattle.np_run.specs.declared.answer.Record.{Record}
 use Rattle.np_run.specs.declared.refusal.Refusal.{Refusal}
 use Rattle.np_run.specs.declared.refusal.Refusal.TheVariants.{Usage, ReadFault, TooLong}
+use Rattle.np_run.specs.declared.statuses.TheConstants.{BAD_SOURCE, BAD_USAGE, BUDGET_SPENT, DONE, NO_MEMORY, READ_FAILED, WRITE_FAILED}
 use Rattle.np_run.specs.declared.words.Mode.{Mode}
 use Rattle.np_run.specs.declared.words.Mode.TheVariants as mode
 
@@ -57,7 +59,7 @@ pub record Call : Type 0 where
 pub record IsRead (words : List (List ℕ)) (texts : Reading) (asked : Plan) (bytes : List ℕ) : Type 0 where
   pub planned : plan words ≡ Some asked
   pub taken : texts.taken ≡ length bytes
-  pub short : length bytes ≤ 1048576
+  pub short : length bytes ≤ LONGEST_SOURCE
   pub whole : IfSome (texts.held asked.file) (λ told. bytes ≡ told)
 
 -- the source was read, and the mode refuses it so
@@ -74,7 +76,7 @@ pub data Stands (words : List (List ℕ)) (texts : Reading) : Refusal → Type 0
   -- a read of the file failed
   fault : {asked : Plan} → plan words ≡ Some asked → Rose (texts.before asked.file) (texts.now asked.file) → Stands words texts ReadFault
   -- more was read than a source may have, and the text has more where it is told
-  long : {asked : Plan} → plan words ≡ Some asked → 1048576 < texts.taken → IfSome (texts.held asked.file) (λ bytes. 1048576 < length bytes)
+  long : {asked : Plan} → plan words ≡ Some asked → LONGEST_SOURCE < texts.taken → IfSome (texts.held asked.file) (λ bytes. LONGEST_SOURCE < length bytes)
       → Stands words texts TooLong
   -- the mode refuses the source
   source : {refusal : Refusal} → IsFaulty words texts refusal → Stands words texts refusal
@@ -141,14 +143,14 @@ pub record HasMade (words : List (List ℕ)) (texts : Reading) (kept : Option Re
 -- ---- answers
 
 abbrev pub end_status : End → ℕ
-end_status Rest = 0
-end_status Spent = 1
+end_status Rest = DONE
+end_status Spent = BUDGET_SPENT
 
 -- the status of what was made, where its text was written: a run may have spent its budget
 abbrev pub status_at : Option Record → Option SerialRun → ℕ
 status_at (Some made) high = end_status made.end
 status_at None (Some made) = end_status made.end
-status_at None None = 0
+status_at None None = DONE
 
 -- it was made, and its text was written
 pub record IsDone (call : Call) (answer : Answer) : Type 0 where
@@ -197,17 +199,17 @@ pub record IsWanting (call : Call) (answer : Answer) : Type 0 where
   pub err : Keeps call.err.old call.err.new
 
 abbrev pub IsStatus : ℕ → Type 0
-IsStatus n = (n ≡ 0) ⊎ (n ≡ 1) ⊎ (n ≡ 2) ⊎ (n ≡ 3) ⊎ (n ≡ 4) ⊎ (n ≡ 5) ⊎ (n ≡ 6)
+IsStatus n = (n ≡ DONE) ⊎ (n ≡ BUDGET_SPENT) ⊎ (n ≡ BAD_USAGE) ⊎ (n ≡ BAD_SOURCE) ⊎ (n ≡ READ_FAILED) ⊎ (n ≡ WRITE_FAILED) ⊎ (n ≡ NO_MEMORY)
 
 -- each answer has its cause
 pub record HasCauses (call : Call) (answer : Answer) : Type 0 where
-  pub done : answer.status ≡ 0 → IsDone call answer
-  pub spent : answer.status ≡ 1 → IsDone call answer
-  pub usage : answer.status ≡ 2 → IsRefused call answer Usage
-  pub source : answer.status ≡ 3 → Refuses call answer
-  pub read : answer.status ≡ 4 → IsRefused call answer ReadFault
-  pub write : answer.status ≡ 5 → OutFailed call answer ⊎ ErrFailed call answer
-  pub memory : answer.status ≡ 6 → IsWanting call answer
+  pub done : answer.status ≡ DONE → IsDone call answer
+  pub spent : answer.status ≡ BUDGET_SPENT → IsDone call answer
+  pub usage : answer.status ≡ BAD_USAGE → IsRefused call answer Usage
+  pub source : answer.status ≡ BAD_SOURCE → Refuses call answer
+  pub read : answer.status ≡ READ_FAILED → IsRefused call answer ReadFault
+  pub write : answer.status ≡ WRITE_FAILED → OutFailed call answer ⊎ ErrFailed call answer
+  pub memory : answer.status ≡ NO_MEMORY → IsWanting call answer
   pub status : IsStatus answer.status
   -- no other text was to begin, and none twice
   pub begins : call.texts.begins ≤ call.texts.begun + texts_read (plan call.words)

@@ -2,6 +2,7 @@
 -- and "Types").
 use Rattle.std.specs.Prelude.{◌≡◌, ℕ, ◌⊎◌, List, [], ◌∷◌, Ok, Err}
 use Rattle.np_syntax.specs.declared.program.Program.{Program}
+use Rattle.np_syntax.specs.declared.limits.TheConstants.{DEEPEST}
 use Rattle.np_lex.specs.declared.fail.LexFail.{LexFail}
 use Rattle.np_lex.specs.declared.fail.LexFail.TheVariants as lex
 use Rattle.np_lex.specs.declared.token.Token.{Token}
@@ -48,12 +49,12 @@ of_scope (scope.NotASite at) = NotASite at
 pub record HasTree (bytes : List ℕ) (tree : Tree) : Type 0 where
   pub tokens : List Token
   pub lexed : Lexes 0 bytes tokens
-  pub parsed : IsProgram 200 tokens tree
+  pub parsed : IsProgram DEEPEST tokens tree
 
 -- the grammar gives the tokens a tree, and with its names resolved this is the program
 pub record HasProgram (tokens : List Token) (program : Program) : Type 0 where
   pub tree : Tree
-  pub parsed : IsProgram 200 tokens tree
+  pub parsed : IsProgram DEEPEST tokens tree
   pub scoped : resolved tree ≡ Ok program
 
 -- the bytes have tokens, these have a program, and it has no fault of types
@@ -82,14 +83,14 @@ pub record HasNoTokens (bytes : List ℕ) (refusal : Refusal) : Type 0 where
 pub record HasNoTree (ts : List Token) (refusal : Refusal) : Type 0 where
   pub fail : ParseFail
   pub is : refusal ≡ of_grammar fail
-  pub refused : grammar.Refusal 200 ts fail
+  pub refused : grammar.Refusal DEEPEST ts fail
 
 -- a name of the tree, at the place of the refusal, stands for nothing that it could
 pub record HasNoProgram (ts : List Token) (refusal : Refusal) : Type 0 where
   pub fail : ScopeFail
   pub is : refusal ≡ of_scope fail
   pub tree : Tree
-  pub parsed : IsProgram 200 ts tree
+  pub parsed : IsProgram DEEPEST ts tree
   pub refused : resolved tree ≡ Err fail
 
 -- the program has a fault of types, the first at the place of the refusal

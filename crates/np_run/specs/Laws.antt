@@ -1,5 +1,6 @@
 -- What follows from the causes of the answers: when each comes. The source is told.
 use Rattle.std.specs.Prelude.{◌≡◌, ◌≢◌, ℕ, ◌<◌, ◌≤◌, ◌⊎◌, ◌↔◌, List, length, Some, None}
+use Rattle.np_syntax.specs.declared.limits.TheConstants.{LONGEST_SOURCE}
 use Rattle.np_io.specs.Causes.{Rose}
 use Rattle.np_run.specs.Faults.{Accepted, Faulty}
 use Rattle.np_run.specs.Words.{Plan, plan}
@@ -7,6 +8,7 @@ use Rattle.np_run.specs.Answers.{Call, HasCauses, IsRefused}
 use Rattle.np_run.specs.declared.answer.Answer.{Answer}
 use Rattle.np_run.specs.declared.refusal.Refusal.{Refusal}
 use Rattle.np_run.specs.declared.refusal.Refusal.TheVariants.{TooLong}
+use Rattle.np_run.specs.declared.statuses.TheConstants.{BAD_USAGE, BUDGET_SPENT, DONE, NO_MEMORY}
 
 -- the words ask for this, the file that they name holds these bytes, and no read of it failed
 pub record Reads (call : Call) (asked : Plan) (bytes : List ℕ) : Type 0 where
@@ -17,20 +19,20 @@ pub record Reads (call : Call) (asked : Plan) (bytes : List ℕ) : Type 0 where
 -- where no call failed, what is asked of an accepted source is done, or memory was wanting
 abbrev pub Completes : Type 0
 Completes = (call : Call) (answer : Answer) (asked : Plan) (bytes : List ℕ) → HasCauses call answer → Reads call asked bytes
-    → length bytes ≤ 1048576 → Accepted asked.mode bytes → ¬ Rose call.out.before call.out.now → ¬ Rose call.err.before call.err.now
-    → (answer.status ≡ 0) ⊎ (answer.status ≡ 1) ⊎ (answer.status ≡ 6)
+    → length bytes ≤ LONGEST_SOURCE → Accepted asked.mode bytes → ¬ Rose call.out.before call.out.now → ¬ Rose call.err.before call.err.now
+    → (answer.status ≡ DONE) ⊎ (answer.status ≡ BUDGET_SPENT) ⊎ (answer.status ≡ NO_MEMORY)
 
 -- the words are refused exactly where they ask for nothing that the program does
 abbrev pub RefusesWords : Type 0
-RefusesWords = (call : Call) (answer : Answer) → HasCauses call answer → ¬ Rose call.err.before call.err.now → answer.status ≢ 6
-    → (answer.status ≡ 2) ↔ (plan call.words ≡ None)
+RefusesWords = (call : Call) (answer : Answer) → HasCauses call answer → ¬ Rose call.err.before call.err.now → answer.status ≢ NO_MEMORY
+    → (answer.status ≡ BAD_USAGE) ↔ (plan call.words ≡ None)
 
 -- a source is refused as too long exactly where it is
 abbrev pub RefusesLong : Type 0
 RefusesLong = (call : Call) (answer : Answer) (asked : Plan) (bytes : List ℕ) → HasCauses call answer → Reads call asked bytes
-    → ¬ Rose call.err.before call.err.now → answer.status ≢ 6 → IsRefused call answer TooLong ↔ (1048576 < length bytes)
+    → ¬ Rose call.err.before call.err.now → answer.status ≢ NO_MEMORY → IsRefused call answer TooLong ↔ (LONGEST_SOURCE < length bytes)
 
 -- a source that is not too long is refused exactly where the mode refuses it, and so
 abbrev pub RefusesSources : Type 0
 RefusesSources = (call : Call) (answer : Answer) (asked : Plan) (bytes : List ℕ) (refusal : Refusal) → HasCauses call answer → Reads call asked bytes
-    → ¬ Rose call.err.before call.err.now → answer.status ≢ 6 → length bytes ≤ 1048576 → IsRefused call answer refusal ↔ Faulty asked.mode bytes refusal
+    → ¬ Rose call.err.before call.err.now → answer.status ≢ NO_MEMORY → length bytes ≤ LONGEST_SOURCE → IsRefused call answer refusal ↔ Faulty asked.mode bytes refusal

@@ -5,6 +5,7 @@ use Rattle.np_types.specs.declared.fault.Rule.{Rule}
 use Rattle.np_types.specs.declared.fault.Rule.TheVariants as rule
 use Rattle.np_run.specs.declared.refusal.Refusal.{Refusal}
 use Rattle.np_run.specs.declared.refusal.Refusal.TheVariants.{Memory, Usage, ReadFault, TooLong, BadChar, BadString, BigNumber, Syntax, TooDeep, Unbound, SiteTwice, TooManySites, NotASite, TypeFault}
+use Rattle.np_run.specs.declared.statuses.TheConstants.{BAD_SOURCE, BAD_USAGE, NO_MEMORY, READ_FAILED}
 
 -- the line of a refusal with its offset
 abbrev pub placed_line : List ℕ → ℕ → List ℕ
@@ -42,7 +43,7 @@ line_of (NotASite at) = placed_line (codes "np: 15 NotASite at ") at
 line_of (TypeFault fault) = codes "np: 16 TypeFault " ++ rule_text fault.rule ++ placed_line (codes " at ") fault.at
 
 abbrev pub status_of : Refusal → ℕ
-status_of Memory = 6
-status_of Usage = 2
-status_of ReadFault = 4
-status_of _ = 3
+status_of Memory = NO_MEMORY
+status_of Usage = BAD_USAGE
+status_of ReadFault = READ_FAILED
+status_of _ = BAD_SOURCE

@@ -4,6 +4,7 @@ use Rattle.std.specs.Char.{is_ascii_digit}
 use Rattle.std.specs.List.{list_all}
 use Rattle.std.specs.Str.{bytes_eq}
 use Rattle.std.specs.Str.Parse.{digits_value}
+use Rattle.np_syntax.specs.declared.limits.TheConstants.{DEEPEST, LARGEST_BUDGET, USUAL_BUDGET}
 use Rattle.np_run.specs.declared.words.Mode.{Mode}
 use Rattle.np_run.specs.declared.words.Mode.TheVariants as mode
 
@@ -27,7 +28,7 @@ is_numeral word = nat_lt 0 (length word) && nat_le (length word) 6 && list_all i
 
 -- a number from 1 to 200,000
 abbrev pub within_limit : ℕ → Option ℕ
-within_limit n = if nat_le 1 n && nat_le n 200000 then Some n else None
+within_limit n = if nat_le 1 n && nat_le n LARGEST_BUDGET then Some n else None
 
 -- the budget that a word gives: the number of a numeral, from 1 to 200,000
 abbrev pub budget_of : List ℕ → Option ℕ
@@ -41,7 +42,7 @@ planned None file budget = None
 -- A mode's word and the file's name; where the mode runs sources, `--budget` and a number may follow. A run may have 10,000
 -- events where no number is given.
 unfoldable pub plan : List (List ℕ) → Option Plan
-plan (word ∷ file ∷ []) = planned (mode_of word) file (Some 10000)
+plan (word ∷ file ∷ []) = planned (mode_of word) file (Some USUAL_BUDGET)
 plan (word ∷ file ∷ option ∷ number ∷ []) = if bytes_eq option (codes "--budget") then planned (running_mode_of word) file (budget_of number) else None
 plan words = None
 

@@ -13,11 +13,8 @@ use np_check::Checked;
 use np_io::{ReadFail, Texts, Word, read_all};
 use np_safety::law_runs_well;
 use np_show::show;
-use np_syntax::{List, Memory, Text};
+use np_syntax::{LONGEST_SOURCE, List, Memory, Text};
 use std::alloc::Global;
-
-/// How many bytes a source may have.
-const SOURCE_LIMIT: usize = 1_048_576;
 
 /// What was made: the text that is to be written, and the run if there was one.
 #[derive(Drop)]
@@ -50,7 +47,7 @@ pub(crate) fn work<T: Texts>(alloc: Global, words: &[Word], texts: &mut T) -> Re
     let Some((mode, file, budget)) = planned(words) else {
         return Err(Refusal::Usage);
     };
-    let bytes = match read_all(alloc, texts, file, SOURCE_LIMIT) {
+    let bytes = match read_all(alloc, texts, file, LONGEST_SOURCE) {
         Ok(bytes) => bytes,
         Err(ReadFail::Memory) => return Err(Refusal::Memory),
         Err(ReadFail::ReadFault) => return Err(Refusal::ReadFault),
@@ -61,7 +58,7 @@ pub(crate) fn work<T: Texts>(alloc: Global, words: &[Word], texts: &mut T) -> Re
 
 /// What is made of a source.
 fn job_of(alloc: Global, mode: Mode, budget: u32, bytes: &[u8]) -> Result<Job, Refusal>
-    requires { length bytes.now ≤ 1048576 }
+    requires { length bytes.now ≤ LONGEST_SOURCE }
     ensures made { IfOk result (λ job. Does mode budget bytes.now job.kept job.high job.text) }
     ensures refused { IfErr result (λ refusal. refusal ≢ Refusal.Memory → Faulty mode bytes.now refusal) }
 {
@@ -75,7 +72,7 @@ fn job_of(alloc: Global, mode: Mode, budget: u32, bytes: &[u8]) -> Result<Job, R
 
 /// The record of a source's run.
 fn run_source(alloc: Global, budget: u32, bytes: &[u8]) -> Result<Job, Refusal>
-    requires { length bytes.now ≤ 1048576 }
+    requires { length bytes.now ≤ LONGEST_SOURCE }
     ensures made { IfOk result (λ job. KeepsRun budget bytes.now job.kept job.high job.text) }
     ensures refused { IfErr result (λ refusal. refusal ≢ Refusal.Memory → Faulty Mode.Run bytes.now refusal) }
 {
@@ -89,7 +86,7 @@ fn run_source(alloc: Global, budget: u32, bytes: &[u8]) -> Result<Job, Refusal>
 
 /// A source's run at the high level.
 fn high_source(alloc: Global, budget: u32, bytes: &[u8]) -> Result<Job, Refusal>
-    requires { length bytes.now ≤ 1048576 }
+    requires { length bytes.now ≤ LONGEST_SOURCE }
     ensures made { IfOk result (λ job. KeepsHigh budget bytes.now job.kept job.high job.text) }
     ensures refused { IfErr result (λ refusal. refusal ≢ Refusal.Memory → Faulty Mode.High bytes.now refusal) }
 {
@@ -103,7 +100,7 @@ fn high_source(alloc: Global, budget: u32, bytes: &[u8]) -> Result<Job, Refusal>
 
 /// The canonical text of a source.
 fn show_source(alloc: Global, bytes: &[u8]) -> Result<Job, Refusal>
-    requires { length bytes.now ≤ 1048576 }
+    requires { length bytes.now ≤ LONGEST_SOURCE }
     ensures made { IfOk result (λ job. Shows bytes.now job.kept job.high job.text) }
     ensures refused { IfErr result (λ refusal. refusal ≢ Refusal.Memory → Faulty Mode.Show bytes.now refusal) }
 {
@@ -125,7 +122,7 @@ fn show_source(alloc: Global, bytes: &[u8]) -> Result<Job, Refusal>
 
 /// That a source is well typed.
 fn check_source(alloc: Global, bytes: &[u8]) -> Result<Job, Refusal>
-    requires { length bytes.now ≤ 1048576 }
+    requires { length bytes.now ≤ LONGEST_SOURCE }
     ensures made { IfOk result (λ job. Checks bytes.now job.kept job.high job.text) }
     ensures refused { IfErr result (λ refusal. refusal ≢ Refusal.Memory → Faulty Mode.Check bytes.now refusal) }
 {
@@ -143,7 +140,7 @@ fn check_source(alloc: Global, bytes: &[u8]) -> Result<Job, Refusal>
 
 /// The program of a source, where it is well typed.
 fn checked_source(alloc: Global, bytes: &[u8]) -> Result<Checked, Refusal>
-    requires { length bytes.now ≤ 1048576 }
+    requires { length bytes.now ≤ LONGEST_SOURCE }
     ensures found { IfOk result (IsWellTyped bytes.now) }
     ensures refused { IfErr result (λ refusal. refusal ≢ Refusal.Memory → Faulty Mode.Check bytes.now refusal) }
 {
@@ -155,7 +152,7 @@ fn checked_source(alloc: Global, bytes: &[u8]) -> Result<Checked, Refusal>
 
 /// The run of a source, with the text of its report.
 fn run_of(alloc: Global, budget: u32, bytes: &[u8]) -> Result<(SerialRun, Text), Refusal>
-    requires { length bytes.now ≤ 1048576 }
+    requires { length bytes.now ≤ LONGEST_SOURCE }
     ensures made { IfOk result (λ made. Runs budget bytes.now made.0 made.1) }
     ensures refused { IfErr result (λ refusal. refusal ≢ Refusal.Memory → Faulty Mode.Check bytes.now refusal) }
 {

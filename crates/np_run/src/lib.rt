@@ -7,6 +7,7 @@ mod laws;
 mod reading;
 mod refusal;
 mod reporting;
+mod statuses;
 mod top;
 mod words;
 
@@ -14,5 +15,8 @@ pub use answer::{Answer, Record};
 pub use laws::{law_completes, law_refuses_long, law_refuses_sources, law_refuses_words};
 pub use refusal::{Refusal, line, status};
 pub use reporting::report;
+pub use statuses::{
+    BAD_SOURCE, BAD_USAGE, BUDGET_SPENT, DONE, NO_MEMORY, READ_FAILED, WRITE_FAILED,
+};
 pub use top::np;
 pub use words::Mode;

@@ -13,13 +13,13 @@ use np_check::{CheckFail, Checked, check};
 use np_lex::{Tokens, lex};
 use np_parse::parse;
 use np_scope::resolve;
-use np_syntax::Program;
+use np_syntax::{DEEPEST, LONGEST_SOURCE, Program};
 use np_tree::Tree;
 use std::alloc::Global;
 
 /// The tokens of a source.
 pub(crate) fn tokens_of(alloc: Global, bytes: &[u8]) -> Result<Tokens, Refusal>
-    requires { length bytes.now ≤ 1048576 }
+    requires { length bytes.now ≤ LONGEST_SOURCE }
     ensures found { IfOk result (λ tokens. Lexes 0 bytes.now tokens) }
     ensures few { IfOk result (λ tokens. length tokens ≤ 1048577) }
     ensures refused { IfErr result (λ refusal. refusal ≢ Refusal.Memory → HasNoTokens bytes.now refusal) }
@@ -32,7 +32,7 @@ pub(crate) fn tokens_of(alloc: Global, bytes: &[u8]) -> Result<Tokens, Refusal>
 
 /// The tree of tokens.
 pub(crate) fn tree_of(alloc: Global, tokens: &Tokens) -> Result<Tree, Refusal>
-    ensures found { IfOk result (λ tree. IsProgram 200 tokens.now tree) }
+    ensures found { IfOk result (λ tree. IsProgram DEEPEST tokens.now tree) }
     ensures nodes { IfOk result (λ tree. nodes tree.main ≤ length tokens.now) }
     ensures binders { IfOk result (λ tree. binders tree.main ≤ length tokens.now) }
     ensures refused { IfErr result (λ refusal. refusal ≢ Refusal.Memory → HasNoTree tokens.now refusal) }

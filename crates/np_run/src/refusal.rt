@@ -2,6 +2,7 @@ ghost use Rattle.std.specs.Prelude.{◌≡◌, ◌++◌, IfOk, codes};
 ghost use Rattle.np_run.specs.Faults.{of_grammar, of_scope, of_tokens};
 ghost use Rattle.np_run.specs.Lines.{line_of, placed_line, rule_text, status_of};
 
+use super::statuses::{BAD_SOURCE, BAD_USAGE, NO_MEMORY, READ_FAILED};
 use np_lex::LexFail;
 use np_parse::ParseFail;
 use np_scope::ScopeFail;
@@ -154,9 +155,9 @@ pub fn status(refusal: Refusal) -> u8
     ensures { result ≡ status_of refusal }
 {
     match refusal {
-        Refusal::Memory => 6,
-        Refusal::Usage => 2,
-        Refusal::ReadFault => 4,
+        Refusal::Memory => NO_MEMORY,
+        Refusal::Usage => BAD_USAGE,
+        Refusal::ReadFault => READ_FAILED,
         Refusal::TooLong
         | Refusal::BadChar(_)
         | Refusal::BadString(_)
@@ -167,6 +168,6 @@ pub fn status(refusal: Refusal) -> u8
         | Refusal::SiteTwice(_)
         | Refusal::TooManySites(_)
         | Refusal::NotASite(_)
-        | Refusal::TypeFault(_) => 3,
+        | Refusal::TypeFault(_) => BAD_SOURCE,
     }
 }

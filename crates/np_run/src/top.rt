@@ -4,6 +4,7 @@ ghost use Rattle.np_run.specs.Answers.{HasCauses, end_status, status_at};
 use super::answer::{Answer, Record};
 use super::job::{Job, work};
 use super::refusal::{Refusal, line, status};
+use super::statuses::{BUDGET_SPENT, DONE, NO_MEMORY, WRITE_FAILED};
 use np_calculus::SerialRun;
 use np_io::{Sink, Texts, Word, write_all};
 use np_syntax::End;
@@ -53,7 +54,7 @@ pub fn np<R: Threads + Wait + Sync, T: Texts, O: Sink, E: Sink>(
                 high,
             },
             Err(_) => Answer {
-                status: 5,
+                status: WRITE_FAILED,
                 kept,
                 high,
             },
@@ -67,7 +68,7 @@ pub fn np<R: Threads + Wait + Sync, T: Texts, O: Sink, E: Sink>(
                     high: None,
                 },
                 Err(_) => Answer {
-                    status: 5,
+                    status: WRITE_FAILED,
                     kept: None,
                     high: None,
                 },
@@ -84,7 +85,7 @@ fn status_at(kept: &Option<Record>, high: &Option<SerialRun>) -> u8
     match (kept, high) {
         (Some(made), _) => end_status(made.end),
         (None, Some(made)) => end_status(made.end),
-        (None, None) => 0,
+        (None, None) => DONE,
     }
 }
 
@@ -92,17 +93,17 @@ fn end_status(end: End) -> u8
     ensures { result ≡ end_status end }
 {
     match end {
-        End::Rest => 0,
-        End::Spent => 1,
+        End::Rest => DONE,
+        End::Spent => BUDGET_SPENT,
     }
 }
 
 /// The answer where memory was wanting.
 fn wanting() -> Answer
-    ensures { result ≡ record { status = 6; kept = None; high = None } }
+    ensures { result ≡ record { status = NO_MEMORY; kept = None; high = None } }
 {
     Answer {
-        status: 6,
+        status: NO_MEMORY,
         kept: None,
         high: None,
     }

@@ -4,12 +4,7 @@ ghost use Rattle.std.specs.List.{list_all};
 ghost use Rattle.np_run.specs.Words.{Plan, budget_of, is_numeral, mode_of, plan, running_mode_of, within_limit};
 
 use np_io::Word;
-
-/// How many events a run may have where the words do not say it.
-const BUDGET: u32 = 10_000;
-
-/// The largest number of events that the words may say.
-const LARGEST_BUDGET: u32 = 200_000;
+use np_syntax::{LARGEST_BUDGET, USUAL_BUDGET};
 
 /// What the program does with a source: runs it, runs it at the high level, shows its canonical text, or
 /// checks its types.
@@ -102,7 +97,7 @@ pub(crate) fn planned(words: &[Word]) -> Option<(Mode, &Word, u32)>
     match words {
         [word, file] => {
             let mode = mode_of(word.text())?;
-            Some((mode, file, BUDGET))
+            Some((mode, file, USUAL_BUDGET))
         }
         [word, file, option, number] => {
             if option.text() != "--budget" {

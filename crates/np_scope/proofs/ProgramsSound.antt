@@ -3,6 +3,7 @@ use Rattle.std.proofs.Common.{◌≡◌, ◌<◌, ◌≤◌, ℕ, ◌+◌, Bool,
 use Rattle.std.proofs.lemmas.List.{length-map}
 use Rattle.std.specs.Str.{bytes_eq}
 use Rattle.np_syntax.specs.declared.program.Program.{Program}
+use Rattle.np_syntax.specs.declared.limits.TheConstants.{MOST_SITES}
 use Rattle.np_tree.specs.declared.tree.Ident.{Ident}
 use Rattle.np_tree.specs.declared.tree.Tree.{Tree}
 use Rattle.np_tree.specs.Sizes.{nodes, binders}
@@ -42,19 +43,19 @@ by_tests true b d e new h = refused d
 by_tests false true d e new h = done (h refl)
 by_tests false false d e new h = refused e
 
-below-32 : (k : ℕ) → nat_lt k 32 ≡ true → k < 32
-below-32 k e = grind (arith, e)
+below-most : (k : ℕ) → nat_lt k MOST_SITES ≡ true → k < MOST_SITES
+below-most k e = grind (arith, e)
 
-site-sound : (site : Ident) (k : ℕ) (scope : List Named) → Sited k scope → All (λ new. Sited (k + 1) new × (k < 32)) (with_site site k scope)
+site-sound : (site : Ident) (k : ℕ) (scope : List Named) → Sited k scope → All (λ new. Sited (k + 1) new × (k < MOST_SITES)) (with_site site k scope)
 unfolding with_site
 site-sound site k scope h =
-    by_tests (is_some (meaning_of scope site.text)) (nat_lt k 32) _ _ ((site.text, meaning.Site k) ∷ scope)
-    (λ e. ((λ name m is. site-name k (meaning_of scope name) (bytes_eq site.text name) m (h name) is), below-32 k e))
+    by_tests (is_some (meaning_of scope site.text)) (nat_lt k MOST_SITES) _ _ ((site.text, meaning.Site k) ∷ scope)
+    (λ e. ((λ name m is. site-name k (meaning_of scope name) (bytes_eq site.text name) m (h name) is), below-most k e))
 
 abbrev SitesDone : ℕ → List Named → Type 0
-SitesDone k new = Sited k new × (k ≤ 32)
+SitesDone k new = Sited k new × (k ≤ MOST_SITES)
 
-sites-sound : (sites : List Ident) (k : ℕ) (scope : List Named) → Sited k scope → k ≤ 32 → All (SitesDone (k + length sites)) (with_sites sites k scope)
+sites-sound : (sites : List Ident) (k : ℕ) (scope : List Named) → Sited k scope → k ≤ MOST_SITES → All (SitesDone (k + length sites)) (with_sites sites k scope)
 sites-sound [] k scope h few = let e : k ≡ k + length {A = Ident} [] = omega arith in done (subst (λ n. SitesDone n scope) e (h, few))
 sites-sound (site ∷ sites) k scope h few =
     let e : (k + 1) + length sites ≡ k + length (site ∷ sites) = omega arith in
@@ -77,7 +78,7 @@ agrees k scope h name m is = below-fine k m (h name m is)
 
 record MainDone (tree : Tree) (m : ℕ × Placed) : Type 0 where
   home : m.0 < length tree.sites
-  few : length tree.sites ≤ 32
+  few : length tree.sites ≤ MOST_SITES
   main : Done (length tree.sites) [] first_numbers tree.main m.1
 
 main-sound : (tree : Tree) → IsWritten tree.main → All (MainDone tree) (main_of tree)

@@ -16,6 +16,7 @@ use Rattle.np_syntax.specs.declared.process.ProcForm.{ProcForm}
 use Rattle.np_syntax.specs.declared.process.ProcForm as form
 use Rattle.np_syntax.specs.declared.process.Role.TheVariants as role
 use Rattle.np_syntax.specs.declared.program.Program.{Program}
+use Rattle.np_syntax.specs.declared.limits.TheConstants.{MOST_SITES}
 use Rattle.np_tree.specs.declared.tree.Ident.{Ident}
 use Rattle.np_tree.specs.declared.tree.Tree.{Tree}
 use Rattle.np_tree.specs.declared.tree.RawExpr.{RawExpr, fold-RawExpr}
@@ -282,7 +283,7 @@ proc_form_of n = fold-RawProcForm FormIn ProcIn (proc_step n) (λ p. at_place p.
 unfoldable pub with_site : Ident → ℕ → List Named → Outcome (List Named)
 with_site site number scope =
     if is_some (meaning_of scope site.text) then Err (fail.SiteTwice site.at)
-    else (if nat_lt number 32 then Ok ((site.text, meaning.Site number) ∷ scope) else Err (fail.TooManySites site.at))
+    else (if nat_lt number MOST_SITES then Ok ((site.text, meaning.Site number) ∷ scope) else Err (fail.TooManySites site.at))
 
 -- the names in scope with these sites, whose numbers go on from this one
 abbrev pub with_sites : List Ident → ℕ → List Named → Outcome (List Named)

@@ -7,7 +7,7 @@ ghost use Rattle.np_scope.specs.Naming.{Enters};
 
 use super::fail::ScopeFail;
 use super::scope::{Meaning, Scope};
-use np_syntax::{List, Memory, Text};
+use np_syntax::{List, MOST_SITES, Memory, Text};
 use np_tree::Ident;
 use std::alloc::Global;
 
@@ -15,13 +15,13 @@ use std::alloc::Global;
 #[tactic(auto, unfolding(crate::specs::Resolved::with_site))]
 fn enter_site<'a>(scope: &mut Scope<'a>, site: &'a Ident, number: u32) -> Result<(), ScopeFail>
     ensures enters { Enters (spec.with_site site.now number scope.old) result scope.new }
-    ensures few { OnOk result (number < 32) }
+    ensures few { OnOk result (number < MOST_SITES) }
 {
     let name = site.text.as_slice();
     if scope.find(name).is_some() {
         return Err(ScopeFail::SiteTwice(site.at));
     }
-    if number >= 32 {
+    if number >= MOST_SITES {
         return Err(ScopeFail::TooManySites(site.at));
     }
     scope.enter(name, Meaning::Site(number))?;

@@ -7,6 +7,7 @@ use Rattle.np_syntax.specs.declared.types.Ty.{Ty}
 use Rattle.np_syntax.specs.declared.types.Ty as ty
 use Rattle.np_syntax.specs.declared.expression.Op.{Op}
 use Rattle.np_syntax.specs.declared.expression.Op.TheVariants as op
+use Rattle.np_syntax.specs.declared.limits.TheConstants.{MOST_PARTS}
 use Rattle.np_lex.specs.declared.token.Key.{Key}
 use Rattle.np_lex.specs.declared.token.Token.{Token}
 use Rattle.np_lex.specs.declared.token.What.{What}
@@ -34,7 +35,7 @@ mutual
   pub data IsCanonType : ℕ → Ty → Type 0 where
     ground : {d : ℕ} {k : Key} {t : Ty} → IsGround k t → IsCanonType (suc d) t
     chan : {d : ℕ} {c : Cap} {t : Ty} → IsCanonType d t → IsCanonType (suc d) (ty.Chan c t)
-    tuple : {d : ℕ} {ts : List Ty} → length ts ≤ 16 → AllCanonTypes d ts → IsCanonType (suc d) (ty.Tuple ts)
+    tuple : {d : ℕ} {ts : List Ty} → length ts ≤ MOST_PARTS → AllCanonTypes d ts → IsCanonType (suc d) (ty.Tuple ts)
 
   pub data AllCanonTypes : ℕ → List Ty → Type 0 where
     none : {d : ℕ} → AllCanonTypes d []
@@ -73,7 +74,7 @@ mutual
   pub data IsCanonPat : ℕ → RawPat → Type 0 where
     any : {d at : ℕ} → IsCanonPat (suc d) (pattern at pat.Any)
     bind : {d at i : ℕ} {text : List ℕ} → IsLegal (what.Ident text) → IsCanonPat (suc d) (pattern at (pat.Bind (ident i text)))
-    tuple_pat : {d at : ℕ} {ps : List RawPat} → length ps ≤ 16 → AllCanonPats d ps → IsCanonPat (suc d) (pattern at (pat.Tuple ps))
+    tuple_pat : {d at : ℕ} {ps : List RawPat} → length ps ≤ MOST_PARTS → AllCanonPats d ps → IsCanonPat (suc d) (pattern at (pat.Tuple ps))
 
   pub data AllCanonPats : ℕ → List RawPat → Type 0 where
     none_pat : {d : ℕ} → AllCanonPats d []
@@ -104,7 +105,7 @@ mutual
     literal : {l d at : ℕ} {w : What} {v : Value} → IsLiteral w v → IsLegal w → IsCanon l (suc d) (expression at (expr.Val v))
     main : {l d at : ℕ} → IsCanon l (suc d) (expression at expr.Main)
     name : {l d at i : ℕ} {text : List ℕ} → IsLegal (what.Ident text) → IsCanon l (suc d) (expression at (expr.Var (ident i text)))
-    tuple_expr : {l d at : ℕ} {xs : List RawExpr} → length xs ≤ 16 → AllCanon d xs → IsCanon l (suc d) (expression at (expr.Tuple xs))
+    tuple_expr : {l d at : ℕ} {xs : List RawExpr} → length xs ≤ MOST_PARTS → AllCanon d xs → IsCanon l (suc d) (expression at (expr.Tuple xs))
     bin : {l d at : ℕ} {o : Op} {x y : RawExpr} → nat_lt (strength o) l ≡ false → IsCanon (left o) d x → IsCanon (right o) d y → IsCanon l (suc d) (expression at (expr.Bin o x y))
     round : {l d at : ℕ} {o : Op} {x y : RawExpr} → nat_lt (strength o) l ≡ true → IsCanon (left o) d x → IsCanon (right o) d y
         → IsCanon l (suc (suc d)) (expression at (expr.Bin o x y))

@@ -3,6 +3,7 @@ use Rattle.std.proofs.Common.{◌≡◌, ℕ, suc, ◌+◌, ◌≤◌, true, fal
 use Rattle.std.specs.Prelude.{codes}
 use Rattle.np_syntax.specs.Printed.{spaced}
 use Rattle.np_syntax.specs.declared.expression.Op.{Op}
+use Rattle.np_syntax.specs.declared.limits.TheConstants.{MOST_PARTS}
 use Rattle.np_lex.specs.declared.token.Key.TheVariants as key
 use Rattle.np_lex.specs.declared.token.Sign.TheVariants as sign
 use Rattle.np_lex.specs.declared.token.Token.{Token}
@@ -38,7 +39,7 @@ record PartsAs (d at : ℕ) (bytes rest : List ℕ) (xs : List RawExpr) : Type 0
   pub ts : List Token
   pub trees : List RawExpr
   pub goes : Goes at bytes ts end rest
-  pub has : AreExprs 16 d ts trees
+  pub has : AreExprs MOST_PARTS d ts trees
   pub same : map erased_expr trees ≡ map erased_expr xs
 
 -- the same behind parts that were read
@@ -47,7 +48,7 @@ record MoreAs (d at : ℕ) (bytes rest : List ℕ) (us : List Token) (ys xs : Li
   pub ts : List Token
   pub trees : List RawExpr
   pub goes : Goes at bytes ts end rest
-  pub has : AreExprs 16 d (us ++ ts) (ys ++ trees)
+  pub has : AreExprs MOST_PARTS d (us ++ ts) (ys ++ trees)
   pub same : map erased_expr trees ≡ map erased_expr xs
 
 same_bin : (o : Op) (x y u v : RawExpr) → erased_expr x ≡ erased_expr u → erased_expr y ≡ erased_expr v → erased_expr_form (expr.Bin o x y) ≡ erased_expr_form (expr.Bin o u v)
@@ -134,7 +135,7 @@ mutual
       let r = reads c at rest soft in
       record { end = r.end; ts = r.ts; tree = r.tree; goes = r.goes; has = raise l _ _ _ r.has; same = r.same }
 
-  parts_read : {d : ℕ} {xs : List RawExpr} → AllCanon d xs → length xs ≤ 16 → (at : ℕ) (rest : List ℕ) → Soft rest → PartsAs d at (spaced (map (expr_text 0) xs) ++ rest) rest xs
+  parts_read : {d : ℕ} {xs : List RawExpr} → AllCanon d xs → length xs ≤ MOST_PARTS → (at : ℕ) (rest : List ℕ) → Soft rest → PartsAs d at (spaced (map (expr_text 0) xs) ++ rest) rest xs
   parts_read none_expr few at rest soft = record { end = at; ts = []; trees = []; goes = stay at rest; has = g.none; same = refl }
   parts_read (more_expr {x = x} {xs = xs} c all) few at rest soft =
       let r = reads c at (others (expr_text 0) xs ++ rest) (soft_others (expr_text 0) xs rest soft) in
@@ -148,10 +149,10 @@ mutual
         same = rw (r.same, m.same);
       }
 
-  parts_go_on : {d : ℕ} {xs : List RawExpr} → AllCanon d xs → (room : ℕ) → room + length xs ≤ 16 → {us : List Token} (ys : List RawExpr) → AreExprs room d us ys
+  parts_go_on : {d : ℕ} {xs : List RawExpr} → AllCanon d xs → (room : ℕ) → room + length xs ≤ MOST_PARTS → {us : List Token} (ys : List RawExpr) → AreExprs room d us ys
       → (at : ℕ) (rest : List ℕ) → Soft rest → MoreAs d at (others (expr_text 0) xs ++ rest) rest us ys xs
   parts_go_on none_expr room few {us = us} ys p at rest soft =
-      record { end = at; ts = []; trees = []; goes = stay at rest; has = rw (append-nil us, append-nil ys) (widen p 16 (omega arith)); same = refl }
+      record { end = at; ts = []; trees = []; goes = stay at rest; has = rw (append-nil us, append-nil ys) (widen p MOST_PARTS (omega arith)); same = refl }
   parts_go_on (more_expr {x = x} {xs = xs} c all) room few {us = us} ys p at rest soft =
       let r = reads c (at + 1) (others (expr_text 0) xs ++ rest) (soft_others (expr_text 0) xs rest soft) in
       let m = parts_go_on all (suc room) (omega arith) (ys ++ r.tree ∷ []) (g.part p r.has) r.end rest soft in

@@ -1,5 +1,6 @@
 -- The canonical text of a pattern is read as the pattern, but for offsets.
 use Rattle.std.proofs.Common.{◌≡◌, ℕ, zero, suc, ◌+◌, ◌≤◌, List, [], ◌∷◌, ◌++◌, length, map, refl, ap, ◌∙◌, arith, append_assoc, append-nil}
+use Rattle.np_syntax.specs.declared.limits.TheConstants.{MOST_PARTS}
 use Rattle.np_syntax.specs.Printed.{spaced}
 use Rattle.np_lex.specs.declared.token.Sign.TheVariants as sign
 use Rattle.np_lex.specs.declared.token.Token.{Token}
@@ -30,7 +31,7 @@ record PatsAs (d at : ℕ) (bytes rest : List ℕ) (ps : List RawPat) : Type 0 w
   pub ts : List Token
   pub trees : List RawPat
   pub goes : Goes at bytes ts end rest
-  pub has : ArePats 16 d ts trees
+  pub has : ArePats MOST_PARTS d ts trees
   pub same : map erased_pat trees ≡ map erased_pat ps
 
 -- the same behind parts that were read
@@ -39,7 +40,7 @@ record MorePats (d at : ℕ) (bytes rest : List ℕ) (us : List Token) (ys ps : 
   pub ts : List Token
   pub trees : List RawPat
   pub goes : Goes at bytes ts end rest
-  pub has : ArePats 16 d (us ++ ts) (ys ++ trees)
+  pub has : ArePats MOST_PARTS d (us ++ ts) (ys ++ trees)
   pub same : map erased_pat trees ≡ map erased_pat ps
 
 widen : {room d : ℕ} {ts : List Token} {ps : List RawPat} → ArePats room d ts ps → (cap : ℕ) → room ≤ cap → ArePats cap d ts ps
@@ -68,7 +69,7 @@ mutual
         same = ap (pattern 0) (same_tuple p.trees ps p.same);
       }
 
-  pats_read : {d : ℕ} {ps : List RawPat} → AllCanonPats d ps → length ps ≤ 16 → (at : ℕ) (rest : List ℕ) → Soft rest → PatsAs d at (spaced (map pat_text ps) ++ rest) rest ps
+  pats_read : {d : ℕ} {ps : List RawPat} → AllCanonPats d ps → length ps ≤ MOST_PARTS → (at : ℕ) (rest : List ℕ) → Soft rest → PatsAs d at (spaced (map pat_text ps) ++ rest) rest ps
   pats_read none_pat few at rest soft = record { end = at; ts = []; trees = []; goes = stay at rest; has = g.none; same = refl }
   pats_read (more_pat {p = x} {ps = xs} c all) few at rest soft =
       let r = pat_reads c at (others pat_text xs ++ rest) (soft_others pat_text xs rest soft) in
@@ -82,10 +83,10 @@ mutual
         same = rw (r.same, m.same);
       }
 
-  pats_go_on : {d : ℕ} {ps : List RawPat} → AllCanonPats d ps → (room : ℕ) → room + length ps ≤ 16 → {us : List Token} (ys : List RawPat) → ArePats room d us ys
+  pats_go_on : {d : ℕ} {ps : List RawPat} → AllCanonPats d ps → (room : ℕ) → room + length ps ≤ MOST_PARTS → {us : List Token} (ys : List RawPat) → ArePats room d us ys
       → (at : ℕ) (rest : List ℕ) → Soft rest → MorePats d at (others pat_text ps ++ rest) rest us ys ps
   pats_go_on none_pat room few {us = us} ys p at rest soft =
-      record { end = at; ts = []; trees = []; goes = stay at rest; has = rw (append-nil us, append-nil ys) (widen p 16 (omega arith)); same = refl }
+      record { end = at; ts = []; trees = []; goes = stay at rest; has = rw (append-nil us, append-nil ys) (widen p MOST_PARTS (omega arith)); same = refl }
   pats_go_on (more_pat {p = x} {ps = xs} c all) room few {us = us} ys p at rest soft =
       let r = pat_reads c (at + 1) (others pat_text xs ++ rest) (soft_others pat_text xs rest soft) in
       let m = pats_go_on all (suc room) (omega arith) (ys ++ r.tree ∷ []) (g.part p r.has) r.end rest soft in

@@ -7,6 +7,7 @@ use Rattle.np_syntax.specs.declared.types.Cap.{Cap}
 use Rattle.np_syntax.specs.declared.types.Cap.TheVariants as cap
 use Rattle.np_syntax.specs.declared.types.Ty.{Ty}
 use Rattle.np_syntax.specs.declared.types.Ty as ty
+use Rattle.np_syntax.specs.declared.limits.TheConstants.{MOST_PARTS}
 use Rattle.np_lex.specs.declared.token.Key.{Key}
 use Rattle.np_lex.specs.declared.token.Sign.TheVariants as sign
 use Rattle.np_lex.specs.declared.token.Token.{Token}
@@ -50,14 +51,14 @@ record TypesAs (d at : ℕ) (bytes rest : List ℕ) (xs : List Ty) : Type 0 wher
   pub end : ℕ
   pub ts : List Token
   pub goes : Goes at bytes ts end rest
-  pub has : AreTypes 16 d ts xs
+  pub has : AreTypes MOST_PARTS d ts xs
 
 -- the same behind parts that were read
 record MoreTypes (d at : ℕ) (bytes rest : List ℕ) (us : List Token) (ys xs : List Ty) : Type 0 where
   pub end : ℕ
   pub ts : List Token
   pub goes : Goes at bytes ts end rest
-  pub has : AreTypes 16 d (us ++ ts) (ys ++ xs)
+  pub has : AreTypes MOST_PARTS d (us ++ ts) (ys ++ xs)
 
 widen : {room d : ℕ} {ts : List Token} {xs : List Ty} → AreTypes room d ts xs → (cap : ℕ) → room ≤ cap → AreTypes cap d ts xs
 widen g.none cap h = g.none
@@ -97,17 +98,17 @@ mutual
         has = g.tuple _ _ p.has;
       }
 
-  types_read : {d : ℕ} {xs : List Ty} → AllCanonTypes d xs → length xs ≤ 16 → (at : ℕ) (rest : List ℕ) → Soft rest → TypesAs d at (spaced (map type_text xs) ++ rest) rest xs
+  types_read : {d : ℕ} {xs : List Ty} → AllCanonTypes d xs → length xs ≤ MOST_PARTS → (at : ℕ) (rest : List ℕ) → Soft rest → TypesAs d at (spaced (map type_text xs) ++ rest) rest xs
   types_read none few at rest soft = record { end = at; ts = []; goes = stay at rest; has = g.none }
   types_read (more {t = x} {ts = xs} c all) few at rest soft =
       let r = type_reads c at (others type_text xs ++ rest) (soft_others type_text xs rest soft) in
       let m = types_go_on all 1 (omega arith) (x ∷ []) (g.part g.none r.has) r.end rest soft in
       record { end = m.end; ts = r.ts ++ m.ts; goes = from (append_assoc (type_text x) (others type_text xs) rest) (then r.goes m.goes); has = m.has }
 
-  types_go_on : {d : ℕ} {xs : List Ty} → AllCanonTypes d xs → (room : ℕ) → room + length xs ≤ 16 → {us : List Token} (ys : List Ty) → AreTypes room d us ys
+  types_go_on : {d : ℕ} {xs : List Ty} → AllCanonTypes d xs → (room : ℕ) → room + length xs ≤ MOST_PARTS → {us : List Token} (ys : List Ty) → AreTypes room d us ys
       → (at : ℕ) (rest : List ℕ) → Soft rest → MoreTypes d at (others type_text xs ++ rest) rest us ys xs
   types_go_on none room few {us = us} ys p at rest soft =
-      record { end = at; ts = []; goes = stay at rest; has = rw (append-nil us, append-nil ys) (widen p 16 (omega arith)) }
+      record { end = at; ts = []; goes = stay at rest; has = rw (append-nil us, append-nil ys) (widen p MOST_PARTS (omega arith)) }
   types_go_on (more {t = x} {ts = xs} c all) room few {us = us} ys p at rest soft =
       let r = type_reads c (at + 1) (others type_text xs ++ rest) (soft_others type_text xs rest soft) in
       let m = types_go_on all (suc room) (omega arith) (ys ++ x ∷ []) (g.part p r.has) r.end rest soft in

@@ -5,6 +5,7 @@
 mod boxed;
 mod event;
 mod expression;
+mod limits;
 mod list;
 mod memory;
 mod pattern;
@@ -17,6 +18,10 @@ mod value;
 pub use boxed::Boxed;
 pub use event::{End, Event, Kind, Made};
 pub use expression::{Expr, ExprForm, Op};
+pub use limits::{
+    DEEPEST, LARGEST_BUDGET, LONGEST_NAME, LONGEST_SOURCE, LONGEST_STRING, MOST_PARTS, MOST_SITES,
+    USUAL_BUDGET, WIDEST_TYPE,
+};
 pub use list::{List, Text, copy_texts};
 pub use memory::Memory;
 pub use pattern::{Pat, PatForm};

@@ -9,6 +9,7 @@ use Rattle.np_syntax.specs.declared.types.Ty.{Ty}
 use Rattle.np_syntax.specs.declared.types.Ty as ty
 use Rattle.np_syntax.specs.declared.expression.Op.{Op}
 use Rattle.np_syntax.specs.declared.expression.Op.TheVariants as op
+use Rattle.np_syntax.specs.declared.limits.TheConstants.{MOST_PARTS}
 use Rattle.np_lex.specs.declared.token.Key.{Key}
 use Rattle.np_lex.specs.declared.token.Key.TheVariants as key
 use Rattle.np_lex.specs.declared.token.Sign.{Sign}
@@ -61,7 +62,7 @@ mutual
   pub data IsType : ℕ → List Token → Ty → Type 0 where
     ground : {d at end : ℕ} {k : Key} {t : Ty} → IsGround k t → IsType (suc d) (word_at at end k ∷ []) t
     channel : {d : ℕ} {ts : List Token} {t : Ty} → IsChan d ts t → IsType d ts t
-    tuple : {d at end : ℕ} {ts : List Token} {xs : List Ty} (a b : ℕ) → AreTypes 16 d ts xs
+    tuple : {d at end : ℕ} {ts : List Token} {xs : List Ty} (a b : ℕ) → AreTypes MOST_PARTS d ts xs
         → IsType (suc d) (sign_at at end sign.SquareOpen ∷ (ts ++ sign_at a b sign.SquareClose ∷ [])) (ty.Tuple xs)
 
   -- chan = ("^" | "?" | "!") type
@@ -80,7 +81,7 @@ mutual
   pub data IsPat : ℕ → List Token → RawPat → Type 0 where
     any : {d at end : ℕ} → IsPat (suc d) (sign_at at end sign.Underscore ∷ []) (pattern at pat.Any)
     bind : {d at end : ℕ} {text : List ℕ} → IsPat (suc d) (name_at at end text ∷ []) (pattern at (pat.Bind (ident at text)))
-    tuple : {d at end : ℕ} {ts : List Token} {xs : List RawPat} (a b : ℕ) → ArePats 16 d ts xs
+    tuple : {d at end : ℕ} {ts : List Token} {xs : List RawPat} (a b : ℕ) → ArePats MOST_PARTS d ts xs
         → IsPat (suc d) (sign_at at end sign.SquareOpen ∷ (ts ++ sign_at a b sign.SquareClose ∷ [])) (pattern at (pat.Tuple xs))
 
   -- {pat}, no more than the first number
@@ -114,7 +115,7 @@ mutual
     main : {d at end : ℕ} → IsAtom (suc d) (word_at at end key.Main ∷ []) (expression at expr.Main)
     variable : {d at end : ℕ} {text : List ℕ} → IsAtom (suc d) (name_at at end text ∷ []) (expression at (expr.Var (ident at text)))
     round : {d at end : ℕ} {ts : List Token} {x : RawExpr} (a b : ℕ) → IsExpr d ts x → IsAtom (suc d) (sign_at at end sign.RoundOpen ∷ (ts ++ sign_at a b sign.RoundClose ∷ [])) x
-    tuple : {d at end : ℕ} {ts : List Token} {xs : List RawExpr} (a b : ℕ) → AreExprs 16 d ts xs
+    tuple : {d at end : ℕ} {ts : List Token} {xs : List RawExpr} (a b : ℕ) → AreExprs MOST_PARTS d ts xs
         → IsAtom (suc d) (sign_at at end sign.SquareOpen ∷ (ts ++ sign_at a b sign.SquareClose ∷ [])) (expression at (expr.Tuple xs))
 
   -- prod = atom {"*" atom}, grouped to the left

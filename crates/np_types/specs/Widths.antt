@@ -1,6 +1,7 @@
 -- The nodes of a type, and the types that may be printed (docs/LANGUAGE.md, "Types").
 use Rattle.std.specs.Prelude.{ℕ, ◌+◌, Bool, true, false, ◌&&◌, List, [], ◌∷◌, nat_le}
 use Rattle.np_syntax.specs.declared.types.Ty.{Ty, Ty-F, fold-Ty}
+use Rattle.np_syntax.specs.declared.limits.TheConstants.{WIDEST_TYPE}
 
 abbrev pub sum_all : List ℕ → ℕ
 sum_all [] = 0
@@ -21,7 +22,7 @@ nodes_all (t ∷ ts) = nodes t + nodes_all ts
 
 -- at most 1,024 nodes
 abbrev pub narrow : Ty → Bool
-narrow t = nat_le (nodes t) 1024
+narrow t = nat_le (nodes t) WIDEST_TYPE
 
 abbrev pub every : List Bool → Bool
 every [] = true

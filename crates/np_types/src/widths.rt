@@ -1,16 +1,13 @@
 ghost use Rattle.std.specs.Prelude.{◌≡◌, ◌+◌, ◌<◌, MatchOption};
 ghost use Rattle.np_types.specs.Widths.{nodes, nodes_all, narrow, printable, printable_all};
 
-use np_syntax::Ty;
-
-/// How many nodes a type may have where it is written, and as the type of a tuple.
-const WIDEST: u32 = 1024;
+use np_syntax::{Ty, WIDEST_TYPE};
 
 /// Whether the type has at most 1,024 nodes. It looks at no more of them.
 pub fn is_narrow(ty: &Ty) -> bool
     ensures { result ≡ narrow ty.now }
 {
-    left_after(ty, WIDEST).is_some()
+    left_after(ty, WIDEST_TYPE).is_some()
 }
 
 /// What is left of the room behind the nodes of a type, or none where they need more.

@@ -1,5 +1,6 @@
 -- The parts of a tuple, of a tuple pattern and of a tuple type (docs/LANGUAGE.md, "Grammar").
 use Rattle.std.specs.Prelude.{ℕ, zero, suc, ◌+◌, max, Bool, true, false, List, [], ◌∷◌, ◌++◌}
+use Rattle.np_syntax.specs.declared.limits.TheConstants.{MOST_PARTS}
 use Rattle.np_lex.specs.declared.token.Sign.TheVariants as sign
 use Rattle.np_lex.specs.declared.token.What.{What}
 use Rattle.np_lex.specs.declared.token.What.TheVariants as what
@@ -32,4 +33,4 @@ parts inner (suc room) items depth = peek >>= part_by (parts inner room) inner i
 
 -- a tuple from its opening bracket on, of at most 16 parts, made by this of its offset and its parts
 unfoldable pub tuple_in : {A : Type 0} → Parser (Sized A) → (ℕ → List A → A) → Parser (Sized A)
-tuple_in inner made = take >>= (λ at. parts inner 16 [] 0 >>= (λ xs. pure (made at xs.0, xs.1 + 1)))
+tuple_in inner made = take >>= (λ at. parts inner MOST_PARTS [] 0 >>= (λ xs. pure (made at xs.0, xs.1 + 1)))

@@ -1,4 +1,5 @@
 use Rattle.std.proofs.Common.{suc, ◌+◌, ◌*◌, ◌-◌, ◌≡◌, ◌≤◌, []}
+use Rattle.np_syntax.specs.declared.limits.TheConstants.{MOST_PARTS}
 use Rattle.np_parse.specs.Read.Tuples.{parts}
 use Rattle.np_parse.specs.Read.Expressions.{multiplies, adds, chain, atom, prod, expr}
 use Rattle.np_parse.proofs.expression.+expr.Given as goal
@@ -47,7 +48,7 @@ decreases-expr_parts l = 12 * l.below + 1
 
 abbrev pub invariant-expr_parts-parts : goal.invariant-expr_parts-parts
 invariant-expr_parts-parts l = record {
-  same : parts (expr l.below) 16 [] 0 l.initial.tokens ≡ parts (expr l.below) (16 - l.counter) l.items l.depth l.tokens;
+  same : parts (expr l.below) MOST_PARTS [] 0 l.initial.tokens ≡ parts (expr l.below) (MOST_PARTS - l.counter) l.items l.depth l.tokens;
   within : l.depth ≤ l.below;
 }
 

@@ -1,4 +1,5 @@
 use Rattle.std.proofs.Common.{suc, ◌+◌, ◌*◌, ◌-◌, ◌≡◌, ◌≤◌}
+use Rattle.np_syntax.specs.declared.limits.TheConstants.{DEEPEST}
 use Rattle.np_parse.specs.Read.Processes.{proc, more}
 use Rattle.np_parse.proofs.process.+proc.Given as goal
 
@@ -28,7 +29,7 @@ decreases-more l = 6 * l.below + 1
 
 abbrev pub invariant-more-turns : goal.invariant-more-turns
 invariant-more-turns l = record {
-  same : more (proc 200 l.below) (suc l.below) l.at (suc l.below) l.initial.left l.initial.tokens
-      ≡ more (proc 200 l.below) (suc l.below) l.at (suc l.below - l.counter) l.left l.tokens;
+  same : more (proc DEEPEST l.below) (suc l.below) l.at (suc l.below) l.initial.left l.initial.tokens
+      ≡ more (proc DEEPEST l.below) (suc l.below) l.at (suc l.below - l.counter) l.left l.tokens;
   within : l.left.1 ≤ l.below + 1;
 }

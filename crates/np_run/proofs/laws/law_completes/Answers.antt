@@ -1,4 +1,5 @@
 use Rattle.std.proofs.Common.{ℕ, ◌≤◌, List, length, inl, inr, arith}
+use Rattle.np_syntax.specs.declared.limits.TheConstants.{LONGEST_SOURCE}
 use Rattle.np_run.specs.Answers.{Stands}
 use Rattle.np_run.specs.Faults.{Accepted}
 use Rattle.np_run.specs.declared.refusal.Refusal.{Refusal}
@@ -9,7 +10,7 @@ use Rattle.np_run.proofs.Verdicts.{not_both}
 use Rattle.np_run.proofs.laws.law_completes.Goals as goal
 
 -- no refusal says anything of an accepted source
-accepted : (m : Mode) (bytes : List ℕ) (refusal : Refusal) → length bytes ≤ 1048576 → Accepted m bytes → Says m bytes refusal → ⊥
+accepted : (m : Mode) (bytes : List ℕ) (refusal : Refusal) → length bytes ≤ LONGEST_SOURCE → Accepted m bytes → Says m bytes refusal → ⊥
 accepted m bytes refusal short a (inl s) = let long = s.1 in omega arith
 accepted m bytes refusal short a (inr s) = not_both m bytes refusal a s.1
 

@@ -1,4 +1,5 @@
 use Rattle.std.proofs.Common.{ℕ, ◌<◌, List, length, arith, inl, inr, subst}
+use Rattle.np_syntax.specs.declared.limits.TheConstants.{LONGEST_SOURCE}
 use Rattle.np_run.specs.Answers.{Call, IsRefused}
 use Rattle.np_run.specs.Laws.{Reads}
 use Rattle.np_run.specs.Words.{Plan}
@@ -11,17 +12,17 @@ use Rattle.np_run.proofs.Verdicts.{not_long}
 use Rattle.np_run.proofs.laws.law_refuses_long.Goals as goal
 
 -- of a source that is too long no other refusal says anything
-long : (call : Call) (answer : Answer) (m : Mode) (bytes : List ℕ) (refusal : Refusal) → 1048576 < length bytes → Says m bytes refusal
+long : (call : Call) (answer : Answer) (m : Mode) (bytes : List ℕ) (refusal : Refusal) → LONGEST_SOURCE < length bytes → Says m bytes refusal
     → IsRefused call answer refusal → IsRefused call answer TooLong
 long call answer m bytes refusal l (inl s) is = subst (λ (x : Refusal). IsRefused call answer x) s.0 is
 long call answer m bytes refusal l (inr s) is = let short = s.0 in absurd (omega arith)
 
 -- what says that it is too long
-is_long : (m : Mode) (bytes : List ℕ) → Says m bytes TooLong → 1048576 < length bytes
+is_long : (m : Mode) (bytes : List ℕ) → Says m bytes TooLong → LONGEST_SOURCE < length bytes
 is_long m bytes (inl s) = s.1
 is_long m bytes (inr s) = absurd (not_long m bytes s.1)
 
-by_outcome : (call : Call) (answer : Answer) (asked : Plan) (bytes : List ℕ) → Reads call asked bytes → 1048576 < length bytes → Outcome call answer
+by_outcome : (call : Call) (answer : Answer) (asked : Plan) (bytes : List ℕ) → Reads call asked bytes → LONGEST_SOURCE < length bytes → Outcome call answer
     → IsRefused call answer TooLong
 by_outcome call answer asked bytes r l (Outcome.made text h) =
     let short = (made_accepts call asked bytes answer.kept answer.high text r h).0 in absurd (omega arith)

@@ -1,4 +1,5 @@
 use Rattle.std.proofs.Common.{ℕ, ◌≤◌, List, length, arith, inl, inr, subst}
+use Rattle.np_syntax.specs.declared.limits.TheConstants.{LONGEST_SOURCE}
 use Rattle.np_run.specs.Answers.{Call, IsRefused}
 use Rattle.np_run.specs.Faults.{Faulty}
 use Rattle.np_run.specs.Laws.{Reads}
@@ -11,11 +12,11 @@ use Rattle.np_run.proofs.Verdicts.{not_both, same_fault}
 use Rattle.np_run.proofs.laws.law_refuses_sources.Goals as goal
 
 -- what is said of a source within the limit is what is wrong with it
-faulty : (m : Mode) (bytes : List ℕ) (refusal : Refusal) → length bytes ≤ 1048576 → Says m bytes refusal → Faulty m bytes refusal
+faulty : (m : Mode) (bytes : List ℕ) (refusal : Refusal) → length bytes ≤ LONGEST_SOURCE → Says m bytes refusal → Faulty m bytes refusal
 faulty m bytes refusal short (inl s) = let long = s.1 in absurd (omega arith)
 faulty m bytes refusal short (inr s) = s.1
 
-by_outcome : (call : Call) (answer : Answer) (asked : Plan) (bytes : List ℕ) (refusal : Refusal) → Reads call asked bytes → length bytes ≤ 1048576
+by_outcome : (call : Call) (answer : Answer) (asked : Plan) (bytes : List ℕ) (refusal : Refusal) → Reads call asked bytes → length bytes ≤ LONGEST_SOURCE
     → Faulty asked.mode bytes refusal → Outcome call answer → IsRefused call answer refusal
 by_outcome call answer asked bytes refusal r short f (Outcome.made text h) =
     absurd (not_both asked.mode bytes refusal (made_accepts call asked bytes answer.kept answer.high text r h).1 f)

@@ -6,6 +6,8 @@ use Rattle.std.specs.Str.Parse.{digits_value, ParsesUnsigned}
 use Rattle.std.specs.Result.{OkIff}
 use Rattle.std.proofs.lemmas.Bool.Decides.{nat_tests}
 use Rattle.std.proofs.lemmas.Str.Parse.{IsNumeralModel, numerals_by_value, parse_digits}
+use Rattle.np_syntax.specs.declared.limits.TheConstants.{LARGEST_BUDGET}
+use Rattle.np_syntax.proofs.Bools.{and-out, and-false}
 use Rattle.np_run.specs.Words.{budget_of, is_numeral, within_limit}
 use Rattle.np_run.proofs.words.budget_of.Goals as goal
 
@@ -25,7 +27,7 @@ read (Ok n) = within_limit n
 read (Err e) = None
 
 large : (n : ℕ) → ¬ (n < 2 ^ 32) → within_limit n ≡ None
-large n h = let above : nat_le n 200000 ≡ false = grind (arith, nat_tests) in rw (above, never (nat_le 1 n)) refl
+large n h = let above : nat_le n LARGEST_BUDGET ≡ false = grind (arith, nat_tests) in rw (above, and-false (nat_le 1 n)) refl
 
 by_value : {E : Type 0} (word : List ℕ) (r : Result ℕ E) → 0 < length word → OkIff r ((0 < length word) × (digits_value 10 word < 2 ^ 32)) (digits_value 10 word)
     → read r ≡ within_limit (digits_value 10 word)

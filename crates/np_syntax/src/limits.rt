@@ -1,0 +1,28 @@
+//! The limits of sources and runs, which code, contracts and definitions share.
+
+/// How many bytes a source may have.
+pub const LONGEST_SOURCE: usize = 1_048_576;
+
+/// How many bytes a name may have.
+pub const LONGEST_NAME: usize = 64;
+
+/// How many bytes a string may have, after its escapes are read.
+pub const LONGEST_STRING: usize = 1024;
+
+/// How many components a tuple, a tuple pattern or a tuple type may have.
+pub const MOST_PARTS: u32 = 16;
+
+/// How deep the processes and each expression, pattern and type may be.
+pub const DEEPEST: u32 = 200;
+
+/// How many sites a program may have.
+pub const MOST_SITES: u32 = 32;
+
+/// How many nodes a type may have where it is written, and as the type of a tuple.
+pub const WIDEST_TYPE: u32 = 1024;
+
+/// How many events a run may have where the words do not say it.
+pub const USUAL_BUDGET: u32 = 10_000;
+
+/// The largest number of events that the words may say.
+pub const LARGEST_BUDGET: u32 = 200_000;
