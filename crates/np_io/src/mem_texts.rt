@@ -125,7 +125,7 @@ impl Texts for MemTexts {
         ensures cause { OnErr result (Rose (count_of self.old name.now) (count_of self.new name.now)) }
         ensures last { OnOk result (MayBe (last_of self.new) name.now) }
         ensures left { OnOk result (Starts (held_by self.old name.now) (left_of self.new)) }
-        ensures taken { OnOk result (self.new.at ≡ 0) }
+        ensures taken { self.new.at ≡ 0 }
         ensures begins { self.new.begins ≡ one_more self.old.begins }
         ensures exact { is_err result
             ≡ (is_listed self.old.calls self.old.failing || not (is_some (held_by self.old name.now))) }
@@ -159,6 +159,7 @@ impl Texts for MemTexts {
         ensures bound { ReadsAtMost result buf.new }
         ensures bytes { ReadConsumes (left_of self.old) (left_of self.new) result buf.new }
         ensures taken { IfOk result (λ n. self.new.at ≡ min (self.old.at + n) (2 ^ 64 - 1)) }
+        ensures none_taken { OnErr result (self.new.at ≡ self.old.at) }
         ensures begins { self.new.begins ≡ self.old.begins }
         ensures exact { is_err result ≡ is_listed self.old.calls self.old.failing }
         ensures calls { self.new.calls ≡ one_more self.old.calls }

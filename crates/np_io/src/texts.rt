@@ -1,4 +1,4 @@
-ghost use Rattle.std.specs.Prelude.{◌≡◌, ◌+◌, ◌-◌, ◌^◌, ◌<◌, ◌≤◌, ℕ, Bool, true, List, length, min, Option, is_ok, IfOk, OnOk, OnErr, IfSome};
+ghost use Rattle.std.specs.Prelude.{◌≡◌, ◌≢◌, ◌+◌, ◌-◌, ◌^◌, ◌<◌, ◌≤◌, ℕ, Bool, true, List, length, min, Option, is_ok, IfOk, OnOk, OnErr, IfSome};
 ghost use Rattle.std.specs.Io.{ReadsAtMost};
 ghost use Rattle.std.specs.Io.KnownBytes.{ReadConsumes};
 ghost use Rattle.np_io.specs.Causes.{Rose, NoneFell, MayBe, HasCauseAt};
@@ -33,7 +33,7 @@ pub trait Texts {
     // How often a text was to begin.
     ghost begins: { Self → ℕ };
 
-    /// Starts the named text from its first byte. After a fault no text is begun.
+    /// Starts the named text from its first byte, with none of it read. After a fault no text is begun.
     fn begin(&mut self, name: &Word) -> Result<(), Fault>
         ensures begun { is_begun self.new ≡ is_ok result }
         ensures held { StayHeld (held self.old) (held self.new) }
@@ -41,7 +41,7 @@ pub trait Texts {
         ensures cause { OnErr result (Rose (faults self.old name.now) (faults self.new name.now)) }
         ensures last { OnOk result (MayBe (last self.new) name.now) }
         ensures left { OnOk result (Starts (held self.old name.now) (left self.new)) }
-        ensures taken { OnOk result (taken self.new ≡ 0) }
+        ensures taken { taken self.new ≡ 0 }
         ensures begins { begins self.new ≡ min (begins self.old + 1) (2 ^ 64 - 1) };
 
     /// Puts the next bytes of the text into the front of `buf`, and answers how many: 0 for a buffer that
@@ -57,6 +57,7 @@ pub trait Texts {
         ensures bound { ReadsAtMost result buf.new }
         ensures bytes { ReadConsumes (left self.old) (left self.new) result buf.new }
         ensures taken { IfOk result (λ n. taken self.new ≡ min (taken self.old + n) (2 ^ 64 - 1)) }
+        ensures none_taken { OnErr result (taken self.new ≡ taken self.old) }
         ensures begins { begins self.new ≡ begins self.old };
 }
 
@@ -91,6 +92,7 @@ pub fn read_all<T: Texts>(
     ensures whole { IfOk result (λ bytes. IfSome (T.held texts.old name.now) (λ text. bytes ≡ text)) }
     ensures count { IfOk result (λ bytes. (length bytes ≤ limit) × (T.taken texts.new ≡ length bytes)) }
     ensures long { result ≡ Err ReadFail.TooLong → limit < T.taken texts.new }
+    ensures within { result ≢ Err ReadFail.TooLong → T.taken texts.new ≤ limit }
     ensures long_text { result ≡ Err ReadFail.TooLong
         → IfSome (T.held texts.old name.now) (λ text. limit < length text) }
 {
@@ -112,6 +114,7 @@ fn read_rest<T: Texts>(alloc: Global, texts: &mut T, limit: usize) -> Result<Lis
     ensures whole { IfOk result (λ bytes. IfSome (T.left texts.old) (λ text. bytes ≡ text)) }
     ensures count { IfOk result (λ bytes. (length bytes ≤ limit) × (T.taken texts.new ≡ length bytes)) }
     ensures long { result ≡ Err ReadFail.TooLong → limit < T.taken texts.new }
+    ensures within { result ≢ Err ReadFail.TooLong → T.taken texts.new ≤ limit }
     ensures long_text { result ≡ Err ReadFail.TooLong → IfSome (T.left texts.old) (λ text. limit < length text) }
 {
     let mut bytes = List::new(alloc);
