@@ -5,10 +5,9 @@ use Rattle.np_syntax.specs.Printed.{spaced}
 use Rattle.np_lex.specs.declared.token.Key.TheVariants as key
 use Rattle.np_lex.specs.declared.token.Sign.TheVariants as sign
 use Rattle.np_lex.specs.declared.token.Token.{Token}
-use Rattle.np_lex.specs.declared.token.What.{What}
 use Rattle.np_lex.specs.declared.token.What.TheVariants as what
 use Rattle.np_lex.specs.Tokens as t
-use Rattle.np_lex.specs.Tokens.{IsLegal, AllLegal, Lexes, token, sign_at, word_at, name_at}
+use Rattle.np_lex.specs.Tokens.{AllLegal, AreTokens, Lexes, token, sign_at, word_at, name_at}
 use Rattle.np_lex.proofs.Goes.{Goes, Soft, then, blank, blank_goes, spaced as spaced_goes, sign_goes, key_goes, ident_goes}
 use Rattle.np_lex.proofs.Once.{lexes_once}
 use Rattle.np_tree.specs.declared.tree.Ident.{Ident}
@@ -73,25 +72,22 @@ sites_read c at rest soft =
       same = ap (λ l. ident 0 c.first.text ∷ l) m.same ∙ sym (ap (map erased_ident) c.is);
     }
 
--- ---- each token that bytes have is legal, but for the end
+-- ---- each token but the end is legal
 
-abbrev first_what : List Token → What
-first_what [] = what.End
-first_what (x ∷ xs) = x.what
+but_last : List Token → List Token
+but_last [] = []
+but_last (x ∷ []) = []
+but_last (x ∷ y ∷ ys) = x ∷ but_last (y ∷ ys)
 
-abbrev behind_first : List Token → List Token
-behind_first [] = []
-behind_first (x ∷ xs) = xs
+but_last-push : (front : List Token) (last : Token) → but_last (front ++ last ∷ []) ≡ front
+unfolding but_last
+but_last-push [] last = refl
+but_last-push (x ∷ []) last = refl
+but_last-push (x ∷ y ∷ front) last = ap (λ l. x ∷ l) (but_last-push (y ∷ front) last)
 
-legal : {at : ℕ} {bytes : List ℕ} {ts : List Token} → Lexes at bytes ts → (front : List Token) (a b : ℕ) → ts ≡ front ++ token a b what.End ∷ [] → AllLegal front
-legal t.end [] a b e = tt
-legal t.end (x ∷ []) a b e = cc
-legal t.end (x ∷ y ∷ f) a b e = cc
-legal (t.skip some l) front a b e = legal l front a b e
-legal (t.next len none begins l) [] a b e = tt
-legal (t.next {w = w} len none begins l) (x ∷ f) a b e =
-    let same : w ≡ x.what = ap first_what e in
-    (subst IsLegal same (record { text = begins.text; means = begins.means }), legal l f a b (ap behind_first e))
+legal : {ts : List Token} → AreTokens ts → (front : List Token) (last : Token) → ts ≡ front ++ last ∷ [] → AllLegal front
+legal h front last e =
+    subst AllLegal (sym (but_last-push h.front (token h.end h.end what.End)) ∙ ap but_last (sym h.is ∙ e) ∙ but_last-push front last) h.legal
 
 -- ---- the law
 
@@ -101,11 +97,11 @@ seven a b c d e f h = simp append_assoc
 again : (depth : ℕ) (text : List ℕ) (tree : Tree) (tokens : List Token) (read : Tree) → Lexes 0 text tokens → IsProgram depth tokens read → erased read ≡ erased tree → Again depth text tree
 again depth text tree tokens read l p e = record { tokens = tokens; read = read; lexes = l; only_tokens = λ others m. lexes_once m l; is = p; same = e }
 
-law : {depth : ℕ} {bytes : List ℕ} {ts : List Token} {x : Tree} → Lexes 0 bytes ts → IsProgram depth ts x → Again depth (shown x) x
-law {depth = depth} {x = x} lexes (g.program {at = at} {end = end} {text = text} {ts = ts} {us = us} {sites = sites} {x = main} a b e f i j k l m n o p names proc) =
+law : {depth : ℕ} {ts : List Token} {x : Tree} → AreTokens ts → IsProgram depth ts x → Again depth (shown x) x
+law {depth = depth} {x = x} are (g.program {at = at} {end = end} {text = text} {ts = ts} {us = us} {sites = sites} {x = main} a b e f i j k l m n o p names proc) =
     let head = sign_at a b sign.Semi ∷ word_at e f key.Main ∷ word_at i j key.At ∷ name_at k l text ∷ sign_at m n sign.Equals ∷ us in
     let front = word_at at end key.Sites ∷ (ts ++ head) in
-    let all : AllLegal front = legal lexes front o p (ap (λ l. word_at at end key.Sites ∷ l) (sym (append_assoc ts head (token o p what.End ∷ [])))) in
+    let all : AllLegal front = legal are front (token o p what.End) (ap (λ l. word_at at end key.Sites ∷ l) (sym (append_assoc ts head (token o p what.End ∷ [])))) in
     let tail = legal_back ts head all.1 in
     let last : List ℕ = codes "\n" in
     let r = sites_read (canon_sites names (legal_front ts head all.1)) 6 (codes " ; main at " ++ (text ++ (codes " = " ++ (proc_text true main ++ last)))) refl in
@@ -127,4 +123,4 @@ law {depth = depth} {x = x} lexes (g.program {at = at} {end = end} {text = text}
     (λ k. record { sites = r.same k; at = ident 0 text; main = q.same k })
 
 pub reads_back : (x : Tree) → ReadsBack (shown x) x
-reads_back x = λ depth source tokens l h. law l h
+reads_back x = λ depth tokens are h. law are h

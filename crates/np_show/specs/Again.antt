@@ -1,7 +1,7 @@
 -- A text that is read as the tree that it shows (docs/LANGUAGE.md, "Canonical text").
 use Rattle.std.specs.Prelude.{◌≡◌, ℕ, List}
 use Rattle.np_lex.specs.declared.token.Token.{Token}
-use Rattle.np_lex.specs.Tokens.{Lexes}
+use Rattle.np_lex.specs.Tokens.{Lexes, AreTokens}
 use Rattle.np_tree.specs.declared.tree.Tree.{Tree}
 use Rattle.np_tree.specs.Grammar.{IsProgram}
 use Rattle.np_tree.specs.Erased.{erased}
@@ -15,6 +15,6 @@ pub record Again (depth : ℕ) (text : List ℕ) (tree : Tree) : Type 0 where
   pub is : IsProgram depth tokens read
   pub same : erased read ≡ erased tree
 
--- wherever the grammar gives the tree to the tokens of a source, at any depth, it gives it to those of the text at that depth
+-- wherever the grammar gives the tree to a list of tokens, at any depth, it gives it to those of the text at that depth
 abbrev pub ReadsBack : List ℕ → Tree → Type 0
-ReadsBack text tree = (depth : ℕ) (source : List ℕ) (tokens : List Token) → Lexes 0 source tokens → IsProgram depth tokens tree → Again depth text tree
+ReadsBack text tree = (depth : ℕ) (tokens : List Token) → AreTokens tokens → IsProgram depth tokens tree → Again depth text tree
