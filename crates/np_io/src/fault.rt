@@ -1,3 +1,3 @@
-/// A read or a write failed. The counts of the object that was called say whose fault it is.
+/// A read or a write failed. The object that was called has counted it.
 #[derive(Clone, Copy, Debug, PartialEq, Eq)]
 pub struct Fault;

@@ -9,8 +9,8 @@ use std::io::Read;
 use std::marker::Model;
 use std::rt::Files;
 
-/// Texts that are files, named by their paths. Each failure counts for every name, an interrupted call
-/// too, and no content is told.
+/// Files, named by their paths. One count of failures serves for all names; an interrupted call is
+/// a failure too. Contracts do not see what is in a file.
 #[derive(Drop)]
 pub struct FileTexts<'a, R: Files> {
     rt: &'a R,
@@ -35,7 +35,7 @@ impl<'a, R: Files> Model for FileTexts<'a, R> {
 }
 
 impl<'a, R: Files> FileTexts<'a, R> {
-    /// The files of the runtime, which stays lent. Takes no memory and opens nothing.
+    /// The files of the runtime. Takes no memory and opens no file.
     pub fn new(rt: &'a R) -> FileTexts<'a, R>
         ensures { result ≡ record { begun = false; faults = 0; taken = 0; begins = 0 } }
     {

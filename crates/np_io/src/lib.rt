@@ -1,5 +1,5 @@
-//! Texts that are read by name and sinks that take bytes: in memory, over files and over writers. Each
-//! fault is told by a count that rose.
+//! Texts to read by name and sinks to write to: in memory, over files, over writers. Both count
+//! their faults, so after an error a contract can say which count rose.
 #![tactic(auto)]
 
 mod fault;

@@ -10,8 +10,8 @@ use np_syntax::Memory;
 use std::alloc::Global;
 use std::marker::Model;
 
-/// A sink in memory that takes at most so many bytes a call, as far as they are reserved, and fails at
-/// the calls whose numbers are listed.
+/// A sink in memory. A call takes at most `piece` bytes, and no more than are reserved. The calls
+/// whose numbers are listed fail.
 #[derive(Drop)]
 pub struct MemSink {
     bytes: Vec<u8>,
@@ -44,7 +44,7 @@ impl Model for MemSink {
 }
 
 impl MemSink {
-    /// A sink that takes at most `piece` bytes a call. None are reserved.
+    /// An empty sink that takes at most `piece` bytes a call. No bytes are reserved.
     pub fn new(alloc: Global, piece: usize) -> MemSink
         requires { 1 ≤ piece }
         ensures { result ≡ record {
@@ -66,7 +66,7 @@ impl MemSink {
         }
     }
 
-    /// Reserves so many bytes more than are free.
+    /// Reserves room for `bytes` more bytes than there is room for now.
     pub fn reserve(&mut self, bytes: usize) -> Result<(), Memory>
         ensures { self.new ≡ (if is_ok result
             then record self.old { free = self.old.free + bytes } else self.old) }

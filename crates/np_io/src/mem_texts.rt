@@ -14,8 +14,9 @@ use np_syntax::{List, Memory, Text};
 use std::alloc::Global;
 use std::marker::Model;
 
-/// Texts in memory. Calls whose numbers are listed fail, and so does each `begin` of a name that is not
-/// held. The names that are not held have one count for all, and a new name starts with its value.
+/// Texts in memory. A call whose number is listed fails, and so does `begin` with a name that is
+/// not held. All names that are not held share one count of faults, and a name that is added starts
+/// with that count.
 #[derive(Drop)]
 pub struct MemTexts {
     texts: List<NamedText>,
@@ -78,7 +79,8 @@ impl MemTexts {
         }
     }
 
-    /// Adds a text, or replaces the one that the name holds. A refused call gives up the text.
+    /// Adds a text, or replaces the one of that name. Afterwards no text is begun. If memory runs
+    /// out, nothing changes and the text is dropped.
     pub fn add(&mut self, name: Word, bytes: Text) -> Result<(), Memory>
         ensures added { OnOk result (Adds self.old self.new name bytes) }
         ensures refused { OnErr result (self.new ≡ self.old) }

@@ -7,7 +7,8 @@ ghost use Rattle.np_io.specs.Bytes.{AppendsPrefix};
 use super::fault::Fault;
 use thiserror::Error;
 
-/// What takes bytes, piece by piece. The count stands still at the greatest `u64`, and then counts as risen.
+/// Something to write bytes to, a piece at a time. Failed writes are counted. A count at the
+/// greatest `u64` stays there, and contracts treat it as risen.
 pub trait Sink {
     // How often a write has failed.
     ghost faults: { Self → ℕ };
@@ -15,8 +16,8 @@ pub trait Sink {
     // The bytes written so far, where they are told.
     ghost written: { Self → Option (List ℕ) };
 
-    /// Appends the first bytes of the piece, and answers how many: 0 for an empty piece alone. A fault
-    /// has appended nothing.
+    /// Appends the first bytes of the piece, and answers how many. It answers 0 only for an empty
+    /// piece. A call that fails appends nothing.
     fn write(&mut self, piece: &[u8]) -> Result<usize, Fault>
         ensures later { faults self.old ≤ faults self.new }
         ensures cause { OnErr result (Rose (faults self.old) (faults self.new)) }

@@ -5,7 +5,7 @@ use super::sink::Sink;
 use std::io::Write;
 use std::marker::Model;
 
-/// A writer and how often it failed, which is all that contracts see of both.
+/// A writer and the count of its failed writes. Contracts see only the count.
 #[derive(Drop)]
 struct Stream<W> {
     writer: W,
@@ -46,8 +46,9 @@ impl<W: Write> Sink for Stream<W> {
     }
 }
 
-/// Standard output, or another writer in its place. Contracts see how often it failed; a writer that
-/// takes 0 bytes of a piece that is not empty fails too, and so does an interrupted call.
+/// Standard output, or another writer in its place. Contracts see only how often it failed. A call
+/// fails also where the writer takes no byte of a piece that is not empty, and where it is
+/// interrupted.
 #[derive(Drop)]
 pub struct OutSink<W> {
     stream: Stream<W>,
@@ -84,7 +85,8 @@ impl<W: Write> Sink for OutSink<W> {
     }
 }
 
-/// Standard error, or another writer in its place, with the meanings of `OutSink`.
+/// Standard error, or another writer in its place. It works as `OutSink`, and is a type of its own
+/// so that the two cannot be swapped.
 #[derive(Drop)]
 pub struct ErrSink<W> {
     stream: Stream<W>,

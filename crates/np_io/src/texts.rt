@@ -10,8 +10,8 @@ use np_syntax::{List, Memory};
 use std::alloc::Global;
 use thiserror::Error;
 
-/// Texts that are read by name, one at a time and from the first byte on. A count stands still at the
-/// greatest `u64`, and then counts as risen.
+/// Texts that are read by name, one at a time, from the first byte on. Failed calls are counted for
+/// each name. A count at the greatest `u64` stays there, and contracts treat it as risen.
 pub trait Texts {
     // For each name, how often a call for it has failed.
     ghost faults: { Self → List ℕ → ℕ };
@@ -44,9 +44,9 @@ pub trait Texts {
         ensures taken { taken self.new ≡ 0 }
         ensures begins { begins self.new ≡ min (begins self.old + 1) (2 ^ 64 - 1) };
 
-    /// Puts the next bytes of the text into the front of `buf`, and answers how many: 0 for a buffer that
-    /// is not empty only at the end of the text. A fault is one of the name begun last, or of every name
-    /// where that is not told.
+    /// Puts the next bytes of the text into the front of `buf`, and answers how many. For a buffer
+    /// that is not empty, 0 means the end of the text. A fault counts for the name begun last, or
+    /// for every name where contracts do not know it.
     fn read(&mut self, buf: &mut [u8]) -> Result<usize, Fault>
         requires { is_begun self.old ≡ true }
         ensures begun { is_begun self.new ≡ true }
@@ -77,7 +77,8 @@ pub enum ReadFail {
 /// How many bytes are asked for in one call.
 const PIECE: usize = 4096;
 
-/// The named text, whole, of at most `limit` bytes.
+/// Reads the whole text of a name. `ReadFault`: a call failed and at most `limit` bytes were read.
+/// `TooLong`: more than `limit` bytes were read.
 pub fn read_all<T: Texts>(
     alloc: Global,
     texts: &mut T,
@@ -102,7 +103,7 @@ pub fn read_all<T: Texts>(
     }
 }
 
-/// What is left of the text that is begun.
+/// Reads the rest of the text that was begun.
 fn read_rest<T: Texts>(alloc: Global, texts: &mut T, limit: usize) -> Result<List<u8>, ReadFail>
     requires begun { T.is_begun texts.old ≡ true }
     requires none_taken { T.taken texts.old ≡ 0 }
