@@ -11,7 +11,7 @@ use Rattle.np_check.specs.declared.fail.CheckFail.TheVariants as fail
 
 -- a fault is the first one
 abbrev pub Refuses : {A : Type 0} → Check A → CheckFail → Type 0
-Refuses o e = (f : TypeFault) → e ≡ fail.Fault f → o ≡ Err f
+Refuses o e = (f : TypeFault) → e ≡ fail.TypeFault f → o ≡ Err f
 
 abbrev pub Gives : {A : Type 0} → Check A → Result A CheckFail → Type 0
 Gives o (Ok a) = o ≡ Ok a
@@ -24,5 +24,5 @@ GivesTypes o env (Err e) = Refuses o e
 
 -- the same failure
 abbrev pub handed : LeastFail → CheckFail
-handed (least.Fault f) = fail.Fault f
+handed (least.TypeFault f) = fail.TypeFault f
 handed least.Memory = fail.Memory

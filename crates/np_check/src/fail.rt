@@ -8,7 +8,7 @@ pub enum CheckFail {
     #[error("out of memory")]
     Memory,
     #[error("a check fails")]
-    Fault(TypeFault),
+    TypeFault(TypeFault),
 }
 
 impl From<Memory> for CheckFail {
@@ -30,7 +30,7 @@ impl From<LeastFail> for CheckFail {
 
     fn from(fail: LeastFail) -> CheckFail {
         match fail {
-            LeastFail::Fault(fault) => CheckFail::Fault(fault),
+            LeastFail::TypeFault(fault) => CheckFail::TypeFault(fault),
             LeastFail::Memory => CheckFail::Memory,
         }
     }

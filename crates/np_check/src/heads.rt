@@ -1,6 +1,6 @@
 //! What a form asks for before the processes in it.
 
-ghost use Rattle.std.specs.Prelude.{◌≡◌, IfOk};
+ghost use Rattle.std.specs.Prelude.{◌≡◌, IfOk, OnErr};
 ghost use Rattle.np_syntax.specs.declared.types.Ty.{out-Ty};
 ghost use Rattle.np_types.specs.declared.fault.Rule.TheVariants as rule;
 ghost use Rattle.np_types.specs.Sub.{is_bool, is_site, is_agent, is_letter, is_places};
@@ -40,11 +40,12 @@ pub fn output(alloc: Global, env: &Env, chan: &Expr, value: &Expr) -> Result<(),
     Ok(np_types::output(alloc, env, chan, value)?)
 }
 
-/// Gives the names of a pattern their types, and answers what they had before. Where it fails, some of the
-/// names may have their types already.
+/// Gives the names of a pattern their types, and answers what they had before. Where it fails, each has what
+/// it had.
 pub fn cover(alloc: Global, env: &mut Env, names: &Pat, ty: &Ty) -> Result<Trail, CheckFail>
     ensures gives { GivesTypes (cover names.now ty.now env.old) env.new result }
     ensures back { IfOk result (λ trail. LeadsBack trail env.new env.old) }
+    ensures unchanged { OnErr result (env.new ≡ env.old) }
 {
     Ok(np_types::cover(alloc, env, names, ty)?)
 }

@@ -66,7 +66,7 @@ pub fn check(alloc: Global, program: Program) -> Result<Checked, CheckFail>
     requires sound { IsSound program }
     ensures found { IfOk result (λ checked. checked ≡ program) }
     ensures accepted { OnOk result (faults program ≡ []) }
-    ensures refused { IfErr result (λ e. (f : FirstFault) → e ≡ fail.Fault f → faults program ≡ f ∷ []) }
+    ensures refused { IfErr result (λ e. (f : FirstFault) → e ≡ fail.TypeFault f → faults program ≡ f ∷ []) }
 {
     match check_main(alloc, &program.main) {
         Ok(()) => Ok(Checked { program }),

@@ -69,7 +69,7 @@ pub(crate) fn checked_program(alloc: Global, tokens: &Tokens) -> Result<Checked,
     let program = program_of(alloc, tokens)?;
     match check(alloc, program) {
         Ok(checked) => Ok(checked),
-        Err(CheckFail::Fault(fault)) => Err(Refusal::TypeFault(fault)),
+        Err(CheckFail::TypeFault(fault)) => Err(Refusal::TypeFault(fault)),
         Err(CheckFail::Memory) => Err(Refusal::Memory),
     }
 }

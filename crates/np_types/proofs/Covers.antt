@@ -5,8 +5,8 @@ use Rattle.std.specs.FinMap as table
 use Rattle.np_syntax.specs.declared.types.Ty.{Ty, out-Ty}
 use Rattle.np_syntax.specs.declared.types.Ty as ty
 use Rattle.np_syntax.specs.declared.types.Ty.TheVariants as types
-use Rattle.np_types.specs.Trails.{rewound, Held}
-use Rattle.np_types.specs.Told.{LeadsOn}
+use Rattle.np_types.specs.Trails.{restored, rewound, Held}
+use Rattle.np_types.specs.Told.{LeadsBack, LeadsOn}
 use Rattle.np_types.proofs.Slots.{put_back, put_there, held_push, rewound-push}
 use Rattle.np_syntax.specs.declared.pattern.Pat.{Pat, fold_out-Pat}
 use Rattle.np_syntax.specs.declared.pattern.PatForm.{PatForm, PatForm-F, out-PatForm, map-PatForm, fold_out-PatForm}
@@ -107,8 +107,12 @@ leads_put trail env binder t old is = record {
   };
 }
 
-pub leads_same : (trail : List (ℕ × Option Ty)) (env : Types) → LeadsOn trail env trail env
-leads_same trail env = record { on = λ before h. h }
+-- a binder that is put, and gets back what it had
+pub leads_undone : (trail : List (ℕ × Option Ty)) (env put new : Types) (binder : ℕ) (t : Ty) (old : Option Ty) (noted : ℕ × Option Ty) → old ≡ table.get env binder
+    → put ≡ table.insert env binder t → noted ≡ (binder, old) → new ≡ restored put noted.0 noted.1 → LeadsOn trail env trail new
+leads_undone trail env put new binder t old noted held there same is =
+    let undone : new ≡ env = is ∙ (λ i. restored (there i) (same i).0 (same i).1) ∙ put_back env binder t old held in
+    record { on = λ before h. subst (λ (e : Types). LeadsBack trail e before) (sym undone) h }
 
 pub leads_then : (a b c : List (ℕ × Option Ty)) (x y z : Types) → LeadsOn a x b y → LeadsOn b y c z → LeadsOn a x c z
 leads_then a b c x y z f g = record { on = λ before h. g.on before (f.on before h) }

@@ -2,12 +2,8 @@ use Rattle.std.proofs.Common.{◌+◌, drop, ap, ◌∙◌}
 use Rattle.np_types.specs.Covers.{cover_all}
 use Rattle.np_syntax.specs.Results.{◌>>=◌}
 use Rattle.np_types.proofs.Tellings.{handed_types, failed_then}
-use Rattle.np_types.proofs.Covers.{cover-tuples, parts-lengths, cover_all-more, cover_all-end, leads_put, leads_then}
+use Rattle.np_types.proofs.Covers.{cover-tuples, parts-lengths, cover_all-more, cover_all-end, leads_then}
 use Rattle.np_types.proofs.patterns.+cover.Goals as goal
-
-pub cover_form-returns-in_ok-add-in-Bind-clause-back : goal.cover_form-returns-in_ok-add-in-Bind-clause-back
-cover_form-returns-in_ok-add-in-Bind-clause-back t c =
-    rw (c.in_ok-add-in-Bind.ensures, c.in_ok-old-in-Bind.ensures.ok) (leads_put _ _ _ _ _ c.in_ok-old-in-Bind.ensures.held)
 
 pub cover_form-returns-in-Tuple-ty-clause-told : goal.cover_form-returns-in-Tuple-ty-clause-told
 cover_form-returns-in-Tuple-ty-clause-told t c =
@@ -21,6 +17,9 @@ cover_parts-returns-in_err-cover_onto-clause-told t c =
     let rest = parts-lengths ps ts c.args.at c.args.env.now inv.lengths ∙ inv.covers
     ∙ cover_all-more ps ts c.args.at c.loop-i.env c.loop-i.i c.index-parts-i.result c.index-types-i.result inv.lengths c.loop-i-test.true c.index-parts-i.is c.index-types-i.is in
     handed_types _ _ _ _ c.from_residual.ensures (rw rest (failed_then _ _ _ c.in_err-cover_onto.ensures.told))
+
+pub cover_parts-returns-in_err-cover_onto-clause-back : goal.cover_parts-returns-in_err-cover_onto-clause-back
+cover_parts-returns-in_err-cover_onto-clause-back t c = leads_then _ _ _ _ _ _ c.loop-i.invariant.leads c.in_err-cover_onto.ensures.back
 
 pub cover_parts-loop-i-preserved : goal.cover_parts-loop-i-preserved
 cover_parts-loop-i-preserved t c =
