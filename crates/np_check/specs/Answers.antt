@@ -24,5 +24,5 @@ GivesTypes o env (Err e) = Refuses o e
 
 -- the same failure
 abbrev pub handed : LeastFail → CheckFail
-handed (least.TypeFault f) = fail.TypeFault f
+handed (least.Fault f) = fail.TypeFault f
 handed least.Memory = fail.Memory

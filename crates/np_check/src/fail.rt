@@ -30,7 +30,7 @@ impl From<LeastFail> for CheckFail {
 
     fn from(fail: LeastFail) -> CheckFail {
         match fail {
-            LeastFail::TypeFault(fault) => CheckFail::TypeFault(fault),
+            LeastFail::Fault(fault) => CheckFail::TypeFault(fault),
             LeastFail::Memory => CheckFail::Memory,
         }
     }

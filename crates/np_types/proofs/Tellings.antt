@@ -30,7 +30,7 @@ told_as r b c at rule p h = subst (λ (x : Bool). Told r (ensure x at rule)) p h
 module _ {A B : Type 0} where
   -- a first step that fails
   pub failed_then : (e : LeastFail) (o : Check A) (next : A → Check B) → Failed e o → Failed e (o >>= next)
-  failed_then (fail.TypeFault f) o next h = rw h refl
+  failed_then (fail.Fault f) o next h = rw h refl
   failed_then fail.Memory o next h = tt
 
   -- a first step that passes
@@ -48,7 +48,7 @@ module _ {A B : Type 0} where
   refused e o a test at r next h f = subst (λ (c : Check A). Failed e (asked c test at r next)) (sym h) (refused_at e (ensure (test a) at r) f)
     where
       refused_at : (e : LeastFail) (o : Check (Unit {0})) → Failed e o → Failed e (o >>= λ _. next a)
-      refused_at (fail.TypeFault f) o h = rw h refl
+      refused_at (fail.Fault f) o h = rw h refl
       refused_at fail.Memory o h = tt
 
   pub met : (r : Result B LeastFail) (o : Check A) (a : A) (test : A → Bool) (at : ℕ) (rule : Rule) (next : A → Check B) → o ≡ Ok a → ensure (test a) at rule ≡ Ok tt → Told r (next a) → Told r (asked o test at rule next)

@@ -8,7 +8,7 @@ use Rattle.np_types.specs.Least.{Types}
 use Rattle.np_types.specs.Trails.{rewound, Held}
 
 abbrev pub Failed : {A : Type 0} → LeastFail → Check A → Type 0
-Failed (fail.TypeFault f) o = o ≡ Err f
+Failed (fail.Fault f) o = o ≡ Err f
 Failed fail.Memory o = Unit {0}
 
 abbrev pub Told : {A : Type 0} → Result A LeastFail → Check A → Type 0

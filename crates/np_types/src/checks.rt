@@ -10,9 +10,9 @@ use np_syntax::{Cap, Ty};
 
 /// A fault, in the place of an answer.
 pub fn fault<T>(at: u32, rule: Rule) -> Result<T, LeastFail>
-    ensures { result ≡ Err (fail.TypeFault (record { at = at; rule = rule })) }
+    ensures { result ≡ Err (fail.Fault (record { at = at; rule = rule })) }
 {
-    Err(LeastFail::TypeFault(TypeFault { at, rule }))
+    Err(LeastFail::Fault(TypeFault { at, rule }))
 }
 
 /// Goes on where the test is met.

@@ -29,7 +29,7 @@ pub struct TypeFault {
 #[derive(Debug, Drop, Error)]
 pub enum LeastFail {
     #[error("a check fails")]
-    TypeFault(TypeFault),
+    Fault(TypeFault),
     #[error("memory is wanting")]
     Memory,
 }
