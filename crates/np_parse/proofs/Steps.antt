@@ -8,11 +8,13 @@ use Rattle.np_lex.specs.declared.token.Token.{Token}
 use Rattle.np_lex.specs.declared.token.What.{What}
 use Rattle.np_lex.specs.declared.token.What.TheVariants as what
 use Rattle.np_parse.specs.declared.fail.ParseFail.{ParseFail}
-use Rattle.np_parse.specs.Input.{Parser, and_then, ◌>>=◌, ◌>>◌, pure, refuse, refuse_deep, syntax, too_deep, peek, take}
+use Rattle.np_tree.specs.Grammar.{process}
+use Rattle.np_parse.specs.Input.{Outcome, Parser, and_then, ◌>>=◌, ◌>>◌, pure, refuse, refuse_deep, syntax, too_deep, peek, take}
 use Rattle.np_parse.specs.Read.Tuples.{Sized, closes, last_by, part_by, last, parts}
 use Rattle.np_parse.specs.Read.Expressions.{ReadExpr, operation, chain}
-use Rattle.np_parse.specs.Read.Heads.{ReadProc}
-use Rattle.np_parse.specs.Read.Processes.{ends, divides, both, more_by, more}
+use Rattle.np_parse.specs.declared.head.Double.{Double}
+use Rattle.np_parse.specs.Read.Heads.{ReadProc, double_form, between}
+use Rattle.np_parse.specs.Read.Processes.{two, double, ends, divides, both, more_by, more}
 
 abbrev Again : Type 0 → Type 0
 Again A = List A → ℕ → Parser (Sized (List A))
@@ -162,3 +164,27 @@ module _ (inner : Parser ReadProc) (levels place n at : ℕ) (left : ReadProc) (
 pub ruleset chains = (chain_refused, chain_done, chain_deep, chain_stuck, chain_right_refused, chain_step, chain_out)
 
 pub ruleset mores = (more_refused, more_ended, more_unended, more_other, more_deep, more_right_refused, more_step, more_stuck, more_out)
+
+-- ---- forms with two processes
+
+module _ (inner : Parser ReadProc) (h : Double) where
+  abbrev whole : ReadProc × ReadProc → Parser ReadProc
+  whole p = pure (process h.at (double_form h.form p.0.0 p.1.0), max p.0.1 p.1.1 + 1)
+
+  last_of : (x : ReadProc) (o : Outcome ReadProc) → and_then o (λ y. whole (x, y)) ≡ and_then (and_then o (λ y. pure (x, y))) whole
+  last_of x (Ok p) = refl
+  last_of x (Err e) = refl
+
+  rest_of : (x : ReadProc) (o : Outcome ℕ) → and_then o (λ _. inner >>= λ y. whole (x, y)) ≡ and_then (and_then o (λ _. inner >>= λ y. pure (x, y))) whole
+  rest_of x (Ok p) = last_of x (inner p.1)
+  rest_of x (Err e) = refl
+
+  both_of : (o : Outcome ReadProc) → and_then o (λ x. between h.form >>= λ _. inner >>= λ y. whole (x, y))
+      ≡ and_then (and_then o (λ x. between h.form >>= λ _. inner >>= λ y. pure (x, y))) whole
+  both_of (Ok p) = rest_of p.0 (between h.form p.1)
+  both_of (Err e) = refl
+
+  -- a form with two processes is made of both
+  pub double_two : (i : List Token) → double inner h i ≡ and_then (two inner h.form i) whole
+  unfolding double two
+  double_two i = both_of (inner i)

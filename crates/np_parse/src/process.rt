@@ -67,22 +67,31 @@ fn divides(what: &What) -> bool
 }
 
 /// The composition of both, with its depth.
-fn both(
+fn both(at: u32, left: (Boxed<RawProc>, u32), right: (Boxed<RawProc>, u32)) -> (RawProc, u32)
+    requires left { left.1 < DEEPEST }
+    requires right { right.1 < DEEPEST }
+    ensures { result ≡ spec.both at left right }
+{
+    let (left, deep) = left;
+    let (right, depth) = right;
+    let form = RawProcForm::Par(left, right);
+    (RawProc { at, form }, deep.max(depth) + 1)
+}
+
+/// The composition of what stands so far with one process more.
+fn longer(
     alloc: Global,
     at: u32,
     left: (RawProc, u32),
-    right: (RawProc, u32),
+    right: (Boxed<RawProc>, u32),
 ) -> Result<(RawProc, u32), Memory>
     requires left { left.1 < DEEPEST }
     requires right { right.1 < DEEPEST }
     ensures { IfOk result (λ x. x ≡ spec.both at left right) }
 {
     let (left, deep) = left;
-    let (right, depth) = right;
     let left = Boxed::of(alloc, left)?;
-    let right = Boxed::of(alloc, right)?;
-    let form = RawProcForm::Par(left, right);
-    Ok((RawProc { at, form }, deep.max(depth) + 1))
+    Ok(both(at, (left, deep), right))
 }
 
 /// A form with one process in it, behind what stands before it.
@@ -100,13 +109,32 @@ fn single(
 {
     let Single { at, form } = head;
     let (inner, depth) = proc(alloc, tokens, below)?;
-    let inner = Boxed::of(alloc, inner)?;
     let form = single_form(form, inner);
     Ok((RawProc { at, form }, depth + 1))
 }
 
+/// The two processes of a form, and the keyword between them.
+#[tactic(auto, unfolding(crate::specs::Read::Processes::two))]
+#[cycle(proc)]
+fn two(
+    alloc: Global,
+    tokens: &mut Cursor<'_>,
+    below: u32,
+    form: &DoubleForm,
+) -> Result<((Boxed<RawProc>, u32), (Boxed<RawProc>, u32)), ParseFail>
+    requires { below < DEEPEST }
+    ensures reads { Reads (spec.two (spec.proc DEEPEST below) form.now tokens.old) result tokens.new }
+    ensures first { IfOk result (λ x. x.0.1 ≤ below) }
+    ensures second { IfOk result (λ x. x.1.1 ≤ below) }
+{
+    let first = proc(alloc, tokens, below)?;
+    between(tokens, form)?;
+    let second = proc(alloc, tokens, below)?;
+    Ok((first, second))
+}
+
 /// A form with two processes in it, behind what stands before the first.
-#[tactic(auto, unfolding(crate::specs::Read::Processes::double))]
+#[tactic(auto, using(crate::proofs::Steps::double_two))]
 #[cycle(proc)]
 fn double(
     alloc: Global,
@@ -119,11 +147,7 @@ fn double(
     ensures within { IfOk result (λ x. x.1 ≤ below + 1) }
 {
     let Double { at, form } = head;
-    let (first, deep) = proc(alloc, tokens, below)?;
-    between(tokens, &form)?;
-    let (second, depth) = proc(alloc, tokens, below)?;
-    let first = Boxed::of(alloc, first)?;
-    let second = Boxed::of(alloc, second)?;
+    let ((first, deep), (second, depth)) = two(alloc, tokens, below, &form)?;
     let form = double_form(form, first, second);
     Ok((RawProc { at, form }, deep.max(depth) + 1))
 }
@@ -175,7 +199,7 @@ fn others(
     tokens: &mut Cursor<'_>,
     below: u32,
     at: u32,
-    first: (RawProc, u32),
+    first: (Boxed<RawProc>, u32),
 ) -> Result<(RawProc, u32), ParseFail>
     requires levels { below < DEEPEST }
     requires first { first.1 ≤ below }
@@ -183,7 +207,7 @@ fn others(
     ensures within { IfOk result (λ x. x.1 ≤ below + 1) }
 {
     let second = proc(alloc, tokens, below)?;
-    let left = both(alloc, at, first, second)?;
+    let left = both(at, first, second);
     more(alloc, tokens, below, at, left)
 }
 
@@ -217,7 +241,7 @@ fn more(
         }
         tokens.take()?;
         let right = proc(alloc, tokens, below)?;
-        left = both(alloc, at, left, right)?;
+        left = longer(alloc, at, left, right)?;
     }
     Err(tokens.too_deep())
 }
@@ -275,7 +299,7 @@ pub fn proc(
     alloc: Global,
     tokens: &mut Cursor<'_>,
     levels: u32,
-) -> Result<(RawProc, u32), ParseFail>
+) -> Result<(Boxed<RawProc>, u32), ParseFail>
     requires { levels ≤ DEEPEST }
     ensures reads { Reads (spec.proc DEEPEST levels tokens.old) result tokens.new }
     ensures within { IfOk result (λ x. x.1 ≤ levels) }
@@ -283,6 +307,7 @@ pub fn proc(
     if levels == 0 {
         Err(tokens.too_deep())
     } else {
-        proc_in(alloc, tokens, levels - 1)
+        let (process, depth) = proc_in(alloc, tokens, levels - 1)?;
+        Ok((Boxed::of(alloc, process)?, depth))
     }
 }

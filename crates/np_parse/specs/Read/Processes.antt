@@ -10,6 +10,7 @@ use Rattle.np_tree.specs.declared.tree.RawProcForm as form
 use Rattle.np_tree.specs.Grammar.{process}
 use Rattle.np_parse.specs.declared.head.Single.{Single}
 use Rattle.np_parse.specs.declared.head.Double.{Double}
+use Rattle.np_parse.specs.declared.head.DoubleForm.{DoubleForm}
 use Rattle.np_parse.specs.Input.{Parser, ◌>>=◌, ◌>>◌, pure, refuse, refuse_deep, peek, take, name, expect_sign}
 use Rattle.np_parse.specs.Read.Heads.{ReadProc, stop_by, print, output, directed, single_form, new_head, input_head, replicated_head, migrate_head, let_head}
 use Rattle.np_parse.specs.Read.Heads.{double_form, between, agent_head, iflocal_head, if_head}
@@ -19,6 +20,14 @@ use Rattle.np_parse.specs.Read.Heads.{double_form, between, agent_head, iflocal_
 -- behind what stands before the process
 unfoldable pub single : Parser ReadProc → Single → Parser ReadProc
 single inner head = inner >>= (λ x. pure (process head.at (single_form head.form x.0), x.1 + 1))
+
+-- the two processes of a form, with what stands between them
+unfoldable pub two : Parser ReadProc → DoubleForm → Parser (ReadProc × ReadProc)
+two inner form = do
+  x ← inner
+  between form
+  y ← inner
+  pure (x, y)
 
 -- behind what stands before the first process
 unfoldable pub double : Parser ReadProc → Double → Parser ReadProc

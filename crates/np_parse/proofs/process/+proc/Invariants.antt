@@ -22,7 +22,10 @@ abbrev pub decreases-single : goal.decreases-single
 decreases-single l = 6 * l.below + 1
 
 abbrev pub decreases-double : goal.decreases-double
-decreases-double l = 6 * l.below + 1
+decreases-double l = 6 * l.below + 2
+
+abbrev pub decreases-two : goal.decreases-two
+decreases-two l = 6 * l.below + 1
 
 abbrev pub decreases-more : goal.decreases-more
 decreases-more l = 6 * l.below + 1
