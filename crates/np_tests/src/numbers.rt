@@ -1,8 +1,12 @@
 //! The numbers of nodes and binders, in reading order, and what each use stands for.
 
-use super::trees::tree_of;
+ghost use Rattle.std.specs.Prelude.{◌≤◌, length};
+
+use super::trees::tokens_of;
+use np_lex::Tokens;
+use np_parse::{ParseFail, parse};
 use np_scope::resolve;
-use np_syntax::{Expr, ExprForm, Pat, PatForm, Proc, ProcForm, Value};
+use np_syntax::{Expr, ExprForm, Pat, PatForm, Proc, ProcForm, Program, Value};
 use std::alloc::{AllocError, Global};
 use std::test::Fail;
 
@@ -70,14 +74,31 @@ fn note(alloc: Global, notes: &mut String, proc: &Proc) -> Result<(), AllocError
     }
 }
 
+/// The program of tokens, where they have one.
+fn program_of(alloc: Global, tokens: &Tokens) -> Result<Program, ParseFail>
+    requires { length tokens.now ≤ 1001 }
+{
+    let tree = parse(alloc, tokens)?;
+    let resolved = resolve(alloc, &tree);
+    drop(tree);
+    match resolved {
+        Ok(program) => Ok(program),
+        Err(_) => Err(ParseFail::Memory),
+    }
+}
+
 /// Main's site, the count of binders, and the nodes of the program of a source, if it has one.
 fn noted(alloc: Global, source: &str) -> Result<String, AllocError> {
-    let Some(tree) = tree_of(alloc, source) else {
-        return String::from_str(alloc, "no tree");
+    let Some(tokens) = tokens_of(alloc, source) else {
+        return String::from_str(alloc, "no tokens");
     };
-    let Ok(program) = resolve(alloc, &tree) else {
-        return String::from_str(alloc, "no program");
-    };
+    match program_of(alloc, &tokens) {
+        Ok(program) => noted_program(alloc, &program),
+        Err(_) => String::from_str(alloc, "no program"),
+    }
+}
+
+fn noted_program(alloc: Global, program: &Program) -> Result<String, AllocError> {
     let mut notes = format!(in alloc; "at {}, {} binders:", program.at, program.binders)?;
     note(alloc, &mut notes, &program.main)?;
     Ok(notes)

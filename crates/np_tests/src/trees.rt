@@ -1,20 +1,29 @@
 //! The comparison of trees, which no mode makes: each part counts, and no offset.
 
-use np_lex::lex;
+ghost use Rattle.std.specs.Prelude.{◌≤◌, length, IfSome};
+
+use np_lex::{Tokens, lex};
 use np_parse::parse;
 use np_tree::{Tree, same_tree};
 use std::alloc::Global;
 use std::test::Fail;
 
-/// The tree of a source of at most a thousand bytes, if it has one.
-pub fn tree_of(alloc: Global, source: &str) -> Option<Tree> {
+/// The tokens of a source of at most a thousand bytes, if it has them.
+pub fn tokens_of(alloc: Global, source: &str) -> Option<Tokens>
+    ensures { IfSome result (λ tokens. length tokens ≤ 1001) }
+{
     if source.len() > 1000 {
         return None;
     }
-    let tokens = match lex(alloc, source.as_bytes()) {
-        Ok(tokens) => tokens,
-        Err(_) => return None,
-    };
+    match lex(alloc, source.as_bytes()) {
+        Ok(tokens) => Some(tokens),
+        Err(_) => None,
+    }
+}
+
+/// The tree of such a source, if it has one.
+fn tree_of(alloc: Global, source: &str) -> Option<Tree> {
+    let tokens = tokens_of(alloc, source)?;
     match parse(alloc, &tokens) {
         Ok(tree) => Some(tree),
         Err(_) => None,
