@@ -24,7 +24,6 @@ use Rattle.np_types.specs.Worlds.{World, bare, kind, kind_step}
 use Rattle.np_types.specs.Least.{Types, least, leasts, least_of, least_form, input, output}
 use Rattle.np_types.proofs.ValueTypes.{kind_of}
 use Rattle.np_types.proofs.Leasts.{least-form, least-val, least-var, least-tuple, least-bin, least_parts, tupling, operation}
-use Rattle.np_scope.specs.declared.numbers.Numbers.{Numbers}
 use Rattle.np_scope.specs.Resolved.{expression, main_name}
 use Rattle.np_scope.specs.Written.{IsLiteral, IsChannelType}
 use Rattle.np_scope.specs.Sound.{IsSoundExpr, AreSoundExprs, IsSoundProc, process}
@@ -114,53 +113,53 @@ module _ (n : ℕ) (w : World) (sites : HasSites n w) where
   by_form p h = λ i env. (check-form w p env ∙ h env ∙ sym (check-form bare p env)) i
 
   -- each world with the sites has the same faults
-  pub same_check : {scope : List ℕ} {next after : Numbers} {p : Proc} → IsSoundProc n scope next p after → check w p ≡ check bare p
-  same_check {scope} {next} (IsSoundProc.stop {at = at}) = by_form (process next at form.Stop) (λ env. form-stop w at env ∙ sym (form-stop bare at env))
-  same_check {scope} {next} (IsSoundProc.parallel {at = at} {p = p} {q = q} g h) =
+  pub same_check : {scope bound : List ℕ} {node after : ℕ} {p : Proc} → IsSoundProc n scope node p after bound → check w p ≡ check bare p
+  same_check {node = node} (IsSoundProc.stop {at = at}) = by_form (process node at form.Stop) (λ env. form-stop w at env ∙ sym (form-stop bare at env))
+  same_check {node = node} (IsSoundProc.parallel {at = at} {p = p} {q = q} g h) =
       let sp = same_check g in
       let sq = same_check h in
-      by_form (process next at (form.Par p q)) (λ env. form-par w at env p q ∙ (λ i. sp i env >> sq i env) ∙ sym (form-par bare at env p q))
-  same_check {scope} {next} (IsSoundProc.channel {at = at} {t = t} {p = p} k g) =
+      by_form (process node at (form.Par p q)) (λ env. form-par w at env p q ∙ (λ i. sp i env >> sq i env) ∙ sym (form-par bare at env p q))
+  same_check {node = node} (IsSoundProc.channel {at = at} {c = c} {t = t} {p = p} k g) =
       let sp = same_check g in
-      by_form (process next at (form.New next.binder t p))
-      (λ env. form-new w at env next.binder t p ∙ (λ i. check_new next.binder t (sp i) at env) ∙ sym (form-new bare at env next.binder t p))
-  same_check {scope} {next} (IsSoundProc.output {at = at} {c = c} {e = e} hc he) =
-      by_form (process next at (form.Out c e)) (λ env. form-out w at env c e ∙ same_output env hc he ∙ sym (form-out bare at env c e))
-  same_check {scope} {next} (IsSoundProc.input {at = at} {c = c} {x = x} {p = p} k hc b g) =
+      by_form (process node at (form.New c t p))
+      (λ env. form-new w at env c t p ∙ (λ i. check_new c t (sp i) at env) ∙ sym (form-new bare at env c t p))
+  same_check {node = node} (IsSoundProc.output {at = at} {c = c} {e = e} hc he) =
+      by_form (process node at (form.Out c e)) (λ env. form-out w at env c e ∙ same_output env hc he ∙ sym (form-out bare at env c e))
+  same_check {node = node} (IsSoundProc.input {at = at} {c = c} {x = x} {p = p} hc b g) =
       let sp = same_check g in
-      by_form (process next at (form.Inp c x p)) (λ env. form-inp w at env c x p ∙ same_input env _ _ sp x hc ∙ sym (form-inp bare at env c x p))
-  same_check {scope} {next} (IsSoundProc.replicated {at = at} {c = c} {x = x} {p = p} k hc b g) =
+      by_form (process node at (form.Inp c x p)) (λ env. form-inp w at env c x p ∙ same_input env _ _ sp x hc ∙ sym (form-inp bare at env c x p))
+  same_check {node = node} (IsSoundProc.replicated {at = at} {c = c} {x = x} {p = p} hc b g) =
       let sp = same_check g in
-      by_form (process next at (form.Rep c x p)) (λ env. form-rep w at env c x p ∙ same_input env _ _ sp x hc ∙ sym (form-rep bare at env c x p))
-  same_check {scope} {next} (IsSoundProc.agent {at = at} {p = p} {q = q} g h) =
-      let sp = same_check g in
-      let sq = same_check h in
-      by_form (process next at (form.Agent next.binder p q))
-      (λ env. form-agent w at env next.binder p q
-      ∙ (λ i. with_binder next.binder ty.Agent (sp i) env >> with_binder next.binder ty.Agent (sq i) env)
-      ∙ sym (form-agent bare at env next.binder p q))
-  same_check {scope} {next} (IsSoundProc.migrate {at = at} {s = s} {p = p} hs g) =
-      let sp = same_check g in
-      by_form (process next at (form.Migrate s p)) (λ env. form-migrate w at env s p ∙ same_migrate env _ _ sp hs ∙ sym (form-migrate bare at env s p))
-  same_check {scope} {next} (IsSoundProc.iflocal {at = at} {b = b} {c = c} {e = e} {p = p} {q = q} hb hc he g h) =
+      by_form (process node at (form.Rep c x p)) (λ env. form-rep w at env c x p ∙ same_input env _ _ sp x hc ∙ sym (form-rep bare at env c x p))
+  same_check {node = node} (IsSoundProc.agent {at = at} {b = b} {p = p} {q = q} g h) =
       let sp = same_check g in
       let sq = same_check h in
-      by_form (process next at (form.IfLocal b c e p q))
+      by_form (process node at (form.Agent b p q))
+      (λ env. form-agent w at env b p q
+      ∙ (λ i. with_binder b ty.Agent (sp i) env >> with_binder b ty.Agent (sq i) env)
+      ∙ sym (form-agent bare at env b p q))
+  same_check {node = node} (IsSoundProc.migrate {at = at} {s = s} {p = p} hs g) =
+      let sp = same_check g in
+      by_form (process node at (form.Migrate s p)) (λ env. form-migrate w at env s p ∙ same_migrate env _ _ sp hs ∙ sym (form-migrate bare at env s p))
+  same_check {node = node} (IsSoundProc.iflocal {at = at} {b = b} {c = c} {e = e} {p = p} {q = q} hb hc he g h) =
+      let sp = same_check g in
+      let sq = same_check h in
+      by_form (process node at (form.IfLocal b c e p q))
       (λ env. form-iflocal w at env b c e p q ∙ (λ i. same_post env hb hc he i >> (sp i env >> sq i env)) ∙ sym (form-iflocal bare at env b c e p q))
-  same_check {scope} {next} (IsSoundProc.send {at = at} {b = b} {s = s} {c = c} {e = e} hb hs hc he) =
-      by_form (process next at (form.Send b s c e)) (λ env. form-send w at env b s c e ∙ same_send env hb hs hc he ∙ sym (form-send bare at env b s c e))
-  same_check {scope} {next} (IsSoundProc.post {at = at} {b = b} {c = c} {e = e} hb hc he) =
-      by_form (process next at (form.Post b c e)) (λ env. form-post w at env b c e ∙ same_post env hb hc he ∙ sym (form-post bare at env b c e))
-  same_check {scope} {next} (IsSoundProc.test {at = at} {e = e} {p = p} {q = q} he g h) =
+  same_check {node = node} (IsSoundProc.send {at = at} {b = b} {s = s} {c = c} {e = e} hb hs hc he) =
+      by_form (process node at (form.Send b s c e)) (λ env. form-send w at env b s c e ∙ same_send env hb hs hc he ∙ sym (form-send bare at env b s c e))
+  same_check {node = node} (IsSoundProc.post {at = at} {b = b} {c = c} {e = e} hb hc he) =
+      by_form (process node at (form.Post b c e)) (λ env. form-post w at env b c e ∙ same_post env hb hc he ∙ sym (form-post bare at env b c e))
+  same_check {node = node} (IsSoundProc.test {at = at} {e = e} {p = p} {q = q} he g h) =
       let sp = same_check g in
       let sq = same_check h in
-      by_form (process next at (form.If e p q))
+      by_form (process node at (form.If e p q))
       (λ env. form-if w at env e p q ∙ (λ i. same_is env is_bool rule.NotBool he i >> (sp i env >> sq i env)) ∙ sym (form-if bare at env e p q))
-  same_check {scope} {next} (IsSoundProc.bind {at = at} {x = x} {e = e} {p = p} k b he g) =
+  same_check {node = node} (IsSoundProc.bind {at = at} {x = x} {e = e} {p = p} b he g) =
       let sp = same_check g in
-      by_form (process next at (form.Let x e p)) (λ env. form-let w at env x e p ∙ same_let env _ _ sp x he ∙ sym (form-let bare at env x e p))
-  same_check {scope} {next} (IsSoundProc.print {at = at} {e = e} he) =
-      by_form (process next at (form.Print e)) (λ env. form-print w at env e ∙ same_print env he ∙ sym (form-print bare at env e))
+      by_form (process node at (form.Let x e p)) (λ env. form-let w at env x e p ∙ same_let env _ _ sp x he ∙ sym (form-let bare at env x e p))
+  same_check {node = node} (IsSoundProc.print {at = at} {e = e} he) =
+      by_form (process node at (form.Print e)) (λ env. form-print w at env e ∙ same_print env he ∙ sym (form-print bare at env e))
 
 only_narrow : (b : Bool) (at : ℕ) → (ensure b at rule.Wide >> ensure true at rule.NotChannel) ≡ ensure b at rule.Wide
 only_narrow true at = refl

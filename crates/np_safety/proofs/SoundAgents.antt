@@ -9,7 +9,6 @@ use Rattle.np_syntax.specs.declared.expression.ExprForm.TheVariants as exprs
 use Rattle.np_syntax.specs.declared.process.Proc.{Proc}
 use Rattle.np_syntax.specs.declared.process.ProcForm.TheVariants as forms
 use Rattle.np_syntax.specs.declared.program.Program.{Program}
-use Rattle.np_scope.specs.declared.numbers.Numbers.{Numbers}
 use Rattle.np_scope.specs.Sound.{IsSound, IsSoundExpr, AreSoundExprs, IsSoundProc}
 use Rattle.np_scope.specs.Written.{IsLiteral}
 use Rattle.np_calculus.specs.Agents.{OwnAgents, joined, expr_agents}
@@ -43,24 +42,24 @@ module _ (n : ℕ) where
     sound-exprs AreSoundExprs.none = nobody P
     sound-exprs (AreSoundExprs.more g hs) = both-parts P _ _ (sound-expr g) (sound-exprs hs)
 
-  sound-proc : {scope : List ℕ} {next after : Numbers} {p : Proc} → IsSoundProc n scope next p after → OfProc P p
+  sound-proc : {scope bound : List ℕ} {node after : ℕ} {p : Proc} → IsSoundProc n scope node p after bound → OfProc P p
   sound-proc IsSoundProc.stop = of-proc P _ _ forms.outs-Stop (nobody P)
   sound-proc (IsSoundProc.parallel {p = p} {q = q} g h) =
       let sp = sound-proc g in
       let sq = sound-proc h in
       of-proc P _ _ (forms.outs-Par p q) (both-parts P _ _ sp sq)
-  sound-proc {next = next} (IsSoundProc.channel {t = t} {p = p} k g) = let sp = sound-proc g in of-proc P _ _ (forms.outs-New next.binder t p) sp
+  sound-proc (IsSoundProc.channel {c = c} {t = t} {p = p} k g) = let sp = sound-proc g in of-proc P _ _ (forms.outs-New c t p) sp
   sound-proc (IsSoundProc.output {c = c} {e = e} hc he) = of-proc P _ _ (forms.outs-Out c e) (both-parts P _ _ (sound-expr hc) (sound-expr he))
-  sound-proc (IsSoundProc.input {c = c} {x = x} {p = p} k hc b g) =
+  sound-proc (IsSoundProc.input {c = c} {x = x} {p = p} hc b g) =
       let sp = sound-proc g in
       of-proc P _ _ (forms.outs-Inp c x p) (both-parts P _ _ (sound-expr hc) sp)
-  sound-proc (IsSoundProc.replicated {c = c} {x = x} {p = p} k hc b g) =
+  sound-proc (IsSoundProc.replicated {c = c} {x = x} {p = p} hc b g) =
       let sp = sound-proc g in
       of-proc P _ _ (forms.outs-Rep c x p) (both-parts P _ _ (sound-expr hc) sp)
-  sound-proc {next = next} (IsSoundProc.agent {p = p} {q = q} g h) =
+  sound-proc (IsSoundProc.agent {b = b} {p = p} {q = q} g h) =
       let sp = sound-proc g in
       let sq = sound-proc h in
-      of-proc P _ _ (forms.outs-Agent next.binder p q) (both-parts P _ _ sp sq)
+      of-proc P _ _ (forms.outs-Agent b p q) (both-parts P _ _ sp sq)
   sound-proc (IsSoundProc.migrate {s = s} {p = p} hs g) =
       let sp = sound-proc g in
       of-proc P _ _ (forms.outs-Migrate s p) (both-parts P _ _ (sound-expr hs) sp)
@@ -78,7 +77,7 @@ module _ (n : ℕ) where
       let sp = sound-proc g in
       let sq = sound-proc h in
       of-proc P _ _ (forms.outs-If e p q) (both-parts P _ _ (both-parts P _ _ (sound-expr he) sp) sq)
-  sound-proc (IsSoundProc.bind {x = x} {e = e} {p = p} k b he g) =
+  sound-proc (IsSoundProc.bind {x = x} {e = e} {p = p} b he g) =
       let sp = sound-proc g in
       of-proc P _ _ (forms.outs-Let x e p) (both-parts P _ _ (sound-expr he) sp)
   sound-proc (IsSoundProc.print {e = e} he) = of-proc P _ _ (forms.outs-Print e) (sound-expr he)

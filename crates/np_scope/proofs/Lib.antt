@@ -9,3 +9,4 @@ pub mod PatternsSound
 pub mod ProcessesSound
 pub mod ProgramsSound
 pub mod SoundParts
+pub mod Numbering

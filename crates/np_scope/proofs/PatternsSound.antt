@@ -1,5 +1,5 @@
 -- A pattern binds the next binders, and its names stand for them.
-use Rattle.std.proofs.Common.{◌≡◌, ◌<◌, inl, inr, ℕ, ◌+◌, Bool, true, false, cond, Option, None, Some, List, [], ◌∷◌, map, refl, sym, ap, subst, arith}
+use Rattle.std.proofs.Common.{◌≡◌, ◌<◌, inl, inr, ℕ, ◌+◌, Bool, true, false, cond, Option, None, Some, List, [], ◌∷◌, ◌++◌, map, refl, sym, ap, subst, arith}
 use Rattle.std.specs.Str.{bytes_eq}
 use Rattle.np_syntax.specs.declared.pattern.Pat.{Pat}
 use Rattle.np_tree.specs.declared.tree.RawPat.{RawPat, ind-RawPat, roll-RawPat}
@@ -11,7 +11,8 @@ use Rattle.np_scope.specs.declared.scope.Meaning.{Meaning}
 use Rattle.np_scope.specs.declared.scope.Meaning.TheVariants as meaning
 use Rattle.np_scope.specs.Naming.{Named, meaning_of}
 use Rattle.np_scope.specs.Resolved.{Bound, pat_of, pat_form_of, pats_of}
-use Rattle.np_scope.specs.Sound.{Among, Binds, BindAll}
+use Rattle.np_scope.specs.Sound.{Among, AreNext, Binds, BindAll}
+use Rattle.np_scope.proofs.Numbering.{next_then}
 use Rattle.np_scope.proofs.Forms.{pat-form, pat-any, pat-bind, pat-tuple}
 
 -- a site below n, or a binder in scope
@@ -42,13 +43,17 @@ with-binder n k name scope bs h q m is = bound-name n k bs (meaning_of scope q) 
 -- what patterns become is sound
 pub record PatDone (n : ℕ) (bs : List ℕ) (next many : ℕ) (b : Bound Pat) : Type 0 where
   pub inner : List ℕ
-  pub binds : Binds bs next b.it inner b.next
+  pub bound : List ℕ
+  pub binds : Binds bs b.it inner bound
+  pub numbered : AreNext next bound b.next
   pub agrees : Agrees n b.scope inner
   pub count : b.next ≡ next + many
 
 record PatsDone (n : ℕ) (bs : List ℕ) (next many : ℕ) (b : Bound (List Pat)) : Type 0 where
   inner : List ℕ
-  binds : BindAll bs next b.it inner b.next
+  bound : List ℕ
+  binds : BindAll bs b.it inner bound
+  numbered : AreNext next bound b.next
   agrees : Agrees n b.scope inner
   count : b.next ≡ next + many
 
@@ -65,26 +70,47 @@ abbrev pats : {n : ℕ} → Parts n → List RawPat
 pats ps = map (λ p. p.0) ps
 
 parts-sound : (n : ℕ) (ps : Parts n) (scope : List Named) (bs : List ℕ) (next : ℕ) → Agrees n scope bs → PatsDone n bs next (names_all (pats ps)) (pats_of (pats ps) scope next)
-parts-sound n [] scope bs next h = record { inner = bs; binds = BindAll.none; agrees = h; count = omega arith }
+parts-sound n [] scope bs next h = record { inner = bs; bound = []; binds = BindAll.none; numbered = AreNext.none; agrees = h; count = omega arith }
 parts-sound n (p ∷ ps) scope bs next h =
     let first = p.1 scope bs next h in
     let rest = parts-sound n ps (pat_of p.0 scope next).scope first.inner (pat_of p.0 scope next).next first.agrees in
     let c = first.count in
     let d = rest.count in
-    record { inner = rest.inner; binds = BindAll.more first.binds rest.binds; agrees = rest.agrees; count = omega (arith, c, d) }
+    record {
+      inner = rest.inner;
+      bound = first.bound ++ rest.bound;
+      binds = BindAll.more first.binds rest.binds;
+      numbered = next_then first.numbered rest.numbered;
+      agrees = rest.agrees;
+      count = omega (arith, c, d);
+    }
 
 form-sound : (n : ℕ) (y : RawPatForm-F ((f : RawPatForm) × FormSound n f) ((p : RawPat) × PatSound n p))
     → FormSound n (roll-RawPatForm (map-RawPatForm ((f : RawPatForm) × FormSound n f) ((p : RawPat) × PatSound n p) RawPatForm RawPat (λ f. f.0) (λ p. p.0) y))
 form-sound n RawPatForm-F.Any = subst (FormSound n) (sym rolls-Any) (λ at scope bs next h.
-    subst (PatDone n bs next _) (sym (pat-any at scope next)) (record { inner = bs; binds = Binds.any; agrees = h; count = omega (arith, names-any) }))
+    subst (PatDone n bs next _) (sym (pat-any at scope next)) (record { inner = bs; bound = []; binds = Binds.any; numbered = AreNext.none; agrees = h; count = omega (arith, names-any) }))
 form-sound n (RawPatForm-F.Bind name) = subst (FormSound n) (sym (rolls-Bind name)) (λ at scope bs next h.
     subst (PatDone n bs next _) (sym (pat-bind at scope next name))
-    (record { inner = next ∷ bs; binds = Binds.name; agrees = with-binder n next name.text scope bs h; count = omega (arith, names-bind name) }))
+    (record {
+      inner = next ∷ bs;
+      bound = next ∷ [];
+      binds = Binds.name;
+      numbered = AreNext.more AreNext.none;
+      agrees = with-binder n next name.text scope bs h;
+      count = omega (arith, names-bind name);
+    }))
 form-sound n (RawPatForm-F.Tuple ps) = subst (FormSound n) (sym (rolls-Tuple (pats ps))) (λ at scope bs next h.
     let r = parts-sound n ps scope bs next h in
     let c = r.count in
     subst (PatDone n bs next _) (sym (pat-tuple at scope next (pats ps)))
-    (record { inner = r.inner; binds = Binds.tuple r.binds; agrees = r.agrees; count = omega (arith, c, names-tuple (pats ps)) }))
+    (record {
+      inner = r.inner;
+      bound = r.bound;
+      binds = Binds.tuple r.binds;
+      numbered = r.numbered;
+      agrees = r.agrees;
+      count = omega (arith, c, names-tuple (pats ps));
+    }))
 
 pub pat-sound : (n : ℕ) (p : RawPat) → PatSound n p
 pat-sound n = ind-RawPat (FormSound n) (PatSound n)
@@ -93,4 +119,11 @@ pat-sound n = ind-RawPat (FormSound n) (PatSound n)
     let p : RawPat = record { at = y.at; form = y.form.0 } in
     let r = y.form.1 y.at scope bs next h in
     let c = r.count in
-    subst (PatDone n bs next (names p)) (sym (pat-form p scope next)) (record { inner = r.inner; binds = r.binds; agrees = r.agrees; count = omega (arith, c, names-form p) })))
+    subst (PatDone n bs next (names p)) (sym (pat-form p scope next)) (record {
+      inner = r.inner;
+      bound = r.bound;
+      binds = r.binds;
+      numbered = r.numbered;
+      agrees = r.agrees;
+      count = omega (arith, c, names-form p);
+    })))

@@ -1,5 +1,5 @@
 -- What a tree becomes is sound, and has as many process nodes and binders as the tree.
-use Rattle.std.proofs.Common.{◌≡◌, ℕ, ◌+◌, Option, None, Some, List, ◌∷◌, refl, ◌∙◌, arith}
+use Rattle.std.proofs.Common.{◌≡◌, ℕ, ◌+◌, Option, None, Some, List, [], ◌∷◌, ◌++◌, refl, ◌∙◌, arith}
 use Rattle.np_syntax.specs.declared.types.Ty.{Ty}
 use Rattle.np_syntax.specs.declared.pattern.Pat.{Pat}
 use Rattle.np_syntax.specs.declared.process.Proc.{Proc}
@@ -25,11 +25,12 @@ use Rattle.np_scope.specs.Naming.{Named, meaning_of, meant_at, meant, use_of}
 use Rattle.np_scope.specs.Resolved.{expression, expr_of, exprs_of, Bound, pat_of, next_node, next_both, with_binder, FormIn, two, under, proc_of, proc_form_of}
 use Rattle.np_scope.specs.Resolved.{stop_form, par_form, new_form, out_form, inp_form, rep_form, agent_form, migrate_form, iflocal_form, send_form, post_form}
 use Rattle.np_scope.specs.Resolved.{if_form, let_form, print_form}
-use Rattle.np_scope.specs.Sound.{IsSoundExpr, AreSoundExprs, Binds, IsSoundProc, process, with_next}
+use Rattle.np_scope.specs.Sound.{IsSoundExpr, AreSoundExprs, AreNext, Binds, IsSoundProc, process}
 use Rattle.np_scope.specs.Written.{IsChannelType, HasLiterals, HaveLiterals, IsWritten}
 use Rattle.np_scope.proofs.Outcomes.{All, done, refused, moved, and_then}
 use Rattle.np_scope.proofs.Forms.{expr-form, expr-val, expr-main, expr-var, expr-tuple, expr-bin, proc-form, proc-stop, proc-par, proc-new, proc-out, proc-inp}
 use Rattle.np_scope.proofs.Forms.{proc-rep, proc-agent, proc-migrate, proc-iflocal, proc-send, proc-post, proc-if, proc-let, proc-print}
+use Rattle.np_scope.proofs.Numbering.{next_then}
 use Rattle.np_scope.proofs.PatternsSound.{Fine, Agrees, with-binder, pat-sound}
 
 -- ---- expressions
@@ -66,28 +67,37 @@ mutual
 
 -- what a process becomes is sound, and the numbers behind it are those of its size
 pub record Done (n : ℕ) (bs : List ℕ) (next : Numbers) (p : RawProc) (q : Placed) : Type 0 where
-  pub sound : IsSoundProc n bs next q.proc q.next
+  pub bound : List ℕ
+  pub sound : IsSoundProc n bs next.node q.proc q.next.node bound
+  pub numbered : AreNext next.binder bound q.next.binder
   pub node : q.next.node ≡ next.node + nodes p
   pub binder : q.next.binder ≡ next.binder + binders p
 
 -- the same of a form, at any offset
 record FormDone (n : ℕ) (bs : List ℕ) (next : Numbers) (f : RawProcForm) (r : ProcForm × Numbers) : Type 0 where
-  sound : (at : ℕ) → IsSoundProc n bs next (process next at r.0) r.1
+  bound : List ℕ
+  sound : (at : ℕ) → IsSoundProc n bs next.node (process next.node at r.0) r.1.node bound
+  numbered : AreNext next.binder bound r.1.binder
   node : r.1.node ≡ next.node + form_nodes f
   binder : r.1.binder ≡ next.binder + form_binders f
 
 record TwoDone (n : ℕ) (bs : List ℕ) (next : Numbers) (p q : RawProc) (r : Proc × Proc × Numbers) : Type 0 where
-  mid : Numbers
-  first : IsSoundProc n bs next r.0 mid
-  second : IsSoundProc n bs mid r.1 r.2
+  mid : ℕ
+  xs : List ℕ
+  ys : List ℕ
+  first : IsSoundProc n bs next.node r.0 mid xs
+  second : IsSoundProc n bs mid r.1 r.2.node ys
+  numbered : AreNext next.binder (xs ++ ys) r.2.binder
   node : r.2.node ≡ next.node + (nodes p + nodes q)
   binder : r.2.binder ≡ next.binder + (binders p + binders q)
 
 record UnderDone (n : ℕ) (bs : List ℕ) (next : Numbers) (x : RawPat) (p : RawProc) (r : Pat × Proc × Numbers) : Type 0 where
   inner : List ℕ
-  k : ℕ
-  binds : Binds bs next.binder r.0 inner k
-  body : IsSoundProc n inner (with_next next k) r.1 r.2
+  xs : List ℕ
+  ys : List ℕ
+  binds : Binds bs r.0 inner xs
+  body : IsSoundProc n inner next.node r.1 r.2.node ys
+  numbered : AreNext next.binder (xs ++ ys) r.2.binder
   node : r.2.node ≡ next.node + nodes p
   binder : r.2.binder ≡ next.binder + (names x + binders p)
 
@@ -99,7 +109,7 @@ FormSound n f o = (scope : List Named) (bs : List ℕ) (next : Numbers) → Agre
 
 stop-sound : (n : ℕ) → FormSound n raw.Stop stop_form
 stop-sound n scope bs next h =
-    done (record { sound = λ at. IsSoundProc.stop; node = omega (arith, nodes-stop); binder = omega (arith, binders-stop) })
+    done (record { bound = []; sound = λ at. IsSoundProc.stop; numbered = AreNext.none; node = omega (arith, nodes-stop); binder = omega (arith, binders-stop) })
 
 two-sound : (n : ℕ) (p q : RawProc) → ProcSound n p → ProcSound n q → (scope : List Named) (bs : List ℕ) (next : Numbers) → Agrees n scope bs
     → All (TwoDone n bs next p q) (two (proc_of n p) (proc_of n q) scope next)
@@ -108,7 +118,16 @@ two-sound n p q f g scope bs next h =
     and_then (proc_of n p scope next) (f scope bs next h) (λ x s.
     and_then (proc_of n q scope x.next) (g scope bs x.next h) (λ y t.
     let a = s.node in let b = s.binder in let c = t.node in let d = t.binder in
-    done (record { mid = x.next; first = s.sound; second = t.sound; node = omega (arith, a, c); binder = omega (arith, b, d) })))
+    done (record {
+      mid = x.next.node;
+      xs = s.bound;
+      ys = t.bound;
+      first = s.sound;
+      second = t.sound;
+      numbered = next_then s.numbered t.numbered;
+      node = omega (arith, a, c);
+      binder = omega (arith, b, d);
+    })))
 
 under-sound : (n : ℕ) (x : RawPat) (p : RawProc) → ProcSound n p → (scope : List Named) (bs : List ℕ) (next : Numbers) → Agrees n scope bs
     → All (UnderDone n bs next x p) (under x (proc_of n p) scope next)
@@ -116,9 +135,19 @@ unfolding under
 under-sound n x p f scope bs next h =
     let b : Bound Pat = pat_of x scope next.binder in
     let d = pat-sound n x scope bs next.binder h in
-    and_then (proc_of n p b.scope (with_next next b.next)) (f b.scope d.inner (with_next next b.next) d.agrees) (λ q s.
+    let inside : Numbers = record { node = next.node; binder = b.next } in
+    and_then (proc_of n p b.scope inside) (f b.scope d.inner inside d.agrees) (λ q s.
     let c = d.count in let e = s.binder in
-    done (record { inner = d.inner; k = b.next; binds = d.binds; body = s.sound; node = s.node; binder = omega (arith, c, e) }))
+    done (record {
+      inner = d.inner;
+      xs = d.bound;
+      ys = s.bound;
+      binds = d.binds;
+      body = s.sound;
+      numbered = next_then d.numbered s.numbered;
+      node = s.node;
+      binder = omega (arith, c, e);
+    }))
 
 par-sound : (n : ℕ) (p q : RawProc) → ProcSound n p → ProcSound n q → FormSound n (raw.Par p q) (par_form (proc_of n p) (proc_of n q))
 unfolding par_form
@@ -126,7 +155,9 @@ par-sound n p q f g scope bs next h =
     and_then (two (proc_of n p) (proc_of n q) scope (next_node next)) (two-sound n p q f g scope bs (next_node next) h) (λ r s.
     let a = s.node in let b = s.binder in
     done (record {
+      bound = s.xs ++ s.ys;
       sound = λ at. IsSoundProc.parallel s.first s.second;
+      numbered = s.numbered;
       node = omega (arith, nodes-par p q, a);
       binder = omega (arith, binders-par p q, b);
     }))
@@ -138,7 +169,9 @@ new-sound n c t p is f scope bs next h =
     and_then (proc_of n p inner (next_both next)) (f inner (next.binder ∷ bs) (next_both next) (with-binder n next.binder c.text scope bs h)) (λ x s.
     let a = s.node in let b = s.binder in
     done (record {
+      bound = next.binder ∷ s.bound;
       sound = λ at. IsSoundProc.channel is s.sound;
+      numbered = AreNext.more s.numbered;
       node = omega (arith, nodes-new c t p, a);
       binder = omega (arith, binders-new c t p, b);
     }))
@@ -148,7 +181,7 @@ unfolding out_form
 out-sound n c e l scope bs next h =
     and_then (use_of scope c) (use-sound n scope bs c h) (λ x s.
     and_then (expr_of n e scope) (expr-sound n scope bs h l) (λ y t.
-    done (record { sound = λ at. IsSoundProc.output s t; node = omega (arith, nodes-out c e); binder = omega (arith, binders-out c e) })))
+    done (record { bound = []; sound = λ at. IsSoundProc.output s t; numbered = AreNext.none; node = omega (arith, nodes-out c e); binder = omega (arith, binders-out c e) })))
 
 inp-sound : (n : ℕ) (c : Ident) (x : RawPat) (p : RawProc) → ProcSound n p → FormSound n (raw.Inp c x p) (inp_form c x (proc_of n p))
 unfolding inp_form
@@ -157,7 +190,9 @@ inp-sound n c x p f scope bs next h =
     and_then (under x (proc_of n p) scope (next_node next)) (under-sound n x p f scope bs (next_node next) h) (λ r s.
     let a = s.node in let b = s.binder in
     done (record {
-      sound = λ at. IsSoundProc.input s.k v s.binds s.body;
+      bound = s.xs ++ s.ys;
+      sound = λ at. IsSoundProc.input v s.binds s.body;
+      numbered = s.numbered;
       node = omega (arith, nodes-inp c x p, a);
       binder = omega (arith, binders-inp c x p, b);
     })))
@@ -169,7 +204,9 @@ rep-sound n c x p f scope bs next h =
     and_then (under x (proc_of n p) scope (next_node next)) (under-sound n x p f scope bs (next_node next) h) (λ r s.
     let a = s.node in let b = s.binder in
     done (record {
-      sound = λ at. IsSoundProc.replicated s.k v s.binds s.body;
+      bound = s.xs ++ s.ys;
+      sound = λ at. IsSoundProc.replicated v s.binds s.body;
+      numbered = s.numbered;
       node = omega (arith, nodes-rep c x p, a);
       binder = omega (arith, binders-rep c x p, b);
     })))
@@ -182,7 +219,9 @@ agent-sound n b p q f g scope bs next h =
     and_then (two (proc_of n p) (proc_of n q) inner (next_both next)) (two-sound n p q f g inner (next.binder ∷ bs) (next_both next) agrees) (λ r s.
     let c = s.node in let d = s.binder in
     done (record {
+      bound = next.binder ∷ (s.xs ++ s.ys);
       sound = λ at. IsSoundProc.agent s.first s.second;
+      numbered = AreNext.more s.numbered;
       node = omega (arith, nodes-agent b p q, c);
       binder = omega (arith, binders-agent b p q, d);
     }))
@@ -194,7 +233,9 @@ migrate-sound n e p l f scope bs next h =
     and_then (proc_of n p scope (next_node next)) (f scope bs (next_node next) h) (λ x s.
     let a = s.node in let b = s.binder in
     done (record {
+      bound = s.bound;
       sound = λ at. IsSoundProc.migrate v s.sound;
+      numbered = s.numbered;
       node = omega (arith, nodes-migrate e p, a);
       binder = omega (arith, binders-migrate e p, b);
     })))
@@ -209,7 +250,9 @@ iflocal-sound n b c e p q k l f g scope bs next h =
     and_then (two (proc_of n p) (proc_of n q) scope (next_node next)) (two-sound n p q f g scope bs (next_node next) h) (λ r s.
     let i = s.node in let j = s.binder in
     done (record {
+      bound = s.xs ++ s.ys;
       sound = λ at. IsSoundProc.iflocal u v t s.first s.second;
+      numbered = s.numbered;
       node = omega (arith, nodes-iflocal b c e p q, i);
       binder = omega (arith, binders-iflocal b c e p q, j);
     })))))
@@ -222,7 +265,9 @@ send-sound n b s c e i j l scope bs next h =
     and_then (use_of scope c) (use-sound n scope bs c h) (λ x u.
     and_then (expr_of n e scope) (expr-sound n scope bs h l) (λ y t.
     done (record {
+      bound = [];
       sound = λ at. IsSoundProc.send r q u t;
+      numbered = AreNext.none;
       node = omega (arith, nodes-send b s c e);
       binder = omega (arith, binders-send b s c e);
     })))))
@@ -234,7 +279,9 @@ post-sound n b c e i l scope bs next h =
     and_then (use_of scope c) (use-sound n scope bs c h) (λ x u.
     and_then (expr_of n e scope) (expr-sound n scope bs h l) (λ y t.
     done (record {
+      bound = [];
       sound = λ at. IsSoundProc.post r u t;
+      numbered = AreNext.none;
       node = omega (arith, nodes-post b c e);
       binder = omega (arith, binders-post b c e);
     }))))
@@ -246,7 +293,9 @@ if-sound n e p q l f g scope bs next h =
     and_then (two (proc_of n p) (proc_of n q) scope (next_node next)) (two-sound n p q f g scope bs (next_node next) h) (λ r s.
     let a = s.node in let b = s.binder in
     done (record {
+      bound = s.xs ++ s.ys;
       sound = λ at. IsSoundProc.test v s.first s.second;
+      numbered = s.numbered;
       node = omega (arith, nodes-if e p q, a);
       binder = omega (arith, binders-if e p q, b);
     })))
@@ -258,7 +307,9 @@ let-sound n x e p l f scope bs next h =
     and_then (under x (proc_of n p) scope (next_node next)) (under-sound n x p f scope bs (next_node next) h) (λ r s.
     let a = s.node in let b = s.binder in
     done (record {
-      sound = λ at. IsSoundProc.bind s.k s.binds v s.body;
+      bound = s.xs ++ s.ys;
+      sound = λ at. IsSoundProc.bind s.binds v s.body;
+      numbered = s.numbered;
       node = omega (arith, nodes-let x e p, a);
       binder = omega (arith, binders-let x e p, b);
     })))
@@ -267,7 +318,7 @@ print-sound : (n : ℕ) (e : RawExpr) → HasLiterals e → FormSound n (raw.Pri
 unfolding print_form
 print-sound n e l scope bs next h =
     and_then (expr_of n e scope) (expr-sound n scope bs h l) (λ y v.
-    done (record { sound = λ at. IsSoundProc.print v; node = omega (arith, nodes-print e); binder = omega (arith, binders-print e) }))
+    done (record { bound = []; sound = λ at. IsSoundProc.print v; numbered = AreNext.none; node = omega (arith, nodes-print e); binder = omega (arith, binders-print e) }))
 
 -- a process is done where its form is
 placed-sound : (n at : ℕ) (f : RawProcForm) (o : FormIn) → ((scope : List Named) (next : Numbers) → proc_form_of n f scope next ≡ o scope next)
@@ -277,7 +328,7 @@ placed-sound n at f o is g scope bs next h =
     moved (proc-form n p scope next)
     (and_then (proc_form_of n f scope next) (moved (is scope next) (g scope bs next h)) (λ r d.
     let a = d.node in let b = d.binder in
-    done (record { sound = d.sound at; node = omega (arith, nodes-form p, a); binder = omega (arith, binders-form p, b) })))
+    done (record { bound = d.bound; sound = d.sound at; numbered = d.numbered; node = omega (arith, nodes-form p, a); binder = omega (arith, binders-form p, b) })))
 
 pub proc-sound : (n : ℕ) {p : RawProc} → IsWritten p → ProcSound n p
 proc-sound n (IsWritten.stop {at = at}) =

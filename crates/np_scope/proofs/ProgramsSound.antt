@@ -13,9 +13,10 @@ use Rattle.np_scope.specs.declared.scope.Meaning.{Meaning}
 use Rattle.np_scope.specs.declared.scope.Meaning.TheVariants as meaning
 use Rattle.np_scope.specs.Naming.{Named, meaning_of}
 use Rattle.np_scope.specs.Resolved.{with_site, with_sites, home_at, home_of, first_numbers, proc_of, main_of, resolved}
-use Rattle.np_scope.specs.Sound.{IsSound, IsSoundProc}
+use Rattle.np_scope.specs.Sound.{IsNumbered, IsSound, IsSoundProc}
 use Rattle.np_scope.specs.Written.{IsWritten}
 use Rattle.np_scope.proofs.Outcomes.{All, done, refused, and_then}
+use Rattle.np_scope.proofs.Numbering.{next_below, next_once}
 use Rattle.np_scope.proofs.PatternsSound.{Fine, Agrees, some_of}
 use Rattle.np_scope.proofs.ProcessesSound.{Done, proc-sound}
 
@@ -93,21 +94,29 @@ main-sound tree w =
     and_then (proc_of n tree.main scope first_numbers) (proc-sound n w scope [] first_numbers (agrees n scope r.0)) (λ main d.
     done (record { home = below; few = r.1; main = d }))))
 
-sound-of : (tree : Tree) → nodes tree.main ≤ 16777217 → binders tree.main ≤ 16777217 → IsWritten tree.main → All IsSound (resolved tree)
+sound-of : (tree : Tree) → nodes tree.main ≤ 16777217 → binders tree.main ≤ 16777217 → IsWritten tree.main → All IsNumbered (resolved tree)
 unfolding resolved
 sound-of tree many bound w =
     and_then (main_of tree) (main-sound tree w) (λ m d.
     let e : length tree.sites ≡ length (map (λ site. site.text) tree.sites) = sym (length-map tree.sites (λ site. site.text)) in
     let a = d.few in let b = d.main.node in let c = d.main.binder in
     done (record {
-      after = m.1.next;
-      main = subst (λ n. IsSoundProc n [] first_numbers m.1.proc m.1.next) e d.main.sound;
-      binders = refl;
-      at = subst (λ n. m.0 < n) e d.home;
-      sites = subst (λ n. n ≤ 128) e (omega (arith, a));
-      few_nodes = omega (arith, b, many);
-      few_binders = omega (arith, c, bound);
+      sound = record {
+        bound = d.main.bound;
+        after = m.1.next.node;
+        main = subst (λ n. IsSoundProc n [] 1 m.1.proc m.1.next.node d.main.bound) e d.main.sound;
+        below = next_below d.main.numbered;
+        once = next_once d.main.numbered;
+        at = subst (λ n. m.0 < n) e d.home;
+        sites = subst (λ n. n ≤ 128) e (omega (arith, a));
+        few_nodes = omega (arith, b, many);
+        few_binders = omega (arith, c, bound);
+      };
+      numbered = d.main.numbered;
     }))
 
+pub numbered_where_resolved : (tree : Tree) (p : Program) → nodes tree.main ≤ 16777217 → binders tree.main ≤ 16777217 → IsWritten tree.main → resolved tree ≡ Ok p → IsNumbered p
+numbered_where_resolved tree p many bound w is = (sound-of tree many bound w).each p is
+
 pub sound_where_resolved : (tree : Tree) (p : Program) → nodes tree.main ≤ 16777217 → binders tree.main ≤ 16777217 → IsWritten tree.main → resolved tree ≡ Ok p → IsSound p
-sound_where_resolved tree p many bound w is = (sound-of tree many bound w).each p is
+sound_where_resolved tree p many bound w is = (numbered_where_resolved tree p many bound w is).sound

@@ -1,5 +1,5 @@
 -- A sound process, pattern and expression by its form: what each form's parts are.
-use Rattle.std.proofs.Common.{◌≡◌, ◌<◌, ◌⊎◌, inl, inr, ℕ, ◌+◌, List, ◌∷◌, refl, sym, subst}
+use Rattle.std.proofs.Common.{◌≡◌, ◌<◌, ◌⊎◌, inl, inr, ℕ, ◌+◌, List, [], ◌∷◌, ◌++◌, refl, sym, subst}
 use Rattle.np_syntax.specs.declared.value.Value.{Value}
 use Rattle.np_syntax.specs.declared.value.Value as value
 use Rattle.np_syntax.specs.declared.expression.Expr.{Expr}
@@ -11,9 +11,8 @@ use Rattle.np_syntax.specs.declared.pattern.PatForm.TheVariants as patv
 use Rattle.np_syntax.specs.declared.process.Proc.{Proc}
 use Rattle.np_syntax.specs.declared.process.ProcForm.{ProcForm, ProcForm-F, out-ProcForm}
 use Rattle.np_syntax.specs.declared.process.ProcForm.TheVariants as formv
-use Rattle.np_scope.specs.declared.numbers.Numbers.{Numbers}
-use Rattle.np_scope.specs.Resolved.{main_name, next_node, next_both}
-use Rattle.np_scope.specs.Sound.{Among, IsSoundExpr, AreSoundExprs, Binds, BindAll, IsSoundProc, with_next}
+use Rattle.np_scope.specs.Resolved.{main_name}
+use Rattle.np_scope.specs.Sound.{Among, IsSoundExpr, AreSoundExprs, Binds, BindAll, IsSoundProc}
 use Rattle.np_scope.specs.Written.{IsLiteral, IsChannelType}
 
 -- ---- expressions
@@ -39,57 +38,86 @@ expr-parts n scope (IsSoundExpr.operation {o = o} {a = a} {b = b} g h) = subst (
 
 -- ---- patterns
 
-abbrev pub PatParts : List ℕ → ℕ → List ℕ → ℕ → PatForm-F PatForm Pat → Type 0
-PatParts scope next inner after PatForm-F.Any = (inner ≡ scope) × (after ≡ next)
-PatParts scope next inner after (PatForm-F.Bind x) = (x ≡ next) × (inner ≡ next ∷ scope) × (after ≡ next + 1)
-PatParts scope next inner after (PatForm-F.Tuple ps) = BindAll scope next ps inner after
+abbrev pub PatParts : List ℕ → List ℕ → List ℕ → PatForm-F PatForm Pat → Type 0
+PatParts scope inner bound PatForm-F.Any = (inner ≡ scope) × (bound ≡ [])
+PatParts scope inner bound (PatForm-F.Bind x) = (inner ≡ x ∷ scope) × (bound ≡ x ∷ [])
+PatParts scope inner bound (PatForm-F.Tuple ps) = BindAll scope ps inner bound
 
-pub pat-parts : {scope inner : List ℕ} {next after : ℕ} {p : Pat} → Binds scope next p inner after → PatParts scope next inner after (out-PatForm p.form)
-pat-parts (Binds.any {scope = scope} {next = next}) = subst (PatParts scope next scope next) (sym patv.outs-Any) (refl, refl)
-pat-parts (Binds.name {scope = scope} {next = next}) = subst (PatParts scope next (next ∷ scope) (next + 1)) (sym (patv.outs-Bind next)) (refl, refl, refl)
-pat-parts (Binds.tuple {scope = scope} {inner = inner} {next = next} {after = after} {ps = ps} h) = subst (PatParts scope next inner after) (sym (patv.outs-Tuple ps)) h
+pub pat-parts : {scope inner bound : List ℕ} {p : Pat} → Binds scope p inner bound → PatParts scope inner bound (out-PatForm p.form)
+pat-parts (Binds.any {scope = s}) = subst (PatParts s s []) (sym patv.outs-Any) (refl, refl)
+pat-parts (Binds.name {scope = s} {x = x}) = subst (PatParts s (x ∷ s) (x ∷ [])) (sym (patv.outs-Bind x)) (refl, refl)
+pat-parts (Binds.tuple {scope = s} {inner = inner} {bound = bound} {ps = ps} h) = subst (PatParts s inner bound) (sym (patv.outs-Tuple ps)) h
 
 -- ---- processes
 
-module _ (n : ℕ) (scope : List ℕ) (next after : Numbers) where
+module _ (n : ℕ) (scope : List ℕ) (node after : ℕ) (bound : List ℕ) where
   -- a body in the scope of a pattern's binders
-  abbrev pub BodyParts : Pat → Proc → Type 0
-  BodyParts x p = (inner : List ℕ) × (k : ℕ) × Binds scope next.binder x inner k × IsSoundProc n inner (with_next (next_node next) k) p after
+  pub record BodyParts (x : Pat) (p : Proc) : Type 0 where
+    pub inner : List ℕ
+    pub xs : List ℕ
+    pub ys : List ℕ
+    pub is : bound ≡ xs ++ ys
+    pub binds : Binds scope x inner xs
+    pub body : IsSoundProc n inner (node + 1) p after ys
 
-  -- two parts, one behind the other
-  abbrev pub TwoParts : List ℕ → Numbers → Proc → Proc → Type 0
-  TwoParts inner first p q = (mid : Numbers) × IsSoundProc n inner first p mid × IsSoundProc n inner mid q after
+  -- two parts in this scope, one behind the other, which bind these binders
+  pub record TwoParts (inner binders : List ℕ) (p q : Proc) : Type 0 where
+    pub mid : ℕ
+    pub xs : List ℕ
+    pub ys : List ℕ
+    pub is : binders ≡ xs ++ ys
+    pub first : IsSoundProc n inner (node + 1) p mid xs
+    pub second : IsSoundProc n inner mid q after ys
+
+  -- no process in it, and no binder
+  abbrev pub NoParts : Type 0
+  NoParts = (after ≡ node + 1) × (bound ≡ [])
 
   abbrev pub ProcParts : ProcForm-F ProcForm Proc → Type 0
-  ProcParts ProcForm-F.Stop = after ≡ next_node next
-  ProcParts (ProcForm-F.Par p q) = TwoParts scope (next_node next) p q
-  ProcParts (ProcForm-F.New c t p) = (c ≡ next.binder) × IsChannelType t × IsSoundProc n (c ∷ scope) (next_both next) p after
-  ProcParts (ProcForm-F.Out c e) = (after ≡ next_node next) × IsSoundExpr n scope c × IsSoundExpr n scope e
+  ProcParts ProcForm-F.Stop = NoParts
+  ProcParts (ProcForm-F.Par p q) = TwoParts scope bound p q
+  ProcParts (ProcForm-F.New c t p) = (xs : List ℕ) × (bound ≡ c ∷ xs) × IsChannelType t × IsSoundProc n (c ∷ scope) (node + 1) p after xs
+  ProcParts (ProcForm-F.Out c e) = NoParts × IsSoundExpr n scope c × IsSoundExpr n scope e
   ProcParts (ProcForm-F.Inp c x p) = IsSoundExpr n scope c × BodyParts x p
   ProcParts (ProcForm-F.Rep c x p) = IsSoundExpr n scope c × BodyParts x p
-  ProcParts (ProcForm-F.Agent b p q) = (b ≡ next.binder) × TwoParts (b ∷ scope) (next_both next) p q
-  ProcParts (ProcForm-F.Migrate s p) = IsSoundExpr n scope s × IsSoundProc n scope (next_node next) p after
-  ProcParts (ProcForm-F.IfLocal b c e p q) = IsSoundExpr n scope b × IsSoundExpr n scope c × IsSoundExpr n scope e × TwoParts scope (next_node next) p q
-  ProcParts (ProcForm-F.Send b s c e) = (after ≡ next_node next) × IsSoundExpr n scope b × IsSoundExpr n scope s × IsSoundExpr n scope c × IsSoundExpr n scope e
-  ProcParts (ProcForm-F.Post b c e) = (after ≡ next_node next) × IsSoundExpr n scope b × IsSoundExpr n scope c × IsSoundExpr n scope e
-  ProcParts (ProcForm-F.If e p q) = IsSoundExpr n scope e × TwoParts scope (next_node next) p q
+  ProcParts (ProcForm-F.Agent b p q) = (xs : List ℕ) × (bound ≡ b ∷ xs) × TwoParts (b ∷ scope) xs p q
+  ProcParts (ProcForm-F.Migrate s p) = IsSoundExpr n scope s × IsSoundProc n scope (node + 1) p after bound
+  ProcParts (ProcForm-F.IfLocal b c e p q) = IsSoundExpr n scope b × IsSoundExpr n scope c × IsSoundExpr n scope e × TwoParts scope bound p q
+  ProcParts (ProcForm-F.Send b s c e) = NoParts × IsSoundExpr n scope b × IsSoundExpr n scope s × IsSoundExpr n scope c × IsSoundExpr n scope e
+  ProcParts (ProcForm-F.Post b c e) = NoParts × IsSoundExpr n scope b × IsSoundExpr n scope c × IsSoundExpr n scope e
+  ProcParts (ProcForm-F.If e p q) = IsSoundExpr n scope e × TwoParts scope bound p q
   ProcParts (ProcForm-F.Let x e p) = IsSoundExpr n scope e × BodyParts x p
-  ProcParts (ProcForm-F.Print e) = (after ≡ next_node next) × IsSoundExpr n scope e
+  ProcParts (ProcForm-F.Print e) = NoParts × IsSoundExpr n scope e
   ProcParts (ProcForm-F.Open e) = ⊥
   ProcParts (ProcForm-F.Lookup a m x p q) = ⊥
 
-pub proc-parts : (n : ℕ) {scope : List ℕ} {next after : Numbers} {p : Proc} → IsSoundProc n scope next p after → ProcParts n scope next after (out-ProcForm p.form)
-proc-parts n (IsSoundProc.stop {scope = s} {next = x}) = subst (ProcParts n s x (next_node x)) (sym formv.outs-Stop) refl
-proc-parts n (IsSoundProc.parallel {scope = s} {next = x} {mid = z} {after = y} {p = p} {q = q} g h) = subst (ProcParts n s x y) (sym (formv.outs-Par p q)) (z, g, h)
-proc-parts n (IsSoundProc.channel {scope = s} {next = x} {after = y} {t = t} {p = p} g h) = subst (ProcParts n s x y) (sym (formv.outs-New x.binder t p)) (refl, g, h)
-proc-parts n (IsSoundProc.output {scope = s} {next = x} {c = c} {e = e} g h) = subst (ProcParts n s x (next_node x)) (sym (formv.outs-Out c e)) (refl, g, h)
-proc-parts n (IsSoundProc.input {scope = s} {inner = w} {next = x} {after = y} {c = c} {x = r} {p = p} k f g h) = subst (ProcParts n s x y) (sym (formv.outs-Inp c r p)) (f, (w, k, g, h))
-proc-parts n (IsSoundProc.replicated {scope = s} {inner = w} {next = x} {after = y} {c = c} {x = r} {p = p} k f g h) = subst (ProcParts n s x y) (sym (formv.outs-Rep c r p)) (f, (w, k, g, h))
-proc-parts n (IsSoundProc.agent {scope = s} {next = x} {mid = z} {after = y} {p = p} {q = q} g h) = subst (ProcParts n s x y) (sym (formv.outs-Agent x.binder p q)) (refl, (z, g, h))
-proc-parts n (IsSoundProc.migrate {scope = s} {next = x} {after = y} {s = e} {p = p} g h) = subst (ProcParts n s x y) (sym (formv.outs-Migrate e p)) (g, h)
-proc-parts n (IsSoundProc.iflocal {scope = s} {next = x} {mid = z} {after = y} {b = b} {c = c} {e = e} {p = p} {q = q} d f i g h) = subst (ProcParts n s x y) (sym (formv.outs-IfLocal b c e p q)) (d, f, i, (z, g, h))
-proc-parts n (IsSoundProc.send {scope = s} {next = x} {b = b} {s = t} {c = c} {e = e} d f g h) = subst (ProcParts n s x (next_node x)) (sym (formv.outs-Send b t c e)) (refl, d, f, g, h)
-proc-parts n (IsSoundProc.post {scope = s} {next = x} {b = b} {c = c} {e = e} d g h) = subst (ProcParts n s x (next_node x)) (sym (formv.outs-Post b c e)) (refl, d, g, h)
-proc-parts n (IsSoundProc.test {scope = s} {next = x} {mid = z} {after = y} {e = e} {p = p} {q = q} f g h) = subst (ProcParts n s x y) (sym (formv.outs-If e p q)) (f, (z, g, h))
-proc-parts n (IsSoundProc.bind {scope = s} {inner = w} {next = x} {after = y} {x = r} {e = e} {p = p} k g f h) = subst (ProcParts n s x y) (sym (formv.outs-Let r e p)) (f, (w, k, g, h))
-proc-parts n (IsSoundProc.print {scope = s} {next = x} {e = e} g) = subst (ProcParts n s x (next_node x)) (sym (formv.outs-Print e)) (refl, g)
+pub proc-parts : (n : ℕ) {scope bound : List ℕ} {node after : ℕ} {p : Proc} → IsSoundProc n scope node p after bound
+    → ProcParts n scope node after bound (out-ProcForm p.form)
+proc-parts n (IsSoundProc.stop {scope = s} {node = x}) =
+    subst (ProcParts n s x (x + 1) []) (sym formv.outs-Stop) (refl, refl)
+proc-parts n (IsSoundProc.parallel {scope = s} {xs = xs} {ys = ys} {node = x} {mid = z} {after = y} {p = p} {q = q} g h) =
+    subst (ProcParts n s x y (xs ++ ys)) (sym (formv.outs-Par p q)) (record { mid = z; xs = xs; ys = ys; is = refl; first = g; second = h })
+proc-parts n (IsSoundProc.channel {scope = s} {xs = xs} {node = x} {after = y} {c = c} {t = t} {p = p} g h) =
+    subst (ProcParts n s x y (c ∷ xs)) (sym (formv.outs-New c t p)) (xs, refl, g, h)
+proc-parts n (IsSoundProc.output {scope = s} {node = x} {c = c} {e = e} g h) =
+    subst (ProcParts n s x (x + 1) []) (sym (formv.outs-Out c e)) ((refl, refl), g, h)
+proc-parts n (IsSoundProc.input {scope = s} {inner = w} {xs = xs} {ys = ys} {node = x} {after = y} {c = c} {x = r} {p = p} f b h) =
+    subst (ProcParts n s x y (xs ++ ys)) (sym (formv.outs-Inp c r p)) (f, record { inner = w; xs = xs; ys = ys; is = refl; binds = b; body = h })
+proc-parts n (IsSoundProc.replicated {scope = s} {inner = w} {xs = xs} {ys = ys} {node = x} {after = y} {c = c} {x = r} {p = p} f b h) =
+    subst (ProcParts n s x y (xs ++ ys)) (sym (formv.outs-Rep c r p)) (f, record { inner = w; xs = xs; ys = ys; is = refl; binds = b; body = h })
+proc-parts n (IsSoundProc.agent {scope = s} {xs = xs} {ys = ys} {node = x} {mid = z} {after = y} {b = b} {p = p} {q = q} g h) =
+    subst (ProcParts n s x y (b ∷ (xs ++ ys))) (sym (formv.outs-Agent b p q)) (xs ++ ys, refl, record { mid = z; xs = xs; ys = ys; is = refl; first = g; second = h })
+proc-parts n (IsSoundProc.migrate {scope = s} {xs = xs} {node = x} {after = y} {s = e} {p = p} g h) =
+    subst (ProcParts n s x y xs) (sym (formv.outs-Migrate e p)) (g, h)
+proc-parts n (IsSoundProc.iflocal {scope = s} {xs = xs} {ys = ys} {node = x} {mid = z} {after = y} {b = b} {c = c} {e = e} {p = p} {q = q} d f i g h) =
+    subst (ProcParts n s x y (xs ++ ys)) (sym (formv.outs-IfLocal b c e p q)) (d, f, i, record { mid = z; xs = xs; ys = ys; is = refl; first = g; second = h })
+proc-parts n (IsSoundProc.send {scope = s} {node = x} {b = b} {s = t} {c = c} {e = e} d f g h) =
+    subst (ProcParts n s x (x + 1) []) (sym (formv.outs-Send b t c e)) ((refl, refl), d, f, g, h)
+proc-parts n (IsSoundProc.post {scope = s} {node = x} {b = b} {c = c} {e = e} d g h) =
+    subst (ProcParts n s x (x + 1) []) (sym (formv.outs-Post b c e)) ((refl, refl), d, g, h)
+proc-parts n (IsSoundProc.test {scope = s} {xs = xs} {ys = ys} {node = x} {mid = z} {after = y} {e = e} {p = p} {q = q} f g h) =
+    subst (ProcParts n s x y (xs ++ ys)) (sym (formv.outs-If e p q)) (f, record { mid = z; xs = xs; ys = ys; is = refl; first = g; second = h })
+proc-parts n (IsSoundProc.bind {scope = s} {inner = w} {xs = xs} {ys = ys} {node = x} {after = y} {x = r} {e = e} {p = p} b f h) =
+    subst (ProcParts n s x y (xs ++ ys)) (sym (formv.outs-Let r e p)) (f, record { inner = w; xs = xs; ys = ys; is = refl; binds = b; body = h })
+proc-parts n (IsSoundProc.print {scope = s} {node = x} {e = e} g) =
+    subst (ProcParts n s x (x + 1) []) (sym (formv.outs-Print e)) ((refl, refl), g)

@@ -6,7 +6,7 @@ ghost use Rattle.np_scope.specs.declared.fail.ScopeFail.TheVariants as fail;
 ghost use Rattle.np_scope.specs.Counting.{ProcFits};
 ghost use Rattle.np_scope.specs.Resolved.{first_numbers, resolved, main_of};
 ghost use Rattle.np_scope.specs.Outcomes.{Gives};
-ghost use Rattle.np_scope.specs.Sound.{IsSound};
+ghost use Rattle.np_scope.specs.Sound.{IsNumbered, IsSound};
 ghost use Rattle.np_scope.specs.Written.{IsWritten};
 
 use super::fail::ScopeFail;
@@ -58,6 +58,7 @@ pub fn resolve(alloc: Global, tree: &Tree) -> Result<Program, ScopeFail>
     ensures found { IfOk result (λ program. resolved tree.now ≡ Ok program) }
     ensures refused { IfErr result (λ e. ¬ (e ≡ fail.Memory) → resolved tree.now ≡ Err e) }
     ensures sound { IfOk result IsSound }
+    ensures numbered { IfOk result IsNumbered }
 {
     let sites = texts(alloc, tree.sites.as_slice())?;
     let (at, main) = main_alone(alloc, tree)?;
