@@ -15,15 +15,14 @@ use Rattle.np_calculus.specs.declared.config.Atom.{Atom}
 use Rattle.np_calculus.specs.declared.config.Place.{Place}
 use Rattle.np_calculus.specs.declared.config.Place.TheVariants as place
 use Rattle.np_eval.specs.Eval.{Env, eval, bind, chan_of}
-use Rattle.np_eval.specs.Forms.{as_print, as_inp}
-use Rattle.np_calculus.specs.Reductions.{acting, apply, sends, offered, rep_row, depart_row, arrive_row}
+use Rattle.np_eval.specs.FormParts.{as_print, as_inp}
+use Rattle.np_calculus.specs.Reductions.{apply, sends, act, arrive_row}
+use Rattle.np_calculus.specs.Seen.{acting, offered}
 use Rattle.np_calculus.specs.Examples.{constant, number, prints, process, gives_five, prints_it, it, takes_it, keeps_taking, leaves, atom, agent_with, one, two, event, TwoPrints, Communication, Replication, Migration}
 use Rattle.np_eval.proofs.Evals.{eval-form, eval-val}
 use Rattle.np_eval.proofs.Binds.{bind-form, bind-bind}
-use Rattle.np_calculus.proofs.Steps.{step-print, step-comm, step-offered}
-
-same_site : (s : ℕ) → nat_eq s s ≡ true
-same_site s = eq-eqb s s refl
+use Rattle.np_calculus.proofs.Steps.{same_site, same-offer, step-offered}
+use Rattle.np_calculus.proofs.Inversions.{step-print, step-comm}
 
 constant-is : (v : Value) (env : Env) → eval (constant v) env ≡ Some v
 constant-is v env = rw (eval-form (constant v) env, eval-val v env) refl
@@ -42,13 +41,13 @@ second_there j k x y = put_here (one j x) k y
 -- an atom that prints a number says it at its site, and is gone
 printed : (n s i : ℕ) (a j : Name) (atoms : NameMap Atom) (said : List (ℕ × Value)) → map.get atoms j ≡ Some (atom a (prints i) map.empty)
     → apply (record (agent_with n (place.At s) a atoms) { said = said }) (event s kind.Print j None) ≡ Some (record (agent_with n (place.At s) a (map.remove atoms j)) { said = said ++ (s, number i) ∷ [] })
-printed n s i a j atoms said there = step-print _ _ _ (record {
+printed n s i a j atoms said there = step-print (record (agent_with n (place.At s) a atoms) { said = said }) (event s kind.Print j None) _ (record {
   atom = atom a (prints i) map.empty;
   acts = acts_here n s kind.Print a j (prints i) map.empty atoms None there;
   expr = constant (number i);
-  form = ap as_print (outs-Print (constant (number i)));
+  form = outs-Print (constant (number i));
   value = number i;
-  says = constant-is (number i) map.empty;
+  gives = constant-is (number i) map.empty;
   made = refl;
   lone = refl;
   is = refl;
@@ -93,11 +92,13 @@ binds_it : (x : ℕ) (v : Value) (env : Env) → bind (it x) v env ≡ Some (map
 binds_it x v env = rw (bind-form (it x) v env, bind-bind x v env) refl
 
 pub communication : Communication
-communication n s x a c j k apart = step-comm _ _ _ (record {
+communication n s x a c j k apart = step-comm (agent_with n (place.At s) a (two j k (atom a (gives_five c) map.empty) (atom a (takes_it c x) map.empty))) (event s kind.Comm k (Some j)) _ (record {
   atom = atom a (takes_it c x) map.empty;
   acts = acts_here n s kind.Comm a k (takes_it c x) map.empty _ (Some j) (second_there j k _ _);
-  parts = (constant (value.Chan c), it x, process (prints_it x));
-  form = ap as_inp (outs-Inp (constant (value.Chan c)) (it x) (process (prints_it x)));
+  from = constant (value.Chan c);
+  pat = it x;
+  body = process (prints_it x);
+  form = outs-Inp (constant (value.Chan c)) (it x) (process (prints_it x));
   chan = c;
   on = on_chan c map.empty;
   mark = j;
@@ -115,7 +116,7 @@ first_changed : (j k : Name) (x y z : Atom) → same_name j k ≡ false → map.
 first_changed j k x y z apart = rw (put-swap {X = Atom} map.empty j k x y apart, put-put (one k y) j x z) (sym (put-swap {X = Atom} map.empty j k z y apart))
 
 pub replication : Replication
-unfolding rep_row
+unfolding act
 replication n s x a c j k apart =
     let from = constant (value.Chan c) in
     let y = atom a (keeps_taking c x) map.empty in
@@ -123,7 +124,9 @@ replication n s x a c j k apart =
       acts_here n s kind.Rep a k (keeps_taking c x) map.empty _ (Some j) (second_there j k (atom a (gives_five c) map.empty) y),
       outs-Rep from (it x) (process (prints_it x)),
       on_chan c map.empty,
-      offered_five n s a c j k y apart,
+      same-offer (agent_with n (place.At s) a (two j k (atom a (gives_five c) map.empty) y)) (event s kind.Rep k (Some j)) y j c
+          (acts_here n s kind.Rep a k (keeps_taking c x) map.empty _ (Some j) (second_there j k (atom a (gives_five c) map.empty) y))
+          ∙ offered_five n s a c j k y apart,
       binds_it x (number 5) map.empty,
       first_changed j k (atom a (gives_five c) map.empty) y (atom a (prints_it x) (map.insert map.empty x (number 5))) apart,
     )
@@ -131,7 +134,7 @@ replication n s x a c j k apart =
 
 departed : (n s t : ℕ) (a j : Name) (f : ProcForm) → nat_lt t n ≡ true
     → apply (agent_with n (place.At s) a (one j (atom a (leaves t f) map.empty))) (event s kind.Depart j None) ≡ Some (agent_with n (place.Way t) a (one j (atom a f map.empty)))
-unfolding depart_row
+unfolding act
 departed n s t a j f h =
     rw (
       acts_here n s kind.Depart a j (leaves t f) map.empty _ None (put_here {X = Atom} map.empty j (atom a (leaves t f) map.empty)),

@@ -10,7 +10,8 @@ use Rattle.np_tables.proofs.Tables.{get-none, put_cases, put_there}
 use Rattle.np_calculus.specs.declared.config.Place.TheVariants as place
 use Rattle.np_calculus.specs.Agents.{OwnAgents}
 use Rattle.np_calculus.specs.Config.{Config}
-use Rattle.np_calculus.specs.Idle.{IsHoused}
+use Rattle.np_calculus.specs.Parts.{IsLodged}
+use Rattle.np_calculus.specs.Sight.{inside}
 use Rattle.np_calculus.specs.Starts.{start_high, main_agent, main_mark, first_atom}
 use Rattle.np_calculus.specs.Reductions.{apply, run}
 use Rattle.np_calculus.proofs.HousedKept.{Housed, kept-at}
@@ -41,7 +42,7 @@ start-housed p own =
     }
 
 -- where main's process names no agent but main, the agent of each atom has a place along each run
-pub housed-along : (p : Program) → OwnAgents p → (events : List Event) (d : Config) → run (start_high p) events ≡ Some d → IsHoused d
+pub housed-along : (p : Program) → OwnAgents p → (events : List Event) (d : Config) → run (start_high p) events ≡ Some d → IsLodged (inside d)
 housed-along p own events d h =
     let k = kept-run events (start_high p) d (start-housed p own) h in
     record { each = λ m a is. (k.atoms m a is).agent }

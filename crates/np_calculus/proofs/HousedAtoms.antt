@@ -19,9 +19,11 @@ use Rattle.np_calculus.specs.Agents.{Agents}
 use Rattle.np_calculus.specs.Config.{Config}
 use Rattle.np_eval.specs.Eval.{Env, eval, chan_of}
 use Rattle.np_eval.specs.Forms.{layer, as_out}
-use Rattle.np_calculus.specs.Reductions.{goes, goes_under, sends, offered, output, output_in, found_on}
+use Rattle.np_calculus.specs.Reductions.{goes, goes_under, sends, output, output_in, found_on}
+use Rattle.np_calculus.specs.Seen.{offered}
+use Rattle.np_eval.proofs.FormsByParts.{out-form}
 use Rattle.np_calculus.proofs.Steps.{offered-step}
-use Rattle.np_calculus.proofs.AgentForms.{Each, OfProc, of-proc, both-parts, out-parts}
+use Rattle.np_calculus.proofs.AgentForms.{Each, OfProc, of-proc, of-layer, both-parts, last-part}
 use Rattle.np_calculus.proofs.AgentValues.{OfValue, OfEnv, chan-fits, eval-fits, env-put, expr_value}
 
 -- the agent has a place
@@ -86,7 +88,7 @@ module _ (P : Name → Type 0) where
   sends-fits a s t h =
       then (as_out (layer a.proc)) _ h λ parts form h. then (chan_of parts.0 a.env) _ h λ n on h. then (eval parts.1 a.env) _ h λ v gives h.
       let same : s ≡ (n, v) = done h in
-      rw same (eval-fits P a.env t.env parts.1 v gives (out-parts P a.proc parts form t.proc))
+      rw same (eval-fits P a.env t.env parts.1 v gives (last-part P _ _ (of-layer P a.proc _ (out-form (layer a.proc) parts form) t.proc)))
 
   -- what the atom of a mark offers on a channel
   pub offered-fits : (c : Config) (mark agent chan : Name) (v : Value) → OfAtoms c.atoms → offered c mark agent chan ≡ Some v → OfValue P v

@@ -1,110 +1,135 @@
--- What each row says of the configurations before and after its event, both ways.
-use Rattle.std.proofs.Common.{◌≡◌, ℕ, true, [], ◌∷◌, ◌++◌, Option, Some, nat_eq, refl, ap, sym}
+-- What a row that is met says of its change, its new names and its acting atom.
+use Rattle.std.proofs.Common.{◌≡◌, ℕ, Bool, true, false, not, ◌&&◌, Option, None, Some, nat_eq, refl, ap, sym, subst, ◌∙◌, eq-eqb}
+use Rattle.std.proofs.lemmas.Bool.{eqb-true}
 use Rattle.std.specs.FinMap as map
 use Rattle.std.specs.FinSet as set
 use Rattle.np_syntax.specs.declared.value.Name.{Name}
-use Rattle.np_syntax.specs.declared.value.Value.{Value, out-Value}
-use Rattle.np_syntax.specs.declared.value.Value as value
-use Rattle.np_syntax.specs.declared.types.Ty.{Ty}
-use Rattle.np_syntax.specs.declared.expression.Expr.{Expr}
-use Rattle.np_syntax.specs.declared.pattern.Pat.{Pat}
-use Rattle.np_syntax.specs.declared.process.Proc.{Proc}
+use Rattle.np_syntax.specs.declared.value.Value.{Value}
 use Rattle.np_syntax.specs.declared.event.Event.{Event}
-use Rattle.np_syntax.specs.Options.{◌>>=◌}
-use Rattle.np_tables.specs.Names.{same_name}
+use Rattle.np_syntax.specs.declared.event.Kind.{Kind}
+use Rattle.np_syntax.specs.declared.event.Made.{Made}
+use Rattle.np_syntax.specs.declared.event.Made.TheVariants as made
+use Rattle.np_syntax.specs.Options.{◌>>=◌, ◌>>◌, need}
+use Rattle.np_tables.specs.Names.{NameSet, same_name}
 use Rattle.np_syntax.proofs.Options.{then, when, done}
+use Rattle.np_tables.proofs.Tables.{same_name-is}
 use Rattle.np_calculus.specs.declared.config.Atom.{Atom}
 use Rattle.np_calculus.specs.declared.config.Place.{Place}
+use Rattle.np_calculus.specs.declared.config.Place.TheVariants as place
+use Rattle.np_calculus.specs.Changes.{Change, effect, with_made}
+use Rattle.np_calculus.specs.Sight.{Sight, inside, sight, at_site}
 use Rattle.np_calculus.specs.Config.{Config}
-use Rattle.np_eval.specs.Eval.{Env, eval, bind, chan_of}
-use Rattle.np_eval.specs.Forms.{Layer, layer, as_stop, as_par, as_new, as_inp, as_rep, as_print}
-use Rattle.np_syntax.specs.declared.process.ProcForm.{ProcForm-F}
-use Rattle.np_calculus.specs.Moves.{body_at}
-use Rattle.np_calculus.specs.Reductions.{acting, at, same_tag, none_made, one_made, no_other, fresh, goes, goes_under, sends, offered, stop_row, fork_row, new_row, comm_row, rep_row, print_row}
+use Rattle.np_calculus.specs.Reductions.{same_tag, none_made, one_made, two_made, sends, offered_in, are_new, change, row}
+use Rattle.np_calculus.specs.Seen.{acting, fresh, is_at, offered}
+
+-- ---- the names that are made
+
+module _ (born : NameSet) where
+  pub none-new : (x : Made) (u : Unit {0}) → none_made x ≡ Some u → are_new born x ≡ true
+  none-new made.Nothing u h = refl
+  none-new _ u h = absurd cc
+
+  pub none-with : (x : Made) (u : Unit {0}) → none_made x ≡ Some u → with_made born x ≡ born
+  none-with made.Nothing u h = refl
+  none-with _ u h = absurd cc
+
+  pub one-new : (x : Made) (m : Name) → one_made x ≡ Some m → are_new born x ≡ not (set.contains born m)
+  one-new (made.One n) m h = ap (λ m. not (set.contains born m)) (sym (done h))
+  one-new _ m h = absurd cc
+
+  pub one-with : (x : Made) (m : Name) → one_made x ≡ Some m → with_made born x ≡ set.insert born m
+  one-with (made.One n) m h = ap (set.insert born) (sym (done h))
+  one-with _ m h = absurd cc
+
+  pub two-new : (x : Made) (m : Name × Name) → two_made x ≡ Some m
+      → are_new born x ≡ (not (same_name m.0 m.1) && (not (set.contains born m.0) && not (set.contains born m.1)))
+  two-new (made.Two n o) m h =
+      ap (λ (m : Name × Name). not (same_name m.0 m.1) && (not (set.contains born m.0) && not (set.contains born m.1))) (sym (done h))
+  two-new _ m h = absurd cc
+
+  pub two-with : (x : Made) (m : Name × Name) → two_made x ≡ Some m → with_made born x ≡ set.insert (set.insert born m.0) m.1
+  two-with (made.Two n o) m h = ap (λ (m : Name × Name). set.insert (set.insert born m.0) m.1) (sym (done h))
+  two-with _ m h = absurd cc
+
+and_parts : (a b : Bool) → (a && b) ≡ true → (a ≡ true) × (b ≡ true)
+and_parts true b h = (refl, h)
+and_parts false b h = absurd cc
+
+pub need-met : (t : Bool) (u : Unit {0}) → need t ≡ Some u → t ≡ true
+need-met true u h = refl
+need-met false u h = absurd cc
+
+module _ (c : Config) (e : Event) (d : Config) where
+  -- a row that is met gives a change, whose names are new, and its effect
+  pub record RowStep (k : Kind) : Type 0 where
+    pub made : Change
+    pub gives : change k c.sites (inside c) e ≡ Some made
+    pub new : are_new c.born e.made ≡ true
+    pub is : d ≡ effect c e made
+
+  pub row-step : (k : Kind) → row k c e ≡ Some d → RowStep k
+  row-step k h = then (change k c.sites (inside c) e) _ h λ x gives h. when (are_new c.born e.made) _ h λ new h. record { made = x; gives = gives; new = new; is = done h }
+
+  -- the effect of a change that makes no name, one or two
+  pub none-is : (x y : Change) → none_made e.made ≡ Some tt → Some y ≡ Some x → d ≡ effect c e x → d ≡ record (effect c e y) { born = c.born }
+  none-is x y made same is =
+      is ∙ ap (λ b. record (effect c e x) { born = b }) (none-with c.born e.made tt made) ∙ ap (λ z. record (effect c e z) { born = c.born }) (done same)
+
+  pub one-is : (x y : Change) (m : Name) → one_made e.made ≡ Some m → Some y ≡ Some x → d ≡ effect c e x → d ≡ record (effect c e y) { born = set.insert c.born m }
+  one-is x y m made same is =
+      is ∙ ap (λ b. record (effect c e x) { born = b }) (one-with c.born e.made m made) ∙ ap (λ z. record (effect c e z) { born = set.insert c.born m }) (done same)
+
+  pub two-is : (x y : Change) (m : Name × Name) → two_made e.made ≡ Some m → Some y ≡ Some x → d ≡ effect c e x
+      → d ≡ record (effect c e y) { born = set.insert (set.insert c.born m.0) m.1 }
+  two-is x y m made same is =
+      is ∙ ap (λ b. record (effect c e x) { born = b }) (two-with c.born e.made m made)
+      ∙ ap (λ z. record (effect c e z) { born = set.insert (set.insert c.born m.0) m.1 }) (done same)
+
+  pub one-fresh : (m : Name) → one_made e.made ≡ Some m → are_new c.born e.made ≡ true → fresh c m ≡ Some tt
+  one-fresh m made new = ap need (sym (one-new c.born e.made m made) ∙ new)
+
+  pub record TwoFresh (m : Name × Name) : Type 0 where
+    pub differ : not (same_name m.0 m.1) ≡ true
+    pub first : fresh c m.0 ≡ Some tt
+    pub second : fresh c m.1 ≡ Some tt
+
+  pub two-fresh : (m : Name × Name) → two_made e.made ≡ Some m → are_new c.born e.made ≡ true → TwoFresh m
+  two-fresh m made new =
+      let h = and_parts _ _ (sym (two-new c.born e.made m made) ∙ new) in
+      let k = and_parts _ _ h.1 in
+      record { differ = h.0; first = ap need k.0; second = ap need k.1 }
+
+-- ---- the acting atom
+
+-- a site is itself
+pub same_site : (s : ℕ) → nat_eq s s ≡ true
+same_site s = eq-eqb s s refl
+
+pub at_site-is : (o : Option Place) (s : ℕ) → at_site o s ≡ true → o ≡ Some (place.At s)
+at_site-is (Some (place.At t)) s h = ap (λ t. Some (place.At t)) (eqb-true t s h)
+at_site-is _ s h = absurd cc
 
 pub record Acts (c : Config) (e : Event) (a : Atom) : Type 0 where
   pub there : map.get c.atoms e.actor ≡ Some a
-  pub place : Place
-  pub lies : map.get c.places a.agent ≡ Some place
-  pub site : ℕ
-  pub stands : at place ≡ Some site
-  pub here : nat_eq site e.site ≡ true
+  pub stands : map.get c.places a.agent ≡ Some (place.At e.site)
   pub tag : same_tag a.proc.tag e.tag ≡ true
 
 pub acting-step : (c : Config) (e : Event) (a : Atom) → acting c e ≡ Some a → Acts c e a
 acting-step c e a h =
-    then _ _ h λ b there h. then _ _ h λ p lies h. then _ _ h λ s stands h. when _ _ h λ here h. when _ _ h λ tag h.
-    let same : a ≡ b = done h in
-    rw same (record { there = there; place = p; lies = lies; site = s; stands = stands; here = here; tag = tag })
+    then ((sight c.sites (inside c) e.site).atom e.actor) _ h λ x found h. when (same_tag x.proc.tag e.tag) _ h λ tag h.
+    then (map.get c.atoms e.actor) _ found λ b there found. when (is_at c b.agent e.site) _ found λ here found.
+    let same : a ≡ b = done h ∙ done found in
+    let again : x ≡ b = done found in
+    rw same (record {
+      there = there;
+      stands = at_site-is (map.get c.places b.agent) e.site here;
+      tag = subst (λ (y : Atom). same_tag y.proc.tag e.tag ≡ true) again tag;
+    })
 
 pub step-acting : (c : Config) (e : Event) (a : Atom) → Acts c e a → acting c e ≡ Some a
-step-acting c e a s = rw (s.there, s.lies, s.stands, s.here, s.tag) refl
+step-acting c e a s = rw (s.there, s.stands, same_site e.site, s.tag) refl
 
-pub record Stops (c : Config) (e : Event) (d : Config) : Type 0 where
-  pub atom : Atom
-  pub acts : acting c e ≡ Some atom
-  pub form : as_stop (layer atom.proc) ≡ Some tt
-  pub made : none_made e.made ≡ Some tt
-  pub lone : no_other e.other ≡ Some tt
-  pub is : d ≡ record c { atoms = map.remove c.atoms e.actor }
-
-pub stop-step : (c : Config) (e : Event) (d : Config) → stop_row c e ≡ Some d → Stops c e d
-unfolding stop_row
-stop-step c e d h =
-    then _ _ h λ a acts h. then _ _ h λ p form h. then _ _ h λ m made h. then _ _ h λ l lone h.
-    record { atom = a; acts = acts; form = form; made = made; lone = lone; is = done h }
-
-pub step-stop : (c : Config) (e : Event) (d : Config) → Stops c e d → stop_row c e ≡ Some d
-unfolding stop_row
-step-stop c e d s = rw (s.acts, s.form, s.made, s.lone) (ap Some (sym s.is))
-
-pub record Forks (c : Config) (e : Event) (d : Config) : Type 0 where
-  pub atom : Atom
-  pub acts : acting c e ≡ Some atom
-  pub parts : Proc × Proc
-  pub form : as_par (layer atom.proc) ≡ Some parts
-  pub mark : Name
-  pub made : one_made e.made ≡ Some mark
-  pub lone : no_other e.other ≡ Some tt
-  pub new : fresh c mark ≡ Some tt
-  pub is : d ≡ record c {
-    atoms = map.insert (map.insert c.atoms mark (goes atom parts.1)) e.actor (goes atom parts.0);
-    born = set.insert c.born mark;
-  }
-
-pub fork-step : (c : Config) (e : Event) (d : Config) → fork_row c e ≡ Some d → Forks c e d
-unfolding fork_row
-fork-step c e d h =
-    then _ _ h λ a acts h. then _ _ h λ p form h. then _ _ h λ m made h. then _ _ h λ l lone h. then _ _ h λ n new h.
-    record { atom = a; acts = acts; parts = p; form = form; mark = m; made = made; lone = lone; new = new; is = done h }
-
-pub step-fork : (c : Config) (e : Event) (d : Config) → Forks c e d → fork_row c e ≡ Some d
-unfolding fork_row
-step-fork c e d s = rw (s.acts, s.form, s.made, s.lone, s.new) (ap Some (sym s.is))
-
-pub record Renews (c : Config) (e : Event) (d : Config) : Type 0 where
-  pub atom : Atom
-  pub acts : acting c e ≡ Some atom
-  pub parts : ℕ × Ty × Proc
-  pub form : as_new (layer atom.proc) ≡ Some parts
-  pub chan : Name
-  pub made : one_made e.made ≡ Some chan
-  pub lone : no_other e.other ≡ Some tt
-  pub new : fresh c chan ≡ Some tt
-  pub is : d ≡ record c {
-    atoms = map.insert c.atoms e.actor (goes_under atom parts.2 (map.insert atom.env parts.0 (value.Chan chan)));
-    born = set.insert c.born chan;
-  }
-
-pub new-step : (c : Config) (e : Event) (d : Config) → new_row c e ≡ Some d → Renews c e d
-unfolding new_row
-new-step c e d h =
-    then _ _ h λ a acts h. then _ _ h λ p form h. then _ _ h λ m made h. then _ _ h λ l lone h. then _ _ h λ n new h.
-    record { atom = a; acts = acts; parts = p; form = form; chan = m; made = made; lone = lone; new = new; is = done h }
-
-pub step-new : (c : Config) (e : Event) (d : Config) → Renews c e d → new_row c e ≡ Some d
-unfolding new_row
-step-new c e d s = rw (s.acts, s.form, s.made, s.lone, s.new) (ap Some (sym s.is))
+-- ---- outputs
 
 -- the atom of a mark, in an agent, outputs a value on a channel
 pub record Offers (c : Config) (mark agent chan : Name) (v : Value) : Type 0 where
@@ -124,82 +149,24 @@ offered-step c mark agent chan v h =
 pub step-offered : (c : Config) (mark agent chan : Name) (v : Value) → Offers c mark agent chan v → offered c mark agent chan ≡ Some v
 step-offered c mark agent chan v s = rw (s.waits, s.together, s.sends_it, s.agree) (ap Some (sym s.is))
 
-pub record Meets (c : Config) (e : Event) (d : Config) : Type 0 where
-  pub atom : Atom
-  pub acts : acting c e ≡ Some atom
-  pub parts : Expr × Pat × Proc
-  pub form : as_inp (layer atom.proc) ≡ Some parts
-  pub chan : Name
-  pub on : chan_of parts.0 atom.env ≡ Some chan
-  pub mark : Name
-  pub other : e.other ≡ Some mark
-  pub value : Value
-  pub offer : offered c mark atom.agent chan ≡ Some value
-  pub env : Env
-  pub binds : bind parts.1 value atom.env ≡ Some env
-  pub made : none_made e.made ≡ Some tt
-  pub is : d ≡ record c { atoms = map.remove (map.insert c.atoms e.actor (goes_under atom parts.2 env)) mark }
+chain : {A B C : Type 0} (o : Option A) (f : A → Option B) (k : B → Option C) (g : A → Option C) → ((a : A) → o ≡ Some a → (f a >>= k) ≡ g a) → ((o >>= f) >>= k) ≡ (o >>= g)
+chain None f k g h = refl
+chain (Some a) f k g h = h a refl
 
-pub comm-step : (c : Config) (e : Event) (d : Config) → comm_row c e ≡ Some d → Meets c e d
-unfolding comm_row
-comm-step c e d h =
-    then _ _ h λ a acts h. then _ _ h λ p form h. then (chan_of p.0 a.env) _ h λ n on h. then _ _ h λ o other h. then (offered c o a.agent n) _ h λ v offer h.
-    then _ _ h λ env binds h. then _ _ h λ m made h.
-    record { atom = a; acts = acts; parts = p; form = form; chan = n; on = on; mark = o; other = other; value = v; offer = offer; env = env; binds = binds; made = made; is = done h }
+seen : (t : Bool) (agent : Name) (b : Atom) (R : Atom → Option Value) → (same_name agent b.agent ≡ true → t ≡ true)
+    → ((need t >> Some b) >>= λ b. need (same_name agent b.agent) >> R b) ≡ (need (same_name agent b.agent) >> R b)
+seen true agent b R h = refl
+seen false agent b R h = refused (same_name agent b.agent) (R b) h
+  where
+    refused : (s : Bool) (o : Option Value) → (s ≡ true → false ≡ true) → None ≡ (need s >> o)
+    refused true o h = absurd (let x = h refl in cc)
+    refused false o h = refl
 
-pub step-comm : (c : Config) (e : Event) (d : Config) → Meets c e d → comm_row c e ≡ Some d
-unfolding comm_row
-step-comm c e d s = rw (s.acts, s.form, s.on, s.other, s.offer, s.binds, s.made) (ap Some (sym s.is))
-
-pub record Serves (c : Config) (e : Event) (d : Config) : Type 0 where
-  pub atom : Atom
-  pub acts : acting c e ≡ Some atom
-  pub parts : Expr × Pat × Proc
-  pub form : as_rep (layer atom.proc) ≡ Some parts
-  pub chan : Name
-  pub on : chan_of parts.0 atom.env ≡ Some chan
-  pub mark : Name
-  pub other : e.other ≡ Some mark
-  pub value : Value
-  pub offer : offered c mark atom.agent chan ≡ Some value
-  pub env : Env
-  pub binds : bind parts.1 value atom.env ≡ Some env
-  pub made : none_made e.made ≡ Some tt
-  pub is : d ≡ record c { atoms = map.insert c.atoms mark (goes_under atom parts.2 env) }
-
-pub rep-step : (c : Config) (e : Event) (d : Config) → rep_row c e ≡ Some d → Serves c e d
-unfolding rep_row
-rep-step c e d h =
-    then _ _ h λ a acts h. then _ _ h λ p form h. then (chan_of p.0 a.env) _ h λ n on h. then _ _ h λ o other h. then (offered c o a.agent n) _ h λ v offer h.
-    then _ _ h λ env binds h. then _ _ h λ m made h.
-    record { atom = a; acts = acts; parts = p; form = form; chan = n; on = on; mark = o; other = other; value = v; offer = offer; env = env; binds = binds; made = made; is = done h }
-
-pub step-rep : (c : Config) (e : Event) (d : Config) → Serves c e d → rep_row c e ≡ Some d
-unfolding rep_row
-step-rep c e d s = rw (s.acts, s.form, s.on, s.other, s.offer, s.binds, s.made) (ap Some (sym s.is))
-
-pub record Prints (c : Config) (e : Event) (d : Config) : Type 0 where
-  pub atom : Atom
-  pub acts : acting c e ≡ Some atom
-  pub expr : Expr
-  pub form : as_print (layer atom.proc) ≡ Some expr
-  pub value : Value
-  pub says : eval expr atom.env ≡ Some value
-  pub made : none_made e.made ≡ Some tt
-  pub lone : no_other e.other ≡ Some tt
-  pub is : d ≡ record c { atoms = map.remove c.atoms e.actor; said = c.said ++ (e.site, value) ∷ [] }
-
-pub print-step : (c : Config) (e : Event) (d : Config) → print_row c e ≡ Some d → Prints c e d
-unfolding print_row
-print-step c e d h =
-    then _ _ h λ a acts h. then _ _ h λ x form h. then _ _ h λ v says h. then _ _ h λ m made h. then _ _ h λ l lone h.
-    record { atom = a; acts = acts; expr = x; form = form; value = v; says = says; made = made; lone = lone; is = done h }
-
-pub step-print : (c : Config) (e : Event) (d : Config) → Prints c e d → print_row c e ≡ Some d
-unfolding print_row
-step-print c e d s = rw (s.acts, s.form, s.says, s.made, s.lone) (ap Some (sym s.is))
-
--- an input's body is its one process
-pub input-body : (l : Layer) (parts : Expr × Pat × Proc) → as_inp l ≡ Some parts → body_at l ≡ Some parts.2
-input-body (ProcForm-F.Inp c x p) parts h = ap (λ (o : Option (Expr × Pat × Proc)). o >>= λ q. Some q.2) h
-input-body _ parts h = absurd cc
+-- an output in the acting atom's agent is seen
+pub same-offer : (c : Config) (e : Event) (a : Atom) (m n : Name) → acting c e ≡ Some a → offered_in (sight c.sites (inside c) e.site).atom m a.agent n ≡ offered c m a.agent n
+same-offer c e a m n h =
+    let s = acting-step c e a h in
+    let here : is_at c a.agent e.site ≡ true = rw s.stands (same_site e.site) in
+    chain (map.get c.atoms m) _ (λ (b : Atom). need (same_name a.agent b.agent) >> (sends b >>= λ sent. need (same_name n sent.0) >> Some sent.1)) _ λ b there.
+    seen (is_at c b.agent e.site) a.agent b (λ b. sends b >>= λ sent. need (same_name n sent.0) >> Some sent.1)
+    (λ s. ap (λ agent. is_at c agent e.site) (sym (same_name-is a.agent b.agent s)) ∙ here)

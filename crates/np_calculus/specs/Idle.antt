@@ -73,11 +73,3 @@ Can c site = HasPacket c site ⊎ (HasArrival c site ⊎ HasAgent c site)
 -- no site can act
 abbrev pub Idle : Config → Type 0
 Idle c = (site : ℕ) → ¬ Can c site
-
--- every agent stands at a site
-pub record NoneTravels (places : NameMap Place) : Type 0 where
-  pub each : (agent : Name) (p : Place) → map.get places agent ≡ Some p → way p ≡ None
-
--- the agent of each atom has a place
-pub record IsHoused (c : Config) : Type 0 where
-  pub each : (m : Name) (a : Atom) → map.get c.atoms m ≡ Some a → IsSome (map.get c.places a.agent)

@@ -21,8 +21,10 @@ use Rattle.np_calculus.specs.declared.config.Place.TheVariants as place
 use Rattle.np_tables.specs.Names.{same_name}
 use Rattle.np_calculus.specs.Config.{Config}
 use Rattle.np_eval.specs.Eval.{Env, eval, bind, as_site, chan_of, truth_of}
-use Rattle.np_eval.specs.Forms.{Layer, layer, as_stop, as_par, as_new, as_inp, as_rep, as_agent_form, as_migrate, as_iflocal, as_send, as_post, as_if, as_let, as_print, as_open, as_lookup}
-use Rattle.np_calculus.specs.Reductions.{acting, same_tag, sends, row, stop_row, fork_row, let_row, if_row, comm_row, agent_row, depart_row, arrive_row, land_row, print_row}
+use Rattle.np_eval.specs.Forms.{Layer, layer}
+use Rattle.np_eval.specs.FormParts.{as_stop, as_par, as_new, as_inp, as_rep, as_agent_form, as_migrate, as_iflocal, as_send, as_post, as_if, as_let, as_print, as_open, as_lookup}
+use Rattle.np_calculus.specs.Reductions.{same_tag, sends, row}
+use Rattle.np_calculus.specs.Seen.{acting}
 
 -- an arrival and a landing have no acting atom
 abbrev pub by_atom : Kind → Bool
@@ -31,24 +33,24 @@ by_atom kind.Land = false
 by_atom _ = true
 
 -- the form that each kind asks of the acting atom
-abbrev pub asked : Kind → Layer → Bool
-asked kind.Stop l = is_some (as_stop l)
-asked kind.Fork l = is_some (as_par l)
-asked kind.New l = is_some (as_new l)
-asked kind.Let l = is_some (as_let l)
-asked kind.If l = is_some (as_if l)
-asked kind.Comm l = is_some (as_inp l)
-asked kind.Rep l = is_some (as_rep l)
-asked kind.Agent l = is_some (as_agent_form l)
-asked kind.Depart l = is_some (as_migrate l)
-asked kind.Arrive l = false
-asked kind.Local l = is_some (as_iflocal l)
-asked kind.Send l = is_some (as_send l)
-asked kind.Land l = false
-asked kind.Print l = is_some (as_print l)
-asked kind.Open l = is_some (as_open l)
-asked kind.Lookup l = is_some (as_lookup l)
-asked kind.Post l = is_some (as_post l)
+abbrev pub asks : Kind → Layer → Bool
+asks kind.Stop l = is_some (as_stop l)
+asks kind.Fork l = is_some (as_par l)
+asks kind.New l = is_some (as_new l)
+asks kind.Let l = is_some (as_let l)
+asks kind.If l = is_some (as_if l)
+asks kind.Comm l = is_some (as_inp l)
+asks kind.Rep l = is_some (as_rep l)
+asks kind.Agent l = is_some (as_agent_form l)
+asks kind.Depart l = is_some (as_migrate l)
+asks kind.Arrive l = false
+asks kind.Local l = is_some (as_iflocal l)
+asks kind.Send l = is_some (as_send l)
+asks kind.Land l = false
+asks kind.Print l = is_some (as_print l)
+asks kind.Open l = is_some (as_open l)
+asks kind.Lookup l = is_some (as_lookup l)
+asks kind.Post l = is_some (as_post l)
 
 -- for whatever reason an acting atom is not there, for each kind that has one
 pub record NoActor : Type 0 where
@@ -64,55 +66,55 @@ pub record NoActor : Type 0 where
   pub other_tag : (k : Kind) (c : Config) (e : Event) (a : Atom) (s : ℕ) → by_atom k ≡ true → map.get c.atoms e.actor ≡ Some a
       → map.get c.places a.agent ≡ Some (place.At s) → nat_eq s e.site ≡ true → same_tag a.proc.tag e.tag ≡ false → row k c e ≡ None
   -- the process has another form than the kind asks
-  pub other_form : (k : Kind) (c : Config) (e : Event) (a : Atom) → by_atom k ≡ true → acting c e ≡ Some a → asked k (layer a.proc) ≡ false
+  pub other_form : (k : Kind) (c : Config) (e : Event) (a : Atom) → by_atom k ≡ true → acting c e ≡ Some a → asks k (layer a.proc) ≡ false
       → row k c e ≡ None
 
 -- the other reasons, each on one row that has it
 pub record NotEnabled : Type 0 where
   pub no_actor : NoActor
   -- a print does not stop
-  pub print_to_stop : (c : Config) (e : Event) (a : Atom) (x : Expr) → acting c e ≡ Some a → a.proc.form ≡ form.Print x → stop_row c e ≡ None
+  pub print_to_stop : (c : Config) (e : Event) (a : Atom) (x : Expr) → acting c e ≡ Some a → a.proc.form ≡ form.Print x → row kind.Stop c e ≡ None
   -- no packet has the mark
-  pub no_packet : (c : Config) (e : Event) → map.get c.packets e.actor ≡ None → land_row c e ≡ None
+  pub no_packet : (c : Config) (e : Event) → map.get c.packets e.actor ≡ None → row kind.Land c e ≡ None
   -- the agent that is to arrive is at a site
-  pub not_travelling : (c : Config) (e : Event) (s : ℕ) → map.get c.places e.actor ≡ Some (place.At s) → arrive_row c e ≡ None
+  pub not_travelling : (c : Config) (e : Event) (s : ℕ) → map.get c.places e.actor ≡ Some (place.At s) → row kind.Arrive c e ≡ None
   -- the packet goes to another site
-  pub packet_elsewhere : (c : Config) (e : Event) (p : Packet) → map.get c.packets e.actor ≡ Some p → nat_eq p.to e.site ≡ false → land_row c e ≡ None
+  pub packet_elsewhere : (c : Config) (e : Event) (p : Packet) → map.get c.packets e.actor ≡ Some p → nat_eq p.to e.site ≡ false → row kind.Land c e ≡ None
   -- the agent is under way to another site
-  pub bound_elsewhere : (c : Config) (e : Event) (s : ℕ) → map.get c.places e.actor ≡ Some (place.Way s) → nat_eq s e.site ≡ false → arrive_row c e ≡ None
+  pub bound_elsewhere : (c : Config) (e : Event) (s : ℕ) → map.get c.places e.actor ≡ Some (place.Way s) → nat_eq s e.site ≡ false → row kind.Arrive c e ≡ None
   -- a stop makes no name
-  pub name_made : (c : Config) (e : Event) (m : Name) → e.made ≡ made.One m → stop_row c e ≡ None
+  pub name_made : (c : Config) (e : Event) (m : Name) → e.made ≡ made.One m → row kind.Stop c e ≡ None
   -- a fork makes one name
-  pub none_made_there : (c : Config) (e : Event) → e.made ≡ made.Nothing → fork_row c e ≡ None
-  -- the name that a fork makes is born already
-  pub born_already : (c : Config) (e : Event) (m : Name) → e.made ≡ made.One m → set.contains c.born m ≡ true → fork_row c e ≡ None
+  pub none_made_there : (c : Config) (e : Event) → e.made ≡ made.Nothing → row kind.Fork c e ≡ None
+  -- the name that an event makes is born already
+  pub born_already : (k : Kind) (c : Config) (e : Event) (m : Name) → e.made ≡ made.One m → set.contains c.born m ≡ true → row k c e ≡ None
   -- an agent and its first mark have one name
-  pub one_name_twice : (c : Config) (e : Event) (m n : Name) → e.made ≡ made.Two m n → same_name m n ≡ true → agent_row c e ≡ None
+  pub one_name_twice : (k : Kind) (c : Config) (e : Event) (m n : Name) → e.made ≡ made.Two m n → same_name m n ≡ true → row k c e ≡ None
   -- a stop takes no output
-  pub output_taken : (c : Config) (e : Event) (o : Name) → e.other ≡ Some o → stop_row c e ≡ None
+  pub output_taken : (c : Config) (e : Event) (o : Name) → e.other ≡ Some o → row kind.Stop c e ≡ None
   -- a communication takes an output
-  pub no_output : (c : Config) (e : Event) → e.other ≡ None → comm_row c e ≡ None
+  pub no_output : (c : Config) (e : Event) → e.other ≡ None → row kind.Comm c e ≡ None
   -- the output is on another channel than the input
   pub other_channel : (c : Config) (e : Event) (a b : Atom) (parts : Expr × Pat × Proc) (n o : Name) (sent : Name × Value) → acting c e ≡ Some a
       → as_inp (layer a.proc) ≡ Some parts → chan_of parts.0 a.env ≡ Some n → e.other ≡ Some o → map.get c.atoms o ≡ Some b
-      → same_name a.agent b.agent ≡ true → sends b ≡ Some sent → same_name n sent.0 ≡ false → comm_row c e ≡ None
+      → same_name a.agent b.agent ≡ true → sends b ≡ Some sent → same_name n sent.0 ≡ false → row kind.Comm c e ≡ None
   -- the output is in another agent than the input
   pub other_agent : (c : Config) (e : Event) (a b : Atom) (parts : Expr × Pat × Proc) (n o : Name) → acting c e ≡ Some a
       → as_inp (layer a.proc) ≡ Some parts → chan_of parts.0 a.env ≡ Some n → e.other ≡ Some o → map.get c.atoms o ≡ Some b
-      → same_name a.agent b.agent ≡ false → comm_row c e ≡ None
+      → same_name a.agent b.agent ≡ false → row kind.Comm c e ≡ None
   -- the pattern of a let does not match the value
   pub no_match : (c : Config) (e : Event) (a : Atom) (parts : Pat × Expr × Proc) (v : Value) → acting c e ≡ Some a
-      → as_let (layer a.proc) ≡ Some parts → eval parts.1 a.env ≡ Some v → bind parts.0 v a.env ≡ None → let_row c e ≡ None
+      → as_let (layer a.proc) ≡ Some parts → eval parts.1 a.env ≡ Some v → bind parts.0 v a.env ≡ None → row kind.Let c e ≡ None
   -- the condition is no truth value
   pub no_truth : (c : Config) (e : Event) (a : Atom) (parts : Expr × Proc × Proc) → acting c e ≡ Some a → as_if (layer a.proc) ≡ Some parts
-      → truth_of parts.0 a.env ≡ None → if_row c e ≡ None
+      → truth_of parts.0 a.env ≡ None → row kind.If c e ≡ None
   -- the expression of a print has no value
   pub no_value : (c : Config) (e : Event) (a : Atom) (x : Expr) → acting c e ≡ Some a → as_print (layer a.proc) ≡ Some x → eval x a.env ≡ None
-      → print_row c e ≡ None
+      → row kind.Print c e ≡ None
   -- the program does not have the site to which the agent is to go
   pub no_site : (c : Config) (e : Event) (a : Atom) (parts : Expr × Proc) (v : Value) (t : ℕ) → acting c e ≡ Some a
       → as_migrate (layer a.proc) ≡ Some parts → eval parts.0 a.env ≡ Some v → as_site (out-Value v) ≡ Some t → nat_lt t c.sites ≡ false
-      → depart_row c e ≡ None
+      → row kind.Depart c e ≡ None
 
 -- what has no value, and what does not match
 pub record NoValue : Type 0 where

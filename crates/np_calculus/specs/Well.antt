@@ -13,7 +13,8 @@ use Rattle.np_calculus.specs.declared.config.Atom.{Atom}
 use Rattle.np_calculus.specs.Config.{Config}
 use Rattle.np_eval.specs.Eval.{Env, eval, bind, chan_of, agent_of, truth_of, letter_of, places_of}
 use Rattle.np_eval.specs.Forms.{Layer, layer, taken_on}
-use Rattle.np_calculus.specs.Reductions.{site_of, sends, run}
+use Rattle.np_calculus.specs.Reductions.{sends, run}
+use Rattle.np_calculus.specs.Seen.{site_of}
 
 -- there is one
 abbrev pub Has : {A : Type 0} → Option A → Type 0

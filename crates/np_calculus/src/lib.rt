@@ -1,30 +1,8 @@
-//! The two calculi: configurations, the table of reductions, and runs.
+//! The two calculi, as they are meant: configurations, the table of reductions, runs, rest, starts, and their laws.
 #![tactic(auto)]
 
-mod alone;
-mod cfg;
 mod config;
-mod events;
-mod examples;
-mod fail;
-mod going;
-mod letters;
-mod meets;
-mod messages;
-mod moves;
-mod outputs;
-mod places;
-mod rows;
-mod serial;
-mod start;
-mod step;
-mod travel;
-mod views;
+mod laws;
 
-pub use cfg::Cfg;
 pub use config::{Atom, Packet, Place};
-pub use examples::law_examples;
-pub use fail::ApplyFail;
-pub use rows::apply;
-pub use serial::{SerialRun, run_serial};
-pub use start::start_high;
+pub use laws::{law_acts_where_enabled, law_examples, law_footprints, law_frame};

@@ -9,7 +9,8 @@ use Rattle.np_syntax.specs.declared.pattern.PatForm.{PatForm, PatForm-F, out-Pat
 use Rattle.np_syntax.specs.declared.pattern.PatForm as pat
 use Rattle.np_syntax.specs.declared.pattern.PatForm.TheVariants.{outs-Any, outs-Bind, outs-Tuple}
 use Rattle.np_syntax.specs.Options.{◌>>=◌}
-use Rattle.np_eval.specs.Eval.{Env, Binding, bind, bind_form, bind_all, bind_each, bind_step, as_tuple}
+use Rattle.np_eval.specs.Eval.{Env, Binding, bind, bind_each, bind_step, as_tuple}
+use Rattle.np_eval.specs.Levels.{bind_form, bind_all}
 
 pub bind-form : (p : Pat) (v : Value) (env : Env) → bind p v env ≡ bind_form p.form v env
 unfolding bind bind_form

@@ -11,7 +11,8 @@ use Rattle.np_syntax.specs.declared.expression.Expr.{Expr}
 use Rattle.np_syntax.specs.declared.expression.ExprForm.{ExprForm}
 use Rattle.np_syntax.specs.declared.expression.ExprForm as expr
 use Rattle.np_syntax.specs.Options.{◌>>=◌}
-use Rattle.np_eval.specs.Eval.{Env, ValueLayer, eval, eval_form, eval_all, as_chan, as_agent, as_places, operate_at, equal_at}
+use Rattle.np_eval.specs.Eval.{Env, ValueLayer, eval, as_chan, as_agent, as_places, operate_at, equal_at}
+use Rattle.np_eval.specs.Levels.{eval_form, eval_all}
 use Rattle.np_eval.proofs.Evals.{eval-val, eval-var, eval-tuple, eval-bin, eval-pack, eval-with}
 
 abbrev chan_in : Option Value → Option Name

@@ -9,7 +9,8 @@ use Rattle.np_syntax.specs.declared.expression.ExprForm.{ExprForm, ExprForm-F, o
 use Rattle.np_syntax.specs.declared.expression.ExprForm as expr
 use Rattle.np_syntax.specs.declared.expression.ExprForm.TheVariants.{outs-Val, outs-Var, outs-Tuple, outs-Bin, outs-Pack, outs-With}
 use Rattle.np_syntax.specs.Options.{◌>>=◌, all_some}
-use Rattle.np_eval.specs.Eval.{Env, eval, eval_form, eval_all, eval_step, operate, pack, with_place}
+use Rattle.np_eval.specs.Eval.{Env, eval, eval_step, operate, pack, with_place}
+use Rattle.np_eval.specs.Levels.{eval_form, eval_all}
 
 pub eval-form : (e : Expr) (env : Env) → eval e env ≡ eval_form e.form env
 unfolding eval eval_form

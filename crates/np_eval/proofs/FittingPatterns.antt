@@ -9,7 +9,8 @@ use Rattle.np_syntax.specs.declared.pattern.PatForm.{PatForm, PatForm-F, roll-Pa
 use Rattle.np_syntax.specs.declared.pattern.PatForm as pat
 use Rattle.np_syntax.specs.declared.pattern.PatForm.TheVariants.{rolls-Any, rolls-Bind, rolls-Tuple}
 use Rattle.np_syntax.specs.Options.{◌>>=◌}
-use Rattle.np_eval.specs.Eval.{Env, bind, bind_form, bind_all, as_tuple}
+use Rattle.np_eval.specs.Eval.{Env, bind, as_tuple}
+use Rattle.np_eval.specs.Levels.{bind_form, bind_all}
 use Rattle.np_eval.proofs.Binds.{bind-form, bind-any, bind-bind, bind-tuple, bind-tuples}
 
 -- two steps that may fail, where the second fails or not whatever the first gave

@@ -12,7 +12,8 @@ use Rattle.np_syntax.specs.declared.expression.ExprForm as expr
 use Rattle.np_syntax.specs.Options.{◌>>=◌}
 use Rattle.np_eval.specs.declared.fitting.Shape.{Shape}
 use Rattle.np_eval.specs.declared.fitting.Shape.TheVariants as shape
-use Rattle.np_eval.specs.Eval.{Env, ValueLayer, eval, eval_form, eval_all, as_chan, as_agent, as_places, operate_at, equal_at, put_place}
+use Rattle.np_eval.specs.Eval.{Env, ValueLayer, eval, as_chan, as_agent, as_places, operate_at, equal_at, put_place}
+use Rattle.np_eval.specs.Levels.{eval_form, eval_all}
 use Rattle.np_eval.specs.Fitting.{shape_at, shape_of, equal_shape, operate_shape, pack_shape, with_shape}
 use Rattle.np_eval.proofs.Evals.{eval-form, eval-val, eval-var, eval-tuple, eval-bin, eval-pack, eval-with}
 

@@ -11,9 +11,10 @@ use Rattle.np_syntax.specs.declared.expression.Expr.{Expr}
 use Rattle.np_syntax.specs.declared.expression.ExprForm as expr
 use Rattle.np_syntax.specs.declared.pattern.Pat.{Pat}
 use Rattle.np_syntax.specs.declared.pattern.PatForm as pat
-use Rattle.np_syntax.specs.Options.{◌>>=◌}
 use Rattle.np_syntax.proofs.Bools.{and-false}
-use Rattle.np_eval.specs.Eval.{Env, ValueLayer, eval, eval_all, bind, bind_form, bind_all, as_tuple, as_chan, as_agent, as_places, operate_at, equal_at}
+use Rattle.np_syntax.specs.Options.{◌>>=◌}
+use Rattle.np_eval.specs.Eval.{Env, ValueLayer, eval, bind, as_tuple, as_chan, as_agent, as_places, operate_at, equal_at}
+use Rattle.np_eval.specs.Levels.{eval_all, bind_form, bind_all}
 use Rattle.np_eval.specs.Fitting.{fits, fits_tuple, fits_all}
 use Rattle.np_eval.proofs.Binds.{bind-tuple, bind-tuples}
 use Rattle.np_eval.proofs.Evals.{eval-form, eval-val, eval-var, eval-tuple, eval-bin, eval-pack, eval-with}

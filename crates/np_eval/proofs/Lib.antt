@@ -4,5 +4,6 @@ pub mod Evals
 pub mod FittingPatterns
 pub mod FittingShapes
 pub mod FittingTuples
+pub mod FormsByParts
 pub mod Layers
 pub mod Overlays

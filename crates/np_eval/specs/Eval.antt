@@ -121,16 +121,6 @@ eval_step env (ExprForm-F.With m a l) = do
 unfoldable pub eval : Expr → Env → Option Value
 eval e env = fold-Expr (Option Value) (Option Value) (eval_step env) (λ e. e.form) e
 
-unfoldable pub eval_form : ExprForm → Env → Option Value
-eval_form f env = fold-ExprForm (Option Value) (Option Value) (eval_step env) (λ e. e.form) f
-
-abbrev pub eval_all : List Expr → Env → Option (List Value)
-eval_all [] env = Some []
-eval_all (e ∷ es) env = do
-  v ← eval e env
-  vs ← eval_all es env
-  Some (v ∷ vs)
-
 -- the channel that an expression names, and likewise an agent, a truth value, a letter and a map of places
 abbrev pub chan_of : Expr → Env → Option Name
 chan_of e env = eval e env >>= λ v. as_chan (out-Value v)
@@ -167,12 +157,3 @@ bind_step (PatForm-F.Tuple ps) v env = do
 -- the environment with what the pattern gives the value put over it, or none where it does not match
 unfoldable pub bind : Pat → Value → Env → Option Env
 bind = fold-Pat Binding Binding bind_step (λ p. p.form)
-
-unfoldable pub bind_form : PatForm → Value → Env → Option Env
-bind_form = fold-PatForm Binding Binding bind_step (λ p. p.form)
-
-abbrev pub bind_all : List Pat → List Value → Env → Option Env
-bind_all [] [] env = Some env
-bind_all [] (v ∷ vs) env = None
-bind_all (p ∷ ps) [] env = None
-bind_all (p ∷ ps) (v ∷ vs) env = bind p v env >>= bind_all ps vs

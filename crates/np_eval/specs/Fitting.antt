@@ -11,7 +11,8 @@ use Rattle.np_syntax.specs.declared.pattern.PatForm as pat
 use Rattle.np_syntax.specs.Options.{◌>>=◌}
 use Rattle.np_eval.specs.declared.fitting.Shape.{Shape}
 use Rattle.np_eval.specs.declared.fitting.Shape.TheVariants as shape
-use Rattle.np_eval.specs.Eval.{Env, ValueLayer, eval, eval_form, eval_all, bind, bind_form, bind_all}
+use Rattle.np_eval.specs.Eval.{Env, ValueLayer, eval, bind}
+use Rattle.np_eval.specs.Levels.{eval_form, eval_all, bind_form, bind_all}
 
 -- the expression has a value that the pattern matches
 abbrev pub fits : Pat → Expr → Env → Bool

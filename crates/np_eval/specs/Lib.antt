@@ -2,5 +2,7 @@ pub mod Bound
 pub mod Errands
 pub mod Eval
 pub mod Fitting
+pub mod FormParts
 pub mod Forms
+pub mod Levels
 pub mod Overlay

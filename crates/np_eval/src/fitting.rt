@@ -1,7 +1,8 @@
 ghost use Rattle.std.specs.Prelude.{◌≡◌, is_some};
 ghost use Rattle.std.specs.Option.{option_map};
 ghost use Rattle.np_syntax.specs.declared.pattern.PatForm as pat;
-ghost use Rattle.np_eval.specs.Eval.{Env, eval, eval_form, eval_all, bind, bind_form, bind_all};
+ghost use Rattle.np_eval.specs.Eval.{Env, eval, bind};
+ghost use Rattle.np_eval.specs.Levels.{eval_form, eval_all, bind_form, bind_all};
 ghost use Rattle.np_eval.specs.Fitting.{fits, fits_tuple, fits_all, shape_of, equal_shape, operate_shape, pack_shape, with_shape};
 
 use super::frame::Frame;

@@ -1,6 +1,7 @@
 ghost use Rattle.std.specs.Prelude.{◌≡◌, option_map};
-ghost use Rattle.np_eval.specs.Forms.{layer, as_stop, as_par, as_new, as_inp, as_rep, as_agent_form, as_migrate};
-ghost use Rattle.np_eval.specs.Forms.{as_iflocal, as_send, as_post, as_if, as_let, as_print, as_open, as_lookup};
+ghost use Rattle.np_eval.specs.Forms.{layer};
+ghost use Rattle.np_eval.specs.FormParts.{as_stop, as_par, as_new, as_inp, as_rep, as_agent_form, as_migrate};
+ghost use Rattle.np_eval.specs.FormParts.{as_iflocal, as_send, as_post, as_if, as_let, as_print, as_open, as_lookup};
 
 use np_syntax::{Expr, Pat, Proc, ProcForm, Ty};
 

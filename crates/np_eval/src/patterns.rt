@@ -1,5 +1,6 @@
 ghost use Rattle.std.specs.Prelude.{◌≡◌, IfOk};
-ghost use Rattle.np_eval.specs.Eval.{bind, bind_form, bind_all};
+ghost use Rattle.np_eval.specs.Eval.{bind};
+ghost use Rattle.np_eval.specs.Levels.{bind_form, bind_all};
 ghost use Rattle.np_eval.specs.Bound.{Bound};
 
 use super::frame::Frame;

@@ -2,7 +2,8 @@ ghost use Rattle.std.specs.Prelude.{◌≡◌, IfOk, ◌+ℤ◌, ◌-ℤ◌, ◌
 ghost use Rattle.std.specs.Int.{int_wrap, w64};
 ghost use Rattle.np_syntax.specs.declared.expression.Op.TheVariants as op;
 ghost use Rattle.np_syntax.specs.declared.value.Value as value;
-ghost use Rattle.np_eval.specs.Eval.{eval, eval_form, eval_all, operate, pack, with_place, put_place};
+ghost use Rattle.np_eval.specs.Eval.{eval, operate, pack, with_place, put_place};
+ghost use Rattle.np_eval.specs.Levels.{eval_form, eval_all};
 
 use super::frame::Frame;
 use np_syntax::{Boxed, Expr, ExprForm, List, Memory, Name, Op, Value};

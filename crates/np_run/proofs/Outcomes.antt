@@ -10,7 +10,7 @@ use Rattle.np_run.specs.Answers.{Call, HasCauses, HasMade, Does, IsRead, IsRefus
 use Rattle.np_run.specs.Laws.{Reads}
 use Rattle.np_run.specs.declared.answer.Answer.{Answer}
 use Rattle.np_run.specs.declared.answer.Record.{Record}
-use Rattle.np_calculus.specs.declared.serial.SerialRun.{SerialRun}
+use Rattle.np_configuration.specs.declared.serial.SerialRun.{SerialRun}
 use Rattle.np_run.specs.declared.refusal.Refusal.{Refusal}
 use Rattle.np_run.specs.declared.refusal.Refusal.TheVariants.{Usage, ReadFault, TooLong}
 use Rattle.np_run.specs.declared.words.Mode.{Mode}

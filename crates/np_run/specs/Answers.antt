@@ -9,8 +9,8 @@ use Rattle.np_io.specs.Causes.{Counts, Rose}
 use Rattle.np_io.specs.Bytes.{Held, AppendsPrefix}
 use Rattle.np_tree.specs.declared.tree.Tree.{Tree}
 use Rattle.np_show.specs.Shown.{shown}
-use Rattle.np_calculus.specs.declared.serial.SerialRun.{SerialRun}
-use Rattle.np_calculus.specs.Serial.{IsSerialRun}
+use Rattle.np_configuration.specs.declared.serial.SerialRun.{SerialRun}
+use Rattle.np_configuration.specs.Serial.{IsSerialRun}
 use Rattle.np_run.specs.Faults.{HasTree, IsWellTyped, Faulty}
 use Rattle.np_run.specs.Words.{Plan, plan, texts_read}
 use Rattle.np_run.specs.Lines.{line_of, status_of}

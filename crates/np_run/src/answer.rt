@@ -1,4 +1,4 @@
-use np_calculus::SerialRun;
+use np_configuration::SerialRun;
 use np_syntax::{End, Event, List};
 
 /// A run: its events in order, and how it ended.

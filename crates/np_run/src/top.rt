@@ -5,7 +5,7 @@ use super::answer::{Answer, Record};
 use super::job::{Job, work};
 use super::refusal::{Refusal, line, status};
 use super::statuses::{BUDGET_SPENT, DONE, NO_MEMORY, WRITE_FAILED};
-use np_calculus::SerialRun;
+use np_configuration::SerialRun;
 use np_io::{Sink, Texts, Word, write_all};
 use np_syntax::End;
 use std::alloc::Global;

@@ -30,7 +30,9 @@ use Rattle.np_calculus.specs.declared.config.Packet.{Packet}
 use Rattle.np_calculus.specs.Config.{Config}
 use Rattle.np_eval.specs.Eval.{Env, eval, bind, chan_of, letter_of, places_of, as_letter, as_places}
 use Rattle.np_eval.specs.Forms.{layer, as_out}
-use Rattle.np_calculus.specs.Reductions.{sends, offered, output_in}
+use Rattle.np_calculus.specs.Reductions.{sends, output_in}
+use Rattle.np_calculus.specs.Seen.{offered}
+use Rattle.np_eval.proofs.FormsByParts.{out-form}
 use Rattle.np_calculus.specs.Reductions as made
 use Rattle.np_calculus.proofs.Steps.{offered-step}
 use Rattle.np_check.specs.Faults.{Checking, check_step}
@@ -39,7 +41,7 @@ use Rattle.np_safety.proofs.Fitting.{Agrees, FittingAtom, FittingAtoms, SentPack
 use Rattle.np_safety.proofs.Shapes.{chan_value, letter_value, places_value, fits-below}
 use Rattle.np_safety.proofs.Evaluates.{evaluates, chan-kind}
 use Rattle.np_safety.proofs.Matches.{Bound, matches}
-use Rattle.np_safety.proofs.Forms.{OnChannel, Tested, Sending, Taking, checks, check-out, good-out}
+use Rattle.np_safety.proofs.Forms.{OnChannel, Tested, Sending, Taking, checks, check-out, good-as}
 
 pub same_answer : {A : Type 0} {o : Option A} {x y : A} → o ≡ Some x → o ≡ Some y → x ≡ y
 same_answer e f = maybe.done (sym f ∙ e)
@@ -108,7 +110,7 @@ pub sends-typed : (w : World) (a : Atom) (s : Name × Value) → FittingAtom w a
 sends-typed w a s t h =
     maybe.then (as_out (layer a.proc)) _ h λ parts form h. maybe.then (chan_of parts.0 a.env) _ h λ n on h. maybe.then (eval parts.1 a.env) _ h λ v gives h.
     let same : s ≡ (n, v) = maybe.done h in
-    let g = good-out w t.types a.proc parts form t.good in
+    let g = good-as w t.types a.proc _ (out-form (layer a.proc) parts form) t.good in
     rw same (sent_on w a.env t.types t.agrees parts.0 parts.1 n v g on gives)
 
 -- what an atom of a mark offers on a channel

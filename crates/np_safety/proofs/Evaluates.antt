@@ -32,7 +32,8 @@ use Rattle.np_types.proofs.Subs.{sub-out, sub-trans}
 use Rattle.np_types.proofs.Below.{site_below}
 use Rattle.np_types.proofs.ValueTypes.{kind_of, kind-out, kinds-map}
 use Rattle.np_types.proofs.Leasts.{least_layer, least-out}
-use Rattle.np_eval.specs.Eval.{Env, eval, eval_form, eval_step, operate, operate_at, equal_at, same_truth, put_place, pack, with_place}
+use Rattle.np_eval.specs.Eval.{Env, eval, eval_step, operate, operate_at, equal_at, same_truth, put_place, pack, with_place}
+use Rattle.np_eval.specs.Levels.{eval_form}
 use Rattle.np_safety.specs.Fits.{Fits}
 use Rattle.np_safety.proofs.Fitting.{Agrees, Valued}
 use Rattle.np_syntax.proofs.Results.{then, done}

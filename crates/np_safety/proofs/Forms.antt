@@ -17,8 +17,7 @@ use Rattle.np_types.specs.Checks.{ensure}
 use Rattle.np_types.specs.Worlds.{World}
 use Rattle.np_types.specs.Least.{Types, least, least_of, channel, input}
 use Rattle.np_types.specs.Covers.{cover}
-use Rattle.np_eval.specs.Forms.{Layer, layer, as_par, as_new, as_out, as_inp, as_rep, as_agent_form}
-use Rattle.np_eval.specs.Forms.{as_migrate, as_iflocal, as_send, as_post, as_if, as_let, as_open, as_lookup}
+use Rattle.np_eval.specs.Forms.{Layer, layer}
 use Rattle.np_check.specs.Faults.{Checking, is_of, is_printable, is_output, with_names, is_channel, is_for_channels, check_new, check_input}
 use Rattle.np_check.specs.Faults.{check_migrate, check_send, check_post, check_let, check_places, lock_type, check_step, check, check_form}
 use Rattle.np_syntax.proofs.Results.{then, done}
@@ -202,100 +201,6 @@ module _ (w : World) (types : Types) where
 pub good-form : (w : World) (types : Types) (p : Proc) → Good w types p → GoodForm w types (layer p)
 good-form w types p h = good_at w types p.at (layer p) (sym (ap (λ (f : Checking). f types) (check-out w p)) ∙ h)
 
-par_is : (l : Layer) (x : Proc × Proc) → as_par l ≡ Some x → l ≡ ProcForm-F.Par x.0 x.1
-par_is (ProcForm-F.Par a b) x e = let same : (a, b) ≡ x = cc in ap (λ (x : Proc × Proc). ProcForm-F.Par x.0 x.1) same
-par_is _ x e = absurd cc
-
-pub good-par : (w : World) (types : Types) (p : Proc) (x : Proc × Proc) → as_par (layer p) ≡ Some x → Good w types p → GoodForm w types (ProcForm-F.Par x.0 x.1)
-good-par w types p x e h = subst (GoodForm w types) (par_is (layer p) x e) (good-form w types p h)
-
-new_is : (l : Layer) (x : ℕ × Ty × Proc) → as_new l ≡ Some x → l ≡ ProcForm-F.New x.0 x.1 x.2
-new_is (ProcForm-F.New a b c) x e = let same : (a, b, c) ≡ x = cc in ap (λ (x : ℕ × Ty × Proc). ProcForm-F.New x.0 x.1 x.2) same
-new_is _ x e = absurd cc
-
-pub good-new : (w : World) (types : Types) (p : Proc) (x : ℕ × Ty × Proc) → as_new (layer p) ≡ Some x → Good w types p → GoodForm w types (ProcForm-F.New x.0 x.1 x.2)
-good-new w types p x e h = subst (GoodForm w types) (new_is (layer p) x e) (good-form w types p h)
-
-out_is : (l : Layer) (x : Expr × Expr) → as_out l ≡ Some x → l ≡ ProcForm-F.Out x.0 x.1
-out_is (ProcForm-F.Out a b) x e = let same : (a, b) ≡ x = cc in ap (λ (x : Expr × Expr). ProcForm-F.Out x.0 x.1) same
-out_is _ x e = absurd cc
-
-pub good-out : (w : World) (types : Types) (p : Proc) (x : Expr × Expr) → as_out (layer p) ≡ Some x → Good w types p → GoodForm w types (ProcForm-F.Out x.0 x.1)
-good-out w types p x e h = subst (GoodForm w types) (out_is (layer p) x e) (good-form w types p h)
-
-inp_is : (l : Layer) (x : Expr × Pat × Proc) → as_inp l ≡ Some x → l ≡ ProcForm-F.Inp x.0 x.1 x.2
-inp_is (ProcForm-F.Inp a b c) x e = let same : (a, b, c) ≡ x = cc in ap (λ (x : Expr × Pat × Proc). ProcForm-F.Inp x.0 x.1 x.2) same
-inp_is _ x e = absurd cc
-
-pub good-inp : (w : World) (types : Types) (p : Proc) (x : Expr × Pat × Proc) → as_inp (layer p) ≡ Some x → Good w types p → GoodForm w types (ProcForm-F.Inp x.0 x.1 x.2)
-good-inp w types p x e h = subst (GoodForm w types) (inp_is (layer p) x e) (good-form w types p h)
-
-rep_is : (l : Layer) (x : Expr × Pat × Proc) → as_rep l ≡ Some x → l ≡ ProcForm-F.Rep x.0 x.1 x.2
-rep_is (ProcForm-F.Rep a b c) x e = let same : (a, b, c) ≡ x = cc in ap (λ (x : Expr × Pat × Proc). ProcForm-F.Rep x.0 x.1 x.2) same
-rep_is _ x e = absurd cc
-
-pub good-rep : (w : World) (types : Types) (p : Proc) (x : Expr × Pat × Proc) → as_rep (layer p) ≡ Some x → Good w types p → GoodForm w types (ProcForm-F.Rep x.0 x.1 x.2)
-good-rep w types p x e h = subst (GoodForm w types) (rep_is (layer p) x e) (good-form w types p h)
-
-agent_is : (l : Layer) (x : ℕ × Proc × Proc) → as_agent_form l ≡ Some x → l ≡ ProcForm-F.Agent x.0 x.1 x.2
-agent_is (ProcForm-F.Agent a b c) x e = let same : (a, b, c) ≡ x = cc in ap (λ (x : ℕ × Proc × Proc). ProcForm-F.Agent x.0 x.1 x.2) same
-agent_is _ x e = absurd cc
-
-pub good-agent : (w : World) (types : Types) (p : Proc) (x : ℕ × Proc × Proc) → as_agent_form (layer p) ≡ Some x → Good w types p → GoodForm w types (ProcForm-F.Agent x.0 x.1 x.2)
-good-agent w types p x e h = subst (GoodForm w types) (agent_is (layer p) x e) (good-form w types p h)
-
-migrate_is : (l : Layer) (x : Expr × Proc) → as_migrate l ≡ Some x → l ≡ ProcForm-F.Migrate x.0 x.1
-migrate_is (ProcForm-F.Migrate a b) x e = let same : (a, b) ≡ x = cc in ap (λ (x : Expr × Proc). ProcForm-F.Migrate x.0 x.1) same
-migrate_is _ x e = absurd cc
-
-pub good-migrate : (w : World) (types : Types) (p : Proc) (x : Expr × Proc) → as_migrate (layer p) ≡ Some x → Good w types p → GoodForm w types (ProcForm-F.Migrate x.0 x.1)
-good-migrate w types p x e h = subst (GoodForm w types) (migrate_is (layer p) x e) (good-form w types p h)
-
-iflocal_is : (l : Layer) (x : Expr × Expr × Expr × Proc × Proc) → as_iflocal l ≡ Some x → l ≡ ProcForm-F.IfLocal x.0 x.1 x.2 x.3 x.4
-iflocal_is (ProcForm-F.IfLocal a b c d f) x e = let same : (a, b, c, d, f) ≡ x = cc in ap (λ (x : Expr × Expr × Expr × Proc × Proc). ProcForm-F.IfLocal x.0 x.1 x.2 x.3 x.4) same
-iflocal_is _ x e = absurd cc
-
-pub good-iflocal : (w : World) (types : Types) (p : Proc) (x : Expr × Expr × Expr × Proc × Proc) → as_iflocal (layer p) ≡ Some x → Good w types p → GoodForm w types (ProcForm-F.IfLocal x.0 x.1 x.2 x.3 x.4)
-good-iflocal w types p x e h = subst (GoodForm w types) (iflocal_is (layer p) x e) (good-form w types p h)
-
-send_is : (l : Layer) (x : Expr × Expr × Expr × Expr) → as_send l ≡ Some x → l ≡ ProcForm-F.Send x.0 x.1 x.2 x.3
-send_is (ProcForm-F.Send a b c d) x e = let same : (a, b, c, d) ≡ x = cc in ap (λ (x : Expr × Expr × Expr × Expr). ProcForm-F.Send x.0 x.1 x.2 x.3) same
-send_is _ x e = absurd cc
-
-pub good-send : (w : World) (types : Types) (p : Proc) (x : Expr × Expr × Expr × Expr) → as_send (layer p) ≡ Some x → Good w types p → GoodForm w types (ProcForm-F.Send x.0 x.1 x.2 x.3)
-good-send w types p x e h = subst (GoodForm w types) (send_is (layer p) x e) (good-form w types p h)
-
-post_is : (l : Layer) (x : Expr × Expr × Expr) → as_post l ≡ Some x → l ≡ ProcForm-F.Post x.0 x.1 x.2
-post_is (ProcForm-F.Post a b c) x e = let same : (a, b, c) ≡ x = cc in ap (λ (x : Expr × Expr × Expr). ProcForm-F.Post x.0 x.1 x.2) same
-post_is _ x e = absurd cc
-
-pub good-post : (w : World) (types : Types) (p : Proc) (x : Expr × Expr × Expr) → as_post (layer p) ≡ Some x → Good w types p → GoodForm w types (ProcForm-F.Post x.0 x.1 x.2)
-good-post w types p x e h = subst (GoodForm w types) (post_is (layer p) x e) (good-form w types p h)
-
-if_is : (l : Layer) (x : Expr × Proc × Proc) → as_if l ≡ Some x → l ≡ ProcForm-F.If x.0 x.1 x.2
-if_is (ProcForm-F.If a b c) x e = let same : (a, b, c) ≡ x = cc in ap (λ (x : Expr × Proc × Proc). ProcForm-F.If x.0 x.1 x.2) same
-if_is _ x e = absurd cc
-
-pub good-if : (w : World) (types : Types) (p : Proc) (x : Expr × Proc × Proc) → as_if (layer p) ≡ Some x → Good w types p → GoodForm w types (ProcForm-F.If x.0 x.1 x.2)
-good-if w types p x e h = subst (GoodForm w types) (if_is (layer p) x e) (good-form w types p h)
-
-let_is : (l : Layer) (x : Pat × Expr × Proc) → as_let l ≡ Some x → l ≡ ProcForm-F.Let x.0 x.1 x.2
-let_is (ProcForm-F.Let a b c) x e = let same : (a, b, c) ≡ x = cc in ap (λ (x : Pat × Expr × Proc). ProcForm-F.Let x.0 x.1 x.2) same
-let_is _ x e = absurd cc
-
-pub good-let : (w : World) (types : Types) (p : Proc) (x : Pat × Expr × Proc) → as_let (layer p) ≡ Some x → Good w types p → GoodForm w types (ProcForm-F.Let x.0 x.1 x.2)
-good-let w types p x e h = subst (GoodForm w types) (let_is (layer p) x e) (good-form w types p h)
-
-open_is : (l : Layer) (x : Expr) → as_open l ≡ Some x → l ≡ ProcForm-F.Open x
-open_is (ProcForm-F.Open a) x e = let same : a ≡ x = cc in ap (λ (x : Expr). ProcForm-F.Open x) same
-open_is _ x e = absurd cc
-
-pub good-open : (w : World) (types : Types) (p : Proc) (x : Expr) → as_open (layer p) ≡ Some x → Good w types p → GoodForm w types (ProcForm-F.Open x)
-good-open w types p x e h = subst (GoodForm w types) (open_is (layer p) x e) (good-form w types p h)
-
-lookup_is : (l : Layer) (x : Expr × Expr × ℕ × Proc × Proc) → as_lookup l ≡ Some x → l ≡ ProcForm-F.Lookup x.0 x.1 x.2 x.3 x.4
-lookup_is (ProcForm-F.Lookup a b c d f) x e = let same : (a, b, c, d, f) ≡ x = cc in ap (λ (x : Expr × Expr × ℕ × Proc × Proc). ProcForm-F.Lookup x.0 x.1 x.2 x.3 x.4) same
-lookup_is _ x e = absurd cc
-
-pub good-lookup : (w : World) (types : Types) (p : Proc) (x : Expr × Expr × ℕ × Proc × Proc) → as_lookup (layer p) ≡ Some x → Good w types p → GoodForm w types (ProcForm-F.Lookup x.0 x.1 x.2 x.3 x.4)
-good-lookup w types p x e h = subst (GoodForm w types) (lookup_is (layer p) x e) (good-form w types p h)
+-- the same of a process of this form
+pub good-as : (w : World) (types : Types) (p : Proc) (l : Layer) → layer p ≡ l → Good w types p → GoodForm w types l
+good-as w types p l is h = subst (GoodForm w types) is (good-form w types p h)

@@ -18,14 +18,18 @@ use Rattle.np_types.specs.Sub.{as_chan}
 use Rattle.np_types.specs.Worlds.{World}
 use Rattle.np_calculus.specs.declared.config.Atom.{Atom}
 use Rattle.np_calculus.specs.Config.{Config}
-use Rattle.np_eval.specs.Forms.{layer, as_new}
-use Rattle.np_calculus.specs.Reductions.{acting, one_made, is_at, found_here, found_away, row, apply, run}
-use Rattle.np_calculus.proofs.Steps.{stop-step, fork-step, new-step, comm-step, rep-step, print-step}
+use Rattle.np_eval.specs.Forms.{layer}
+use Rattle.np_eval.specs.FormParts.{as_new}
+use Rattle.np_syntax.specs.declared.event.Made.{Made}
+use Rattle.np_syntax.specs.declared.event.Made.TheVariants as made
+use Rattle.np_calculus.specs.Changes.{with_made}
+use Rattle.np_calculus.specs.Reductions.{one_made, row, apply, run}
+use Rattle.np_calculus.specs.Seen.{acting}
+use Rattle.np_calculus.proofs.Steps.{row-step}
+use Rattle.np_calculus.proofs.Inversions.{new-step}
 use Rattle.np_safety.specs.Channels.{Channels, makes_at, noted, after, channels_after}
 use Rattle.np_safety.specs.Laws.{HasMade}
 use Rattle.np_safety.proofs.Fitting.{Fitting}
-use Rattle.np_calculus.proofs.Inversions.{let-step, if-step, agent-step, depart-step, arrive-step, local-step}
-use Rattle.np_calculus.proofs.Inversions.{here-step, away-step, send-step, land-step, post-step, open-step, lookup-step}
 use Rattle.np_safety.proofs.Kept.{kept-at}
 
 -- ---- names that are made stay made, and the sites stay
@@ -45,34 +49,17 @@ pub record Later (c d : Config) : Type 0 where
   pub sites : d.sites ≡ c.sites
   pub born : (q : Name) → Born c q → Born d q
 
-later_here : (b : Bool) (c : Config) (e : Event) (d : Config) (a : Atom) (agent n : Name) (v : Value) (p q : Proc) → cond b (found_here c e a p agent n v) (found_away c e a q) ≡ Some d → Later c d
-later_here true c e d a agent n v p q h = let s = here-step c e a p agent n v d h in rw s.is (record { sites = refl; born = λ x b. born-put c.born s.mark x b })
-later_here false c e d a agent n v p q h = let s = away-step c e a q d h in rw s.is (record { sites = refl; born = λ x b. b })
+made-keeps : (born : NameSet) (x : Made) (q : Name) → set.contains born q ≡ true → set.contains (with_made born x) q ≡ true
+made-keeps born made.Nothing q h = h
+made-keeps born (made.One m) q h = born-put born m q h
+made-keeps born (made.Two m n) q h = born-put (set.insert born m) n q (born-put born m q h)
 
-later-at : (k : Kind) (c : Config) (e : Event) (d : Config) → row k c e ≡ Some d → Later c d
-later-at kind.Stop c e d h = rw (stop-step c e d h).is (record { sites = refl; born = λ x b. b })
-later-at kind.Fork c e d h = let s = fork-step c e d h in rw s.is (record { sites = refl; born = λ x b. born-put c.born s.mark x b })
-later-at kind.New c e d h = let s = new-step c e d h in rw s.is (record { sites = refl; born = λ x b. born-put c.born s.chan x b })
-later-at kind.Let c e d h = rw (let-step c e d h).is (record { sites = refl; born = λ x b. b })
-later-at kind.If c e d h = rw (if-step c e d h).is (record { sites = refl; born = λ x b. b })
-later-at kind.Comm c e d h = rw (comm-step c e d h).is (record { sites = refl; born = λ x b. b })
-later-at kind.Rep c e d h = rw (rep-step c e d h).is (record { sites = refl; born = λ x b. b })
-later-at kind.Agent c e d h =
-    let s = agent-step c e d h in
-    rw s.is (record { sites = refl; born = λ x b. born-put (set.insert c.born s.names.0) s.names.1 x (born-put c.born s.names.0 x b) })
-later-at kind.Depart c e d h = rw (depart-step c e d h).is (record { sites = refl; born = λ x b. b })
-later-at kind.Arrive c e d h = rw (arrive-step c e d h).is (record { sites = refl; born = λ x b. b })
-later-at kind.Local c e d h = let s = local-step c e d h in later_here (is_at c s.agent e.site) c e d s.atom s.agent s.chan s.value s.parts.3 s.parts.4 s.is
-later-at kind.Send c e d h = rw (send-step c e d h).is (record { sites = refl; born = λ x b. b })
-later-at kind.Land c e d h = rw (land-step c e d h).is (record { sites = refl; born = λ x b. b })
-later-at kind.Print c e d h = rw (print-step c e d h).is (record { sites = refl; born = λ x b. b })
-later-at kind.Open c e d h = rw (open-step c e d h).is (record { sites = refl; born = λ x b. b })
-later-at kind.Lookup c e d h = rw (lookup-step c e d h).is (record { sites = refl; born = λ x b. b })
-later-at kind.Post c e d h = rw (post-step c e d h).is (record { sites = refl; born = λ x b. b })
+later : (c : Config) (e : Event) (d : Config) → apply c e ≡ Some d → Later c d
+later c e d h = rw (row-step c e d e.kind h).is (record { sites = refl; born = made-keeps c.born e.made })
 
 pub sites-run : (es : List Event) (c d : Config) → run c es ≡ Some d → d.sites ≡ c.sites
 sites-run [] c d h = ap (λ (x : Config). x.sites) (done h)
-sites-run (e ∷ es) c d h = then (apply c e) (λ d. run d es) h λ m first rest. sites-run es m d rest ∙ (later-at e.kind c e m first).sites
+sites-run (e ∷ es) c d h = then (apply c e) (λ d. run d es) h λ m first rest. sites-run es m d rest ∙ (later c e m first).sites
 
 -- the first part of a run is a run
 pub prefix : (es fs : List Event) (c d : Config) → run c (es ++ fs) ≡ Some d → (m : Config) × (run c es ≡ Some m)
@@ -120,7 +107,7 @@ stays [] g c q k h b = h
 stays (e ∷ es) g c q k h b =
     let made = makes_at e.kind c e in
     stays_after g (apply c e) (channels_after es (noted g made)) q k h λ d is.
-    stays es (noted g made) d q k (noted-keeps g c d made q k (λ x m. made-at e.kind c e d x is m) h b) ((later-at e.kind c e d is).born q b)
+    stays es (noted g made) d q k (noted-keeps g c d made q k (λ x m. made-at e.kind c e d x is m) h b) ((later c e d is).born q b)
 
 noted-here : (g : Channels) (m : Option (Name × (Cap × Ty))) (x : Name × (Cap × Ty)) → m ≡ Some x → map.get (noted g m) x.0 ≡ Some x.1
 noted-here g None x h = absurd cc

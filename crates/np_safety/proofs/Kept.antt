@@ -22,9 +22,11 @@ use Rattle.np_types.proofs.Subs.{chan-again}
 use Rattle.np_calculus.specs.declared.config.Atom.{Atom}
 use Rattle.np_calculus.specs.Config.{Config}
 use Rattle.np_eval.specs.Eval.{Env, find_place}
-use Rattle.np_calculus.specs.Reductions.{acting, goes, output_in, found_here, found_away, found_on, row, stop_row, fork_row, new_row, let_row, if_row}
-use Rattle.np_calculus.specs.Reductions.{comm_row, rep_row, agent_row, depart_row, arrive_row, local_row, send_row, land_row, print_row, open_row, lookup_row, post_row}
-use Rattle.np_calculus.proofs.Steps.{acting-step, stop-step, fork-step, new-step, comm-step, rep-step, print-step, Renews}
+use Rattle.np_calculus.specs.Reductions.{goes, output_in, found_on, row}
+use Rattle.np_calculus.specs.Seen.{acting}
+use Rattle.np_calculus.proofs.Steps.{acting-step}
+use Rattle.np_calculus.proofs.Inversions.{NewStep, TestStep, stop-step, fork-step, new-step, let-step, if-step, comm-step, rep-step, agent-step, depart-step}
+use Rattle.np_calculus.proofs.Inversions.{arrive-step, local-step, send-step, land-step, print-step, open-step, lookup-step, post-step}
 use Rattle.np_check.specs.Faults.{lock_type}
 use Rattle.np_safety.specs.Fits.{Fits, Sent}
 use Rattle.np_safety.specs.Channels.{makes_at}
@@ -33,10 +35,7 @@ use Rattle.np_safety.proofs.Fitting.{Agrees, Fitting, FittingAtom, FittingAtoms}
 use Rattle.np_safety.proofs.Shapes.{fits-itself}
 use Rattle.np_safety.proofs.Evaluates.{agent-kind, chan-kind}
 use Rattle.np_safety.proofs.Matches.{agrees-put, matches}
-use Rattle.np_safety.proofs.Forms.{Good, good-par, good-new, good-inp, good-rep, good-agent, good-migrate}
-use Rattle.np_safety.proofs.Forms.{good-iflocal, good-send, good-post, good-if, good-let, good-open, good-lookup}
-use Rattle.np_calculus.proofs.Inversions.{let-step, if-step, agent-step, depart-step, arrive-step, local-step}
-use Rattle.np_calculus.proofs.Inversions.{here-step, away-step, send-step, land-step, post-step, open-step, lookup-step}
+use Rattle.np_safety.proofs.Forms.{Good, good-as}
 use Rattle.np_safety.proofs.Atoms.{sent_on, letter_sent, places_locked, fits-value, takes, bound-as}
 use Rattle.np_safety.proofs.Atoms.{offered-typed, made-typed, atoms-put, atoms-cut, packets-put, packets-cut}
 
@@ -61,141 +60,138 @@ module _ (w : World) (c : Config) (e : Event) (d : Config) (i : Fitting w c) whe
   actor : (a : Atom) → acting c e ≡ Some a → FittingAtom w a
   actor a h = i.atoms e.actor a (acting-step c e a h).there
 
-  keeps-stop : stop_row c e ≡ Some d → Fitting w d
+  keeps-stop : row kind.Stop c e ≡ Some d → Fitting w d
   keeps-stop h = let s = stop-step c e d h in rw s.is (record { atoms = atoms-cut w _ _ i.atoms; packets = i.packets })
 
-  keeps-fork : fork_row c e ≡ Some d → Fitting w d
+  keeps-fork : row kind.Fork c e ≡ Some d → Fitting w d
   keeps-fork h =
       let s = fork-step c e d h in
       let a = actor s.atom s.acts in
-      let g = good-par w a.types s.atom.proc s.parts s.form a.good in
+      let g = good-as w a.types s.atom.proc _ s.form a.good in
       rw s.is (record {
-        atoms = atoms-put w _ _ _ (atoms-put w c.atoms s.mark _ i.atoms (goes-on w s.atom s.parts.1 a g.1)) (goes-on w s.atom s.parts.0 a g.0);
+        atoms = atoms-put w _ _ _ (atoms-put w c.atoms s.mark _ i.atoms (goes-on w s.atom s.right a g.1)) (goes-on w s.atom s.left a g.0);
         packets = i.packets;
       })
 
-  keeps-new : new_row c e ≡ Some d → HasMade w (makes_at kind.New c e) → Fitting w d
+  keeps-new : row kind.New c e ≡ Some d → HasMade w (makes_at kind.New c e) → Fitting w d
   keeps-new h names =
       let s = new-step c e d h in
       let a = actor s.atom s.acts in
-      let g = good-new w a.types s.atom.proc s.parts s.form a.good in
-      let t = s.parts.1 in
+      let g = good-as w a.types s.atom.proc _ s.form a.good in
+      let t = s.type in
       let called : w.chan s.chan ≡ Some g.carries = subst (HasMade w) (new_made s g.carries g.chan) names in
       let f : Fits w (value.Chan s.chan) t = record { type = ty.Chan g.carries.0 g.carries.1; is = chan-kind w s.chan g.carries called; below = chan-again t g.carries g.chan } in
-      let b = agrees-put w s.atom.env a.types s.parts.0 (value.Chan s.chan) t f a.agrees in
-      rw s.is (record { atoms = atoms-put w c.atoms e.actor _ i.atoms (goes-in w s.atom.agent s.parts.2 _ (map.insert a.types s.parts.0 t) b g.body); packets = i.packets })
+      let b = agrees-put w s.atom.env a.types s.binder (value.Chan s.chan) t f a.agrees in
+      rw s.is (record { atoms = atoms-put w c.atoms e.actor _ i.atoms (goes-in w s.atom.agent s.body _ (map.insert a.types s.binder t) b g.body); packets = i.packets })
     where
-      new_made : (s : Renews c e d) (k : Cap × Ty) → as_chan (out-Ty s.parts.1) ≡ Some k → makes_at kind.New c e ≡ Some (s.chan, k)
+      new_made : (s : NewStep c e d) (k : Cap × Ty) → as_chan (out-Ty s.type) ≡ Some k → makes_at kind.New c e ≡ Some (s.chan, k)
       new_made s k is = rw (s.acts, s.form, s.made, is) refl
 
-  keeps-let : let_row c e ≡ Some d → Fitting w d
+  keeps-let : row kind.Let c e ≡ Some d → Fitting w d
   keeps-let h =
       let s = let-step c e d h in
       let a = actor s.atom s.acts in
-      let g = good-let w a.types s.atom.proc s.parts s.form a.good in
-      let f = fits-value w s.atom.env a.types a.agrees s.parts.1 g.type s.value g.is s.gives in
-      let b = matches w s.parts.0 s.value g.type s.atom.env a.types g.inner f a.agrees g.covers in
-      rw s.is (record { atoms = atoms-put w c.atoms e.actor _ i.atoms (goes-in w s.atom.agent s.parts.2 s.env g.inner (bound-as w _ s.env g.inner b s.binds) g.body); packets = i.packets })
+      let g = good-as w a.types s.atom.proc _ s.form a.good in
+      let f = fits-value w s.atom.env a.types a.agrees s.bound g.type s.value g.is s.gives in
+      let b = matches w s.pat s.value g.type s.atom.env a.types g.inner f a.agrees g.covers in
+      rw s.is (record { atoms = atoms-put w c.atoms e.actor _ i.atoms (goes-in w s.atom.agent s.body s.env g.inner (bound-as w _ s.env g.inner b s.binds) g.body); packets = i.packets })
 
-  keeps-if : if_row c e ≡ Some d → Fitting w d
+  keeps-if : row kind.If c e ≡ Some d → Fitting w d
   keeps-if h =
       let s = if-step c e d h in
       let a = actor s.atom s.acts in
-      let g = good-if w a.types s.atom.proc s.parts s.form a.good in
-      rw s.is (record { atoms = atoms-put w c.atoms e.actor _ i.atoms (goes-on w s.atom _ a (choose w a.types s.test s.parts.1 s.parts.2 g.1 g.2)); packets = i.packets })
+      let g = good-as w a.types s.atom.proc _ s.form a.good in
+      rw s.is (record { atoms = atoms-put w c.atoms e.actor _ i.atoms (goes-on w s.atom _ a (choose w a.types s.first s.met s.unmet g.1 g.2)); packets = i.packets })
 
-  keeps-comm : comm_row c e ≡ Some d → Fitting w d
+  keeps-comm : row kind.Comm c e ≡ Some d → Fitting w d
   keeps-comm h =
       let s = comm-step c e d h in
       let a = actor s.atom s.acts in
-      let g = good-inp w a.types s.atom.proc s.parts s.form a.good in
+      let g = good-as w a.types s.atom.proc _ s.form a.good in
       let f = offered-typed w c s.mark s.atom.agent s.chan s.value i.atoms s.offer in
-      let b = takes w s.atom.env a.types a.agrees s.parts.0 s.parts.1 s.parts.2 s.chan s.value g s.on f in
+      let b = takes w s.atom.env a.types a.agrees s.from s.pat s.body s.chan s.value g s.on f in
       rw s.is (record {
-        atoms = atoms-cut w _ s.mark (atoms-put w c.atoms e.actor _ i.atoms (goes-in w s.atom.agent s.parts.2 s.env g.inner (bound-as w _ s.env g.inner b s.binds) g.body));
+        atoms = atoms-cut w _ s.mark (atoms-put w c.atoms e.actor _ i.atoms (goes-in w s.atom.agent s.body s.env g.inner (bound-as w _ s.env g.inner b s.binds) g.body));
         packets = i.packets;
       })
 
-  keeps-rep : rep_row c e ≡ Some d → Fitting w d
+  keeps-rep : row kind.Rep c e ≡ Some d → Fitting w d
   keeps-rep h =
       let s = rep-step c e d h in
       let a = actor s.atom s.acts in
-      let g = good-rep w a.types s.atom.proc s.parts s.form a.good in
+      let g = good-as w a.types s.atom.proc _ s.form a.good in
       let f = offered-typed w c s.mark s.atom.agent s.chan s.value i.atoms s.offer in
-      let b = takes w s.atom.env a.types a.agrees s.parts.0 s.parts.1 s.parts.2 s.chan s.value g s.on f in
-      rw s.is (record { atoms = atoms-put w c.atoms s.mark _ i.atoms (goes-in w s.atom.agent s.parts.2 s.env g.inner (bound-as w _ s.env g.inner b s.binds) g.body); packets = i.packets })
+      let b = takes w s.atom.env a.types a.agrees s.from s.pat s.body s.chan s.value g s.on f in
+      rw s.is (record { atoms = atoms-put w c.atoms s.mark _ i.atoms (goes-in w s.atom.agent s.body s.env g.inner (bound-as w _ s.env g.inner b s.binds) g.body); packets = i.packets })
 
-  keeps-agent : agent_row c e ≡ Some d → Fitting w d
+  keeps-agent : row kind.Agent c e ≡ Some d → Fitting w d
   keeps-agent h =
       let s = agent-step c e d h in
       let a = actor s.atom s.acts in
-      let g = good-agent w a.types s.atom.proc s.parts s.form a.good in
-      let b = agrees-put w s.atom.env a.types s.parts.0 (value.Agent s.names.0) ty.Agent (fits-itself w _ ty.Agent (agent-kind w s.names.0)) a.agrees in
+      let g = good-as w a.types s.atom.proc _ s.form a.good in
+      let b = agrees-put w s.atom.env a.types s.binder (value.Agent s.agent) ty.Agent (fits-itself w _ ty.Agent (agent-kind w s.agent)) a.agrees in
       rw s.is (record {
-        atoms = atoms-put w _ e.actor _ (atoms-put w c.atoms s.names.1 _ i.atoms (goes-in w s.names.0 s.parts.1 _ _ b g.0)) (goes-in w s.atom.agent s.parts.2 _ _ b g.1);
+        atoms = atoms-put w _ e.actor _ (atoms-put w c.atoms s.mark _ i.atoms (goes-in w s.agent s.body _ _ b g.0)) (goes-in w s.atom.agent s.rest _ _ b g.1);
         packets = i.packets;
       })
 
-  keeps-depart : depart_row c e ≡ Some d → Fitting w d
+  keeps-depart : row kind.Depart c e ≡ Some d → Fitting w d
   keeps-depart h =
       let s = depart-step c e d h in
       let a = actor s.atom s.acts in
-      let g = good-migrate w a.types s.atom.proc s.parts s.form a.good in
-      rw s.is (record { atoms = atoms-put w c.atoms e.actor _ i.atoms (goes-on w s.atom s.parts.1 a g.1); packets = i.packets })
+      let g = good-as w a.types s.atom.proc _ s.form a.good in
+      rw s.is (record { atoms = atoms-put w c.atoms e.actor _ i.atoms (goes-on w s.atom s.body a g.1); packets = i.packets })
 
-  keeps-arrive : arrive_row c e ≡ Some d → Fitting w d
+  keeps-arrive : row kind.Arrive c e ≡ Some d → Fitting w d
   keeps-arrive h = let s = arrive-step c e d h in rw s.is (record { atoms = i.atoms; packets = i.packets })
 
-  asked : (b : Bool) (a : Atom) (agent chan : Name) (v : Value) (p q : Proc) → cond b (found_here c e a p agent chan v) (found_away c e a q) ≡ Some d
+  asked : (b : Bool) (a : Atom) (agent chan : Name) (v : Value) (p q : Proc) → TestStep b c e a p q agent chan v d
       → Sent w chan v → FittingAtom w (goes a p) → FittingAtom w (goes a q) → Fitting w d
-  asked true a agent chan v p q h f g k =
-      let s = here-step c e a p agent chan v d h in
+  asked true a agent chan v p q s f g k =
       let made = atoms-put w c.atoms s.mark (output_in agent chan v e.tag) i.atoms (made-typed w agent chan v e.tag f) in
       rw s.is (record { atoms = atoms-put w (map.insert c.atoms s.mark (output_in agent chan v e.tag)) e.actor (goes a p) made g; packets = i.packets })
-  asked false a agent chan v p q h f g k =
-      let s = away-step c e a q d h in
-      rw s.is (record { atoms = atoms-put w c.atoms e.actor (goes a q) i.atoms k; packets = i.packets })
+  asked false a agent chan v p q s f g k = rw s.is (record { atoms = atoms-put w c.atoms e.actor (goes a q) i.atoms k; packets = i.packets })
 
-  keeps-local : local_row c e ≡ Some d → Fitting w d
+  keeps-local : row kind.Local c e ≡ Some d → Fitting w d
   keeps-local h =
       let s = local-step c e d h in
       let a = actor s.atom s.acts in
-      let g = good-iflocal w a.types s.atom.proc s.parts s.form a.good in
-      let f = sent_on w s.atom.env a.types a.agrees s.parts.1 s.parts.2 s.chan s.value g.1 s.on s.gives in
-      asked _ s.atom s.agent s.chan s.value s.parts.3 s.parts.4 s.is f (goes-on w s.atom s.parts.3 a g.2) (goes-on w s.atom s.parts.4 a g.3)
+      let g = good-as w a.types s.atom.proc _ s.form a.good in
+      let f = sent_on w s.atom.env a.types a.agrees s.on s.sent s.chan s.value g.1 s.along s.gives in
+      asked _ s.atom s.agent s.chan s.value s.met s.unmet s.is f (goes-on w s.atom s.met a g.2) (goes-on w s.atom s.unmet a g.3)
 
-  keeps-send : send_row c e ≡ Some d → Fitting w d
+  keeps-send : row kind.Send c e ≡ Some d → Fitting w d
   keeps-send h =
       let s = send-step c e d h in
       let a = actor s.atom s.acts in
-      let g = good-send w a.types s.atom.proc s.parts s.form a.good in
-      let f = sent_on w s.atom.env a.types a.agrees s.parts.2 s.parts.3 s.chan s.value g.2 s.on s.gives in
+      let g = good-as w a.types s.atom.proc _ s.form a.good in
+      let f = sent_on w s.atom.env a.types a.agrees s.on s.sent s.chan s.value g.2 s.along s.gives in
       rw s.is (record { atoms = atoms-cut w _ _ i.atoms; packets = packets-put w c.packets e.actor _ i.packets f })
 
-  keeps-land : land_row c e ≡ Some d → Fitting w d
+  keeps-land : row kind.Land c e ≡ Some d → Fitting w d
   keeps-land h =
       let s = land-step c e d h in
       let p = s.packet in
       let made = made-typed w p.agent p.chan p.value e.tag (i.packets e.actor p s.flies) in
       rw s.is (record { atoms = atoms-or w _ _ c.atoms (atoms-put w c.atoms e.actor _ i.atoms made) i.atoms; packets = packets-cut w _ _ i.packets })
 
-  keeps-print : print_row c e ≡ Some d → Fitting w d
+  keeps-print : row kind.Print c e ≡ Some d → Fitting w d
   keeps-print h = let s = print-step c e d h in rw s.is (record { atoms = atoms-cut w _ _ i.atoms; packets = i.packets })
 
-  keeps-post : post_row c e ≡ Some d → Fitting w d
+  keeps-post : row kind.Post c e ≡ Some d → Fitting w d
   keeps-post h =
       let s = post-step c e d h in
       let a = actor s.atom s.acts in
-      let g = good-post w a.types s.atom.proc s.parts s.form a.good in
-      let f = sent_on w s.atom.env a.types a.agrees s.parts.1 s.parts.2 s.chan s.value g.1 s.on s.gives in
+      let g = good-as w a.types s.atom.proc _ s.form a.good in
+      let f = sent_on w s.atom.env a.types a.agrees s.on s.sent s.chan s.value g.1 s.along s.gives in
       rw s.is (record { atoms = atoms-put w c.atoms e.actor _ i.atoms (made-typed w s.agent s.chan s.value e.tag f); packets = i.packets })
 
   -- the letter's value fits its channel
-  keeps-open : open_row c e ≡ Some d → Fitting w d
+  keeps-open : row kind.Open c e ≡ Some d → Fitting w d
   keeps-open h =
       let s = open-step c e d h in
       let a = actor s.atom s.acts in
-      let g = good-open w a.types s.atom.proc s.expr s.form a.good in
+      let g = good-as w a.types s.atom.proc _ s.form a.good in
       let f = letter_sent w s.atom.env a.types a.agrees s.expr s.letter g s.holds in
       rw s.is (record { atoms = atoms-put w c.atoms e.actor _ i.atoms (made-typed w s.atom.agent s.letter.0 s.letter.1 e.tag f); packets = i.packets })
 
@@ -232,13 +228,13 @@ looked-typed w a t x p q None ok g h = goes-on w a q t h
 looked-typed w a t x p q (Some l) ok g h =
     goes-in w a.agent p _ _ (agrees-put w a.env t.types x (value.Chan l) lock_type (lock-fits w l _ refl (ok l refl)) t.agrees) g
 
-keeps-lookup : (w : World) (c : Config) (e : Event) (d : Config) → Fitting w c → lookup_row c e ≡ Some d → Fitting w d
+keeps-lookup : (w : World) (c : Config) (e : Event) (d : Config) → Fitting w c → row kind.Lookup c e ≡ Some d → Fitting w d
 keeps-lookup w c e d i h =
     let s = lookup-step c e d h in
     let a = actor w c e d i s.atom s.acts in
-    let g = good-lookup w a.types s.atom.proc s.parts s.form a.good in
-    let ok = places_locked w s.atom.env a.types a.agrees s.parts.1 s.places g.1 s.among in
-    let l = looked-typed w s.atom a s.parts.2 s.parts.3 s.parts.4 (find_place s.places s.agent) (found_lock w s.places s.agent ok) g.2 g.3 in
+    let g = good-as w a.types s.atom.proc _ s.form a.good in
+    let ok = places_locked w s.atom.env a.types a.agrees s.among s.places g.1 s.lists in
+    let l = looked-typed w s.atom a s.binder s.met s.unmet (find_place s.places s.agent) (found_lock w s.places s.agent ok) g.2 g.3 in
     rw s.is (record { atoms = atoms-put w c.atoms e.actor _ i.atoms l; packets = i.packets })
 
 -- each kind of event keeps the types

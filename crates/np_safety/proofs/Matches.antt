@@ -13,7 +13,8 @@ use Rattle.np_types.specs.Least.{Types}
 use Rattle.np_types.specs.Covers.{Covering, cover, cover_each, cover_step}
 use Rattle.np_syntax.proofs.Trees.{With, PatHyps, pat_of, pat_ind}
 use Rattle.np_types.proofs.Covers.{cover_layer, cover-out}
-use Rattle.np_eval.specs.Eval.{Env, Binding, bind, bind_form, bind_each, bind_step}
+use Rattle.np_eval.specs.Eval.{Env, Binding, bind, bind_each, bind_step}
+use Rattle.np_eval.specs.Levels.{bind_form}
 use Rattle.np_eval.proofs.Layers.{bind_layer, bind-out}
 use Rattle.np_safety.specs.Fits.{Fits, LeastOf}
 use Rattle.np_safety.proofs.Fitting.{Agrees, FitAll, Known, Valued}

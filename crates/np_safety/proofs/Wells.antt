@@ -19,7 +19,7 @@ use Rattle.np_types.proofs.Below.{printable-out, printable_below}
 use Rattle.np_calculus.specs.Config.{Config}
 use Rattle.np_eval.specs.Eval.{Env, eval, chan_of, agent_of, truth_of}
 use Rattle.np_eval.specs.Forms.{Layer, layer, taken_on}
-use Rattle.np_calculus.specs.Reductions.{site_of}
+use Rattle.np_calculus.specs.Seen.{site_of}
 use Rattle.np_calculus.specs.Well.{Has, Ready, Well, is_printable, printable_step}
 use Rattle.np_safety.specs.Channels.{Channels, world}
 use Rattle.np_safety.proofs.Fitting.{Agrees, Fitting}

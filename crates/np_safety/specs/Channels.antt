@@ -13,8 +13,10 @@ use Rattle.np_tables.specs.Names.{NameMap}
 use Rattle.np_types.specs.Sub.{as_chan}
 use Rattle.np_types.specs.Worlds.{World}
 use Rattle.np_calculus.specs.Config.{Config}
-use Rattle.np_eval.specs.Forms.{layer, as_new}
-use Rattle.np_calculus.specs.Reductions.{acting, one_made, apply}
+use Rattle.np_eval.specs.Forms.{layer}
+use Rattle.np_eval.specs.FormParts.{as_new}
+use Rattle.np_calculus.specs.Reductions.{one_made, apply}
+use Rattle.np_calculus.specs.Seen.{acting}
 
 -- the capability of each channel, and what it carries
 abbrev pub Channels : Type 0

@@ -9,7 +9,7 @@ use Rattle.np_syntax.specs.declared.event.Event.{Event}
 use Rattle.np_types.specs.Worlds.{World}
 use Rattle.np_calculus.specs.Config.{Config}
 use Rattle.np_calculus.specs.Reductions.{apply, run}
-use Rattle.np_calculus.specs.Serial.{RunsWell}
+use Rattle.np_calculus.specs.Runs.{RunsWell}
 use Rattle.np_calculus.specs.Starts.{start_high}
 use Rattle.np_calculus.specs.Well.{Well, WellAlong}
 use Rattle.np_check.specs.Faults.{IsAccepted}

@@ -1,6 +1,6 @@
 use Rattle.std.proofs.Common.{◌≡◌, drop}
 use Rattle.std.specs.Option.{is_some}
-use Rattle.np_eval.specs.Eval.{eval_all}
+use Rattle.np_eval.specs.Levels.{eval_all}
 use Rattle.np_eval.proofs.fitting.+eval_shape.Given as goal
 
 abbrev pub invariant-all_have_values-loop-part : goal.invariant-all_have_values-loop-part

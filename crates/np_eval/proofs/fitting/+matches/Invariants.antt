@@ -1,6 +1,7 @@
 use Rattle.std.proofs.Common.{◌≡◌, drop, length}
 use Rattle.std.specs.Option.{is_some}
-use Rattle.np_eval.specs.Eval.{Env, bind_all}
+use Rattle.np_eval.specs.Eval.{Env}
+use Rattle.np_eval.specs.Levels.{bind_all}
 use Rattle.np_eval.proofs.fitting.+matches.Given as goal
 
 abbrev pub invariant-matches_all-loop-at : goal.invariant-matches_all-loop-at

@@ -1,5 +1,5 @@
 use Rattle.std.proofs.Common.{◌≡◌, drop, length}
-use Rattle.np_eval.specs.Eval.{bind_all}
+use Rattle.np_eval.specs.Levels.{bind_all}
 use Rattle.np_eval.proofs.patterns.+bind.Given as goal
 
 abbrev pub invariant-put_all-loop-at : goal.invariant-put_all-loop-at

@@ -1,5 +1,5 @@
 use Rattle.std.proofs.Common.{◌≡◌, drop}
-use Rattle.np_eval.specs.Eval.{eval_all}
+use Rattle.np_eval.specs.Levels.{eval_all}
 use Rattle.np_eval.proofs.Evals.{after_values}
 use Rattle.np_eval.proofs.values.+eval.Given as goal
 

@@ -1,6 +1,7 @@
 use Rattle.std.proofs.Common.{sym, subst, ap, ◌∙◌}
 use Rattle.np_syntax.specs.declared.program.Program.{Program}
-use Rattle.np_calculus.specs.Serial.{RunsWell, IsSerialRun}
+use Rattle.np_configuration.specs.Serial.{IsSerialRun}
+use Rattle.np_calculus.specs.Runs.{RunsWell}
 use Rattle.np_run.specs.Report.{report_text}
 use Rattle.np_run.proofs.job.run.Goals as goal
 

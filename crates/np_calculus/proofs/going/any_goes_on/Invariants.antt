@@ -1,7 +1,0 @@
-use Rattle.std.proofs.Common.{ℕ, ◌<◌, get_or}
-use Rattle.np_syntax.specs.declared.value.Name.{Name}
-use Rattle.np_calculus.specs.Going.{GoesOn}
-use Rattle.np_calculus.proofs.going.any_goes_on.Given as goal
-
-abbrev pub invariant-loop-at : goal.invariant-loop-at
-invariant-loop-at l = (k : ℕ) (d : Name) → k < l.at → GoesOn l.atoms.items l.places.items (get_or l.atoms.keys k d) → ⊥

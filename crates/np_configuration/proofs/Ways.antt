@@ -1,0 +1,68 @@
+-- How a lookup and a location test go on.
+use Rattle.std.proofs.Common.{◌≡◌, ℕ, Bool, true, false, cond, Option, None, Some, IsSome, is_some, refl, sym, ◌∙◌}
+use Rattle.np_syntax.specs.declared.value.Name.{Name}
+use Rattle.np_syntax.specs.declared.value.Value.{Value}
+use Rattle.np_syntax.specs.declared.expression.Expr.{Expr}
+use Rattle.np_syntax.specs.declared.process.Proc.{Proc}
+use Rattle.np_syntax.specs.declared.process.ProcForm.{ProcForm-F}
+use Rattle.np_syntax.specs.declared.event.Event.{Event}
+use Rattle.np_syntax.specs.declared.event.Kind.TheVariants as kind
+use Rattle.np_syntax.specs.Options.{◌>>=◌}
+use Rattle.np_tables.specs.declared.errand.Errand.{Errand}
+use Rattle.np_calculus.specs.declared.config.Atom.{Atom}
+use Rattle.np_calculus.specs.Config.{Config}
+use Rattle.np_calculus.specs.Reductions.{after_change, goes_under, found_on, here_row, away_row, one_made, none_made, no_other, act, row}
+use Rattle.np_calculus.specs.Seen.{acting, fresh, is_at}
+use Rattle.np_calculus.proofs.Inversions.{TestStep, passes}
+use Rattle.np_calculus.proofs.Rows.{local-row as local-by_form}
+use Rattle.np_calculus.proofs.Steps.{acting-step, one-new}
+use Rattle.np_eval.specs.Eval.{Env, agent_of, chan_of, eval}
+use Rattle.np_eval.specs.Forms.{layer}
+use Rattle.np_configuration.specs.Found.{IsLocal, IsLookup, found_env}
+use Rattle.np_configuration.specs.Moves.{way_in}
+use Rattle.np_configuration.specs.Rows.{local_row}
+
+-- what was found or not gives the process and its environment
+pub found-goes : (a : Atom) (x : ℕ) (met unmet : Proc) (o : Option Name)
+    → found_on a x met unmet o ≡ goes_under a (cond (is_some o) met unmet) (found_env a.env x o)
+found-goes a x met unmet (Some lock) = refl
+found-goes a x met unmet None = refl
+
+-- the atom of a lookup that is enabled has a process to go on as
+pub looked-way : (c : Config) (e : Event) (first : Bool) (env : Env) (errand : Errand) → IsLookup c e first env errand → IsSome (way_in c.atoms e.actor first)
+looked-way c e first env errand s = rw ((acting-step c e s.atom s.acts).there, s.form) refl
+
+-- the row of a location test, where the conditions of both its ways are met
+pub local-is : (c : Config) (e : Event) (a : Atom) (receiver on sent : Expr) (met unmet : Proc) (b n : Name) (v : Value) (here : Bool) → acting c e ≡ Some a
+    → layer a.proc ≡ ProcForm-F.IfLocal receiver on sent met unmet → agent_of receiver a.env ≡ Some b → chan_of on a.env ≡ Some n → eval sent a.env ≡ Some v
+    → no_other e.other ≡ Some tt → is_at c b e.site ≡ here
+    → row kind.Local c e ≡ (cond here (here_row e a (cond here met unmet) b n v) (away_row e a (cond here met unmet)) >>= after_change c e)
+unfolding act
+local-is c e a receiver on sent met unmet b n v here acts form names along gives lone sees =
+    rw (acts, form, names, along, gives, lone, sees) (way_of here)
+  where
+    way_of : (t : Bool) → (cond t (here_row e a met b n v) (away_row e a unmet) >>= after_change c e)
+        ≡ (cond t (here_row e a (cond t met unmet) b n v) (away_row e a (cond t met unmet)) >>= after_change c e)
+    way_of true = refl
+    way_of false = refl
+
+module _ (c : Config) (e : Event) (b n : Name) (v : Value) (errand : Errand) where
+  -- both ways of a location test, where their row is met
+  pub here-made : (d : Config) (unmet : Proc) (s : IsLocal c e b n v true errand) → TestStep true c e s.atom s.next unmet b n v d → local_row c e ≡ Some d
+  here-made d unmet s t = sym (local-by_form c e) ∙ s.gives ∙ passes c e d s.atom s.next unmet b n v true t
+
+  pub away-made : (d : Config) (met : Proc) (s : IsLocal c e b n v false errand) → TestStep false c e s.atom met s.next b n v d → local_row c e ≡ Some d
+  away-made d met s t = sym (local-by_form c e) ∙ s.gives ∙ passes c e d s.atom met s.next b n v false t
+
+  -- and where it is not
+  pub here-unmade : IsLocal c e b n v true errand → one_made e.made ≡ None → local_row c e ≡ None
+  unfolding here_row
+  here-unmade s none = sym (local-by_form c e) ∙ s.gives ∙ rw none refl
+
+  pub here-taken : (mark : Name) → IsLocal c e b n v true errand → one_made e.made ≡ Some mark → fresh c mark ≡ None → local_row c e ≡ None
+  unfolding here_row
+  here-taken mark s made taken = sym (local-by_form c e) ∙ s.gives ∙ rw (made, one-new c.born e.made mark made, taken) refl
+
+  pub away-unmade : IsLocal c e b n v false errand → none_made e.made ≡ None → local_row c e ≡ None
+  unfolding away_row
+  away-unmade s made = sym (local-by_form c e) ∙ s.gives ∙ rw made refl

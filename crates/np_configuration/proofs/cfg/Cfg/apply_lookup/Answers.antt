@@ -1,0 +1,54 @@
+use Rattle.std.proofs.Common.{◌≡◌, cond, Some, IsSome, rules, sym, subst, ap, ◌∙◌}
+use Rattle.std.specs.FinMap as map
+use Rattle.np_tables.specs.Names.{NameMap}
+use Rattle.np_configuration.specs.contracts.cfg.Cfg.{the_view}
+use Rattle.np_calculus.specs.declared.config.Atom.{Atom}
+use Rattle.np_calculus.specs.Config.{Config}
+use Rattle.np_eval.specs.Forms.{layer}
+use Rattle.np_configuration.specs.Found.{IsLookup}
+use Rattle.np_configuration.specs.Moves.{way_in}
+use Rattle.np_calculus.specs.Reductions.{goes_under}
+use Rattle.np_calculus.proofs.Rows.{lookup-row}
+use Rattle.np_configuration.proofs.Keeping.{kept-on, kept-as}
+use Rattle.np_calculus.proofs.Steps.{acting-step}
+use Rattle.np_configuration.proofs.Ways.{looked-way}
+use Rattle.np_configuration.proofs.cfg.Cfg.apply_lookup.Goals as goal
+
+pub go_under-requires-clause-whole : goal.go_under-requires-clause-whole
+go_under-requires-clause-whole c =
+    rw (c.in_ok-reserve.ensures.items)
+    (subst (λ (d : Config). IsSome (way_in d.atoms c.args.e.now.actor c.in_ok-looked.looked.first)) (sym c.self.view_is)
+    (looked-way c.args.self.now c.args.e.now c.in_ok-looked.looked.first c.in_ok-looked.looked.env c.in_ok-looked.looked.errand (search rules)))
+
+looked : (c : goal.After-go_under)
+    → IsLookup c.args.self.now c.args.e.now c.in_ok-looked.looked.first c.in_ok-looked.looked.env c.in_ok-looked.looked.errand
+looked c = search rules
+
+there : (c : goal.After-go_under) → map.get c.self.inside.atoms.items c.args.e.now.actor ≡ Some (looked c).atom
+there c =
+    ap (λ (d : Config). map.get d.atoms c.args.e.now.actor) c.self.view_is
+    ∙ (acting-step c.args.self.now c.args.e.now (looked c).atom (looked c).acts).there
+
+abbrev next : goal.After-go_under → Atom
+next c = goes_under (looked c).atom (looked c).next c.in_ok-looked.looked.env
+
+atoms : (c : goal.After-go_under) → c.go_under.new.atoms.items ≡ map.insert c.self.inside.atoms.items c.args.e.now.actor (next c)
+atoms c =
+    let s = looked c in
+    c.go_under.ensures.each s.atom s.next
+    (ap (λ (x : NameMap Atom). map.get x c.args.e.now.actor) c.in_ok-reserve.ensures.items ∙ there c)
+    s.form
+    ∙ ap (λ (x : NameMap Atom). map.insert x c.args.e.now.actor (next c)) c.in_ok-reserve.ensures.items
+
+pub invariant_of-self-2 : goal.invariant_of-self-2
+invariant_of-self-2 c =
+    kept-as (kept-on c.self.invariant c.args.e.now.actor (looked c).atom (next c) (there c)) _ _
+    (c.in_ok-file.ensures.ok ∙ ap (map.insert c.self.inside.work c.args.e.now.actor) (looked c).files)
+    (atoms c)
+
+pub returns : goal.returns
+returns c =
+    sym (lookup-row c.args.self.now c.args.e.now) ∙ (looked c).gives
+    ∙ ap Some (sym
+    (ap (λ (x : NameMap Atom). record (the_view c.self.inside) { atoms = x }) (atoms c)
+    ∙ ap (λ (d : Config). record d { atoms = map.insert d.atoms c.args.e.now.actor (next c) }) c.self.view_is))

@@ -1,0 +1,11 @@
+use Rattle.std.proofs.Common.{arith}
+use Rattle.np_configuration.specs.Going.{GivesAt}
+use Rattle.np_configuration.proofs.Goings.{none_covered}
+use Rattle.np_configuration.proofs.going.any_gives.Goals as goal
+
+pub returns : goal.returns
+returns c = (
+  λ e. absurd cc,
+  λ found. absurd (none_covered (GivesAt c.args.atoms.now.items c.args.meeting) c.args.atoms.now.items c.args.atoms.now.keys c.len-at-end.ensures.covers
+      (λ k d h. c.loop-at.invariant k d (omega (arith, h, c.loop-at.auto.at-end, c.loop-at-test.false, c.len-at-end.ensures.len))) found.0 found.1.atom found.1.there found.1),
+)

@@ -1,0 +1,62 @@
+use Rattle.std.proofs.Common.{◌≡◌, ◌∷◌, [], ◌≤◌, length, length-append, Some, List, refl, sym, ap, subst, ◌∙◌, arith}
+use Rattle.np_syntax.specs.declared.event.Event.{Event}
+use Rattle.np_syntax.specs.declared.event.End.TheVariants.{Rest}
+use Rattle.np_calculus.specs.Config.{Config}
+use Rattle.np_calculus.specs.Reductions.{run}
+use Rattle.np_configuration.specs.Serial.{AreFresh, IsNext, IsSerialRun}
+use Rattle.np_calculus.specs.Starts.{start_high}
+use Rattle.np_configuration.proofs.SerialEvents.{run-push, start-fresh, fresh-after, names-new, housed-last, rest-run, ended-run}
+use Rattle.np_configuration.proofs.serial.run_serial.Goals as goal
+
+pub loop-n-init : goal.loop-n-init
+loop-n-init c = record {
+  reaches = ap (λ (es : List Event). run (start_high c.args.p.now) es) c.new-events.ensures ∙ ap Some (sym c.in_ok-last.ensures);
+  made = ap length c.new-events.ensures;
+  fresh = subst (λ (d : Config). AreFresh d.born (length c.args.p.now.sites) 0) (sym c.in_ok-last.ensures) (start-fresh c.args.p.now);
+}
+
+pub returns-in_default : goal.returns-in_default
+returns-in_default c =
+    let within : length c.loop-n.events ≤ c.args.budget = omega (arith, c.loop-n.invariant.made) in
+    subst (λ (d : Config). IsSerialRun c.args.p.now c.args.budget c.loop-n.events d Rest) (sym c.next.ensures.same)
+    (rest-run c.args.p.now c.requires c.args.budget c.loop-n.events c.loop-n.last c.loop-n.invariant.reaches within c.in_default.ensures.none)
+
+pub advance-requires-clause-reached : goal.advance-requires-clause-reached
+advance-requires-clause-reached c = record {
+  program = c.args.p.now;
+  runs = c.requires;
+  events = c.loop-n.events;
+  reaches = c.loop-n.invariant.reaches ∙ ap Some (sym c.next.ensures.same);
+}
+
+pub advance-requires-clause-next : goal.advance-requires-clause-next
+advance-requires-clause-next c = subst (λ (d : Config). IsNext d c.in-Some.step) (sym c.next.ensures.same) c.in-Some.ensures.next
+
+pub advance-requires-clause-new : goal.advance-requires-clause-new
+advance-requires-clause-new c =
+    let fresh = subst (λ (d : Config). AreFresh d.born (length c.args.p.now.sites) c.loop-n.n) (sym c.next.ensures.same) c.loop-n.invariant.fresh in
+    names-new c.next.new.self _ _ (length c.args.p.now.sites) c.loop-n.n fresh refl refl
+    (λ h. omega (arith, h, c.requires.at)) (λ h. omega (arith, h, c.beyond-beyond.ensures)) (λ h. omega (arith, h, c.requires.at, c.beyond-beyond.ensures))
+
+pub loop-n-preserved : goal.loop-n-preserved
+loop-n-preserved c =
+    let a = c.in_ok-advance.ensures in
+    record {
+      reaches = ap (λ (es : List Event). run (start_high c.args.p.now) es) a.noted
+          ∙ run-push (start_high c.args.p.now) c.loop-n.events a.event c.next.new.self c.advance.new.c (c.loop-n.invariant.reaches ∙ ap Some (sym c.next.ensures.same)) a.leads;
+      made = omega (arith, ap length a.noted, length-append c.loop-n.events (a.event ∷ []), c.loop-n.invariant.made);
+      fresh = fresh-after c.next.new.self a.event c.advance.new.c _ _ (length c.args.p.now.sites) c.loop-n.n a.enabled a.leads refl refl
+          (subst (λ (d : Config). AreFresh d.born (length c.args.p.now.sites) c.loop-n.n) (sym c.next.ensures.same) c.loop-n.invariant.fresh);
+    }
+
+pub end_of-end-requires : goal.end_of-end-requires
+end_of-end-requires c =
+    let within : length c.loop-n.events ≤ c.args.budget = omega (arith, c.loop-n.invariant.made) in
+    housed-last c.args.p.now c.requires c.args.budget c.loop-n.events c.loop-n.last c.loop-n.invariant.reaches within
+
+pub returns : goal.returns
+returns c =
+    let used : length c.loop-n.events ≡ c.args.budget = omega (arith, c.loop-n.invariant.made) in
+    let within : length c.loop-n.events ≤ c.args.budget = omega (arith, used) in
+    subst (λ (d : Config). IsSerialRun c.args.p.now c.args.budget c.loop-n.events d c.end_of-end.result) (sym c.end_of-end.ensures.same)
+    (ended-run c.args.p.now c.requires c.args.budget c.loop-n.events c.loop-n.last c.loop-n.invariant.reaches within c.end_of-end.result used c.end_of-end.ensures.rest c.end_of-end.ensures.spent)

@@ -1,0 +1,10 @@
+pub mod Applied
+pub mod ConfigCode
+pub mod Errands
+pub mod Found
+pub mod Going
+pub mod Met
+pub mod Moves
+pub mod Placed
+pub mod Rows
+pub mod Serial

@@ -1,0 +1,88 @@
+-- What the serial run promises (docs/LANGUAGE.md, "Reductions").
+use Rattle.std.specs.Prelude.{◌≡◌, ◌≤◌, ◌<◌, false, ◌↔◌, ℕ, List, [], ◌∷◌, ◌++◌, length, Option, Some, None, IsSome, cond}
+use Rattle.std.specs.FinMap as map
+use Rattle.std.specs.FinSet as set
+use Rattle.np_syntax.specs.declared.value.Name.{Name}
+use Rattle.np_syntax.specs.declared.process.ProcForm.{ProcForm-F}
+use Rattle.np_syntax.specs.declared.process.Role.TheVariants as role
+use Rattle.np_syntax.specs.declared.program.Program.{Program}
+use Rattle.np_syntax.specs.declared.event.Event.{Event}
+use Rattle.np_syntax.specs.declared.event.End.{End}
+use Rattle.np_syntax.specs.declared.event.End.TheVariants.{Rest, Spent}
+use Rattle.np_syntax.specs.declared.event.Kind.{Kind}
+use Rattle.np_syntax.specs.declared.event.Kind.TheVariants as kind
+use Rattle.np_syntax.specs.declared.event.Made.{Made}
+use Rattle.np_syntax.specs.declared.event.Made.TheVariants as made
+use Rattle.np_tables.specs.declared.errand.Ready.{Ready}
+use Rattle.np_tables.specs.declared.errand.Ready.TheVariants as ready
+use Rattle.np_tables.specs.Errands.{IsReady}
+use Rattle.np_tables.specs.Mapped.{mapped}
+use Rattle.np_tables.specs.Names.{NameSet}
+use Rattle.np_calculus.specs.declared.config.Atom.{Atom}
+use Rattle.np_calculus.specs.declared.config.Packet.{Packet}
+use Rattle.np_calculus.specs.declared.config.Place.TheVariants as place
+use Rattle.np_configuration.specs.declared.step.Step.{Step}
+use Rattle.np_configuration.specs.declared.step.Step.TheVariants as step
+use Rattle.np_calculus.specs.Begins.{MakesAtMost}
+use Rattle.np_calculus.specs.Config.{Config}
+use Rattle.np_configuration.specs.Errands.{errand_of}
+use Rattle.np_eval.specs.Eval.{Env, agent_of}
+use Rattle.np_eval.specs.Forms.{Layer}
+use Rattle.np_calculus.specs.Idle.{Idle}
+use Rattle.np_configuration.specs.Placed.{NoneTravels}
+use Rattle.np_calculus.specs.Reductions.{apply, run}
+use Rattle.np_calculus.specs.Runs.{RunsWell}
+use Rattle.np_calculus.specs.Starts.{start_high}
+use Rattle.np_calculus.specs.Well.{Has, WellAlong}
+
+-- a configuration of a run of a program that can run
+pub record IsReached (c : Config) : Type 0 where
+  pub program : Program
+  pub runs : RunsWell program
+  pub events : List Event
+  pub reaches : run (start_high program) events ≡ Some c
+
+-- A step that a configuration can take: an agent arrives, a packet lands, or atoms go on where no agent is under way.
+abbrev pub IsNext : Config → Step → Type 0
+IsNext c (step.Arrives agent site) = map.get c.places agent ≡ Some (place.Way site)
+IsNext c (step.Lands mark) = IsSome (map.get c.packets mark)
+IsNext c (step.Goes ready) = IsReady (mapped errand_of c.atoms) ready × NoneTravels c.places
+
+-- the mark of the atom that acts, and the mark of the output that it takes
+abbrev pub actor_of : Ready → Name
+actor_of (ready.Acts mark) = mark
+actor_of (ready.Meets input output) = input
+
+abbrev pub taken_by : Ready → Option Name
+taken_by (ready.Acts mark) = None
+taken_by (ready.Meets input output) = Some output
+
+-- the agent stands at some site
+abbrev pub Stands : Config → Name → Type 0
+Stands c agent = (site : ℕ) × (map.get c.places agent ≡ Some (place.At site))
+
+-- an event that is enabled, and makes no names but these
+pub record IsEnabled (c : Config) (e : Event) (first second : Name) : Type 0 where
+  pub enabled : Has (apply c e)
+  pub made : MakesAtMost e.made first second
+
+-- an event that is enabled, and makes no names but these, leads from one configuration to the other, and is noted behind the
+-- others
+pub record Advances (c d : Config) (old new : List Event) (first second : Name) : Type 0 where
+  pub event : Event
+  pub enabled : IsEnabled c event first second
+  pub leads : apply c event ≡ Some d
+  pub noted : new ≡ old ++ event ∷ []
+
+-- of the names that are not the program's own, none from this number on is born
+pub record AreFresh (born : NameSet) (sites first : ℕ) : Type 0 where
+  pub each : (q : Name) → (q.site ≡ sites → ⊥) → first ≤ q.n → set.contains born q ≡ false
+
+-- a run of the program within the budget, with how it ended
+pub record IsSerialRun (p : Program) (budget : ℕ) (events : List Event) (last : Config) (end : End) : Type 0 where
+  pub reaches : run (start_high p) events ≡ Some last
+  -- no value of a wrong type is met after any prefix
+  pub well : WellAlong (start_high p) events
+  pub within : length events ≤ budget
+  pub rest : (end ≡ Rest) ↔ Idle last
+  pub spent : (end ≡ Spent) ↔ ((length events ≡ budget) × ¬ Idle last)

@@ -1,0 +1,182 @@
+ghost use Rattle.np_configuration.specs.Rows.{local_row, post_row, send_row};
+ghost use Rattle.np_calculus.specs.Reductions.{row};
+ghost use Rattle.np_syntax.specs.declared.event.Kind.TheVariants as kind;
+ghost use Rattle.std.specs.Prelude.{◌≡◌, true, false, None, IfOk, MatchOption};
+ghost use Rattle.np_configuration.specs.Applied.{Applied};
+ghost use Rattle.np_configuration.specs.Found.{IsLocal};
+
+use super::cfg::Cfg;
+use super::fail::ApplyFail::{self, NotEnabled};
+use super::moves::{chosen, go_on};
+use super::outputs::output_in;
+use super::views::{no_other, none_made, one_made, one_site, one_tag};
+use np_calculus::Packet;
+use np_eval::{agent_of, as_iflocal, as_post, as_send, chan_of, errand_of, eval};
+use np_syntax::{Event, Memory, Name, Value};
+use np_tables::{Errand, Meeting};
+use std::alloc::Global;
+
+/// What a location test finds: its agent, channel and value, whether the agent is here, and what the process waits for
+/// when it goes on.
+#[derive(Drop)]
+struct Local {
+    agent: Name,
+    chan: Name,
+    value: Value,
+    here: bool,
+    errand: Errand,
+}
+
+// The rows of what goes from one agent to another.
+impl Cfg {
+    #[tactic(auto, using(np_tables::proofs::Tables::puts), unfolding(np_calculus::specs::Reductions::act))]
+    pub(super) fn apply_send(&mut self, alloc: Global, e: &Event) -> Result<(), ApplyFail>
+        ensures { Applied (send_row self.old e.now) self.old self.new result }
+    {
+        let atom = self.acting(e).ok_or(NotEnabled)?;
+        let (agent, site, chan, value) = as_send(&atom.proc).ok_or(NotEnabled)?;
+        let agent = agent_of(alloc, agent, &atom.env)?.ok_or(NotEnabled)?;
+        let to = self.site_of(alloc, site, &atom.env)?.ok_or(NotEnabled)?;
+        let chan = chan_of(chan, &atom.env).ok_or(NotEnabled)?;
+        let value = eval(alloc, value, &atom.env)?.ok_or(NotEnabled)?;
+        none_made(e.made).ok_or(NotEnabled)?;
+        no_other(e.other).ok_or(NotEnabled)?;
+        let tag = e.tag;
+        let packet = Packet {
+            to,
+            agent,
+            chan,
+            value,
+            tag,
+        };
+        self.packets.insert(e.actor, packet)?;
+        self.work.remove(e.actor);
+        self.atoms.remove(e.actor);
+        Ok(())
+    }
+
+    #[tactic(auto, using(np_tables::proofs::Tables::puts), unfolding(np_calculus::specs::Reductions::act))]
+    pub(super) fn apply_post(&mut self, alloc: Global, e: &Event) -> Result<(), ApplyFail>
+        ensures { Applied (post_row self.old e.now) self.old self.new result }
+    {
+        let atom = self.acting(e).ok_or(NotEnabled)?;
+        let (agent, chan, value) = as_post(&atom.proc).ok_or(NotEnabled)?;
+        let agent = agent_of(alloc, agent, &atom.env)?.ok_or(NotEnabled)?;
+        let chan = chan_of(chan, &atom.env).ok_or(NotEnabled)?;
+        let value = eval(alloc, value, &atom.env)?.ok_or(NotEnabled)?;
+        none_made(e.made).ok_or(NotEnabled)?;
+        no_other(e.other).ok_or(NotEnabled)?;
+        let made = output_in(alloc, agent, chan, value, e.tag);
+        let errand = errand_of(made.agent, &made.proc, &made.env);
+        self.atoms.reserve(1)?;
+        self.work.file(e.actor, errand)?;
+        self.atoms.put(e.actor, made);
+        Ok(())
+    }
+
+    /// A packet whose agent is at its site becomes an output there, and any other is lost.
+    #[tactic(auto, using(np_tables::proofs::Tables::puts), unfolding(np_calculus::specs::Reductions::land_row))]
+    pub(super) fn apply_land(&mut self, alloc: Global, e: &Event) -> Result<(), ApplyFail>
+        ensures { Applied (row kind.Land self.old e.now) self.old self.new result }
+    {
+        let packet = self.packets.get(e.actor).ok_or(NotEnabled)?;
+        one_site(packet.to, e.site).ok_or(NotEnabled)?;
+        one_tag(packet.tag, e.tag).ok_or(NotEnabled)?;
+        none_made(e.made).ok_or(NotEnabled)?;
+        no_other(e.other).ok_or(NotEnabled)?;
+        if !self.is_at(packet.agent, e.site) {
+            self.packets.remove(e.actor);
+            return Ok(());
+        }
+        let agent = packet.agent;
+        let chan = packet.chan;
+        self.atoms.reserve(1)?;
+        self.work
+            .file(e.actor, Errand::Gives(Meeting { agent, chan }))?;
+        let Some(packet) = self.packets.take(e.actor) else {
+            unreachable!();
+        };
+        let made = output_in(alloc, agent, chan, packet.value, e.tag);
+        self.atoms.put(e.actor, made);
+        Ok(())
+    }
+
+    pub(super) fn apply_local(&mut self, alloc: Global, e: &Event) -> Result<(), ApplyFail>
+        ensures { Applied (local_row self.old e.now) self.old self.new result }
+    {
+        let asked = self.find_local(alloc, e)?.ok_or(NotEnabled)?;
+        if asked.here {
+            self.local_here(alloc, e, asked)
+        } else {
+            self.local_away(e, &asked)
+        }
+    }
+
+    /// What a location test finds, where the conditions are met that do not depend on it.
+    #[tactic(auto, unfolding(np_calculus::specs::Reductions::act))]
+    fn find_local(&self, alloc: Global, e: &Event) -> Result<Option<Local>, Memory>
+        ensures { IfOk result (λ o. MatchOption o (local_row self.now e.now ≡ None) (λ a. IsLocal self.now e.now a.agent a.chan a.value a.here a.errand)) }
+    {
+        let Some(atom) = self.acting(e) else {
+            return Ok(None);
+        };
+        let Some((agent, chan, value, met, unmet)) = as_iflocal(&atom.proc) else {
+            return Ok(None);
+        };
+        let Some(agent) = agent_of(alloc, agent, &atom.env)? else {
+            return Ok(None);
+        };
+        let Some(chan) = chan_of(chan, &atom.env) else {
+            return Ok(None);
+        };
+        let Some(value) = eval(alloc, value, &atom.env)? else {
+            return Ok(None);
+        };
+        let Some(()) = no_other(e.other) else {
+            return Ok(None);
+        };
+        let here = self.is_at(agent, e.site);
+        let errand = errand_of(atom.agent, chosen(met, unmet, here), &atom.env);
+        Ok(Some(Local {
+            agent,
+            chan,
+            value,
+            here,
+            errand,
+        }))
+    }
+
+    /// A location test that finds its agent: the output is made in it, and the process goes on as the first.
+    #[tactic(auto, using(np_tables::proofs::Tables::puts))]
+    fn local_here(&mut self, alloc: Global, e: &Event, asked: Local) -> Result<(), ApplyFail>
+        requires { IsLocal self.old e.now asked.agent asked.chan asked.value true asked.errand }
+        ensures { Applied (local_row self.old e.now) self.old self.new result }
+    {
+        let mark = one_made(e.made).ok_or(NotEnabled)?;
+        self.fresh(mark).ok_or(NotEnabled)?;
+        let agent = asked.agent;
+        let chan = asked.chan;
+        self.atoms.reserve(2)?;
+        self.born.reserve(1)?;
+        let comes = Errand::Gives(Meeting { agent, chan });
+        self.work.file_two(mark, comes, e.actor, asked.errand)?;
+        let made = output_in(alloc, agent, chan, asked.value, e.tag);
+        self.atoms.put(mark, made);
+        go_on(&mut self.atoms, e.actor, true);
+        self.born.put(mark);
+        Ok(())
+    }
+
+    /// A location test that does not find its agent: the process goes on as the second.
+    #[tactic(auto, using(np_tables::proofs::Tables::puts))]
+    fn local_away(&mut self, e: &Event, asked: &Local) -> Result<(), ApplyFail>
+        requires { IsLocal self.old e.now asked.now.agent asked.now.chan asked.now.value false asked.now.errand }
+        ensures { Applied (local_row self.old e.now) self.old self.new result }
+    {
+        none_made(e.made).ok_or(NotEnabled)?;
+        self.atoms.reserve(1)?;
+        self.work.file(e.actor, asked.errand)?;
+        go_on(&mut self.atoms, e.actor, false);
+        Ok(())
+    }
+}
