@@ -1,0 +1,5 @@
+pub mod Agrees
+pub mod Items
+pub mod Joined
+pub mod Links
+pub mod Steps
