@@ -2,9 +2,9 @@
 use Rattle.std.proofs.Common.{◌≡◌, inl, inr, ℕ, Bool, true, false, cond, [], ◌∷◌, Option, None, Some, IsSome, refl, ap, sym, subst, ◌∙◌}
 use mathlib.Core.Path.{fun_ext}
 use Rattle.np_syntax.specs.declared.value.Name.{Name}
-use Rattle.np_tables.specs.Maybe.{◌>>=◌}
+use Rattle.np_syntax.specs.Options.{◌>>=◌}
 use Rattle.np_tables.specs.Names.{same_name}
-use Rattle.np_tables.proofs.Maybe.{done}
+use Rattle.np_syntax.proofs.Options.{done}
 use Rattle.np_tables.proofs.Tables.{same_name-is}
 use Rattle.np_calculus.specs.declared.config.Atom.{Atom}
 use Rattle.np_calculus.specs.declared.config.Place.TheVariants as place

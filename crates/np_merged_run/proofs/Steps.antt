@@ -9,7 +9,7 @@ use Rattle.np_syntax.specs.declared.value.Value.{Value}
 use Rattle.np_syntax.specs.declared.event.Event.{Event}
 use Rattle.np_syntax.specs.declared.event.Made.{Made}
 use Rattle.np_syntax.specs.declared.event.Made.TheVariants as made
-use Rattle.np_tables.specs.Maybe.{◌>>=◌}
+use Rattle.np_syntax.specs.Options.{◌>>=◌}
 use Rattle.np_tables.specs.Names.{NameSet, same_name}
 use Rattle.np_tables.proofs.Tables.{same_name-is, born_insert}
 use Rattle.np_calculus.specs.declared.config.Atom.{Atom}
