@@ -1,5 +1,5 @@
 -- What an answer can be where no call failed and memory was not wanting.
-use Rattle.std.proofs.Common.{◌≡◌, ◌≢◌, ℕ, ◌≤◌, ◌<◌, ◌⊎◌, List, length, Option, Some, None, IfSome, inl, inr, refl, subst}
+use Rattle.std.proofs.Common.{◌≡◌, ◌≢◌, ℕ, ◌≤◌, ◌<◌, ◌⊎◌, List, length, Option, Some, None, IfSome, inl, inr, refl, subst, arith}
 use Rattle.np_syntax.specs.declared.limits.TheConstants.{LONGEST_SOURCE}
 use Rattle.np_io.specs.Causes.{Rose}
 use Rattle.np_io.specs.Bytes.{Held}
@@ -61,12 +61,17 @@ planned_not call asked bytes r none = let some = r.planned in cc
 pub stands_says : (call : Call) (asked : Plan) (bytes : List ℕ) (refusal : Refusal) → Reads call asked bytes → Stands call.words call.texts refusal
     → Says asked.mode bytes refusal
 stands_says call asked bytes refusal r (Stands.words none) = absurd (planned_not call asked bytes r none)
-stands_says call asked bytes refusal r (Stands.fault {asked = other} planned rose) =
+stands_says call asked bytes refusal r (Stands.fault {asked = other} planned rose few) =
     absurd (r.whole (subst (λ (x : Plan). Rose (call.texts.before x.file) (call.texts.now x.file)) (one other asked (plan call.words) planned r.planned) rose))
 stands_says call asked bytes refusal r (Stands.long {asked = other} planned taken more) =
     inl (refl, told call.texts.held other asked bytes (λ b. LONGEST_SOURCE < length b) (one other asked (plan call.words) planned r.planned) r.held more)
 stands_says call asked bytes refusal r (Stands.source s) =
     inr (of_read call asked bytes r s.asked s.bytes s.read (λ n b. (length b ≤ LONGEST_SOURCE) × Faulty n b refusal) (s.read.short, s.faulty))
+
+-- what is said of a source within the limit is what is wrong with it
+pub says_faulty : (m : Mode) (bytes : List ℕ) (refusal : Refusal) → length bytes ≤ LONGEST_SOURCE → Says m bytes refusal → Faulty m bytes refusal
+says_faulty m bytes refusal short (inl s) = let long = s.1 in absurd (omega arith)
+says_faulty m bytes refusal short (inr s) = s.1
 
 -- ---- outcomes
 

@@ -1,5 +1,5 @@
 -- A source is accepted or refused, and refused in one way alone.
-use Rattle.std.proofs.Common.{◌≡◌, ℕ, inl, inr, List, [], ◌∷◌, ◌++◌, Result, Ok, Err, drop, append_assoc, refl, sym, subst, ap, ◌∙◌, arith}
+use Rattle.std.proofs.Common.{◌≡◌, ℕ, ◌⊎◌, inl, inr, List, [], ◌∷◌, ◌++◌, Result, Ok, Err, drop, append_assoc, refl, sym, subst, ap, ◌∙◌, arith}
 use Rattle.np_syntax.specs.declared.program.Program.{Program}
 use Rattle.np_syntax.specs.declared.limits.TheConstants.{DEEPEST}
 use Rattle.np_lex.specs.declared.fail.LexFail.{LexFail}
@@ -24,6 +24,7 @@ use Rattle.np_scope.specs.Resolved.{resolved}
 use Rattle.np_types.specs.declared.fault.TypeFault.{TypeFault as FirstFault}
 use Rattle.np_check.specs.Faults.{faults}
 use Rattle.np_run.specs.Faults.{HasProgram, HasNoTree, HasNoProgram, IsIllTyped, IsWellTyped, IsNoProgram, Wrong, Accepted, Faulty, of_tokens, of_grammar, of_scope}
+use Rattle.np_run.specs.Lines.{status_of}
 use Rattle.np_run.specs.declared.refusal.Refusal.{Refusal}
 use Rattle.np_run.specs.declared.refusal.Refusal.TheVariants.{Usage, TooLong, TypeFault}
 use Rattle.np_run.specs.declared.words.Mode.{Mode}
@@ -241,26 +242,47 @@ long_scope (scope.SiteTwice at) e = cc
 long_scope (scope.TooManySites at) e = cc
 long_scope (scope.NotASite at) e = cc
 
-usage_tokens : (e : LexFail) → Usage ≡ of_tokens e → ⊥
-usage_tokens lex.Memory e = cc
-usage_tokens (lex.BadChar at) e = cc
-usage_tokens (lex.BadString at) e = cc
-usage_tokens (lex.BigNumber at) e = cc
-
-usage_grammar : (e : ParseFail) → Usage ≡ of_grammar e → ⊥
-usage_grammar parse.Memory e = cc
-usage_grammar (parse.Syntax at) e = cc
-usage_grammar (parse.TooDeep at) e = cc
-
-usage_scope : (e : ScopeFail) → Usage ≡ of_scope e → ⊥
-usage_scope scope.Memory e = cc
-usage_scope (scope.Unbound at) e = cc
-usage_scope (scope.SiteTwice at) e = cc
-usage_scope (scope.TooManySites at) e = cc
-usage_scope (scope.NotASite at) e = cc
-
 pub not_long : (m : Mode) (bytes : List ℕ) → Faulty m bytes TooLong → ⊥
 not_long = not_source TooLong long_tokens long_grammar long_scope (λ fault e. cc)
 
+-- ---- the status of what is wrong with a source
+
+abbrev IsOfSource : ℕ → Type 0
+IsOfSource status = (status ≡ 3) ⊎ (status ≡ 6)
+
+tokens_status : (e : LexFail) → IsOfSource (status_of (of_tokens e))
+tokens_status lex.Memory = inr refl
+tokens_status (lex.BadChar at) = inl refl
+tokens_status (lex.BadString at) = inl refl
+tokens_status (lex.BigNumber at) = inl refl
+
+grammar_status : (e : ParseFail) → IsOfSource (status_of (of_grammar e))
+grammar_status parse.Memory = inr refl
+grammar_status (parse.Syntax at) = inl refl
+grammar_status (parse.TooDeep at) = inl refl
+
+scope_status : (e : ScopeFail) → IsOfSource (status_of (of_scope e))
+scope_status scope.Memory = inr refl
+scope_status (scope.Unbound at) = inl refl
+scope_status (scope.SiteTwice at) = inl refl
+scope_status (scope.TooManySites at) = inl refl
+scope_status (scope.NotASite at) = inl refl
+
+same_status : (refusal of : Refusal) → refusal ≡ of → IsOfSource (status_of of) → IsOfSource (status_of refusal)
+same_status refusal of e h = subst (λ (x : Refusal). IsOfSource (status_of x)) (sym e) h
+
+wrong_status : (ts : List Token) (refusal : Refusal) → IsNoProgram ts refusal → IsOfSource (status_of refusal)
+wrong_status ts refusal (inl f) = same_status refusal _ f.is (grammar_status f.fail)
+wrong_status ts refusal (inr (inl f)) = same_status refusal _ f.is (scope_status f.fail)
+wrong_status ts refusal (inr (inr f)) = same_status refusal _ f.is (inl refl)
+
+-- the status of such a refusal is 3, but for want of memory
+pub faulty_status : (m : Mode) (bytes : List ℕ) (refusal : Refusal) → Faulty m bytes refusal → IsOfSource (status_of refusal)
+faulty_status m bytes refusal (inl f) = same_status refusal _ f.is (tokens_status f.fail)
+faulty_status mode.Run bytes refusal (inr f) = wrong_status f.tokens refusal f.wrong
+faulty_status mode.High bytes refusal (inr f) = wrong_status f.tokens refusal f.wrong
+faulty_status mode.Show bytes refusal (inr f) = wrong_status f.tokens refusal (inl f.wrong)
+faulty_status mode.Check bytes refusal (inr f) = wrong_status f.tokens refusal f.wrong
+
 pub not_usage : (m : Mode) (bytes : List ℕ) → Faulty m bytes Usage → ⊥
-not_usage = not_source Usage usage_tokens usage_grammar usage_scope (λ fault e. cc)
+not_usage m bytes f = elim (faulty_status m bytes Usage f) [ inl e ↦ omega (arith, e) | inr e ↦ omega (arith, e) ]

@@ -73,8 +73,9 @@ pub record IsFaulty (words : List (List ℕ)) (texts : Reading) (refusal : Refus
 pub data Stands (words : List (List ℕ)) (texts : Reading) : Refusal → Type 0 where
   -- the words ask for nothing that the program does
   words : plan words ≡ None → Stands words texts Usage
-  -- a read of the file failed
-  fault : {asked : Plan} → plan words ≡ Some asked → Rose (texts.before asked.file) (texts.now asked.file) → Stands words texts ReadFault
+  -- a read of the file failed, and no more was read than a source may have
+  fault : {asked : Plan} → plan words ≡ Some asked → Rose (texts.before asked.file) (texts.now asked.file) → texts.taken ≤ LONGEST_SOURCE
+      → Stands words texts ReadFault
   -- more was read than a source may have, and the text has more where it is told
   long : {asked : Plan} → plan words ≡ Some asked → LONGEST_SOURCE < texts.taken → IfSome (texts.held asked.file) (λ bytes. LONGEST_SOURCE < length bytes)
       → Stands words texts TooLong

@@ -12,7 +12,10 @@ mod top;
 mod words;
 
 pub use answer::{Answer, Record};
-pub use laws::{law_completes, law_refuses_long, law_refuses_sources, law_refuses_words};
+pub use laws::{
+    law_completes, law_counts_long, law_refuses_long, law_refuses_once, law_refuses_sources,
+    law_refuses_words,
+};
 pub use refusal::{Refusal, line, status};
 pub use reporting::report;
 pub use statuses::{

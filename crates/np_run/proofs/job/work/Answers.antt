@@ -26,7 +26,7 @@ pub returns-in_default-clause-refused : goal.returns-in_default-clause-refused
 returns-in_default-clause-refused g c = λ _. Stands.words (search rules)
 
 pub returns-in-Err-ReadFault-clause-refused : goal.returns-in-Err-ReadFault-clause-refused
-returns-in-Err-ReadFault-clause-refused g c = λ _. Stands.fault (sym c.in-Some.ensures) (c.read_all.ensures.cause (search rules))
+returns-in-Err-ReadFault-clause-refused g c = λ _. Stands.fault (sym c.in-Some.ensures) (c.read_all.ensures.cause (search rules)) (c.read_all.ensures.within (λ e. cc))
 
 pub returns-in-Err-TooLong-clause-refused : goal.returns-in-Err-TooLong-clause-refused
 returns-in-Err-TooLong-clause-refused g c = λ _. Stands.long (sym c.in-Some.ensures) (c.read_all.ensures.long (search rules)) (c.read_all.ensures.long_text (search rules))

@@ -12,7 +12,7 @@ use Rattle.np_run.proofs.laws.law_refuses_words.Goals as goal
 -- where the words ask for nothing that the program does, usage alone stands
 usage_stands : (call : Call) (status : ℕ) (refusal : Refusal) → plan call.words ≡ None → status ≡ status_of refusal → Stands call.words call.texts refusal → status ≡ 2
 usage_stands call status refusal p e (Stands.words none) = e
-usage_stands call status refusal p e (Stands.fault planned rose) = cc
+usage_stands call status refusal p e (Stands.fault planned rose few) = cc
 usage_stands call status refusal p e (Stands.long planned taken more) = cc
 usage_stands call status refusal p e (Stands.source s) = let q = s.read.planned in cc
 
