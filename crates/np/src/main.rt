@@ -1,4 +1,5 @@
-//! The program: the words, files and streams of the process, and the top call.
+//! The program: takes the command line, the files and the streams of the process, and makes the top
+//! call.
 #![tactic(auto)]
 
 use np_io::{ErrSink, FileTexts, OutSink, Word};
@@ -34,7 +35,8 @@ fn main(rt: HostRuntime) -> ExitCode {
     ExitCode::from(answer.status)
 }
 
-/// The status where the words cannot be read: memory is wanting, or one is no UTF-8.
+/// The exit status where the command line cannot be read: out of memory, or a word that is not
+/// UTF-8.
 fn status_of(error: &Error) -> u8 {
     if error.kind() == ErrorKind::OutOfMemory {
         NO_MEMORY

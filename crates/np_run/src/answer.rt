@@ -8,8 +8,8 @@ pub struct Record {
     pub end: End,
 }
 
-/// What the program answers: its exit status, and the run, if one was made: `kept` of the mode `run`, and
-/// `high` of the mode `high`.
+/// The exit status, and the run if there was one: `kept` in the mode `run`, `high` in the mode
+/// `high`.
 #[derive(Drop)]
 pub struct Answer {
     pub status: u8,

@@ -16,7 +16,7 @@ use np_show::show;
 use np_syntax::{LONGEST_SOURCE, List, Memory, Text};
 use std::alloc::Global;
 
-/// What was made: the text that is to be written, and the run if there was one.
+/// The text to write to standard output, and the run if there was one.
 #[derive(Drop)]
 pub(crate) struct Job {
     pub(crate) kept: Option<Record>,
@@ -24,7 +24,7 @@ pub(crate) struct Job {
     pub(crate) text: Text,
 }
 
-/// Reads the source that the words name, and does with it what they ask for.
+/// Reads the file that the command line names, and does what its mode asks for.
 pub(crate) fn work<T: Texts>(alloc: Global, words: &[Word], texts: &mut T) -> Result<Job, Refusal>
     ensures begins { T.begins texts.new ≤ T.begins texts.old + texts_read (plan words.now) }
     ensures made { let seen : Reading = record {
@@ -56,7 +56,7 @@ pub(crate) fn work<T: Texts>(alloc: Global, words: &[Word], texts: &mut T) -> Re
     job_of(alloc, mode, budget, bytes.as_slice())
 }
 
-/// What is made of a source.
+/// Does what the mode asks for with the bytes of a source.
 fn job_of(alloc: Global, mode: Mode, budget: u32, bytes: &[u8]) -> Result<Job, Refusal>
     requires { length bytes.now ≤ LONGEST_SOURCE }
     ensures made { IfOk result (λ job. Does mode budget bytes.now job.kept job.high job.text) }
@@ -70,7 +70,7 @@ fn job_of(alloc: Global, mode: Mode, budget: u32, bytes: &[u8]) -> Result<Job, R
     }
 }
 
-/// The record of a source's run.
+/// Runs a source in the mode `run`: keeps its events and how it ended.
 fn run_source(alloc: Global, budget: u32, bytes: &[u8]) -> Result<Job, Refusal>
     requires { length bytes.now ≤ LONGEST_SOURCE }
     ensures made { IfOk result (λ job. KeepsRun budget bytes.now job.kept job.high job.text) }
@@ -84,7 +84,7 @@ fn run_source(alloc: Global, budget: u32, bytes: &[u8]) -> Result<Job, Refusal>
     })
 }
 
-/// A source's run at the high level.
+/// Runs a source in the mode `high`: keeps the whole run.
 fn high_source(alloc: Global, budget: u32, bytes: &[u8]) -> Result<Job, Refusal>
     requires { length bytes.now ≤ LONGEST_SOURCE }
     ensures made { IfOk result (λ job. KeepsHigh budget bytes.now job.kept job.high job.text) }
@@ -120,7 +120,7 @@ fn show_source(alloc: Global, bytes: &[u8]) -> Result<Job, Refusal>
     }
 }
 
-/// That a source is well typed.
+/// Checks a source, and makes the text `well typed`.
 fn check_source(alloc: Global, bytes: &[u8]) -> Result<Job, Refusal>
     requires { length bytes.now ≤ LONGEST_SOURCE }
     ensures made { IfOk result (λ job. Checks bytes.now job.kept job.high job.text) }
@@ -138,7 +138,7 @@ fn check_source(alloc: Global, bytes: &[u8]) -> Result<Job, Refusal>
     }
 }
 
-/// The program of a source, where it is well typed.
+/// The checked program of a source, or its refusal.
 fn checked_source(alloc: Global, bytes: &[u8]) -> Result<Checked, Refusal>
     requires { length bytes.now ≤ LONGEST_SOURCE }
     ensures found { IfOk result (IsWellTyped bytes.now) }
@@ -174,7 +174,7 @@ fn run(alloc: Global, budget: u32, checked: &Checked) -> Result<(SerialRun, Text
     Ok((made, text))
 }
 
-/// The record of a run, which gives up the last configuration.
+/// The events of a run and how it ended. The last configuration is dropped.
 fn record_of(made: SerialRun) -> Record
     ensures { result ≡ record_of made }
 {

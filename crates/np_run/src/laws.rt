@@ -1,16 +1,17 @@
 ghost use Rattle.np_run.specs.Laws.{Completes, CountsLong, RefusesLong, RefusesOnce, RefusesSources, RefusesWords};
 
-/// Where no call failed, what is asked of an accepted source is done, or memory was wanting.
+/// Where no read or write failed, a source of at most 1,048,576 bytes that its mode accepts gives
+/// status 0 or 1, or 6 if memory ran out.
 pub fn law_completes()
     ensures { Completes }
 {}
 
-/// The words are refused exactly where they ask for nothing that the program does.
+/// The status is 2 exactly where np does not take the command line.
 pub fn law_refuses_words()
     ensures { RefusesWords }
 {}
 
-/// A source is refused as too long exactly where it is.
+/// A source is refused as TooLong exactly where it has more than 1,048,576 bytes.
 pub fn law_refuses_long()
     ensures { RefusesLong }
 {}
@@ -20,7 +21,8 @@ pub fn law_counts_long()
     ensures { CountsLong }
 {}
 
-/// A source that is not too long is refused exactly where the mode refuses it, and so.
+/// A source that is not too long gets a refusal exactly where its mode refuses it with that
+/// refusal.
 pub fn law_refuses_sources()
     ensures { RefusesSources }
 {}

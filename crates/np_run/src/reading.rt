@@ -59,7 +59,7 @@ fn program_of(alloc: Global, tokens: &Tokens) -> Result<Program, Refusal>
     }
 }
 
-/// The program of tokens, where it is well typed.
+/// The checked program of tokens, or the first refusal of the grammar, of scope or of types.
 pub(crate) fn checked_program(alloc: Global, tokens: &Tokens) -> Result<Checked, Refusal>
     requires { length tokens.now ≤ 1048577 }
     ensures found { IfOk result (λ checked. HasProgram tokens.now checked) }

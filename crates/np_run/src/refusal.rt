@@ -11,13 +11,13 @@ use np_types::{Rule, TypeFault};
 use std::alloc::Global;
 use thiserror::Error;
 
-/// Why the program did not do what the words ask for. An offset is that of the place in the source, in
-/// bytes.
+/// Why np did not do what the command line asks for. An offset counts the bytes of the source from
+/// 0.
 #[derive(Clone, Copy, Debug, PartialEq, Eq, Error)]
 pub enum Refusal {
     #[error("out of memory")]
     Memory,
-    /// The words are none that the program takes.
+    /// np does not take these words.
     #[error("the words are not understood")]
     Usage,
     #[error("the source cannot be read")]
@@ -31,10 +31,11 @@ pub enum Refusal {
     BadString(u32),
     #[error("the number at {0} is too large")]
     BigNumber(u32),
-    /// No program begins with the tokens up to that place.
-    #[error("no program goes on with the token at {0}")]
+    /// No program begins with the tokens up to and including the one at this offset.
+    #[error("no program begins with the tokens up to the one at {0}")]
     Syntax(u32),
-    /// Only programs that are too deep begin with the tokens up to that place.
+    /// Only programs that are too deep begin with the tokens up to and including the one at this
+    /// offset.
     #[error("the source is too deep at {0}")]
     TooDeep(u32),
     #[error("no site and no binder in scope has the name at {0}")]
@@ -45,11 +46,11 @@ pub enum Refusal {
     TooManySites(u32),
     #[error("no site has the name at {0}")]
     NotASite(u32),
-    #[error("a check of types fails")]
+    #[error("the source is not well typed")]
     TypeFault(TypeFault),
 }
 
-/// A refusal of the tokens.
+/// The refusal of `lex` as a refusal of the program.
 pub(crate) fn of_tokens(fail: LexFail) -> Refusal
     ensures { result ≡ of_tokens fail }
 {
@@ -61,7 +62,7 @@ pub(crate) fn of_tokens(fail: LexFail) -> Refusal
     }
 }
 
-/// A refusal of the grammar.
+/// The refusal of `parse` as a refusal of the program.
 pub(crate) fn of_grammar(fail: ParseFail) -> Refusal
     ensures { result ≡ of_grammar fail }
 {
@@ -72,7 +73,7 @@ pub(crate) fn of_grammar(fail: ParseFail) -> Refusal
     }
 }
 
-/// A refusal of scope.
+/// The refusal of `resolve` as a refusal of the program.
 pub(crate) fn of_scope(fail: ScopeFail) -> Refusal
     ensures { result ≡ of_scope fail }
 {
@@ -85,7 +86,7 @@ pub(crate) fn of_scope(fail: ScopeFail) -> Refusal
     }
 }
 
-/// What the program writes about a refusal; nothing for want of memory.
+/// What np writes to standard error for a refusal. It is empty for `Memory`.
 pub fn line(alloc: Global, refusal: Refusal) -> Result<Text, Memory>
     ensures { IfOk result (λ text. text ≡ line_of refusal) }
 {
@@ -139,7 +140,7 @@ fn rule_text(rule: Rule) -> &'static [u8]
     }
 }
 
-/// The line of a fault of types, with its rule and its offset.
+/// The line of a TypeFault, with its rule and its offset.
 fn fault_line(alloc: Global, fault: TypeFault) -> Result<Text, Memory>
     ensures { IfOk result (λ text. text ≡ line_of (Refusal.TypeFault fault)) }
 {

@@ -4,8 +4,8 @@ ghost use Rattle.np_run.specs.Report.{said_line, last_line, report_text};
 use np_syntax::{End, List, Memory, Text, Value, print_value};
 use std::alloc::Global;
 
-/// The report of a run that printed these values at these sites, in a program whose sites have these
-/// names.
+/// The report of a run: a line for each printed value, with the name of its site, and the line that
+/// says how the run ended.
 #[tactic(auto, unfolding(crate::specs::Report::report_text))]
 pub fn report(
     alloc: Global,

@@ -1,12 +1,12 @@
-//! The statuses that the program ends with, which code, contracts and definitions share.
+//! The exit statuses of the program, which code, contracts and definitions share.
 
-/// What the words ask for is done; a run came to rest.
+/// What the command line asks for is done; a run came to rest.
 pub const DONE: u8 = 0;
 
 /// A run spent its budget.
 pub const BUDGET_SPENT: u8 = 1;
 
-/// The words are none that the program takes.
+/// np does not take the command line.
 pub const BAD_USAGE: u8 = 2;
 
 /// The source is refused.
@@ -15,8 +15,8 @@ pub const BAD_SOURCE: u8 = 3;
 /// The source cannot be read.
 pub const READ_FAILED: u8 = 4;
 
-/// The output, or the line of a refusal, could not be written whole.
+/// Standard output or standard error could not be written whole.
 pub const WRITE_FAILED: u8 = 5;
 
-/// Memory was wanting.
+/// Out of memory.
 pub const NO_MEMORY: u8 = 6;

@@ -12,7 +12,8 @@ use std::alloc::Global;
 use std::sync::Wait;
 use std::thread::Threads;
 
-/// The program, over any texts and sinks. The words leave out its name.
+/// np, over any texts and sinks. `words` is the command line without the program's name.
+/// `HasCauses` says what the answer means.
 pub fn np<R: Threads + Wait + Sync, T: Texts, O: Sink, E: Sink>(
     rt: &R,
     alloc: Global,
@@ -78,7 +79,7 @@ pub fn np<R: Threads + Wait + Sync, T: Texts, O: Sink, E: Sink>(
     }
 }
 
-/// The status of what was made, where its text was written.
+/// The exit status once the whole text was written: 1 for a run whose budget is spent, otherwise 0.
 fn status_at(kept: &Option<Record>, high: &Option<SerialRun>) -> u8
     ensures { result ≡ status_at kept.now high.now }
 {
@@ -98,7 +99,7 @@ fn end_status(end: End) -> u8
     }
 }
 
-/// The answer where memory was wanting.
+/// The answer where memory ran out.
 fn wanting() -> Answer
     ensures { result ≡ record { status = NO_MEMORY; kept = None; high = None } }
 {

@@ -16,7 +16,7 @@ pub enum Mode {
     Check,
 }
 
-/// The mode that a word names, where it runs sources.
+/// The mode that a word names, if it is one that runs a source.
 fn running_mode_of(word: &str) -> Option<Mode>
     ensures { result ≡ running_mode_of word.now }
 {
@@ -65,7 +65,7 @@ fn is_numeral(bytes: &[u8]) -> bool
     0 < bytes.len() && bytes.len() <= 6 && are_digits(bytes)
 }
 
-/// A number of events that the words may say.
+/// The budget, if it is one that the command line may give.
 fn within_limit(budget: u32) -> Option<u32>
     ensures { result ≡ within_limit budget }
 {
@@ -76,7 +76,7 @@ fn within_limit(budget: u32) -> Option<u32>
     }
 }
 
-/// The number of events that a word gives.
+/// The budget that a word gives, if it is a numeral within the limits.
 fn budget_of(word: &str) -> Option<u32>
     ensures { result ≡ budget_of word.now }
 {
@@ -89,7 +89,7 @@ fn budget_of(word: &str) -> Option<u32>
     }
 }
 
-/// The mode, the file and the number of events that the words name.
+/// The mode, the file and the budget that the command line asks for, if np takes it.
 #[tactic(auto, unfolding(crate::specs::Words::plan))]
 pub(crate) fn planned(words: &[Word]) -> Option<(Mode, &Word, u32)>
     ensures { option_map (λ p. (let asked : Plan = record { mode = p.0; file = p.1.now; budget = p.2 } in asked)) result ≡ plan words.now }
