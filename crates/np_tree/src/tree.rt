@@ -17,10 +17,19 @@ pub struct Tree {
 
 /// An expression with the offset, in bytes, of its first token that is no round bracket.
 #[cycle(expr)]
-#[derive(Drop)]
 pub struct RawExpr {
     pub at: u32,
     pub form: RawExprForm,
+}
+
+// Each tree is given up by a function of its own: where one may be given up, there stands a call.
+
+impl Drop for RawExpr {
+    #[cycle(drop_expr)]
+    fn drop(self) {
+        let RawExpr { at: _, form } = self;
+        drop(form);
+    }
 }
 
 /// The forms of an expression. A value is a number, a truth value or a string.
@@ -36,10 +45,17 @@ pub enum RawExprForm {
 
 /// A pattern with the offset of its first token, in bytes.
 #[cycle(pat)]
-#[derive(Drop)]
 pub struct RawPat {
     pub at: u32,
     pub form: RawPatForm,
+}
+
+impl Drop for RawPat {
+    #[cycle(drop_pat)]
+    fn drop(self) {
+        let RawPat { at: _, form } = self;
+        drop(form);
+    }
 }
 
 /// The forms of a pattern: `_`, a binder, and a tuple.
@@ -54,10 +70,17 @@ pub enum RawPatForm {
 /// A process with the offset of its first token, in bytes. The compositions of one bracket all have the
 /// offset of the bracket.
 #[cycle(process)]
-#[derive(Drop)]
 pub struct RawProc {
     pub at: u32,
     pub form: RawProcForm,
+}
+
+impl Drop for RawProc {
+    #[cycle(drop_proc)]
+    fn drop(self) {
+        let RawProc { at: _, form } = self;
+        drop(form);
+    }
 }
 
 /// The forms of a process, with their parts in the order of the source.
