@@ -4,7 +4,7 @@ use Rattle.std.specs.Char.{is_ascii_digit}
 use Rattle.std.specs.List.{list_all}
 use Rattle.std.specs.Str.{bytes_eq}
 use Rattle.std.specs.Str.Parse.{digits_value}
-use Rattle.np_syntax.specs.declared.limits.TheConstants.{DEEPEST, LARGEST_BUDGET, USUAL_BUDGET}
+use Rattle.np_syntax.specs.declared.limits.TheConstants.{LARGEST_BUDGET, USUAL_BUDGET}
 use Rattle.np_run.specs.declared.words.Mode.{Mode}
 use Rattle.np_run.specs.declared.words.Mode.TheVariants as mode
 

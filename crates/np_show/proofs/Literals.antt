@@ -1,16 +1,12 @@
 -- The text of a literal is its token's.
-use Rattle.std.proofs.Common.{◌≡◌, ℕ, ◌+◌, Bool, true, false, List, [], ◌∷◌, ◌++◌, length, refl, ap, ◌∙◌}
-use Rattle.std.specs.Prelude.{◌==◌, if◌then◌else◌, codes}
-use Rattle.std.specs.List.{flat_map}
+use Rattle.std.proofs.Common.{◌≡◌, ℕ, ◌+◌, true, false, List, [], ◌∷◌, ◌++◌, length}
 use Rattle.np_syntax.specs.Printed.{value_text}
-use Rattle.np_syntax.specs.Printed as printed
 use Rattle.np_syntax.proofs.Texts.{text-int, text-truth, text-str}
 use Rattle.np_syntax.specs.declared.value.Value.{Value}
 use Rattle.np_lex.specs.declared.token.Key.TheVariants as key
 use Rattle.np_lex.specs.declared.token.What.{What}
 use Rattle.np_lex.specs.Tokens.{IsLegal, token}
 use Rattle.np_lex.specs.Spelling.{spelling}
-use Rattle.np_lex.specs.Spelling as spelled
 use Rattle.np_lex.proofs.Goes.{Goes, Soft, key_goes, number_goes, string_goes}
 use Rattle.np_tree.specs.Grammar as g
 use Rattle.np_tree.specs.Grammar.{IsLiteral}
