@@ -1,5 +1,5 @@
 -- In a configuration that is well, a site can act exactly where some event of that site is enabled.
-use Rattle.std.proofs.Common.{◌≡◌, ℕ, ◌+◌, ◌≤◌, Bool, true, false, inl, inr, List, [], ◌∷◌, Option, None, Some, refl, sym, ap, subst, ◌∙◌, arith}
+use Rattle.std.proofs.Common.{◌≡◌, ℕ, ◌+◌, ◌≤◌, true, false, inl, inr, List, [], ◌∷◌, None, Some, refl, sym, ap, subst, ◌∙◌, arith}
 use Rattle.std.proofs.lemmas.Bool.{eqb-true}
 use Rattle.std.specs.FinMap as map
 use Rattle.std.specs.FinSet as set
@@ -25,7 +25,7 @@ use Rattle.np_calculus.specs.declared.config.Place.TheVariants as place
 use Rattle.np_calculus.specs.Acting.{ActsWhereEnabled}
 use Rattle.np_calculus.specs.Begins.{AreNew, arrival, event_at, landing, made_by}
 use Rattle.np_calculus.specs.Config.{Config}
-use Rattle.np_calculus.specs.Idle.{Can, HasAgent, HasMeeting, HasWork, waits}
+use Rattle.np_calculus.specs.Idle.{Can, HasMeeting, HasWork, waits}
 use Rattle.np_calculus.specs.Reductions.{apply, row, sends, way}
 use Rattle.np_calculus.specs.Seen.{acting, offered}
 use Rattle.np_calculus.specs.Well.{Has, Ready, Well}

@@ -1,11 +1,9 @@
 -- The agents of the parts of a process.
-use Rattle.std.proofs.Common.{◌≡◌, ℕ, inl, inr, Some, [], ◌∷◌, ◌++◌, subst, sym, ap, ◌∙◌}
+use Rattle.std.proofs.Common.{◌≡◌, inl, inr, [], ◌∷◌, ◌++◌, subst, sym, ap, ◌∙◌}
 use Rattle.np_syntax.specs.declared.value.Name.{Name}
-use Rattle.np_syntax.specs.declared.types.Ty.{Ty}
 use Rattle.np_syntax.specs.declared.expression.Expr.{Expr}
-use Rattle.np_syntax.specs.declared.pattern.Pat.{Pat}
 use Rattle.np_syntax.specs.declared.process.Proc.{Proc, fold_out-Proc}
-use Rattle.np_syntax.specs.declared.process.ProcForm.{ProcForm, ProcForm-F, map-ProcForm, fold-ProcForm, fold_out-ProcForm}
+use Rattle.np_syntax.specs.declared.process.ProcForm.{ProcForm, map-ProcForm, fold-ProcForm, fold_out-ProcForm}
 use Rattle.np_syntax.proofs.Options.{done}
 use Rattle.np_calculus.specs.Agents.{Agents, IsIn, expr_agents, proc_agents, proc_step}
 use Rattle.np_eval.specs.Forms.{Layer, layer}

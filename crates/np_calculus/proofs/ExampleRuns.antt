@@ -1,5 +1,5 @@
 -- What the definitions say of small runs, and of events that are not enabled.
-use Rattle.std.proofs.Common.{◌≡◌, ℕ, true, false, Option, None, Some, List, [], ◌∷◌, ◌++◌, nat_eq, nat_lt, refl, sym, ap, ◌∙◌, eq-eqb}
+use Rattle.std.proofs.Common.{◌≡◌, ℕ, true, false, Option, None, Some, List, [], ◌∷◌, ◌++◌, nat_lt, refl, sym, ap, ◌∙◌}
 use Rattle.std.specs.FinMap as map
 use Rattle.np_syntax.specs.declared.value.Name.{Name}
 use Rattle.np_syntax.specs.declared.value.Value.{Value, out-Value}
@@ -15,7 +15,6 @@ use Rattle.np_calculus.specs.declared.config.Atom.{Atom}
 use Rattle.np_calculus.specs.declared.config.Place.{Place}
 use Rattle.np_calculus.specs.declared.config.Place.TheVariants as place
 use Rattle.np_eval.specs.Eval.{Env, eval, bind, chan_of}
-use Rattle.np_eval.specs.FormParts.{as_print, as_inp}
 use Rattle.np_calculus.specs.Reductions.{apply, sends, act, arrive_row}
 use Rattle.np_calculus.specs.Seen.{acting, offered}
 use Rattle.np_calculus.specs.Examples.{constant, number, prints, process, gives_five, prints_it, it, takes_it, keeps_taking, leaves, atom, agent_with, one, two, event, TwoPrints, Communication, Replication, Migration}

@@ -10,7 +10,7 @@ use Rattle.np_syntax.specs.declared.event.Kind.{Kind}
 use Rattle.np_syntax.specs.declared.event.Kind.TheVariants as kind
 use Rattle.np_syntax.specs.declared.event.Made.{Made}
 use Rattle.np_syntax.specs.declared.event.Made.TheVariants as made
-use Rattle.np_syntax.specs.Options.{◌>>=◌, ◌>>◌, need}
+use Rattle.np_syntax.specs.Options.{◌>>◌}
 use Rattle.np_tables.specs.Names.{same_name}
 use Rattle.np_syntax.proofs.Options.{then, when, done}
 use Rattle.np_tables.proofs.Tables.{same_name-itself}
@@ -23,7 +23,7 @@ use Rattle.np_calculus.specs.declared.config.Place.TheVariants as place
 use Rattle.np_calculus.specs.Changes.{Change, put, cut, still}
 use Rattle.np_calculus.specs.FrameRule.{Comes, Fits, IsMade}
 use Rattle.np_calculus.specs.Parts.{IsMark}
-use Rattle.np_calculus.specs.Reductions.{acting_in, same_tag, way, offered_in, site_in, none_made, one_made, two_made, no_other, alone, output_in, found_on, here_row, away_row, act, arrive_row, land_row, change}
+use Rattle.np_calculus.specs.Reductions.{acting_in, same_tag, way, offered_in, site_in, none_made, one_made, two_made, no_other, output_in, found_on, here_row, away_row, act, arrive_row, land_row, change}
 use Rattle.np_calculus.specs.Sight.{Contents, Sight, sight, at_site}
 use Rattle.np_calculus.proofs.Rows.{stop-by, fork-by, new-by, let-by, if-by, comm-by, rep-by, agent-by, depart-by, local-by, send-by, print-by, open-by, lookup-by, post-by, never-arrives, never-lands}
 use Rattle.np_calculus.proofs.Steps.{at_site-is}

@@ -1,5 +1,5 @@
 -- The frame rule and its reverse, and what an event keeps.
-use Rattle.std.proofs.Common.{◌≡◌, ℕ, Bool, true, false, not, cond, ◌&&◌, ◌||◌, ◌⊎◌, inl, inr, List, [], ◌∷◌, Option, None, Some, IsSome, IfSome, nat_eq, refl, ap, sym, subst, ◌∙◌}
+use Rattle.std.proofs.Common.{◌≡◌, ℕ, Bool, true, false, not, cond, ◌&&◌, ◌||◌, ◌⊎◌, inl, inr, List, [], ◌∷◌, Option, None, Some, IsSome, IfSome, refl, ap, sym, subst, ◌∙◌}
 use Rattle.std.specs.FinSet as set
 use mathlib.Core.Path.{fun_ext}
 use Rattle.np_syntax.specs.declared.value.Name.{Name}
@@ -10,7 +10,6 @@ use Rattle.np_syntax.specs.declared.event.Made.{Made}
 use Rattle.np_syntax.specs.declared.event.Made.TheVariants as made
 use Rattle.np_syntax.specs.Options.{◌>>=◌, ◌>>◌, need}
 use Rattle.np_tables.specs.Names.{NameSet, same_name}
-use Rattle.np_syntax.proofs.Options.{then, when, done}
 use Rattle.np_tables.proofs.Tables.{born_insert, born_here}
 use Rattle.np_eval.specs.Forms.{layer}
 use Rattle.np_calculus.specs.declared.config.Atom.{Atom}
@@ -19,8 +18,8 @@ use Rattle.np_calculus.specs.declared.config.Place.TheVariants as place
 use Rattle.np_calculus.specs.Changes.{Change, Write, with_made, with_said, effect}
 use Rattle.np_calculus.specs.Config.{Config}
 use Rattle.np_calculus.specs.FrameRule.{Comes, Every, Fits, FrameBack, FrameRule, IsMade, KeepsLodged, KeepsOfSite, Writes, changed, left_by}
-use Rattle.np_calculus.specs.Parts.{AreBorn, IsApart, IsAway, IsLodged, IsMark, IsOfSite, IsWhole, LacksMark, beside, either}
-use Rattle.np_calculus.specs.Reductions.{acting_in, act, apply, arrive_row, land_row, change, row, are_new}
+use Rattle.np_calculus.specs.Parts.{IsApart, IsAway, IsLodged, IsMark, IsWhole, LacksMark, beside, either}
+use Rattle.np_calculus.specs.Reductions.{acting_in, act, apply, arrive_row, land_row, change, are_new}
 use Rattle.np_calculus.specs.Sight.{Contents, Sight, inside, sight, at_site}
 use Rattle.np_calculus.proofs.Fits.{comes-in, fits}
 use Rattle.np_calculus.proofs.OwnNames.{not_true}

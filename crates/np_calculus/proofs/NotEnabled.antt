@@ -26,13 +26,12 @@ use Rattle.np_calculus.specs.Config.{Config}
 use Rattle.np_eval.specs.Eval.{Env, eval, bind, as_site, chan_of, truth_of}
 use Rattle.np_eval.specs.Forms.{Layer, layer}
 use Rattle.np_eval.specs.FormParts.{as_stop, as_par, as_new, as_inp, as_rep, as_agent_form, as_migrate, as_iflocal, as_send, as_post, as_if, as_let, as_print, as_open, as_lookup}
-use Rattle.np_calculus.specs.Changes.{effect}
 use Rattle.np_calculus.specs.Sight.{Sight, inside, sight}
-use Rattle.np_calculus.specs.Reductions.{same_tag, none_made, no_other, sends, offered_in, are_new, change, row, act, arrive_row, land_row}
+use Rattle.np_calculus.specs.Reductions.{same_tag, none_made, sends, are_new, change, row, act, arrive_row, land_row}
 use Rattle.np_calculus.specs.Seen.{acting, offered}
 use Rattle.np_eval.proofs.FormsByParts.{inp-form, let-form, if-form, print-form, migrate-form}
 use Rattle.np_calculus.proofs.Rows.{stop-by, fork-by, new-by, let-by, if-by, comm-by, rep-by, agent-by, depart-by, local-by, send-by, print-by, open-by, lookup-by, post-by}
-use Rattle.np_calculus.proofs.Steps.{same-offer, one-new, two-new}
+use Rattle.np_calculus.proofs.Steps.{same-offer}
 use Rattle.np_calculus.specs.NotEnabled.{by_atom, asks}
 use Rattle.np_eval.proofs.Evals.{eval-form, eval-var}
 use Rattle.np_eval.proofs.Binds.{bind-form, bind-tuple}

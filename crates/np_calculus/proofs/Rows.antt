@@ -2,7 +2,6 @@
 use Rattle.std.proofs.Common.{◌≡◌, Option, None, Some, refl, ap}
 use Rattle.np_syntax.specs.declared.process.ProcForm.{ProcForm-F}
 use Rattle.np_syntax.specs.declared.event.Event.{Event}
-use Rattle.np_syntax.specs.declared.event.Kind.{Kind}
 use Rattle.np_syntax.specs.declared.event.Kind.TheVariants as kind
 use Rattle.np_syntax.specs.Options.{◌>>=◌}
 use Rattle.np_eval.specs.Forms.{Layer, layer}

@@ -17,7 +17,7 @@ use Rattle.np_calculus.specs.declared.config.Atom.{Atom}
 use Rattle.np_calculus.specs.declared.config.Place.{Place}
 use Rattle.np_calculus.specs.declared.config.Place.TheVariants as place
 use Rattle.np_calculus.specs.Changes.{Change, effect, with_made}
-use Rattle.np_calculus.specs.Sight.{Sight, inside, sight, at_site}
+use Rattle.np_calculus.specs.Sight.{inside, sight, at_site}
 use Rattle.np_calculus.specs.Config.{Config}
 use Rattle.np_calculus.specs.Reductions.{same_tag, none_made, one_made, two_made, sends, offered_in, are_new, change, row}
 use Rattle.np_calculus.specs.Seen.{acting, fresh, is_at, offered}

@@ -14,7 +14,6 @@ use Rattle.np_eval.specs.FormParts.{as_iflocal}
 use Rattle.np_eval.specs.Eval.{chan_of, agent_of}
 use Rattle.np_calculus.specs.declared.config.Atom.{Atom}
 use Rattle.np_calculus.specs.Changes.{Change, Write, effect}
-use Rattle.np_calculus.specs.Config.{Config}
 use Rattle.np_calculus.specs.Footprints.{listed, asked_by, bound_for, touches, written_by, SameMark, SamePlace, AgreesOn, DependsOnTouched, Unseen}
 use Rattle.np_calculus.specs.FrameRule.{Every, left_by, changed}
 use Rattle.np_calculus.specs.Reductions.{acting_in, act, same_tag, sends, offered_in, arrive_row, land_row, change}

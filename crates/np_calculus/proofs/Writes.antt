@@ -1,5 +1,5 @@
 -- What stands in a configuration after the writes of a change.
-use Rattle.std.proofs.Common.{◌≡◌, Bool, true, false, cond, inl, inr, List, [], ◌∷◌, Option, None, Some, IsSome, IfSome, ◌⊎◌, refl, ap, sym, subst, ◌∙◌}
+use Rattle.std.proofs.Common.{◌≡◌, Bool, true, false, cond, inl, inr, List, [], ◌∷◌, Option, None, Some, IsSome, IfSome, refl, ap, sym, subst, ◌∙◌}
 use Rattle.std.specs.FinMap as map
 use mathlib.Core.Path.{fun_ext}
 use Rattle.np_syntax.specs.declared.value.Name.{Name}

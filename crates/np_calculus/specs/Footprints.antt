@@ -5,8 +5,8 @@ use Rattle.np_syntax.specs.declared.event.Event.{Event}
 use Rattle.np_syntax.specs.declared.event.Kind.{Kind}
 use Rattle.np_syntax.specs.declared.event.Kind.TheVariants as kind
 use Rattle.np_syntax.specs.Options.{◌>>=◌}
-use Rattle.np_eval.specs.Eval.{Env, agent_of}
-use Rattle.np_eval.specs.Forms.{Layer, layer}
+use Rattle.np_eval.specs.Eval.{agent_of}
+use Rattle.np_eval.specs.Forms.{layer}
 use Rattle.np_eval.specs.FormParts.{as_iflocal}
 use Rattle.np_calculus.specs.declared.config.Atom.{Atom}
 use Rattle.np_calculus.specs.declared.config.Packet.{Packet}

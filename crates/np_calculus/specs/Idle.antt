@@ -1,5 +1,5 @@
 -- Which sites can act, and rest (docs/LANGUAGE.md, "Reductions").
-use Rattle.std.specs.Prelude.{◌≡◌, ℕ, Bool, true, false, ◌⊎◌, None, Some, IsSome}
+use Rattle.std.specs.Prelude.{◌≡◌, ℕ, Bool, true, false, ◌⊎◌, Some}
 use Rattle.std.specs.FinMap as map
 use Rattle.np_syntax.specs.declared.value.Name.{Name}
 use Rattle.np_syntax.specs.declared.expression.Expr.{Expr}
@@ -7,10 +7,7 @@ use Rattle.np_syntax.specs.declared.pattern.Pat.{Pat}
 use Rattle.np_syntax.specs.declared.process.ProcForm.{ProcForm-F}
 use Rattle.np_calculus.specs.declared.config.Atom.{Atom}
 use Rattle.np_calculus.specs.declared.config.Packet.{Packet}
-use Rattle.np_calculus.specs.declared.config.Place.{Place}
 use Rattle.np_calculus.specs.declared.config.Place.TheVariants as place
-use Rattle.np_tables.specs.Names.{NameMap}
-use Rattle.np_calculus.specs.Reductions.{way}
 use Rattle.np_calculus.specs.Config.{Config}
 use Rattle.np_eval.specs.Eval.{chan_of}
 use Rattle.np_eval.specs.Forms.{Layer, layer, given_on, taken_on}

@@ -1,5 +1,5 @@
 -- What the atoms of a site see of a configuration: all that their events depend on.
-use Rattle.std.specs.Prelude.{ℕ, Bool, false, Option, None, Some, nat_eq}
+use Rattle.std.specs.Prelude.{ℕ, Bool, false, Option, Some, nat_eq}
 use Rattle.std.specs.FinMap as map
 use Rattle.np_syntax.specs.declared.value.Name.{Name}
 use Rattle.np_syntax.specs.Options.{◌>>=◌, ◌>>◌, need}

@@ -13,8 +13,7 @@ use Rattle.np_calculus.specs.declared.config.Atom.{Atom}
 use Rattle.np_calculus.specs.Config.{Config}
 use Rattle.np_eval.specs.Eval.{Env, eval, bind, chan_of, agent_of, truth_of, letter_of, places_of}
 use Rattle.np_eval.specs.Forms.{Layer, layer, taken_on}
-use Rattle.np_calculus.specs.Reductions.{sends, run}
-use Rattle.np_calculus.specs.Seen.{site_of}
+use Rattle.np_calculus.specs.Reductions.{sends, site_in, run}
 
 -- there is one
 abbrev pub Has : {A : Type 0} → Option A → Type 0
@@ -45,9 +44,9 @@ Ready c env (ProcForm-F.Out x e) = Has (chan_of x env) × Has (eval e env)
 Ready c env (ProcForm-F.Inp x pat body) = Has (chan_of x env)
 Ready c env (ProcForm-F.Rep x pat body) = Has (chan_of x env)
 Ready c env (ProcForm-F.Agent b body rest) = Unit {0}
-Ready c env (ProcForm-F.Migrate s body) = Has (site_of c s env)
+Ready c env (ProcForm-F.Migrate s body) = Has (site_in c.sites s env)
 Ready c env (ProcForm-F.IfLocal b x e met unmet) = Has (agent_of b env) × Has (chan_of x env) × Has (eval e env)
-Ready c env (ProcForm-F.Send b s x e) = Has (agent_of b env) × Has (site_of c s env) × Has (chan_of x env) × Has (eval e env)
+Ready c env (ProcForm-F.Send b s x e) = Has (agent_of b env) × Has (site_in c.sites s env) × Has (chan_of x env) × Has (eval e env)
 Ready c env (ProcForm-F.Post b x e) = Has (agent_of b env) × Has (chan_of x env) × Has (eval e env)
 Ready c env (ProcForm-F.If e met unmet) = Has (truth_of e env)
 Ready c env (ProcForm-F.Let pat e body) = Matches pat (eval e env) env

@@ -5,17 +5,14 @@ use Rattle.std.specs.Prelude.{◌↔◌}
 use Rattle.std.specs.FinMap as map
 use Rattle.std.specs.FinSet as set
 use Rattle.np_syntax.specs.declared.value.Name.{Name}
-use Rattle.np_syntax.specs.declared.value.Value.{Value}
 use Rattle.np_syntax.specs.declared.expression.Expr.{Expr}
 use Rattle.np_syntax.specs.declared.pattern.Pat.{Pat}
 use Rattle.np_syntax.specs.declared.program.Program.{Program}
-use Rattle.np_syntax.specs.declared.process.Proc.{Proc}
 use Rattle.np_syntax.specs.declared.process.ProcForm.{ProcForm-F}
 use Rattle.np_syntax.specs.declared.event.Event.{Event}
 use Rattle.np_syntax.specs.declared.event.End.{End}
 use Rattle.np_syntax.specs.declared.event.End.TheVariants.{Rest, Spent}
 use Rattle.np_syntax.specs.declared.event.Kind.{Kind}
-use Rattle.np_syntax.specs.declared.event.Kind.TheVariants as kind
 use Rattle.np_syntax.specs.declared.event.Made.{Made}
 use Rattle.np_syntax.specs.declared.event.Made.TheVariants as made
 use Rattle.np_tables.specs.declared.errand.Errand.{Errand}
@@ -35,18 +32,18 @@ use Rattle.np_calculus.specs.declared.config.Place.TheVariants as place
 use Rattle.np_calculus.specs.Config.{Config}
 use Rattle.np_configuration.specs.Errands.{errand_of}
 use Rattle.np_eval.specs.Eval.{Env, agent_of, chan_of}
-use Rattle.np_eval.specs.Forms.{Layer, layer, given_on}
+use Rattle.np_eval.specs.Forms.{Layer, layer}
 use Rattle.np_calculus.specs.Idle.{Idle}
 use Rattle.np_calculus.specs.Parts.{IsLodged}
 use Rattle.np_calculus.specs.Sight.{inside}
 use Rattle.np_configuration.specs.Placed.{NoneTravels}
-use Rattle.np_calculus.specs.Reductions.{apply, row, run, none_made, one_made, two_made, sends}
+use Rattle.np_calculus.specs.Reductions.{apply, run}
 use Rattle.np_calculus.specs.Seen.{is_at, offered}
 use Rattle.np_configuration.specs.Serial.{AreFresh, IsEnabled, IsReached, IsSerialRun, Stands, actor_of, taken_by}
 use Rattle.np_calculus.specs.Begins.{AreNew, MakesAtMost, begun_by, event_at, made_by, made_there}
 use Rattle.np_calculus.specs.Runs.{RunsWell}
 use Rattle.np_calculus.specs.Starts.{start_high}
-use Rattle.np_calculus.specs.Well.{Has, Ready, Well}
+use Rattle.np_calculus.specs.Well.{Has, Well}
 use Rattle.np_calculus.proofs.Acting.{given-sends}
 use Rattle.np_calculus.proofs.Enabled.{alone-begins, meeting-begins}
 use Rattle.np_configuration.proofs.ErrandForms.{acts-free, gives-form, takes-form, mapped_from}

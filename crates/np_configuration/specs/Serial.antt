@@ -1,33 +1,23 @@
 -- What the serial run promises (docs/LANGUAGE.md, "Reductions").
-use Rattle.std.specs.Prelude.{◌≡◌, ◌≤◌, ◌<◌, false, ◌↔◌, ℕ, List, [], ◌∷◌, ◌++◌, length, Option, Some, None, IsSome, cond}
+use Rattle.std.specs.Prelude.{◌≡◌, ◌≤◌, false, ◌↔◌, ℕ, List, [], ◌∷◌, ◌++◌, length, Option, Some, None, IsSome}
 use Rattle.std.specs.FinMap as map
 use Rattle.std.specs.FinSet as set
 use Rattle.np_syntax.specs.declared.value.Name.{Name}
-use Rattle.np_syntax.specs.declared.process.ProcForm.{ProcForm-F}
-use Rattle.np_syntax.specs.declared.process.Role.TheVariants as role
 use Rattle.np_syntax.specs.declared.program.Program.{Program}
 use Rattle.np_syntax.specs.declared.event.Event.{Event}
 use Rattle.np_syntax.specs.declared.event.End.{End}
 use Rattle.np_syntax.specs.declared.event.End.TheVariants.{Rest, Spent}
-use Rattle.np_syntax.specs.declared.event.Kind.{Kind}
-use Rattle.np_syntax.specs.declared.event.Kind.TheVariants as kind
-use Rattle.np_syntax.specs.declared.event.Made.{Made}
-use Rattle.np_syntax.specs.declared.event.Made.TheVariants as made
 use Rattle.np_tables.specs.declared.errand.Ready.{Ready}
 use Rattle.np_tables.specs.declared.errand.Ready.TheVariants as ready
 use Rattle.np_tables.specs.Errands.{IsReady}
 use Rattle.np_tables.specs.Mapped.{mapped}
 use Rattle.np_tables.specs.Names.{NameSet}
-use Rattle.np_calculus.specs.declared.config.Atom.{Atom}
-use Rattle.np_calculus.specs.declared.config.Packet.{Packet}
 use Rattle.np_calculus.specs.declared.config.Place.TheVariants as place
 use Rattle.np_configuration.specs.declared.step.Step.{Step}
 use Rattle.np_configuration.specs.declared.step.Step.TheVariants as step
 use Rattle.np_calculus.specs.Begins.{MakesAtMost}
 use Rattle.np_calculus.specs.Config.{Config}
 use Rattle.np_configuration.specs.Errands.{errand_of}
-use Rattle.np_eval.specs.Eval.{Env, agent_of}
-use Rattle.np_eval.specs.Forms.{Layer}
 use Rattle.np_calculus.specs.Idle.{Idle}
 use Rattle.np_configuration.specs.Placed.{NoneTravels}
 use Rattle.np_calculus.specs.Reductions.{apply, run}

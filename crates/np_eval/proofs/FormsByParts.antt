@@ -1,5 +1,5 @@
 -- The form of a process whose parts are known.
-use Rattle.std.proofs.Common.{◌≡◌, ℕ, Option, Some, refl, ap}
+use Rattle.std.proofs.Common.{◌≡◌, ℕ, Some, refl, ap}
 use Rattle.np_syntax.specs.declared.types.Ty.{Ty}
 use Rattle.np_syntax.specs.declared.expression.Expr.{Expr}
 use Rattle.np_syntax.specs.declared.pattern.Pat.{Pat}
@@ -7,7 +7,6 @@ use Rattle.np_syntax.specs.declared.process.Proc.{Proc}
 use Rattle.np_syntax.specs.declared.process.ProcForm.{ProcForm-F}
 use Rattle.np_eval.specs.Forms.{Layer, as_out}
 use Rattle.np_eval.specs.FormParts.{as_stop, as_par, as_new, as_inp, as_rep, as_agent_form, as_migrate, as_iflocal}
-use Rattle.np_eval.specs.Forms.{given_on, taken_on}
 use Rattle.np_eval.specs.FormParts.{as_send, as_post, as_if, as_let, as_print, as_open, as_lookup}
 
 pub stop-form : (l : Layer) (u : Unit {0}) → as_stop l ≡ Some u → l ≡ ProcForm-F.Stop

@@ -10,9 +10,9 @@ use Rattle.np_syntax.specs.declared.value.Value as value
 use Rattle.np_syntax.specs.declared.expression.Op.{Op}
 use Rattle.np_syntax.specs.declared.expression.Op.TheVariants as op
 use Rattle.np_syntax.specs.declared.expression.Expr.{Expr, fold-Expr}
-use Rattle.np_syntax.specs.declared.expression.ExprForm.{ExprForm, ExprForm-F, fold-ExprForm}
+use Rattle.np_syntax.specs.declared.expression.ExprForm.{ExprForm-F}
 use Rattle.np_syntax.specs.declared.pattern.Pat.{Pat, fold-Pat}
-use Rattle.np_syntax.specs.declared.pattern.PatForm.{PatForm, PatForm-F, fold-PatForm}
+use Rattle.np_syntax.specs.declared.pattern.PatForm.{PatForm-F}
 use Rattle.np_syntax.specs.Options.{◌>>=◌, all_some}
 use Rattle.np_tables.specs.Names.{same_name}
 

@@ -1,12 +1,10 @@
 -- The types of channels along a run: a channel that is made keeps its type.
-use Rattle.std.proofs.Common.{◌≡◌, Bool, true, false, not, cond, ◌||◌, Option, None, Some, List, [], ◌∷◌, ◌++◌, refl, subst, sym, ap, ◌∙◌}
+use Rattle.std.proofs.Common.{◌≡◌, Bool, true, false, not, ◌||◌, Option, None, Some, List, [], ◌∷◌, ◌++◌, refl, subst, sym, ap, ◌∙◌}
 use Rattle.std.specs.FinMap as map
 use Rattle.std.specs.FinSet as set
 use Rattle.np_syntax.specs.declared.value.Name.{Name}
-use Rattle.np_syntax.specs.declared.value.Value.{Value}
 use Rattle.np_syntax.specs.declared.types.Cap.{Cap}
 use Rattle.np_syntax.specs.declared.types.Ty.{Ty, out-Ty}
-use Rattle.np_syntax.specs.declared.process.Proc.{Proc}
 use Rattle.np_syntax.specs.declared.event.Event.{Event}
 use Rattle.np_syntax.specs.declared.event.Kind.{Kind}
 use Rattle.np_syntax.specs.declared.event.Kind.TheVariants as kind
@@ -16,7 +14,6 @@ use Rattle.np_syntax.proofs.Options.{then, done}
 use Rattle.np_tables.proofs.Tables.{get-put, put_here, born_insert, born_here, same_name-is}
 use Rattle.np_types.specs.Sub.{as_chan}
 use Rattle.np_types.specs.Worlds.{World}
-use Rattle.np_calculus.specs.declared.config.Atom.{Atom}
 use Rattle.np_calculus.specs.Config.{Config}
 use Rattle.np_eval.specs.Forms.{layer}
 use Rattle.np_eval.specs.FormParts.{as_new}

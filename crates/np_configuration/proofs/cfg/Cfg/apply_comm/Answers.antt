@@ -5,7 +5,6 @@ use Rattle.np_tables.specs.Errands.{Work}
 use Rattle.np_configuration.specs.contracts.cfg.Cfg.{the_view}
 use Rattle.np_calculus.specs.declared.config.Atom.{Atom}
 use Rattle.np_calculus.specs.Config.{Config}
-use Rattle.np_eval.specs.Forms.{layer}
 use Rattle.np_configuration.specs.Met.{IsComm}
 use Rattle.np_calculus.specs.Reductions.{goes_under}
 use Rattle.np_configuration.proofs.Keeping.{kept-on, kept-cut, kept-as}

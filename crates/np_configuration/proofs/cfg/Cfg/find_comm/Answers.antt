@@ -1,4 +1,4 @@
-use Rattle.std.proofs.Common.{◌≡◌, Some, rules, refl, ap}
+use Rattle.std.proofs.Common.{◌≡◌, rules, refl, ap}
 use Rattle.np_syntax.specs.declared.process.ProcForm.{ProcForm-F}
 use Rattle.np_eval.specs.Forms.{layer}
 use Rattle.np_eval.proofs.FormsByParts.{inp-form}

@@ -1,5 +1,4 @@
-use Rattle.std.proofs.Common.{◌≡◌, Some, rules, refl, ap, ◌∙◌}
-use Rattle.np_syntax.specs.declared.process.ProcForm.{ProcForm-F}
+use Rattle.std.proofs.Common.{◌≡◌, Some, rules, ap}
 use Rattle.np_eval.specs.Forms.{layer}
 use Rattle.np_eval.proofs.FormsByParts.{rep-form}
 use Rattle.std.specs.FinMap as map

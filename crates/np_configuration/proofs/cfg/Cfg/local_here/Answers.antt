@@ -1,11 +1,10 @@
-use Rattle.std.proofs.Common.{◌≡◌, true, None, Some, rules, refl, ap, ◌∙◌}
+use Rattle.std.proofs.Common.{◌≡◌, None, Some, rules, refl, ap, ◌∙◌}
 use Rattle.std.specs.FinMap as map
 use Rattle.std.specs.FinSet as set
 use Rattle.np_tables.specs.Names.{NameMap, NameSet}
 use Rattle.np_configuration.specs.contracts.cfg.Cfg.{the_view}
 use Rattle.np_calculus.specs.declared.config.Atom.{Atom}
 use Rattle.np_calculus.specs.Config.{Config}
-use Rattle.np_eval.specs.Forms.{layer}
 use Rattle.np_calculus.specs.Reductions.{goes, output_in}
 use Rattle.np_configuration.specs.Rows.{local_row}
 use Rattle.np_configuration.proofs.Keeping.{kept-absent}
