@@ -8,7 +8,7 @@ use std::io;
 const SHOWN: usize = 2_000;
 
 /// Prints where the example stands, what was called, what was wanted and what came.
-pub fn tell_failure(
+pub(crate) fn tell_failure(
     rt: &impl Print,
     file: &str,
     example: &Example,

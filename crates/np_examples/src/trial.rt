@@ -72,7 +72,7 @@ fn events_of(answer: &Answer) -> Option<usize> {
 }
 
 /// What comes of the call with these words and this source.
-pub fn came_of<R: Threads + Wait + Sync>(
+pub(crate) fn came_of<R: Threads + Wait + Sync>(
     rt: &R,
     alloc: Global,
     example: &Example,

@@ -4,7 +4,7 @@ use super::example::{Example, Outcome};
 use super::trial::Came;
 
 /// Whether the call did what the example wants.
-pub fn meets(example: &Example, came: &Came) -> bool {
+pub(crate) fn meets(example: &Example, came: &Came) -> bool {
     came.status == example.status
         && meets_events(example, came)
         && meets_out(example, came.out.bytes())

@@ -11,7 +11,7 @@ fn text(alloc: Global, bytes: &str) -> Result<Text, Memory> {
 }
 
 /// A value of each form, in a tuple.
-pub fn all_values(alloc: Global) -> Result<Value, Memory> {
+pub(crate) fn all_values(alloc: Global) -> Result<Value, Memory> {
     let mut places = List::new(alloc);
     places.add((HERE, HERE))?;
     let mut parts = List::new(alloc);
@@ -26,7 +26,7 @@ pub fn all_values(alloc: Global) -> Result<Value, Memory> {
     Ok(Value::Tuple(parts))
 }
 
-pub fn two_sites(alloc: Global) -> Result<List<Text>, Memory> {
+pub(crate) fn two_sites(alloc: Global) -> Result<List<Text>, Memory> {
     let mut sites = List::new(alloc);
     sites.add(text(alloc, "home")?)?;
     sites.add(text(alloc, "far")?)?;

@@ -9,7 +9,7 @@ use std::alloc::Global;
 use std::test::Fail;
 
 /// The tokens of a source of at most a thousand bytes, if it has them.
-pub fn tokens_of(alloc: Global, source: &str) -> Option<Tokens>
+pub(crate) fn tokens_of(alloc: Global, source: &str) -> Option<Tokens>
     ensures { IfSome result (λ tokens. length tokens ≤ 1001) }
 {
     if source.len() > 1000 {
