@@ -296,7 +296,7 @@ weak_cover = pat_ind WeakPat (λ p y is s t small large inner b n h.
 -- ---- processes
 
 module _ (w v : World) (wider : Wider w v) where
-  weak_tested : (small large : Types) → Narrower small large → (test : TyLayer → Bool) → Down test → (e : Expr) → Tested w large test e → Tested v small test e
+  pub weak_tested : (small large : Types) → Narrower small large → (test : TyLayer → Bool) → Down test → (e : Expr) → Tested w large test e → Tested v small test e
   weak_tested small large n test down e t =
       let x = weak_least w v wider small large n e t.type t.is in
       record { type = x.type; is = x.is; passes = down x.type t.type t.passes x.below }

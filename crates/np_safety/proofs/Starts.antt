@@ -30,14 +30,14 @@ none_found (Err f) h = absurd cc
 pub nothing : {X : Type 0} (q : Name) (x : X) → map.get (map.empty {K = Name} {X = X} {R = name_cmp}) q ≡ Some x → ⊥
 nothing q x h = let e = sym (get-empty name_cmp q) ∙ h in cc
 
-below-is : (s n : ℕ) → s < n → nat_lt s n ≡ true
+pub below-is : (s n : ℕ) → s < n → nat_lt s n ≡ true
 below-is s n h = grind (arith, nat_tests)
 
 has-sites : (n : ℕ) (g : Channels) → HasSites n (world n g)
 has-sites n g s within = below-is s n within
 
 -- a program that is accepted has no fault in the world of its sites, whatever the channels
-accepted : (p : Program) (g : Channels) → IsAccepted p → check (world (length p.sites) g) p.main map.empty ≡ Ok tt
+pub accepted : (p : Program) (g : Channels) → IsAccepted p → check (world (length p.sites) g) p.main map.empty ≡ Ok tt
 accepted p g a =
     let n : ℕ = length p.sites in
     (λ i. same_check n (world n g) (has-sites n g) a.sound.main i map.empty) ∙ none_found (check bare p.main map.empty) a.faultless

@@ -10,7 +10,7 @@ use np_tree::{RawExpr, RawExprForm};
 use std::alloc::Global;
 
 /// How tightly an operation binds: a comparison 0, a sum 1, a product 2. An atom has 3.
-fn strength(op: Op) -> u32
+pub fn strength(op: Op) -> u32
     ensures { result ≡ spec.strength op }
 {
     match op {
@@ -21,7 +21,7 @@ fn strength(op: Op) -> u32
 }
 
 /// What the left operand needs at least.
-fn left(op: Op) -> u32
+pub fn left(op: Op) -> u32
     ensures { result ≡ spec.left op }
 {
     match op {
@@ -31,7 +31,7 @@ fn left(op: Op) -> u32
 }
 
 /// What the right operand needs at least.
-fn right(op: Op) -> u32
+pub fn right(op: Op) -> u32
     ensures { result ≡ spec.right op }
 {
     match op {
@@ -54,7 +54,7 @@ pub fn close_round(text: &mut Text, round: bool) -> Result<(), Memory>
 }
 
 /// The sign of an operation between two spaces.
-fn put_op(text: &mut Text, op: Op) -> Result<(), Memory>
+pub fn put_op(text: &mut Text, op: Op) -> Result<(), Memory>
     ensures { OnOk result (text.new ≡ text.old ++ codes " " ++ sign_text (spec.op_sign op) ++ codes " ") }
 {
     match op {

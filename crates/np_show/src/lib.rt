@@ -7,4 +7,6 @@ mod processes;
 mod types;
 mod written;
 
+pub use expressions::{close_round, left, open_round, put_op, right, strength};
+pub use types::put_type;
 pub use written::show;

@@ -89,11 +89,25 @@ fn program_of(alloc: Global, tokens: &Tokens) -> Result<Program, ParseFail>
 
 /// Main's site, the count of binders, and the nodes of the program of a source, if it has one.
 fn noted(alloc: Global, source: &str) -> Result<String, AllocError> {
-    let Some(tokens) = tokens_of(alloc, source) else {
-        return String::from_str(alloc, "no tokens");
-    };
-    match program_of(alloc, &tokens) {
-        Ok(program) => noted_program(alloc, &program),
+    match tokens_of(alloc, source) {
+        Some(tokens) => {
+            let notes = noted_tokens(alloc, &tokens);
+            drop(tokens);
+            notes
+        }
+        None => String::from_str(alloc, "no tokens"),
+    }
+}
+
+fn noted_tokens(alloc: Global, tokens: &Tokens) -> Result<String, AllocError>
+    requires { length tokens.now ≤ 1001 }
+{
+    match program_of(alloc, tokens) {
+        Ok(program) => {
+            let notes = noted_program(alloc, &program);
+            drop(program);
+            notes
+        }
         Err(_) => String::from_str(alloc, "no program"),
     }
 }
