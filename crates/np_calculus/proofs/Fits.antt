@@ -160,11 +160,9 @@ module _ (sites : ℕ) (x : Contents) (e : Event) where
         lodged = (inl (put-place a.agent _ _), tt);
       })
       fits-act kind.Arrive is h = absurd (let e = sym (never-arrives w e a (layer a.proc)) ∙ h in cc)
-      fits-act kind.Local is h = then (as_iflocal (layer a.proc)) _ (sym (local-by w e a (layer a.proc)) ∙ h) λ p form h.
-          then (agent_of p.0 a.env) _ h λ b names h. then (chan_of p.1 a.env) _ h λ n along h. then (eval p.2 a.env) _ h λ v gives h.
+      fits-act kind.Local is h = then (as_iflocal (layer a.proc)) _ (sym (local-by w e a (layer a.proc)) ∙ h) λ p form h. then (agent_of p.0 a.env) _ h λ b names h. then (chan_of p.1 a.env) _ h λ n along h. then (eval p.2 a.env) _ h λ v gives h.
           then (no_other e.other) _ h λ l other h. tested (at_site (x.place b) e.site) p.3 p.4 b n v (has_place (x.place b) e.site) h
-      fits-act kind.Send is h = then (as_send (layer a.proc)) _ (sym (send-by w e a (layer a.proc)) ∙ h) λ p form h.
-          then (agent_of p.0 a.env) _ h λ b names h. then (site_in sites p.1 a.env) _ h λ t goes_to h. then (chan_of p.2 a.env) _ h λ n along h.
+      fits-act kind.Send is h = then (as_send (layer a.proc)) _ (sym (send-by w e a (layer a.proc)) ∙ h) λ p form h. then (agent_of p.0 a.env) _ h λ b names h. then (site_in sites p.1 a.env) _ h λ t goes_to h. then (chan_of p.2 a.env) _ h λ n along h.
           then (eval p.3 a.env) _ h λ v gives h.
           lone h (record { own = record { places = tt; atoms = (inl there, tt); packets = (inl there, tt) }; settled = tt; comes = tt; lodged = (tt, tt) })
       fits-act kind.Land is h = absurd (let e = sym (never-lands w e a (layer a.proc)) ∙ h in cc)
@@ -172,8 +170,7 @@ module _ (sites : ℕ) (x : Contents) (e : Event) where
       fits-act kind.Open is h = then (as_open (layer a.proc)) _ (sym (open-by w e a (layer a.proc)) ∙ h) λ p form h. then (letter_of p a.env) _ h λ v gives h. lone h (on _ refl)
       fits-act kind.Lookup is h = then (as_lookup (layer a.proc)) _ (sym (lookup-by w e a (layer a.proc)) ∙ h) λ p form h. then (agent_of p.0 a.env) _ h λ b names h. then (places_of p.1 a.env) _ h λ ps among h.
           lone h (on _ (found-agent a p.2 p.3 p.4 (find_place ps b)))
-      fits-act kind.Post is h = then (as_post (layer a.proc)) _ (sym (post-by w e a (layer a.proc)) ∙ h) λ p form h.
-          then (agent_of p.0 a.env) _ h λ b names h. then (chan_of p.1 a.env) _ h λ n along h. then (eval p.2 a.env) _ h λ v gives h.
+      fits-act kind.Post is h = then (as_post (layer a.proc)) _ (sym (post-by w e a (layer a.proc)) ∙ h) λ p form h. then (agent_of p.0 a.env) _ h λ b names h. then (chan_of p.1 a.env) _ h λ n along h. then (eval p.2 a.env) _ h λ v gives h.
           lone h (record { own = record { places = tt; atoms = (inl there, tt); packets = tt }; settled = tt; comes = tt; lodged = (inr is, tt) })
 
     fits-arrive : arrive_row (x.place e.actor) e ≡ Some d → Fit d
