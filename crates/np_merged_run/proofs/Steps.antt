@@ -211,7 +211,7 @@ module _ (n : ℕ) (g : Spread) (c : Config) (i : IsSpread n g c) (d : Step) (h 
   back =
       let first : Reordered (inside st.now ∷ others n s g.here) (sites n here1) =
       reorder-back (subst (λ ps. Reordered (sites n here1) ps) (ap (λ (x : Config). inside x ∷ others n s here1) (with-site-same s g.here st.now) ∙ ap (λ ps. inside st.now ∷ ps) (others-with-site s g.here st.now n))
-          (pick n s here1 st.within)) in
+      (pick n s here1 st.within)) in
       and_then (behind (reorder-front d.put (others n s g.here) st.rest)) (reorder-after (d.put ++ st.rest) first)
 
   joined1 : IsJoined (inside framed.after) (sites n here1 ++ h.air)
