@@ -1,0 +1,16 @@
+//! The translation: the low program of a checked program, and the daemon's process.
+#![tactic(auto)]
+
+mod laws;
+mod own_names;
+mod pieces;
+mod programs;
+mod servers;
+mod texts;
+mod translated;
+mod translator;
+mod writer;
+
+pub use laws::law_translates;
+pub use programs::encode;
+pub use servers::daemon;

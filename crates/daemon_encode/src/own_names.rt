@@ -1,0 +1,25 @@
+//! The numbers of the program's own names.
+
+pub const MAIN: u32 = 0;
+
+pub const DAEMON: u32 = 1;
+
+pub const REGISTER: u32 = 2;
+
+pub const MIGRATING: u32 = 3;
+
+pub const MIGRATED: u32 = 4;
+
+pub const MESSAGE: u32 = 5;
+
+pub const DELIVER: u32 = 6;
+
+pub const ACK: u32 = 7;
+
+pub const DACK: u32 = 8;
+
+pub const CURRENTLOC: u32 = 9;
+
+pub const LOCK: u32 = 10;
+
+pub const HERE: u32 = 13;

@@ -1,0 +1,47 @@
+//! The low program of a checked program.
+
+ghost use Rattle.std.specs.Prelude.{◌≡◌, IfOk};
+ghost use Rattle.daemon_encode.specs.Encoded.{encoded, main_of};
+
+use super::own_names::MAIN;
+use super::servers::daemon;
+use super::translator::{Translator, behind};
+use super::writer::Writer;
+use np_check::Checked;
+use np_syntax::{LowProgram, Memory, Proc, Program, copy_texts};
+use std::alloc::Global;
+
+/// Main's process in the low program, and the number of the next binder.
+fn main_of(alloc: Global, sites: u32, p: &Program) -> Result<(Proc, u32), Memory>
+    ensures { IfOk result (λ r. main_of sites p.now ≡ (r.0, r.1)) }
+{
+    let writer = Writer {
+        alloc,
+        sites,
+        node: 0,
+    };
+    let translator = Translator { alloc, sites };
+    let body = translator.translate(&p.main, &writer.agent(MAIN), p.binders)?;
+    let letter = body.next;
+    let place = behind(letter, 1)?;
+    let next = behind(letter, 2)?;
+    let main = writer.main_text(p.at, letter, place, body.proc)?;
+    Ok((main.into_inner(), next))
+}
+
+/// The low program of a checked program.
+pub fn encode(alloc: Global, p: &Checked) -> Result<LowProgram, Memory>
+    ensures { IfOk result (λ low. low ≡ encoded p.now) }
+{
+    let p = p.program();
+    let count = p.sites.len() as u32;
+    let (main, next) = main_of(alloc, count, p)?;
+    let daemon = daemon(alloc, count, p.at, next)?;
+    let sites = copy_texts(alloc, p.sites.as_slice())?;
+    Ok(LowProgram {
+        sites,
+        at: p.at,
+        main,
+        daemon,
+    })
+}

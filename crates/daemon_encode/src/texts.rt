@@ -1,0 +1,163 @@
+//! The three forms that are translated, and main's bracket.
+
+ghost use Rattle.std.specs.Prelude.{◌≡◌, IfOk};
+ghost use Rattle.daemon_encode.specs.Pieces as piece;
+ghost use Rattle.daemon_encode.specs.Texts as spec;
+
+use super::own_names::{
+    ACK, CURRENTLOC, DACK, DAEMON, DELIVER, MAIN, MESSAGE, MIGRATED, MIGRATING, REGISTER,
+};
+use super::pieces::{expression, name, nothing, pair, site, two_names, unit, variable};
+use super::writer::Writer;
+use np_syntax::{Boxed, Expr, ExprForm, Memory, Proc, ProcForm};
+
+impl Writer {
+    /// `pack(c, v)`
+    fn letter(self, chan: &Expr, value: &Expr) -> Result<Expr, Memory>
+        ensures { IfOk result (λ e. e ≡ spec.letter chan.now value.now) }
+    {
+        let chan = chan.copy(self.alloc)?;
+        let value = value.copy(self.alloc)?;
+        let chan = Boxed::of(self.alloc, chan)?;
+        let value = Boxed::of(self.alloc, value)?;
+        Ok(expression(ExprForm::Pack(chan, value)))
+    }
+
+    /// A post, told to the daemon.
+    pub fn post_text(self, agent: &Expr, chan: &Expr, value: &Expr) -> Result<Boxed<Proc>, Memory>
+        ensures { IfOk result (λ p. p ≡ spec.post_text self.sites self.node agent.now chan.now value.now) }
+    {
+        let letter = self.letter(chan, value)?;
+        let agent = agent.copy(self.alloc)?;
+        let told = pair(self.alloc, agent, letter)?;
+        self.posts(self.agent(DAEMON), site(0), self.channel(MESSAGE), told)
+    }
+
+    /// An agent waits for its site, and then has it.
+    fn settles(self, at: Expr, body: Boxed<Proc>) -> Result<Boxed<Proc>, Memory>
+        ensures { IfOk result (λ p. p ≡ spec.settles self.sites self.node at body) }
+    {
+        let place = self.gives(self.channel(CURRENTLOC), at)?;
+        let body = self.beside(body, place)?;
+        self.takes(self.channel(ACK), nothing(), body)
+    }
+
+    /// An agent tells its new site.
+    fn reports(self, agent: &Expr, at: &Expr) -> Result<Boxed<Proc>, Memory>
+        ensures { IfOk result (λ p. p ≡ piece.tells self.sites self.node (piece.migrated self.sites) (piece.pair agent.now at.now)) }
+    {
+        let agent = agent.copy(self.alloc)?;
+        let at = at.copy(self.alloc)?;
+        let report = pair(self.alloc, agent, at)?;
+        self.tells(self.channel(MIGRATED), report)
+    }
+
+    /// The migration itself, and the report of the new site.
+    fn move_text(self, agent: &Expr, to: &Expr, body: Boxed<Proc>) -> Result<Boxed<Proc>, Memory>
+        ensures { IfOk result (λ p. p ≡ spec.move_text self.sites self.node agent.now to.now body) }
+    {
+        let settled = self.settles(to.copy(self.alloc)?, body)?;
+        let reports = self.reports(agent, to)?;
+        let arrived = self.beside(settled, reports)?;
+        let to = to.copy(self.alloc)?;
+        self.plain(ProcForm::Migrate(to, arrived))
+    }
+
+    /// A migration of an agent, and what it does at the site.
+    pub fn migrate_text(
+        self,
+        agent: &Expr,
+        to: &Expr,
+        body: Boxed<Proc>,
+    ) -> Result<Boxed<Proc>, Memory>
+        ensures { IfOk result (λ p. p ≡ spec.migrate_text self.sites self.node agent.now to.now body) }
+    {
+        let moves = self.move_text(agent, to, body)?;
+        let granted = self.takes(self.channel(ACK), nothing(), moves)?;
+        let asks = self.tells(self.channel(MIGRATING), agent.copy(self.alloc)?)?;
+        let both = self.beside(granted, asks)?;
+        self.takes(self.channel(CURRENTLOC), nothing(), both)
+    }
+
+    /// What takes the letters of an agent.
+    fn server_text(self, agent: Expr, letter: u32, place: u32) -> Result<Boxed<Proc>, Memory>
+        ensures { IfOk result (λ p. p ≡ spec.server_text self.sites self.node agent letter place) }
+    {
+        let taken = pair(self.alloc, agent, variable(place))?;
+        let answers = self.tells(self.channel(DACK), taken)?;
+        let opens = self.infra(ProcForm::Open(variable(letter)))?;
+        let body = self.beside(opens, answers)?;
+        let names = two_names(self.alloc, letter, place)?;
+        self.serves(self.channel(DELIVER), names, body)
+    }
+
+    /// What a new agent does once it is registered.
+    fn begins(self, parent: &Expr, at: u32, body: Boxed<Proc>) -> Result<Boxed<Proc>, Memory>
+        ensures { IfOk result (λ p. p ≡ spec.begins self.sites self.node parent.now at body) }
+    {
+        let parent = parent.copy(self.alloc)?;
+        let tells = self.sends(parent, variable(at), self.channel(ACK), unit(self.alloc))?;
+        let body = self.beside(body, tells)?;
+        self.settles(variable(at), body)
+    }
+
+    /// What a new agent does.
+    fn child_text(
+        self,
+        parent: &Expr,
+        agent: u32,
+        made: Made,
+        body: Boxed<Proc>,
+    ) -> Result<Boxed<Proc>, Memory>
+        ensures { IfOk result (λ p. p ≡ spec.child_text self.sites self.node parent.now agent made.at made.letter made.place body) }
+    {
+        let begins = self.begins(parent, made.at, body)?;
+        let server = self.server_text(variable(agent), made.letter, made.place)?;
+        let both = self.beside(begins, server)?;
+        let told = pair(self.alloc, variable(agent), variable(made.at))?;
+        let registers = self.tells(self.channel(REGISTER), told)?;
+        self.beside(both, registers)
+    }
+
+    /// A creation by an agent, and what the new agent and the other do.
+    pub fn agent_text(
+        self,
+        parent: &Expr,
+        agent: u32,
+        made: Made,
+        body: Boxed<Proc>,
+        rest: Boxed<Proc>,
+    ) -> Result<Boxed<Proc>, Memory>
+        ensures { IfOk result (λ p. p ≡ spec.agent_text self.sites self.node parent.now agent made.at made.letter made.place body rest) }
+    {
+        let child = self.child_text(parent, agent, made, body)?;
+        let rest = self.settles(variable(made.at), rest)?;
+        let creates = self.plain(ProcForm::Agent(agent, child, rest))?;
+        self.takes(self.channel(CURRENTLOC), name(made.at), creates)
+    }
+
+    /// Main's bracket, at this site.
+    pub fn main_text(
+        self,
+        at: u32,
+        letter: u32,
+        place: u32,
+        body: Boxed<Proc>,
+    ) -> Result<Boxed<Proc>, Memory>
+        requires { self.node ≡ 0 }
+        ensures { IfOk result (λ p. p ≡ spec.main_text self.sites at letter place body) }
+    {
+        let holds = self.gives(self.channel(CURRENTLOC), site(at))?;
+        let both = self.beside(body, holds)?;
+        let server = self.server_text(self.agent(MAIN), letter, place)?;
+        self.beside(both, server)
+    }
+}
+
+/// The binders that a creation makes: for the site of both agents, and for a letter and a site in the new agent's server.
+#[derive(Clone, Copy)]
+pub struct Made {
+    pub at: u32,
+    pub letter: u32,
+    pub place: u32,
+}

@@ -1,0 +1,317 @@
+//! The translation of processes.
+
+ghost use Rattle.std.specs.Prelude.{◌≡◌, ◌+◌, IfOk};
+ghost use Rattle.daemon_encode.specs.Encoded as spec;
+ghost use Rattle.daemon_encode.specs.Texts as text;
+ghost use Rattle.daemon_encode.specs.Pieces as piece;
+ghost use Rattle.np_syntax.specs.declared.process.ProcForm as shape;
+
+use super::pieces::variable;
+use super::texts::Made;
+use super::translated::Translated;
+use super::writer::Writer;
+use np_syntax::{Boxed, Expr, Memory, Pat, Proc, ProcForm, Tag, Ty};
+use std::alloc::Global;
+
+/// Translates the processes of a program of so many sites.
+#[derive(Clone, Copy)]
+pub struct Translator {
+    pub alloc: Global,
+    pub sites: u32,
+}
+
+/// The binder behind so many more. Want of numbers is answered as want of memory.
+pub fn behind(next: u32, count: u32) -> Result<u32, Memory>
+    ensures { IfOk result (λ after. after ≡ next + count) }
+{
+    match next.checked_add(count) {
+        Some(after) => Ok(after),
+        None => Err(Memory),
+    }
+}
+
+impl Translator {
+    fn writer(self, tag: Tag) -> Writer
+        ensures sites { result.sites ≡ self.sites }
+        ensures node { result.node ≡ tag.node }
+    {
+        Writer {
+            alloc: self.alloc,
+            sites: self.sites,
+            node: tag.node,
+        }
+    }
+
+    /// A form that is kept, with its tag and offset.
+    fn kept(self, tag: Tag, at: u32, form: ProcForm, next: u32) -> Result<Translated, Memory>
+        ensures { IfOk result (λ t. t ≡ spec.kept tag at form next) }
+    {
+        let proc = Boxed::of(self.alloc, Proc { tag, at, form })?;
+        Ok(Translated { proc, next })
+    }
+
+    /// The low process of a process of this agent, whose new binders are numbered from the next on.
+    #[cycle(translate)]
+    #[tactic(auto, using(crate::proofs::Forms::forms))]
+    pub fn translate(self, p: &Proc, agent: &Expr, next: u32) -> Result<Translated, Memory>
+        ensures { IfOk result (λ t. t ≡ spec.translated self.sites p.now agent.now next) }
+    {
+        self.form(&p.form, p.tag, p.at, agent, next)
+    }
+
+    #[cycle(translate)]
+    #[tactic(auto, using(crate::proofs::Forms::forms))]
+    fn form(
+        self,
+        form: &ProcForm,
+        tag: Tag,
+        at: u32,
+        agent: &Expr,
+        next: u32,
+    ) -> Result<Translated, Memory>
+        ensures { IfOk result (λ t. t ≡ spec.translated_form self.sites form.now tag at agent.now next) }
+    {
+        match form {
+            ProcForm::Par(left, right) => {
+                let left = self.translate(left.get(), agent, next)?;
+                let right = self.translate(right.get(), agent, left.next)?;
+                self.kept(tag, at, ProcForm::Par(left.proc, right.proc), right.next)
+            }
+            ProcForm::New(chan, ty, body) => {
+                let body = self.translate(body.get(), agent, next)?;
+                self.channel(tag, at, *chan, ty, body)
+            }
+            ProcForm::Inp(chan, names, body) => {
+                let body = self.translate(body.get(), agent, next)?;
+                self.input(tag, at, chan, names, body)
+            }
+            ProcForm::Rep(chan, names, body) => {
+                let body = self.translate(body.get(), agent, next)?;
+                self.replicated(tag, at, chan, names, body)
+            }
+            ProcForm::Agent(child, body, rest) => {
+                let body = self.child(body.get(), *child, next)?;
+                let rest = self.rest(rest.get(), agent, body.next)?;
+                self.creation(tag, agent, *child, next, body, rest)
+            }
+            ProcForm::Migrate(to, body) => {
+                let body = self.translate(body.get(), agent, next)?;
+                self.migration(tag, agent, to, body)
+            }
+            ProcForm::IfLocal(to, chan, value, met, unmet) => {
+                let met = self.translate(met.get(), agent, next)?;
+                let unmet = self.translate(unmet.get(), agent, met.next)?;
+                self.iflocal(tag, at, to, chan, value, met.proc, unmet)
+            }
+            ProcForm::Post(to, chan, value) => self.post(tag, to, chan, value, next),
+            ProcForm::If(test, met, unmet) => {
+                let met = self.translate(met.get(), agent, next)?;
+                let unmet = self.translate(unmet.get(), agent, met.next)?;
+                self.test(tag, at, test, met.proc, unmet)
+            }
+            ProcForm::Let(names, value, body) => {
+                let body = self.translate(body.get(), agent, next)?;
+                self.bind(tag, at, names, value, body)
+            }
+            ProcForm::Lookup(who, places, found, met, unmet) => {
+                let met = self.translate(met.get(), agent, next)?;
+                let unmet = self.translate(unmet.get(), agent, met.next)?;
+                self.lookup(tag, at, who, places, *found, met.proc, unmet)
+            }
+            ProcForm::Stop
+            | ProcForm::Out(_, _)
+            | ProcForm::Send(_, _, _, _)
+            | ProcForm::Print(_)
+            | ProcForm::Open(_) => self.same(tag, at, form, next),
+        }
+    }
+
+    /// What a new agent does, behind the binder for its site.
+    #[cycle(translate)]
+    fn child(self, p: &Proc, child: u32, next: u32) -> Result<Translated, Memory>
+        ensures { IfOk result (λ t. t ≡ spec.translated self.sites p.now (piece.variable child) (next + 1)) }
+    {
+        let first = behind(next, 1)?;
+        self.translate(p, &variable(child), first)
+    }
+
+    /// What the agent that makes another does then, behind the binders of the other's server.
+    #[cycle(translate)]
+    fn rest(self, p: &Proc, agent: &Expr, letter: u32) -> Result<Translated, Memory>
+        ensures { IfOk result (λ t. t ≡ spec.translated self.sites p.now agent.now (letter + 2)) }
+    {
+        let first = behind(letter, 2)?;
+        self.translate(p, agent, first)
+    }
+
+    /// A form without processes in it.
+    fn same(self, tag: Tag, at: u32, form: &ProcForm, next: u32) -> Result<Translated, Memory>
+        ensures { IfOk result (λ t. t ≡ spec.kept tag at form.now next) }
+    {
+        let form = form.copy(self.alloc)?;
+        self.kept(tag, at, form, next)
+    }
+
+    fn channel(
+        self,
+        tag: Tag,
+        at: u32,
+        chan: u32,
+        ty: &Ty,
+        body: Translated,
+    ) -> Result<Translated, Memory>
+        ensures { IfOk result (λ t. t ≡ spec.kept tag at (shape.New chan ty.now body.proc) body.next) }
+    {
+        let ty = ty.copy(self.alloc)?;
+        self.kept(tag, at, ProcForm::New(chan, ty, body.proc), body.next)
+    }
+
+    fn input(
+        self,
+        tag: Tag,
+        at: u32,
+        chan: &Expr,
+        names: &Pat,
+        body: Translated,
+    ) -> Result<Translated, Memory>
+        ensures { IfOk result (λ t. t ≡ spec.kept tag at (shape.Inp chan.now names.now body.proc) body.next) }
+    {
+        let chan = chan.copy(self.alloc)?;
+        let names = names.copy(self.alloc)?;
+        self.kept(tag, at, ProcForm::Inp(chan, names, body.proc), body.next)
+    }
+
+    fn replicated(
+        self,
+        tag: Tag,
+        at: u32,
+        chan: &Expr,
+        names: &Pat,
+        body: Translated,
+    ) -> Result<Translated, Memory>
+        ensures { IfOk result (λ t. t ≡ spec.kept tag at (shape.Rep chan.now names.now body.proc) body.next) }
+    {
+        let chan = chan.copy(self.alloc)?;
+        let names = names.copy(self.alloc)?;
+        self.kept(tag, at, ProcForm::Rep(chan, names, body.proc), body.next)
+    }
+
+    fn bind(
+        self,
+        tag: Tag,
+        at: u32,
+        names: &Pat,
+        value: &Expr,
+        body: Translated,
+    ) -> Result<Translated, Memory>
+        ensures { IfOk result (λ t. t ≡ spec.kept tag at (shape.Let names.now value.now body.proc) body.next) }
+    {
+        let names = names.copy(self.alloc)?;
+        let value = value.copy(self.alloc)?;
+        self.kept(tag, at, ProcForm::Let(names, value, body.proc), body.next)
+    }
+
+    fn test(
+        self,
+        tag: Tag,
+        at: u32,
+        test: &Expr,
+        met: Boxed<Proc>,
+        unmet: Translated,
+    ) -> Result<Translated, Memory>
+        ensures { IfOk result (λ t. t ≡ spec.kept tag at (shape.If test.now met unmet.proc) unmet.next) }
+    {
+        let test = test.copy(self.alloc)?;
+        self.kept(tag, at, ProcForm::If(test, met, unmet.proc), unmet.next)
+    }
+
+    fn iflocal(
+        self,
+        tag: Tag,
+        at: u32,
+        agent: &Expr,
+        chan: &Expr,
+        value: &Expr,
+        met: Boxed<Proc>,
+        unmet: Translated,
+    ) -> Result<Translated, Memory>
+        ensures { IfOk result (λ t. t ≡ spec.kept tag at (shape.IfLocal agent.now chan.now value.now met unmet.proc) unmet.next) }
+    {
+        let agent = agent.copy(self.alloc)?;
+        let chan = chan.copy(self.alloc)?;
+        let value = value.copy(self.alloc)?;
+        let form = ProcForm::IfLocal(agent, chan, value, met, unmet.proc);
+        self.kept(tag, at, form, unmet.next)
+    }
+
+    fn lookup(
+        self,
+        tag: Tag,
+        at: u32,
+        agent: &Expr,
+        places: &Expr,
+        found: u32,
+        met: Boxed<Proc>,
+        unmet: Translated,
+    ) -> Result<Translated, Memory>
+        ensures { IfOk result (λ t. t ≡ spec.kept tag at (shape.Lookup agent.now places.now found met unmet.proc) unmet.next) }
+    {
+        let agent = agent.copy(self.alloc)?;
+        let places = places.copy(self.alloc)?;
+        self.kept(
+            tag,
+            at,
+            ProcForm::Lookup(agent, places, found, met, unmet.proc),
+            unmet.next,
+        )
+    }
+
+    fn post(
+        self,
+        tag: Tag,
+        agent: &Expr,
+        chan: &Expr,
+        value: &Expr,
+        next: u32,
+    ) -> Result<Translated, Memory>
+        ensures { IfOk result (λ t. t ≡ spec.becomes (text.post_text self.sites tag.node agent.now chan.now value.now) next) }
+    {
+        let proc = self.writer(tag).post_text(agent, chan, value)?;
+        Ok(Translated { proc, next })
+    }
+
+    fn migration(
+        self,
+        tag: Tag,
+        agent: &Expr,
+        to: &Expr,
+        body: Translated,
+    ) -> Result<Translated, Memory>
+        ensures { IfOk result (λ t. t ≡ spec.becomes (text.migrate_text self.sites tag.node agent.now to.now body.proc) body.next) }
+    {
+        let next = body.next;
+        let proc = self.writer(tag).migrate_text(agent, to, body.proc)?;
+        Ok(Translated { proc, next })
+    }
+
+    fn creation(
+        self,
+        tag: Tag,
+        agent: &Expr,
+        child: u32,
+        at: u32,
+        body: Translated,
+        rest: Translated,
+    ) -> Result<Translated, Memory>
+        ensures { IfOk result (λ t. t ≡ spec.becomes (text.agent_text self.sites tag.node agent.now child at body.next (body.next + 1) body.proc rest.proc) rest.next) }
+    {
+        let next = rest.next;
+        let letter = body.next;
+        let place = behind(letter, 1)?;
+        let made = Made { at, letter, place };
+        let proc = self
+            .writer(tag)
+            .agent_text(agent, child, made, body.proc, rest.proc)?;
+        Ok(Translated { proc, next })
+    }
+}

@@ -1,0 +1,149 @@
+//! Processes that are written out for a node of the source.
+
+ghost use Rattle.std.specs.Prelude.{◌≡◌, IfOk};
+ghost use Rattle.np_calculus.specs.Starts.{own};
+ghost use Rattle.np_syntax.specs.declared.process.Role.TheVariants as role;
+ghost use Rattle.daemon_encode.specs.Pieces as spec;
+
+use super::own_names::DAEMON;
+use super::pieces::{expression, site, variable};
+use np_syntax::{Boxed, Expr, ExprForm, Memory, Name, Pat, Proc, ProcForm, Role, Tag, Value};
+use std::alloc::Global;
+
+/// Writes processes that stand for the source node of this number, in a program of so many sites.
+#[derive(Clone, Copy)]
+pub struct Writer {
+    pub alloc: Global,
+    pub sites: u32,
+    pub node: u32,
+}
+
+impl Writer {
+    /// The program's own name of this number.
+    pub fn own(self, n: u32) -> Name
+        ensures { result ≡ own self.sites n }
+    {
+        Name {
+            site: self.sites,
+            n,
+        }
+    }
+
+    pub fn agent(self, n: u32) -> Expr
+        ensures { result ≡ spec.agent self.sites n }
+    {
+        expression(ExprForm::Val(Value::Agent(self.own(n))))
+    }
+
+    pub fn channel(self, n: u32) -> Expr
+        ensures { result ≡ spec.channel self.sites n }
+    {
+        expression(ExprForm::Val(Value::Chan(self.own(n))))
+    }
+
+    fn process(self, role: Role, form: ProcForm) -> Proc
+        ensures { result ≡ spec.process self.node role form }
+    {
+        let tag = Tag {
+            node: self.node,
+            role,
+        };
+        Proc { tag, at: 0, form }
+    }
+
+    fn boxed(self, role: Role, form: ProcForm) -> Result<Boxed<Proc>, Memory>
+        ensures { IfOk result (λ p. p ≡ spec.process self.node role form) }
+    {
+        Boxed::of(self.alloc, self.process(role, form))
+    }
+
+    /// A process that the infrastructure takes a step of its own for.
+    pub fn infra(self, form: ProcForm) -> Result<Boxed<Proc>, Memory>
+        ensures { IfOk result (λ p. p ≡ spec.infra self.node form) }
+    {
+        self.boxed(Role::Infra, form)
+    }
+
+    /// A process that the source's node itself takes its step by.
+    pub fn plain(self, form: ProcForm) -> Result<Boxed<Proc>, Memory>
+        ensures { IfOk result (λ p. p ≡ spec.process self.node role.Plain form) }
+    {
+        self.boxed(Role::Plain, form)
+    }
+
+    /// The sending of a post.
+    pub fn posts(
+        self,
+        agent: Expr,
+        at: Expr,
+        chan: Expr,
+        value: Expr,
+    ) -> Result<Boxed<Proc>, Memory>
+        ensures { IfOk result (λ p. p ≡ spec.posts self.node agent at chan value) }
+    {
+        self.boxed(Role::Post, ProcForm::Send(agent, at, chan, value))
+    }
+
+    /// `(P | Q)`
+    pub fn beside(self, left: Boxed<Proc>, right: Boxed<Proc>) -> Result<Boxed<Proc>, Memory>
+        ensures { IfOk result (λ p. p ≡ spec.beside self.node left right) }
+    {
+        self.infra(ProcForm::Par(left, right))
+    }
+
+    /// `c!e`
+    pub fn gives(self, chan: Expr, value: Expr) -> Result<Boxed<Proc>, Memory>
+        ensures { IfOk result (λ p. p ≡ spec.gives self.node chan value) }
+    {
+        self.infra(ProcForm::Out(chan, value))
+    }
+
+    /// `c?p -> P`
+    pub fn takes(self, chan: Expr, names: Pat, body: Boxed<Proc>) -> Result<Boxed<Proc>, Memory>
+        ensures { IfOk result (λ p. p ≡ spec.takes self.node chan names body) }
+    {
+        self.infra(ProcForm::Inp(chan, names, body))
+    }
+
+    /// `*c?p -> P`
+    pub fn serves(self, chan: Expr, names: Pat, body: Boxed<Proc>) -> Result<Boxed<Proc>, Memory>
+        ensures { IfOk result (λ p. p ≡ spec.serves self.node chan names body) }
+    {
+        self.infra(ProcForm::Rep(chan, names, body))
+    }
+
+    /// `<b@s>c!e`
+    pub fn sends(
+        self,
+        agent: Expr,
+        at: Expr,
+        chan: Expr,
+        value: Expr,
+    ) -> Result<Boxed<Proc>, Memory>
+        ensures { IfOk result (λ p. p ≡ spec.sends self.node agent at chan value) }
+    {
+        self.infra(ProcForm::Send(agent, at, chan, value))
+    }
+
+    /// `c!e`, sent to the daemon.
+    pub fn tells(self, chan: Expr, value: Expr) -> Result<Boxed<Proc>, Memory>
+        ensures { IfOk result (λ p. p ≡ spec.tells self.sites self.node chan value) }
+    {
+        self.sends(self.agent(DAEMON), site(0), chan, value)
+    }
+
+    /// `lookup a in m then l -> P else 0`
+    pub fn finds(
+        self,
+        agent: u32,
+        places: u32,
+        lock: u32,
+        body: Boxed<Proc>,
+    ) -> Result<Boxed<Proc>, Memory>
+        ensures { IfOk result (λ p. p ≡ spec.finds self.node agent places lock body) }
+    {
+        let stop = self.infra(ProcForm::Stop)?;
+        let (agent, places) = (variable(agent), variable(places));
+        self.infra(ProcForm::Lookup(agent, places, lock, body, stop))
+    }
+}
