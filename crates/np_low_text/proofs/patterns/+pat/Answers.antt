@@ -1,0 +1,11 @@
+use Rattle.std.proofs.Common.{◌≡◌, ap, ◌∙◌}
+use Rattle.np_low_text.specs.LowText.{pat_form_text}
+use Rattle.np_low_text.proofs.Equations.{text-tuple_pat}
+use Rattle.np_low_text.proofs.Pieces.{on_same}
+use Rattle.np_low_text.proofs.patterns.+pat.Goals as goal
+
+pub put_pat-returns-in-Tuple : goal.put_pat-returns-in-Tuple
+put_pat-returns-in-Tuple t c =
+    let parts : c.as_slice.result.now ≡ c.in-Tuple.parts = c.as_slice.ensures in
+    let text = ap pat_form_text c.in-Tuple.is ∙ text-tuple_pat c.in-Tuple.parts in
+    on_same c.put_tuple_pat.result c.put_tuple_pat.new.text (rw (parts, text)) c.put_tuple_pat.ensures

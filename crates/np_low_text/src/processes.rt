@@ -1,0 +1,321 @@
+//! The texts of processes.
+
+ghost use Rattle.std.specs.Prelude.{◌≡◌, ◌++◌, OnOk, true, false, codes};
+ghost use Rattle.np_show.specs.Shown.{type_text};
+ghost use Rattle.np_low_text.specs.LowText.{binder_text, pat_text, expr_text, message_text, proc_text};
+
+use super::expressions::put_expr;
+use super::names::put_binder;
+use super::patterns::put_pat;
+use np_show::{close_round, open_round, put_type};
+use np_syntax::{Boxed, Expr, List, Memory, Pat, Proc, ProcForm, Text, Ty};
+use std::alloc::Global;
+
+/// `c!e`
+fn put_message(
+    alloc: Global,
+    text: &mut Text,
+    sites: &List<Text>,
+    c: &Expr,
+    x: &Expr,
+) -> Result<(), Memory>
+    ensures { OnOk result (text.new ≡ text.old ++ message_text sites.now c.now x.now) }
+{
+    put_expr(alloc, text, sites, 3, c)?;
+    text.append(b"!")?;
+    put_expr(alloc, text, sites, 0, x)
+}
+
+/// `<b@s>c!e`
+fn put_send(
+    alloc: Global,
+    text: &mut Text,
+    sites: &List<Text>,
+    agent: &Expr,
+    site: &Expr,
+    c: &Expr,
+    x: &Expr,
+) -> Result<(), Memory>
+    ensures { OnOk result (text.new ≡ text.old ++ codes "<" ++ expr_text sites.now 3 agent.now ++ codes "@" ++ expr_text sites.now 3 site.now ++ codes ">" ++ message_text sites.now c.now x.now) }
+{
+    text.append(b"<")?;
+    put_expr(alloc, text, sites, 3, agent)?;
+    text.append(b"@")?;
+    put_expr(alloc, text, sites, 3, site)?;
+    text.append(b">")?;
+    put_message(alloc, text, sites, c, x)
+}
+
+/// `<b@?>c!e`
+fn put_post(
+    alloc: Global,
+    text: &mut Text,
+    sites: &List<Text>,
+    agent: &Expr,
+    c: &Expr,
+    x: &Expr,
+) -> Result<(), Memory>
+    ensures { OnOk result (text.new ≡ text.old ++ codes "<" ++ expr_text sites.now 3 agent.now ++ codes "@?>" ++ message_text sites.now c.now x.now) }
+{
+    text.append(b"<")?;
+    put_expr(alloc, text, sites, 3, agent)?;
+    text.append(b"@?>")?;
+    put_message(alloc, text, sites, c, x)
+}
+
+fn put_print(alloc: Global, text: &mut Text, sites: &List<Text>, x: &Expr) -> Result<(), Memory>
+    ensures { OnOk result (text.new ≡ text.old ++ codes "print " ++ expr_text sites.now 0 x.now) }
+{
+    text.append(b"print ")?;
+    put_expr(alloc, text, sites, 0, x)
+}
+
+fn put_open(alloc: Global, text: &mut Text, sites: &List<Text>, x: &Expr) -> Result<(), Memory>
+    ensures { OnOk result (text.new ≡ text.old ++ codes "open " ++ expr_text sites.now 0 x.now) }
+{
+    text.append(b"open ")?;
+    put_expr(alloc, text, sites, 0, x)
+}
+
+/// `lookup a in m then x -> `
+fn put_lookup(
+    alloc: Global,
+    text: &mut Text,
+    sites: &List<Text>,
+    who: &Expr,
+    places: &Expr,
+    found: u32,
+) -> Result<(), Memory>
+    ensures { OnOk result (text.new ≡ text.old ++ codes "lookup " ++ expr_text sites.now 0 who.now ++ codes " in " ++ expr_text sites.now 0 places.now ++ codes " then " ++ binder_text found ++ codes " -> ") }
+{
+    text.append(b"lookup ")?;
+    put_expr(alloc, text, sites, 0, who)?;
+    text.append(b" in ")?;
+    put_expr(alloc, text, sites, 0, places)?;
+    text.append(b" then ")?;
+    put_binder(text, found)?;
+    text.append(b" -> ")
+}
+
+/// `c?p -> `
+fn put_taking(
+    alloc: Global,
+    text: &mut Text,
+    sites: &List<Text>,
+    c: &Expr,
+    pat: &Pat,
+) -> Result<(), Memory>
+    ensures { OnOk result (text.new ≡ text.old ++ expr_text sites.now 3 c.now ++ codes "?" ++ pat_text pat.now ++ codes " -> ") }
+{
+    put_expr(alloc, text, sites, 3, c)?;
+    text.append(b"?")?;
+    put_pat(text, pat)?;
+    text.append(b" -> ")
+}
+
+/// `agent b = `
+fn put_agent(text: &mut Text, name: u32) -> Result<(), Memory>
+    ensures { OnOk result (text.new ≡ text.old ++ codes "agent " ++ binder_text name ++ codes " = ") }
+{
+    text.append(b"agent ")?;
+    put_binder(text, name)?;
+    text.append(b" = ")
+}
+
+/// `iflocal <b>c!e then `
+fn put_iflocal(
+    alloc: Global,
+    text: &mut Text,
+    sites: &List<Text>,
+    agent: &Expr,
+    c: &Expr,
+    x: &Expr,
+) -> Result<(), Memory>
+    ensures { OnOk result (text.new ≡ text.old ++ codes "iflocal <" ++ expr_text sites.now 3 agent.now ++ codes ">" ++ message_text sites.now c.now x.now ++ codes " then ") }
+{
+    text.append(b"iflocal <")?;
+    put_expr(alloc, text, sites, 3, agent)?;
+    text.append(b">")?;
+    put_message(alloc, text, sites, c, x)?;
+    text.append(b" then ")
+}
+
+/// `if e then `
+fn put_if(alloc: Global, text: &mut Text, sites: &List<Text>, test: &Expr) -> Result<(), Memory>
+    ensures { OnOk result (text.new ≡ text.old ++ codes "if " ++ expr_text sites.now 0 test.now ++ codes " then ") }
+{
+    text.append(b"if ")?;
+    put_expr(alloc, text, sites, 0, test)?;
+    text.append(b" then ")
+}
+
+/// The text of a process. A composition has its bracket where `bracket` says so.
+#[cycle(process)]
+pub fn put_proc(
+    alloc: Global,
+    text: &mut Text,
+    sites: &List<Text>,
+    bracket: bool,
+    p: &Proc,
+) -> Result<(), Memory>
+    ensures { OnOk result (text.new ≡ text.old ++ proc_text sites.now bracket p.now) }
+{
+    use ProcForm as Form;
+    match &p.form {
+        Form::Stop => text.append(b"0"),
+        Form::Par(p, q) => {
+            open_round(text, bracket)?;
+            put_left(alloc, text, sites, false, p, b" | ")?;
+            put_part(alloc, text, sites, q)?;
+            close_round(text, bracket)
+        }
+        Form::New(c, ty, p) => put_new(alloc, text, sites, p, *c, ty),
+        Form::Out(c, x) => put_message(alloc, text, sites, c, x),
+        Form::Inp(c, pat, p) => put_input(alloc, text, sites, p, c, pat),
+        Form::Rep(c, pat, p) => put_always(alloc, text, sites, p, c, pat),
+        Form::Agent(b, p, q) => {
+            put_agent(text, *b)?;
+            put_left(alloc, text, sites, true, p, b" in ")?;
+            put_part(alloc, text, sites, q)
+        }
+        Form::Migrate(site, p) => put_migrate(alloc, text, sites, p, site),
+        Form::IfLocal(b, c, x, p, q) => {
+            put_iflocal(alloc, text, sites, b, c, x)?;
+            put_left(alloc, text, sites, true, p, b" else ")?;
+            put_part(alloc, text, sites, q)
+        }
+        Form::Send(b, s, c, x) => put_send(alloc, text, sites, b, s, c, x),
+        Form::Post(b, c, x) => put_post(alloc, text, sites, b, c, x),
+        Form::If(test, p, q) => {
+            put_if(alloc, text, sites, test)?;
+            put_left(alloc, text, sites, true, p, b" else ")?;
+            put_part(alloc, text, sites, q)
+        }
+        Form::Let(pat, x, p) => put_let(alloc, text, sites, p, pat, x),
+        Form::Print(x) => put_print(alloc, text, sites, x),
+        Form::Open(x) => put_open(alloc, text, sites, x),
+        Form::Lookup(who, places, found, p, q) => {
+            put_lookup(alloc, text, sites, who, places, *found)?;
+            put_left(alloc, text, sites, true, p, b" else ")?;
+            put_part(alloc, text, sites, q)
+        }
+    }
+}
+
+/// `new c : ^Int in P`
+#[cycle(process)]
+fn put_new(
+    alloc: Global,
+    text: &mut Text,
+    sites: &List<Text>,
+    p: &Boxed<Proc>,
+    c: u32,
+    ty: &Ty,
+) -> Result<(), Memory>
+    ensures { OnOk result (text.new ≡ text.old ++ codes "new " ++ binder_text c ++ codes " : " ++ type_text ty.now ++ codes " in " ++ proc_text sites.now true p.now) }
+{
+    text.append(b"new ")?;
+    put_binder(text, c)?;
+    text.append(b" : ")?;
+    put_type(text, ty)?;
+    text.append(b" in ")?;
+    put_part(alloc, text, sites, p)
+}
+
+/// `c?p -> P`
+#[cycle(process)]
+fn put_input(
+    alloc: Global,
+    text: &mut Text,
+    sites: &List<Text>,
+    p: &Boxed<Proc>,
+    c: &Expr,
+    pat: &Pat,
+) -> Result<(), Memory>
+    ensures { OnOk result (text.new ≡ text.old ++ expr_text sites.now 3 c.now ++ codes "?" ++ pat_text pat.now ++ codes " -> " ++ proc_text sites.now true p.now) }
+{
+    put_taking(alloc, text, sites, c, pat)?;
+    put_part(alloc, text, sites, p)
+}
+
+/// `*c?p -> P`
+#[cycle(process)]
+fn put_always(
+    alloc: Global,
+    text: &mut Text,
+    sites: &List<Text>,
+    p: &Boxed<Proc>,
+    c: &Expr,
+    pat: &Pat,
+) -> Result<(), Memory>
+    ensures { OnOk result (text.new ≡ text.old ++ codes "*" ++ expr_text sites.now 3 c.now ++ codes "?" ++ pat_text pat.now ++ codes " -> " ++ proc_text sites.now true p.now) }
+{
+    text.append(b"*")?;
+    put_taking(alloc, text, sites, c, pat)?;
+    put_part(alloc, text, sites, p)
+}
+
+/// `migrate to e -> P`
+#[cycle(process)]
+fn put_migrate(
+    alloc: Global,
+    text: &mut Text,
+    sites: &List<Text>,
+    p: &Boxed<Proc>,
+    site: &Expr,
+) -> Result<(), Memory>
+    ensures { OnOk result (text.new ≡ text.old ++ codes "migrate to " ++ expr_text sites.now 0 site.now ++ codes " -> " ++ proc_text sites.now true p.now) }
+{
+    text.append(b"migrate to ")?;
+    put_expr(alloc, text, sites, 0, site)?;
+    text.append(b" -> ")?;
+    put_part(alloc, text, sites, p)
+}
+
+/// `let p = e in P`
+#[cycle(process)]
+fn put_let(
+    alloc: Global,
+    text: &mut Text,
+    sites: &List<Text>,
+    p: &Boxed<Proc>,
+    pat: &Pat,
+    x: &Expr,
+) -> Result<(), Memory>
+    ensures { OnOk result (text.new ≡ text.old ++ codes "let " ++ pat_text pat.now ++ codes " = " ++ expr_text sites.now 0 x.now ++ codes " in " ++ proc_text sites.now true p.now) }
+{
+    text.append(b"let ")?;
+    put_pat(text, pat)?;
+    text.append(b" = ")?;
+    put_expr(alloc, text, sites, 0, x)?;
+    text.append(b" in ")?;
+    put_part(alloc, text, sites, p)
+}
+
+#[cycle(process)]
+fn put_part(
+    alloc: Global,
+    text: &mut Text,
+    sites: &List<Text>,
+    p: &Boxed<Proc>,
+) -> Result<(), Memory>
+    ensures { OnOk result (text.new ≡ text.old ++ proc_text sites.now true p.now) }
+{
+    put_proc(alloc, text, sites, true, p.get())
+}
+
+/// A part, and what stands behind it.
+#[cycle(process)]
+fn put_left(
+    alloc: Global,
+    text: &mut Text,
+    sites: &List<Text>,
+    bracket: bool,
+    p: &Boxed<Proc>,
+    behind: &[u8],
+) -> Result<(), Memory>
+    ensures { OnOk result (text.new ≡ text.old ++ proc_text sites.now bracket p.now ++ behind.now) }
+{
+    put_proc(alloc, text, sites, bracket, p.get())?;
+    text.append(behind)
+}
