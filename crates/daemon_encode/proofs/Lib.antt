@@ -1,2 +1,11 @@
 pub mod Forms
 pub mod Related
+pub mod Making
+pub mod DaemonTyped
+pub mod TextsTyped
+pub mod Binding
+pub mod ProcessesTyped
+pub mod SoundBinds
+pub mod ProgramsTyped
+pub mod LowSounds
+pub mod ExampleTexts

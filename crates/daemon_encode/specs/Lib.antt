@@ -3,3 +3,6 @@ pub mod Texts
 pub mod Daemon
 pub mod Encoded
 pub mod Translates
+pub mod LowSound
+pub mod Typed
+pub mod Examples

@@ -1,7 +1,23 @@
+ghost use Rattle.daemon_encode.specs.Examples.{LowTextOfSeven};
 ghost use Rattle.daemon_encode.specs.Translates.{TranslatesItself, EncodesItself};
+ghost use Rattle.daemon_encode.specs.Typed.{EncodesFaultless, EncodesSound, EncodesWellTyped};
 
 /// What the translation makes is a low process of what it is made from, and so is a low program.
 pub fn law_translates()
     ensures process { TranslatesItself }
     ensures program { EncodesItself }
+{}
+
+/// The low program of an accepted program has no fault under the types of the infrastructure's channels, and its uses,
+/// sites, values and types are as a low program has them. So it is typed after each prefix of each of its runs, and no
+/// value of a wrong type is ever met.
+pub fn law_encodes_typed()
+    ensures faultless { EncodesFaultless }
+    ensures sound { EncodesSound }
+    ensures along { EncodesWellTyped }
+{}
+
+/// What the definitions say of a small program.
+pub fn law_examples()
+    ensures { LowTextOfSeven }
 {}

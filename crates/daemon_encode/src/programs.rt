@@ -1,7 +1,9 @@
 //! The low program of a checked program.
 
-ghost use Rattle.std.specs.Prelude.{◌≡◌, IfOk};
+ghost use Rattle.std.specs.Prelude.{◌≡◌, ◌<◌, ◌^◌, length, IfOk};
+ghost use Rattle.np_safety.specs.Low.{IsFaultless};
 ghost use Rattle.daemon_encode.specs.Encoded.{encoded, main_of};
+ghost use Rattle.daemon_encode.specs.LowSound.{IsLowSound};
 
 use super::own_names::MAIN;
 use super::servers::daemon;
@@ -29,11 +31,11 @@ fn main_of(alloc: Global, sites: u32, p: &Program) -> Result<(Proc, u32), Memory
     Ok((main.into_inner(), next))
 }
 
-/// The low program of a checked program.
-pub fn encode(alloc: Global, p: &Checked) -> Result<LowProgram, Memory>
+/// The low program of a program.
+fn low_program(alloc: Global, p: &Program) -> Result<LowProgram, Memory>
+    requires { length p.now.sites < 2 ^ 32 }
     ensures { IfOk result (λ low. low ≡ encoded p.now) }
 {
-    let p = p.program();
     let count = p.sites.len() as u32;
     let (main, next) = main_of(alloc, count, p)?;
     let daemon = daemon(alloc, count, p.at, next)?;
@@ -44,4 +46,14 @@ pub fn encode(alloc: Global, p: &Checked) -> Result<LowProgram, Memory>
         main,
         daemon,
     })
+}
+
+/// The low program of a checked program. Neither main nor the daemon has a fault, and what stands in them is as a low
+/// program has it.
+pub fn encode(alloc: Global, p: &Checked) -> Result<LowProgram, Memory>
+    ensures gives { IfOk result (λ low. low ≡ encoded p.now) }
+    ensures faultless { IfOk result IsFaultless }
+    ensures sound { IfOk result IsLowSound }
+{
+    low_program(alloc, p.program())
 }

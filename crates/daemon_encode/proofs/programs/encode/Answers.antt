@@ -1,0 +1,8 @@
+use Rattle.daemon_encode.proofs.ProgramsTyped.{faultless_as, sound_as}
+use Rattle.daemon_encode.proofs.programs.encode.Goals as goal
+
+pub returns-clause-faultless : goal.returns-clause-faultless
+returns-clause-faultless c = faultless_as c.args.p.now c.program.result.now c.low_program.result c.program.ensures.accepted c.program.ensures.value c.low_program.ensures
+
+pub returns-clause-sound : goal.returns-clause-sound
+returns-clause-sound c = sound_as c.args.p.now c.program.result.now c.low_program.result c.program.ensures.accepted c.program.ensures.value c.low_program.ensures
