@@ -1,5 +1,5 @@
 -- The daemon's process has no fault.
-use Rattle.std.proofs.Common.{◌≡◌, ℕ, ◌+◌, ◌<◌, Bool, true, false, Some, Ok, List, [], ◌∷◌, refl, subst, sym, ap, ◌∙◌, arith}
+use Rattle.std.proofs.Common.{◌≡◌, ℕ, ◌+◌, ◌<◌, true, Some, Ok, [], ◌∷◌, refl, ap, ◌∙◌, arith}
 use Rattle.std.specs.Prelude.{nat_lt}
 use Rattle.std.specs.FinMap as table
 use Rattle.np_syntax.specs.declared.value.Value as value
@@ -8,14 +8,13 @@ use Rattle.np_syntax.specs.declared.types.Ty.{Ty, out-Ty}
 use Rattle.np_syntax.specs.declared.types.Ty as ty
 use Rattle.np_syntax.specs.declared.types.Ty.TheVariants.{outs-Chan, outs-Site}
 use Rattle.np_syntax.specs.declared.expression.Expr.{Expr}
-use Rattle.np_syntax.specs.declared.expression.ExprForm as expr
 use Rattle.np_syntax.specs.declared.pattern.Pat.{Pat}
 use Rattle.np_syntax.specs.declared.process.Proc.{Proc}
 use Rattle.np_syntax.specs.declared.process.ProcForm.TheVariants.{outs-Stop, outs-Par, outs-New, outs-Out, outs-Inp, outs-Rep, outs-Send, outs-Lookup}
-use Rattle.np_types.specs.Sub.{sub, as_chan}
+use Rattle.np_types.specs.Sub.{as_chan}
 use Rattle.np_types.specs.declared.fault.Rule.TheVariants as rule
 use Rattle.np_types.specs.Checks.{want}
-use Rattle.np_types.specs.Worlds.{World, kind, all_locks}
+use Rattle.np_types.specs.Worlds.{World}
 use Rattle.np_types.specs.Least.{Types, least}
 use Rattle.np_types.specs.Covers.{cover}
 use Rattle.np_types.proofs.Counts.{nodes-chan, nodes-site, nodes-letter}
@@ -26,10 +25,11 @@ use Rattle.np_check.specs.Faults.{lock_type}
 use Rattle.np_safety.specs.Channels.{world}
 use Rattle.np_safety.specs.Low.{carried, infrastructure, pair as pair_type}
 use Rattle.np_safety.proofs.Evaluates.{places-kind}
-use Rattle.np_safety.proofs.Forms.{Good, Tested, Sending, Taking, Naming}
-use Rattle.daemon_encode.specs.Pieces.{expression, variable, name, unit, pair, two_names, site, channel, infra, beside, gives, takes, serves, sends, finds}
-use Rattle.daemon_encode.specs.Daemon.{first_places, frees, acks, notes, looks_up, with_lock, enters, register_server, migrating_server, migrated_server, message_server, dack_server, moves_text, daemon_text}
-use Rattle.daemon_encode.proofs.Making.{slot_here, slot_past, listed, carries, good-made, least-variable, least-channel, least-site, least-unit, least-pair, an_agent, a_site, a_map, sends-on, takes-from, least-with_lock, cover-name, cover-two}
+use Rattle.np_safety.proofs.Forms.{Good, Sending}
+use Rattle.daemon_encode.specs.Pieces.{variable, site, channel, beside, gives}
+use Rattle.daemon_encode.specs.Daemon.{first_places, frees, acks, notes, looks_up, register_server, migrating_server, migrated_server, message_server, dack_server, daemon_text}
+use Rattle.daemon_encode.proofs.Making.{slot_here, slot_past, listed, carries, good-made, least-variable, least-channel, least-site, least-unit}
+use Rattle.daemon_encode.proofs.Making.{least-pair, an_agent, a_site, a_map, sends-on, takes-from, least-with_lock, cover-name, cover-two}
 
 module _ (n : ℕ) where
   abbrev pub low : World

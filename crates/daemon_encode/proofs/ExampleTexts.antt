@@ -12,7 +12,7 @@ use Rattle.np_syntax.specs.declared.process.Role.TheVariants as role
 use Rattle.np_syntax.specs.declared.process.Proc.{Proc}
 use Rattle.np_syntax.specs.declared.process.ProcForm as form
 use Rattle.np_syntax.specs.declared.process.ProcForm.TheBlock as block
-use Rattle.np_low_text.specs.LowText.{low_text, line_text, proc_text}
+use Rattle.np_low_text.specs.LowText.{line_text, proc_text}
 use Rattle.daemon_encode.specs.Pieces.{gives, here, main, site}
 use Rattle.daemon_encode.specs.Daemon.{first_places, register_server, migrating_server, migrated_server, message_server, dack_server, daemon_text}
 use Rattle.daemon_encode.specs.declared.translated.Translated.{Translated}

@@ -1,6 +1,5 @@
 -- What stands in the low program of a resolved program.
-use Rattle.std.proofs.Common.{◌≡◌, ◌<◌, ℕ, ◌+◌, true, ◌⊎◌, inl, inr, List, [], ◌∷◌, length, refl, subst, sym, ap, ◌∙◌, arith}
-use Rattle.np_syntax.specs.declared.value.Value.{Value}
+use Rattle.std.proofs.Common.{◌≡◌, ◌<◌, ℕ, ◌+◌, true, inl, inr, List, [], ◌∷◌, length, refl, subst, sym, ◌∙◌, arith}
 use Rattle.np_syntax.specs.declared.expression.Expr.{Expr}
 use Rattle.np_syntax.specs.declared.pattern.Pat.{Pat}
 use Rattle.np_syntax.specs.declared.process.Tag.{Tag}
@@ -13,12 +12,11 @@ use Rattle.np_syntax.specs.declared.program.Program.{Program}
 use Rattle.np_scope.specs.declared.numbers.Numbers.{Numbers}
 use Rattle.np_scope.specs.Sound.{Among, IsSound, IsSoundExpr, AreSoundExprs, Binds, BindAll, IsSoundProc}
 use Rattle.np_scope.specs.Written.{IsSourceType, IsChannelType}
-use Rattle.np_check.specs.Faults.{lock_type}
 use Rattle.np_safety.specs.Low.{carried}
 use Rattle.daemon_encode.specs.declared.translated.Translated.{Translated}
-use Rattle.daemon_encode.specs.Pieces.{variable, name, nothing, unit, pair, two_names, site, agent, channel, main, daemon, process, beside, gives, takes, serves, sends, tells, finds}
-use Rattle.daemon_encode.specs.Texts.{letter, post_text, settles, move_text, migrate_text, server_text, begins, child_text, agent_text, main_text}
-use Rattle.daemon_encode.specs.Daemon.{first_places, frees, acks, notes, looks_up, enters, register_server, migrating_server, migrated_server, message_server, dack_server, moves_text, daemon_text}
+use Rattle.daemon_encode.specs.Pieces.{variable, name, pair, two_names, site, channel, main, daemon, process, gives}
+use Rattle.daemon_encode.specs.Texts.{letter, settles, migrate_text, server_text, agent_text, main_text}
+use Rattle.daemon_encode.specs.Daemon.{acks, looks_up, daemon_text}
 use Rattle.daemon_encode.specs.Encoded.{translated, translated_form, encoded}
 use Rattle.daemon_encode.specs.LowSound.{is_listed, IsLowValue, IsLowExpr, AreLowExprs, Enters, EnterAll, IsLowProc, IsLowSound}
 use Rattle.daemon_encode.specs.Translates.{source}

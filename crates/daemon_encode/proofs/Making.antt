@@ -1,27 +1,26 @@
 -- How what is written out has no fault, form by form.
-use Rattle.std.proofs.Common.{◌≡◌, ℕ, ◌+◌, Bool, true, false, cond, nat_eq, nat_le, Option, None, Some, Ok, List, [], ◌∷◌, refl, subst, sym, ap, ◌∙◌, arith}
+use Rattle.std.proofs.Common.{◌≡◌, ℕ, Bool, true, false, cond, nat_eq, Option, None, Some, Ok, List, [], ◌∷◌, refl, subst, sym, ap, ◌∙◌, arith}
 use Rattle.std.specs.FinMap as table
 use Rattle.std.specs.FinMap.{nat_cmp-IsAntisymmetric}
-use Rattle.std.specs.Ordering.{nat_cmp, eq_by_cmp, is_eq}
+use Rattle.std.specs.Ordering.{nat_cmp, is_eq}
 use Rattle.std.specs.Cmp.{tied_itself, nat_cmp_total}
 use Rattle.std.specs.declared.cmp.Ordering.{Ordering}
 use Rattle.std.specs.declared.cmp.Ordering.TheVariants.{Less, Equal, Greater}
-use Rattle.np_syntax.specs.declared.value.Name.{Name}
 use Rattle.np_syntax.specs.declared.value.Value as value
 use Rattle.np_syntax.specs.declared.types.Cap.{Cap}
 use Rattle.np_syntax.specs.declared.types.Cap.TheVariants as cap
 use Rattle.np_syntax.specs.declared.types.Ty.{Ty, out-Ty}
 use Rattle.np_syntax.specs.declared.types.Ty as ty
-use Rattle.np_syntax.specs.declared.types.Ty.TheVariants.{outs-Chan, outs-Agent, outs-Site, outs-Places, outs-Tuple}
+use Rattle.np_syntax.specs.declared.types.Ty.TheVariants.{outs-Chan, outs-Agent, outs-Site, outs-Places}
 use Rattle.np_syntax.specs.declared.expression.Expr.{Expr}
 use Rattle.np_syntax.specs.declared.expression.ExprForm as expr
 use Rattle.np_syntax.specs.declared.pattern.Pat.{Pat}
 use Rattle.np_syntax.specs.declared.process.Proc.{Proc}
-use Rattle.np_tables.specs.Names.{NameMap, same_name}
+use Rattle.np_tables.specs.Names.{same_name}
 use Rattle.np_tables.proofs.Tables.{get-none, get-put}
 use Rattle.np_types.specs.declared.fault.Rule.TheVariants as rule
 use Rattle.np_types.specs.Sub.{TyLayer, sub, as_chan, is_agent, is_site, is_places}
-use Rattle.np_types.specs.Widths.{nodes, narrow}
+use Rattle.np_types.specs.Widths.{nodes}
 use Rattle.np_types.specs.Checks.{want}
 use Rattle.np_types.specs.Worlds.{World, kind}
 use Rattle.np_types.specs.Least.{Types, least}
@@ -32,15 +31,14 @@ use Rattle.np_types.proofs.Leasts.{least-form, least-val, least-var, least-with,
 use Rattle.np_eval.specs.Forms.{Layer, layer}
 use Rattle.np_calculus.specs.Starts.{own}
 use Rattle.np_check.specs.Faults.{lock_type}
-use Rattle.np_safety.specs.Channels.{world}
-use Rattle.np_safety.specs.Low.{carried, channels_of, infrastructure}
+use Rattle.np_safety.specs.Low.{channels_of}
 use Rattle.np_safety.proofs.Backs.{good-back}
 use Rattle.np_safety.proofs.Evaluates.{agent-kind, chan-kind}
 use Rattle.np_safety.proofs.Forms.{Good, GoodForm, Tested, OnChannel, Sending, Taking}
 use Rattle.np_safety.proofs.Matches.{slot_put}
 use Rattle.np_types.proofs.ValueTypes.{kind-out}
 use Rattle.np_syntax.specs.declared.value.Value.TheVariants.{outs-Site as site-value}
-use Rattle.daemon_encode.specs.Pieces.{expression, pattern, variable, name, nothing, unit, pair, two_names, site, agent, channel}
+use Rattle.daemon_encode.specs.Pieces.{expression, variable, name, nothing, unit, pair, two_names, site, agent, channel}
 
 -- ---- binders in types
 

@@ -1,12 +1,11 @@
 -- A translated process has no fault where its source has none.
-use Rattle.std.proofs.Common.{◌≡◌, ℕ, ◌+◌, ◌≤◌, ◌<◌, Bool, true, false, not, ◌&&◌, cond, Option, None, Some, Ok, map, List, [], ◌∷◌, refl, subst, sym, ap, ◌∙◌, arith}
+use Rattle.std.proofs.Common.{◌≡◌, ℕ, ◌+◌, ◌≤◌, ◌<◌, Bool, true, false, not, cond, Option, None, Some, Ok, map, List, [], ◌∷◌, refl, subst, sym, ap, ◌∙◌, arith}
 use Rattle.std.specs.Prelude.{nat_lt}
 use Rattle.std.specs.FinMap as table
 use Rattle.std.specs.Ordering.{nat_cmp, eq_by_cmp, is_eq}
 use Rattle.std.specs.Cmp.{tied_itself, nat_cmp_total}
 use Rattle.np_syntax.specs.declared.types.Ty.{Ty, out-Ty}
 use Rattle.np_syntax.specs.declared.types.Ty as ty
-use Rattle.np_syntax.specs.declared.types.Ty.TheVariants.{outs-Agent}
 use Rattle.np_syntax.specs.declared.expression.Expr.{Expr}
 use Rattle.np_syntax.specs.declared.pattern.Pat.{Pat}
 use Rattle.np_syntax.specs.declared.pattern.PatForm.{PatForm-F}
@@ -35,7 +34,7 @@ use Rattle.np_safety.proofs.Passed.{then, when, take, done}
 use Rattle.np_safety.proofs.Processes.{ProcHyps, proc_of, proc_ind}
 use Rattle.daemon_encode.specs.declared.translated.Translated.{Translated}
 use Rattle.daemon_encode.specs.Pieces.{variable}
-use Rattle.daemon_encode.specs.Encoded.{Translation, kept, around_both, translate_step, translated, translated_form}
+use Rattle.daemon_encode.specs.Encoded.{Translation, around_both, translate_step, translated, translated_form}
 use Rattle.daemon_encode.proofs.Binding.{Free, without, taken, taken_all, taken_step, after, clean, clean_step, Takes, takens, taken-out, Cleans, cleans, clean-out}
 use Rattle.daemon_encode.proofs.DaemonTyped.{low}
 use Rattle.daemon_encode.proofs.Forms.{translated-form, translated-layer}
@@ -59,7 +58,11 @@ pub record Room (types : Types) (free : Free) (k : ℕ) : Type 0 where
   pub fresh : (x : ℕ) → k ≤ x → table.get types x ≡ None
 
 other : (y x : ℕ) → not (eq_by_cmp nat_cmp y x) ≡ true → y ≡ x → ⊥
-other y x h e = let r : not (eq_by_cmp nat_cmp x x) ≡ true = subst (λ y. not (eq_by_cmp nat_cmp y x) ≡ true) e h in let s : not (is_eq (nat_cmp x x)) ≡ false = rw (tied_itself nat_cmp_total x) refl in let c : true ≡ false = sym r ∙ s in cc
+other y x h e =
+    let r : not (eq_by_cmp nat_cmp x x) ≡ true = subst (λ y. not (eq_by_cmp nat_cmp y x) ≡ true) e h in
+    let s : not (is_eq (nat_cmp x x)) ≡ false = rw (tied_itself nat_cmp_total x) refl in
+    let c : true ≡ false = sym r ∙ s in
+    cc
 
 room-bind : (types : Types) (free : Free) (k x : ℕ) (t : Ty) → free x ≡ true → Room types free k → Room (table.insert types x t) (without free x) k
 room-bind types free k x t f r = record {
@@ -85,7 +88,8 @@ module _ (k : ℕ) where
   abbrev Keeps : Pat → Type 0
   Keeps p = (t : Ty) (types inner : Types) (free left : Free) → Room types free k → taken p free ≡ Some left → cover p t types ≡ Ok inner → Room inner left k × Narrower inner types
 
-  keeps_all : (ps : List (With Pat Keeps)) (ts : List Ty) (o : ℕ) (types inner : Types) (free left : Free) → Room types free k → taken_all (map taken (map (λ e. e.0) ps)) free ≡ Some left → cover_each (map cover (map (λ e. e.0) ps)) ts o types ≡ Ok inner → Room inner left k × Narrower inner types
+  keeps_all : (ps : List (With Pat Keeps)) (ts : List Ty) (o : ℕ) (types inner : Types) (free left : Free) → Room types free k
+      → taken_all (map taken (map (λ e. e.0) ps)) free ≡ Some left → cover_each (map cover (map (λ e. e.0) ps)) ts o types ≡ Ok inner → Room inner left k × Narrower inner types
   keeps_all [] [] o types inner free left r h c = let e : inner ≡ types = done c in let f : left ≡ free = maybe.done h in rw (e, f) (r, itself types)
   keeps_all (p ∷ ps) (t ∷ ts) o types inner free left r h c =
       maybe.then (taken p.0 free) (taken_all (map taken (map (λ e. e.0) ps))) h λ mid first h.
@@ -96,11 +100,15 @@ module _ (k : ℕ) where
   keeps_all [] (t ∷ ts) o types inner free left r h c = absurd cc
   keeps_all (p ∷ ps) [] o types inner free left r h c = absurd cc
 
-  keep_bind : (x : ℕ) (t : Ty) (types inner : Types) (free left : Free) (b : Bool) → free x ≡ b → Room types free k → cond b (Some (without free x)) None ≡ Some left → inner ≡ table.insert types x t → Room inner left k × Narrower inner types
-  keep_bind x t types inner free left true e r h is = let f : left ≡ without free x = maybe.done h in rw (is, f) (room-bind types free k x t e r, newer types x t (r.unbound x e))
+  keep_bind : (x : ℕ) (t : Ty) (types inner : Types) (free left : Free) (b : Bool) → free x ≡ b → Room types free k
+      → cond b (Some (without free x)) None ≡ Some left → inner ≡ table.insert types x t → Room inner left k × Narrower inner types
+  keep_bind x t types inner free left true e r h is =
+      let f : left ≡ without free x = maybe.done h in
+      rw (is, f) (room-bind types free k x t e r, newer types x t (r.unbound x e))
   keep_bind x t types inner free left false e r h is = absurd cc
 
-  keeps_layer : (y : PatHyps Keeps) (o : ℕ) (t : Ty) (types inner : Types) (free left : Free) → Room types free k → taken_step (takens (pat_of Keeps y)) free ≡ Some left → cover_step (cover_layer (pat_of Keeps y)) o t types ≡ Ok inner → Room inner left k × Narrower inner types
+  keeps_layer : (y : PatHyps Keeps) (o : ℕ) (t : Ty) (types inner : Types) (free left : Free) → Room types free k
+      → taken_step (takens (pat_of Keeps y)) free ≡ Some left → cover_step (cover_layer (pat_of Keeps y)) o t types ≡ Ok inner → Room inner left k × Narrower inner types
   keeps_layer PatForm-F.Any o t types inner free left r h c = let e : inner ≡ types = done c in let f : left ≡ free = maybe.done h in rw (e, f) (r, itself types)
   keeps_layer (PatForm-F.Bind x) o t types inner free left r h c = keep_bind x t types inner free left (free x) refl r h (done c)
   keeps_layer (PatForm-F.Tuple ps) o t types inner free left r h c =
@@ -162,10 +170,12 @@ module _ (n : ℕ) (some : nat_lt 0 n ≡ true) where
       let further : (p a k).next ≤ (q a (p a k).next).next = s.next in
       record { good = make (p a k).proc (q a (p a k).next).proc d.good s.good; next = omega (arith, on, further) }
 
-  keep_layer : (y : ProcHyps Keep) (t : Tag) (o : ℕ) (types : Types) (free : Free) (a : Expr) (k : ℕ) → Place types free a k → clean_step (cleans (proc_of Keep y)) free ≡ true → GoodForm w types (proc_of Keep y) → Done types k (translate_step n (steps (proc_of Keep y)) t o a k)
+  keep_layer : (y : ProcHyps Keep) (t : Tag) (o : ℕ) (types : Types) (free : Free) (a : Expr) (k : ℕ) → Place types free a k
+      → clean_step (cleans (proc_of Keep y)) free ≡ true → GoodForm w types (proc_of Keep y) → Done types k (translate_step n (steps (proc_of Keep y)) t o a k)
   keep_layer ProcForm-F.Stop t o types free a k pl c g = record { good = good-made w types _ _ outs-Stop tt; next = omega arith }
   keep_layer (ProcForm-F.Par p q) t o types free a k pl c g = let b = and-out _ _ c in
-      two_done types types types k (form.Par) t o (translated n p.0) (translated n q.0) a (λ p' q' x y. good-made w types _ _ (outs-Par p' q') (x, y)) (p.1 types free a k pl b.0 g.0) (λ j l. q.1 types free a j (later types free a k j l pl) b.1 g.1)
+      two_done types types types k (form.Par) t o (translated n p.0) (translated n q.0) a (λ p' q' x y. good-made w types _ _ (outs-Par p' q') (x, y)) (p.1 types free a k pl b.0 g.0)
+      (λ j l. q.1 types free a j (later types free a k j l pl) b.1 g.1)
   keep_layer (ProcForm-F.New x ty p) t o types free a k pl c g = let b = and-out _ _ c in
       let d = p.1 _ _ a k (inside types free a k x ty b.0 pl) b.1 g.body in
       record { good = good-made w types _ _ (outs-New x ty _) (record { carries = g.carries; chan = g.chan; small = g.small; body = d.good }); next = d.next }
@@ -202,18 +212,22 @@ module _ (n : ℕ) (some : nat_lt 0 n ≡ true) where
   keep_layer (ProcForm-F.Migrate e p) t o types free a k pl c g =
       let d = p.1 types free a k pl c g.1 in record { good = good-migrate n some types t.node a e _ pl.agent g.0 d.good; next = d.next }
   keep_layer (ProcForm-F.IfLocal b x e p q) t o types free a k pl c g = let h = and-out _ _ c in
-      two_done types types types k (form.IfLocal b x e) t o (translated n p.0) (translated n q.0) a (λ p' q' y z. good-made w types _ _ (outs-IfLocal b x e p' q') (g.0, g.1, y, z)) (p.1 types free a k pl h.0 g.2) (λ j l. q.1 types free a j (later types free a k j l pl) h.1 g.3)
+      two_done types types types k (form.IfLocal b x e) t o (translated n p.0) (translated n q.0) a (λ p' q' y z. good-made w types _ _ (outs-IfLocal b x e p' q') (g.0, g.1, y, z)) (p.1 types free a k pl h.0 g.2)
+      (λ j l. q.1 types free a j (later types free a k j l pl) h.1 g.3)
   keep_layer (ProcForm-F.Send b s x e) t o types free a k pl c g = record { good = good-made w types _ _ (outs-Send b s x e) g; next = omega arith }
   keep_layer (ProcForm-F.Post b x e) t o types free a k pl c g = record { good = good-post n some types t.node b x e g.0 g.1; next = omega arith }
   keep_layer (ProcForm-F.If e p q) t o types free a k pl c g = let h = and-out _ _ c in
-      two_done types types types k (form.If e) t o (translated n p.0) (translated n q.0) a (λ p' q' y z. good-made w types _ _ (outs-If e p' q') (g.0, y, z)) (p.1 types free a k pl h.0 g.1) (λ j l. q.1 types free a j (later types free a k j l pl) h.1 g.2)
+      two_done types types types k (form.If e) t o (translated n p.0) (translated n q.0) a (λ p' q' y z. good-made w types _ _ (outs-If e p' q') (g.0, y, z)) (p.1 types free a k pl h.0 g.1)
+      (λ j l. q.1 types free a j (later types free a k j l pl) h.1 g.2)
   keep_layer (ProcForm-F.Let q e p) t o types free a k pl c g = let b = after_out (taken q free) (clean p.0) c in
       let d = p.1 g.inner b.0 a k (covered q g.type types g.inner free b.0 a k pl b.1 g.covers) b.2 g.body in
       record { good = good-made w types _ _ (outs-Let q e _) (record { type = g.type; is = g.is; inner = g.inner; covers = g.covers; body = d.good }); next = d.next }
   keep_layer (ProcForm-F.Print e) t o types free a k pl c g = record { good = good-made w types _ _ (outs-Print e) g; next = omega arith }
   keep_layer (ProcForm-F.Open e) t o types free a k pl c g = record { good = good-made w types _ _ (outs-Open e) g; next = omega arith }
   keep_layer (ProcForm-F.Lookup b m x p q) t o types free a k pl c g = let h = and-out _ _ c in let i = and-out _ _ h.1 in
-      two_done types (table.insert types x lock_type) types k (form.Lookup b m x) t o (translated n p.0) (translated n q.0) a (λ p' q' y z. good-made w types _ _ (outs-Lookup b m x p' q') (g.0, g.1, y, z)) (p.1 _ _ a k (inside types free a k x lock_type h.0 pl) i.0 g.2) (λ j l. q.1 types free a j (later types free a k j l pl) i.1 g.3)
+      two_done types (table.insert types x lock_type) types k (form.Lookup b m x) t o (translated n p.0) (translated n q.0) a (λ p' q' y z. good-made w types _ _ (outs-Lookup b m x p' q') (g.0, g.1, y, z))
+      (p.1 _ _ a k (inside types free a k x lock_type h.0 pl) i.0 g.2)
+      (λ j l. q.1 types free a j (later types free a k j l pl) i.1 g.3)
 
   pub translated-good : (p : Proc) → Keep p
   translated-good = proc_ind Keep (λ p y is types free a k pl c g.

@@ -1,5 +1,5 @@
 -- The low program of an accepted program has no fault.
-use Rattle.std.proofs.Common.{◌≡◌, ◌<◌, ℕ, ◌+◌, true, None, Some, length, nat_lt, Result, Ok, Err, IfOk, refl, subst, sym, ap, ◌∙◌, arith}
+use Rattle.std.proofs.Common.{◌≡◌, ◌<◌, ℕ, true, length, nat_lt, Result, Ok, Err, IfOk, subst, sym, ap, ◌∙◌, arith}
 use Rattle.std.proofs.lemmas.Bool.Decides.{nat_tests}
 use Rattle.std.specs.FinMap as table
 use Rattle.std.specs.FinMap.{get-empty}
@@ -10,7 +10,6 @@ use Rattle.np_syntax.specs.declared.memory.Memory.{Memory}
 use Rattle.np_syntax.specs.declared.program.Program.{Program}
 use Rattle.np_syntax.specs.declared.program.LowProgram.{LowProgram}
 use Rattle.np_types.specs.Sub.{is_agent}
-use Rattle.np_types.specs.Least.{Types}
 use Rattle.np_check.specs.Faults.{IsAccepted}
 use Rattle.np_safety.specs.Low.{IsFaultless, infrastructure}
 use Rattle.np_safety.proofs.Starts.{accepted, below-is}
@@ -55,9 +54,9 @@ encodes-faultless p a =
 
 -- what is answered, where it is the low program of an accepted one
 pub faultless_as : (p q : Program) (r : Result LowProgram Memory) → IsAccepted p → q ≡ p → IfOk r (λ low. low ≡ encoded q) → IfOk r IsFaultless
-faultless_as p q (Ok low) a same e = subst IsFaultless (ap encoded (sym same) ∙ sym e) (encodes-faultless p a)
+faultless_as p q (Ok made) a same e = subst IsFaultless (ap encoded (sym same) ∙ sym e) (encodes-faultless p a)
 faultless_as p q (Err m) a same e = tt
 
 pub sound_as : (p q : Program) (r : Result LowProgram Memory) → IsAccepted p → q ≡ p → IfOk r (λ low. low ≡ encoded q) → IfOk r IsLowSound
-sound_as p q (Ok low) a same e = subst IsLowSound (ap encoded (sym same) ∙ sym e) (encodes-sound p a.sound)
+sound_as p q (Ok made) a same e = subst IsLowSound (ap encoded (sym same) ∙ sym e) (encodes-sound p a.sound)
 sound_as p q (Err m) a same e = tt

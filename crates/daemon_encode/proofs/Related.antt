@@ -9,8 +9,8 @@ use Rattle.np_syntax.specs.declared.process.ProcForm.TheVariants as layer
 use Rattle.np_safety.proofs.Processes.{ProcHyps, proc_of, proc_ind}
 use Rattle.daemon_encode.specs.declared.translated.Translated.{Translated}
 use Rattle.daemon_encode.specs.Pieces.{variable, main}
-use Rattle.daemon_encode.specs.Encoded.{translated, translated_form, encoded}
-use Rattle.daemon_encode.specs.Translates.{Translates, IsLowOf, TranslatesItself, EncodesItself, source}
+use Rattle.daemon_encode.specs.Encoded.{translated, translated_form}
+use Rattle.daemon_encode.specs.Translates.{Translates, TranslatesItself, EncodesItself, source}
 use Rattle.daemon_encode.proofs.Forms.{translated-form, form-stop, form-par, form-new, form-out, form-inp, form-rep, form-agent, form-migrate, form-iflocal, form-send, form-post, form-if, form-let, form-print, form-open, form-lookup}
 
 module _ (n from : ℕ) where
@@ -39,17 +39,21 @@ module _ (n from : ℕ) where
       let s = q.1 a mid (omega (arith, above, on)) in
       let further : mid ≤ (translated n q.0 a mid).next = s.on in
       record { is = Translates.parallel r.is s.is; on = omega (arith, on, further) })
-  layered (ProcForm-F.New c t p) tag at a next above = arrive tag at (form.New c t p.0) _ a next _ (layer.rolls-New c t p.0) (form-new n tag at a next c t p.0) (let r = p.1 a next above in record { is = Translates.channel r.is; on = r.on })
+  layered (ProcForm-F.New c t p) tag at a next above =
+      arrive tag at (form.New c t p.0) _ a next _ (layer.rolls-New c t p.0) (form-new n tag at a next c t p.0) (let r = p.1 a next above in record { is = Translates.channel r.is; on = r.on })
   layered (ProcForm-F.Out c e) tag at a next above = arrive tag at (form.Out c e) _ a next _ (layer.rolls-Out c e) (form-out n tag at a next c e) (record { is = Translates.output; on = omega arith })
-  layered (ProcForm-F.Inp c x p) tag at a next above = arrive tag at (form.Inp c x p.0) _ a next _ (layer.rolls-Inp c x p.0) (form-inp n tag at a next c x p.0) (let r = p.1 a next above in record { is = Translates.input r.is; on = r.on })
-  layered (ProcForm-F.Rep c x p) tag at a next above = arrive tag at (form.Rep c x p.0) _ a next _ (layer.rolls-Rep c x p.0) (form-rep n tag at a next c x p.0) (let r = p.1 a next above in record { is = Translates.replicated r.is; on = r.on })
+  layered (ProcForm-F.Inp c x p) tag at a next above =
+      arrive tag at (form.Inp c x p.0) _ a next _ (layer.rolls-Inp c x p.0) (form-inp n tag at a next c x p.0) (let r = p.1 a next above in record { is = Translates.input r.is; on = r.on })
+  layered (ProcForm-F.Rep c x p) tag at a next above =
+      arrive tag at (form.Rep c x p.0) _ a next _ (layer.rolls-Rep c x p.0) (form-rep n tag at a next c x p.0) (let r = p.1 a next above in record { is = Translates.replicated r.is; on = r.on })
   layered (ProcForm-F.Agent b p q) tag at a next above = arrive tag at (form.Agent b p.0 q.0) _ a next _ (layer.rolls-Agent b p.0 q.0) (form-agent n tag at a next b p.0 q.0) (let r = p.1 (variable b) (next + 1) (omega (arith, above)) in
       let l = (translated n p.0 (variable b) (next + 1)).next in
       let on : next + 1 ≤ l = r.on in
       let s = q.1 a (l + 2) (omega (arith, above, on)) in
       let further : l + 2 ≤ (translated n q.0 a (l + 2)).next = s.on in
       record { is = Translates.agent above (omega (arith, above, on)) (omega (arith, above, on)) (λ e. omega (arith, e)) r.is s.is; on = omega (arith, on, further) })
-  layered (ProcForm-F.Migrate e p) tag at a next above = arrive tag at (form.Migrate e p.0) _ a next _ (layer.rolls-Migrate e p.0) (form-migrate n tag at a next e p.0) (let r = p.1 a next above in record { is = Translates.migrate r.is; on = r.on })
+  layered (ProcForm-F.Migrate e p) tag at a next above =
+      arrive tag at (form.Migrate e p.0) _ a next _ (layer.rolls-Migrate e p.0) (form-migrate n tag at a next e p.0) (let r = p.1 a next above in record { is = Translates.migrate r.is; on = r.on })
   layered (ProcForm-F.IfLocal b c e p q) tag at a next above = arrive tag at (form.IfLocal b c e p.0 q.0) _ a next _ (layer.rolls-IfLocal b c e p.0 q.0) (form-iflocal n tag at a next b c e p.0 q.0) (let r = p.1 a next above in
       let mid = (translated n p.0 a next).next in
       let on : next ≤ mid = r.on in
@@ -64,7 +68,8 @@ module _ (n from : ℕ) where
       let s = q.1 a mid (omega (arith, above, on)) in
       let further : mid ≤ (translated n q.0 a mid).next = s.on in
       record { is = Translates.test r.is s.is; on = omega (arith, on, further) })
-  layered (ProcForm-F.Let x e p) tag at a next above = arrive tag at (form.Let x e p.0) _ a next _ (layer.rolls-Let x e p.0) (form-let n tag at a next x e p.0) (let r = p.1 a next above in record { is = Translates.bind r.is; on = r.on })
+  layered (ProcForm-F.Let x e p) tag at a next above =
+      arrive tag at (form.Let x e p.0) _ a next _ (layer.rolls-Let x e p.0) (form-let n tag at a next x e p.0) (let r = p.1 a next above in record { is = Translates.bind r.is; on = r.on })
   layered (ProcForm-F.Print e) tag at a next above = arrive tag at (form.Print e) _ a next _ (layer.rolls-Print e) (form-print n tag at a next e) (record { is = Translates.print; on = omega arith })
   layered (ProcForm-F.Open e) tag at a next above = arrive tag at (form.Open e) _ a next _ (layer.rolls-Open e) (form-open n tag at a next e) (record { is = Translates.open_letter; on = omega arith })
   layered (ProcForm-F.Lookup b m x p q) tag at a next above = arrive tag at (form.Lookup b m x p.0 q.0) _ a next _ (layer.rolls-Lookup b m x p.0 q.0) (form-lookup n tag at a next b m x p.0 q.0) (let r = p.1 a next above in

@@ -1,5 +1,5 @@
 -- The translated forms have no fault where their parts have none.
-use Rattle.std.proofs.Common.{◌≡◌, ℕ, ◌+◌, Bool, true, false, None, Some, Ok, List, [], ◌∷◌, refl, subst, sym, ap, ◌∙◌, arith}
+use Rattle.std.proofs.Common.{◌≡◌, ℕ, true, Some, Ok, [], ◌∷◌, refl, ap, ◌∙◌}
 use Rattle.std.specs.Prelude.{nat_lt}
 use Rattle.std.specs.FinMap as table
 use Rattle.np_syntax.specs.declared.types.Cap.TheVariants as cap
@@ -11,7 +11,7 @@ use Rattle.np_syntax.specs.declared.process.Role.{Role}
 use Rattle.np_syntax.specs.declared.process.Role.TheVariants as role
 use Rattle.np_syntax.specs.declared.process.Proc.{Proc}
 use Rattle.np_syntax.specs.declared.process.ProcForm as form
-use Rattle.np_syntax.specs.declared.process.ProcForm.TheVariants.{outs-Par, outs-Out, outs-Inp, outs-Rep, outs-Send, outs-Migrate, outs-Open, outs-Agent as outs-Creation}
+use Rattle.np_syntax.specs.declared.process.ProcForm.TheVariants.{outs-Inp, outs-Rep, outs-Send, outs-Migrate, outs-Open, outs-Agent as outs-Creation}
 use Rattle.np_types.specs.Sub.{TyLayer, sub, sub_at, is_site, is_agent, is_letter}
 use Rattle.np_types.specs.Widths.{nodes}
 use Rattle.np_types.specs.Worlds.{World}
@@ -22,9 +22,11 @@ use Rattle.np_types.proofs.Leasts.{least-form, least-pack}
 use Rattle.np_types.proofs.Subs.{sub-out, sub-itself}
 use Rattle.np_safety.specs.Low.{carried, pair as pair_type}
 use Rattle.np_safety.proofs.Forms.{Good, Tested, Sending}
-use Rattle.daemon_encode.specs.Pieces.{expression, variable, nothing, unit, pair, site, main, daemon, register, migrating, migrated, message, deliver, ack, dack, currentloc, channel, process, infra, beside, gives, takes, sends, posts, tells}
-use Rattle.daemon_encode.specs.Texts.{letter, post_text, settles, move_text, migrate_text, server_text, begins, child_text, agent_text, main_text}
-use Rattle.daemon_encode.proofs.Making.{slot_here, slot_past, listed, good-made, least-variable, least-agent, least-site, least-unit, least-pair, tested-variable, an_agent, a_site, sends-on, takes-from, cover-nothing, cover-name, cover-two}
+use Rattle.daemon_encode.specs.Pieces.{variable, nothing, site, main, daemon}
+use Rattle.daemon_encode.specs.Pieces.{channel, process, takes, tells}
+use Rattle.daemon_encode.specs.Texts.{letter, post_text, settles, migrate_text, server_text, agent_text, main_text}
+use Rattle.daemon_encode.proofs.Making.{slot_here, slot_past, listed, good-made, least-variable, least-agent, least-site, least-unit}
+use Rattle.daemon_encode.proofs.Making.{least-pair, tested-variable, an_agent, a_site, sends-on, takes-from, cover-nothing, cover-name, cover-two}
 use Rattle.daemon_encode.proofs.DaemonTyped.{low, its-channel, two, given}
 
 -- a type that is a ground type by its form is that type

@@ -1,7 +1,7 @@
 -- The three forms that are translated, and main's bracket (docs/LANGUAGE.md, "Translation and daemon"). Here n is the number of
 -- sites, k that of the source node, and a the agent that the form stands in; P and Q are written for their processes in the low
 -- program.
-use Rattle.std.specs.Prelude.{ℕ, [], ◌∷◌}
+use Rattle.std.specs.Prelude.{ℕ}
 use Rattle.np_syntax.specs.declared.expression.Expr.{Expr}
 use Rattle.np_syntax.specs.declared.expression.ExprForm as expr
 use Rattle.np_syntax.specs.declared.process.Role.TheVariants as role
