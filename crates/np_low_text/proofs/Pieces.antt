@@ -90,7 +90,8 @@ module _ (sites : Sites) where
       → out ++ codes "new " ++ (binder_text c) ++ codes " : " ++ type_text t ++ codes " in " ++ proc_text sites true p ≡ out ++ proc_form_text sites b f
   new_steps out b c t p ef = six out (codes "new ") (binder_text c) (codes " : ") (type_text t) (codes " in ") (proc_text sites true p) ∙ ap (λ l. out ++ l) (sym (ap (proc_form_text sites b) ef ∙ text-new sites b c t p))
 
-  pub inp_steps : (out : List ℕ) (b : Bool) {f : ProcForm} (c : Expr) (q : Pat) (p : Proc) → f ≡ form.Inp c q p → out ++ (expr_text sites 3 c) ++ codes "?" ++ pat_text q ++ codes " -> " ++ proc_text sites true p ≡ out ++ proc_form_text sites b f
+  pub inp_steps : (out : List ℕ) (b : Bool) {f : ProcForm} (c : Expr) (q : Pat) (p : Proc) → f ≡ form.Inp c q p
+      → out ++ (expr_text sites 3 c) ++ codes "?" ++ pat_text q ++ codes " -> " ++ proc_text sites true p ≡ out ++ proc_form_text sites b f
   inp_steps out b c q p ef = five out (expr_text sites 3 c) (codes "?") (pat_text q) (codes " -> ") (proc_text sites true p) ∙ ap (λ l. out ++ l) (sym (ap (proc_form_text sites b) ef ∙ text-inp sites b c q p))
 
   pub rep_steps : (out : List ℕ) (b : Bool) {f : ProcForm} (c : Expr) (q : Pat) (p : Proc) → f ≡ form.Rep c q p
@@ -103,7 +104,8 @@ module _ (sites : Sites) where
       glue out _ _ _ _ (behind _ _ _ e1 e2) (six out (codes "agent ") (binder_text c) (codes " = ") (proc_text sites true p) (codes " in ") (proc_text sites true q))
       (ap (proc_form_text sites b) ef ∙ text-agent sites b c p q)
 
-  pub migrate_steps : (out : List ℕ) (b : Bool) {f : ProcForm} (x : Expr) (p : Proc) → f ≡ form.Migrate x p → out ++ codes "migrate to " ++ expr_text sites 0 x ++ codes " -> " ++ proc_text sites true p ≡ out ++ proc_form_text sites b f
+  pub migrate_steps : (out : List ℕ) (b : Bool) {f : ProcForm} (x : Expr) (p : Proc) → f ≡ form.Migrate x p
+      → out ++ codes "migrate to " ++ expr_text sites 0 x ++ codes " -> " ++ proc_text sites true p ≡ out ++ proc_form_text sites b f
   migrate_steps out b x p ef = four out (codes "migrate to ") (expr_text sites 0 x) (codes " -> ") (proc_text sites true p) ∙ ap (λ l. out ++ l) (sym (ap (proc_form_text sites b) ef ∙ text-migrate sites b x p))
 
   pub iflocal_steps : (out : List ℕ) (b : Bool) {f : ProcForm} (x : Expr) (c : Expr) (z : Expr) (p q : Proc) {o1 o2 : List ℕ} → f ≡ form.IfLocal x c z p q

@@ -5,4 +5,6 @@ use Rattle.np_low_text.specs.LowText.{expr_text}
 use Rattle.np_low_text.proofs.expressions.+expr.Given as goal
 
 abbrev pub invariant-put_exprs-loop-other : goal.invariant-put_exprs-loop-other
-invariant-put_exprs-loop-other l = l.text ++ flat_map (λ other. codes " " ++ other) (map (expr_text l.fn.sites 0) (drop l.other-index l.others)) ≡ l.initial.text ++ flat_map (λ other. codes " " ++ other) (map (expr_text l.fn.sites 0) l.others)
+invariant-put_exprs-loop-other l =
+    l.text ++ flat_map (λ other. codes " " ++ other) (map (expr_text l.fn.sites 0) (drop l.other-index l.others))
+    ≡ l.initial.text ++ flat_map (λ other. codes " " ++ other) (map (expr_text l.fn.sites 0) l.others)

@@ -25,7 +25,9 @@ put_proc-returns-in-Rep t c =
 pub put_proc-returns-in_ok-put_left-in-Agent : goal.put_proc-returns-in_ok-put_left-in-Agent
 put_proc-returns-in_ok-put_left-in-Agent t c =
     let is = c.in-Agent in
-    on_same c.put_part-in-Agent.result c.put_part-in-Agent.new.text (agent_steps c.args.sites.now c.args.text.now c.args.bracket is.b is.p is.q is.is c.in_ok-put_agent-in-Agent.ensures c.in_ok-put_left-in-Agent.ensures) c.put_part-in-Agent.ensures
+    on_same c.put_part-in-Agent.result c.put_part-in-Agent.new.text
+    (agent_steps c.args.sites.now c.args.text.now c.args.bracket is.b is.p is.q is.is c.in_ok-put_agent-in-Agent.ensures c.in_ok-put_left-in-Agent.ensures)
+    c.put_part-in-Agent.ensures
 
 pub put_proc-returns-in-Migrate : goal.put_proc-returns-in-Migrate
 put_proc-returns-in-Migrate t c =
