@@ -5,7 +5,7 @@ use Rattle.np_syntax.specs.declared.pattern.Pat.{Pat, fold-Pat, fold_out-Pat}
 use Rattle.np_syntax.specs.declared.pattern.PatForm.{PatForm, PatForm-F, out-PatForm, map-PatForm, fold-PatForm, fold_out-PatForm}
 use Rattle.np_syntax.specs.declared.process.Proc.{Proc, fold-Proc, fold_out-Proc}
 use Rattle.np_syntax.specs.declared.process.ProcForm.{ProcForm, ProcForm-F, map-ProcForm, fold-ProcForm, fold_out-ProcForm}
-use Rattle.np_tables.specs.Maybe.{◌>>=◌}
+use Rattle.np_syntax.specs.Options.{◌>>=◌}
 use Rattle.np_eval.specs.Forms.{Layer, layer}
 
 -- the numbers that may still be bound

@@ -14,10 +14,11 @@ use Rattle.np_syntax.specs.declared.process.Proc.{Proc}
 use Rattle.np_syntax.specs.declared.process.ProcForm.{ProcForm, ProcForm-F, out-ProcForm, map-ProcForm, fold-ProcForm}
 use Rattle.np_syntax.specs.declared.process.ProcForm as form
 use Rattle.np_syntax.specs.declared.process.ProcForm.TheVariants.{outs-Stop, outs-Par, outs-New, outs-Out, outs-Inp, outs-Rep, outs-IfLocal, outs-Send, outs-If, outs-Let, outs-Print, outs-Open, outs-Lookup}
-use Rattle.np_tables.proofs.Maybe as maybe
+use Rattle.np_syntax.proofs.Options as maybe
 use Rattle.np_types.specs.declared.fault.Rule.TheVariants as rule
 use Rattle.np_types.specs.Sub.{is_agent, as_tuple}
-use Rattle.np_types.specs.Checks.{◌>>◌, ensure}
+use Rattle.np_syntax.specs.Results.{◌>>◌}
+use Rattle.np_types.specs.Checks.{ensure}
 use Rattle.np_types.specs.Worlds.{World}
 use Rattle.np_types.specs.Least.{Types}
 use Rattle.np_types.specs.Covers.{Covering, cover, cover_each, cover_step, as_long}
