@@ -9,7 +9,6 @@ use Rattle.np_syntax.specs.declared.process.Proc.{Proc}
 use Rattle.np_syntax.specs.declared.process.ProcForm.{ProcForm}
 use Rattle.np_syntax.specs.declared.process.ProcForm as form
 use Rattle.np_syntax.specs.declared.program.Program.{Program}
-use Rattle.np_scope.specs.declared.numbers.Numbers.{Numbers}
 use Rattle.np_scope.specs.Sound.{Among, IsSound, IsSoundExpr, AreSoundExprs, Binds, BindAll, IsSoundProc}
 use Rattle.np_scope.specs.Written.{IsSourceType, IsChannelType}
 use Rattle.np_safety.specs.Low.{carried}
@@ -73,12 +72,12 @@ record AllEntered (wider : List ℕ) (ps : List Pat) (inner : List ℕ) : Type 0
   within : Within inner scope
 
 mutual
-  entered : {scope inner wider : List ℕ} {next k : ℕ} {p : Pat} → Within scope wider → Binds scope next p inner k → Entered wider p inner
+  entered : {scope inner wider bound : List ℕ} {p : Pat} → Within scope wider → Binds scope p inner bound → Entered wider p inner
   entered {wider = wider} h Binds.any = record { scope = wider; is = Enters.any; within = h }
-  entered {scope = scope} {wider = wider} {next = next} h Binds.name = record { scope = next ∷ wider; is = Enters.name; within = under next scope wider h }
+  entered {scope = scope} {wider = wider} h (Binds.name {x = x}) = record { scope = x ∷ wider; is = Enters.name; within = under x scope wider h }
   entered h (Binds.tuple bs) = let r = all-entered h bs in record { scope = r.scope; is = Enters.tuple r.is; within = r.within }
 
-  all-entered : {scope inner wider : List ℕ} {next k : ℕ} {ps : List Pat} → Within scope wider → BindAll scope next ps inner k → AllEntered wider ps inner
+  all-entered : {scope inner wider bound : List ℕ} {ps : List Pat} → Within scope wider → BindAll scope ps inner bound → AllEntered wider ps inner
   all-entered {wider = wider} h BindAll.none = record { scope = wider; is = EnterAll.none; within = h }
   all-entered h (BindAll.more b bs) =
       let r = entered h b in
@@ -187,27 +186,26 @@ module _ (n : ℕ) (some : 0 < n) where
       → IsLowProc n scope (translated n (source tag at f) a next).proc
   becomes {scope = scope} tag at f a next r e g = subst (λ (r : Translated). IsLowProc n scope r.proc) (sym (translated-form n (source tag at f) a next ∙ e)) g
 
-  low-proc : {scope wider : List ℕ} {next after : Numbers} {p : Proc} → Within scope wider → IsSoundProc n scope next p after → (a : Expr) → IsLowExpr n wider a → (k : ℕ)
+  low-proc : {scope wider bound : List ℕ} {node after : ℕ} {p : Proc} → Within scope wider → IsSoundProc n scope node p after bound → (a : Expr) → IsLowExpr n wider a → (k : ℕ)
       → IsLowProc n wider (translated n p a k).proc
   low-proc h IsSoundProc.stop a xa k = becomes _ _ _ a k _ (form-stop n _ _ a k) IsLowProc.stop
   low-proc h (IsSoundProc.parallel {p = p} {q = q} g d) a xa k =
       let gp = low-proc h g a xa k in
       let gq = low-proc h d a xa (translated n p a k).next in
       becomes _ _ _ a k _ (form-par n _ _ a k p q) (IsLowProc.parallel gp gq)
-  low-proc {scope = scope} {wider = wider} {next = next} h (IsSoundProc.channel {t = t} {p = p} c g) a xa k =
-      let gp = low-proc (under next.binder scope wider h) g a (wider-expr n (behind next.binder wider) xa) k in
-      becomes _ _ _ a k _ (form-new n _ _ a k next.binder t p) (IsLowProc.channel c gp)
+  low-proc {scope = scope} {wider = wider} h (IsSoundProc.channel {c = b} {t = t} {p = p} c g) a xa k =
+      let gp = low-proc (under b scope wider h) g a (wider-expr n (behind b wider) xa) k in
+      becomes _ _ _ a k _ (form-new n _ _ a k b t p) (IsLowProc.channel c gp)
   low-proc h (IsSoundProc.output {c = c} {e = e} xc xe) a xa k = becomes _ _ _ a k _ (form-out n _ _ a k c e) (IsLowProc.output (low-expr n h xc) (low-expr n h xe))
-  low-proc h (IsSoundProc.input {c = c} {x = x} {p = p} m xc b g) a xa k =
+  low-proc h (IsSoundProc.input {c = c} {x = x} {p = p} xc b g) a xa k =
       let r = entered h b in
       let gp = low-proc r.within g a (wider-expr n (into r.is) xa) k in
       becomes _ _ _ a k _ (form-inp n _ _ a k c x p) (IsLowProc.input (low-expr n h xc) r.is gp)
-  low-proc h (IsSoundProc.replicated {c = c} {x = x} {p = p} m xc b g) a xa k =
+  low-proc h (IsSoundProc.replicated {c = c} {x = x} {p = p} xc b g) a xa k =
       let r = entered h b in
       let gp = low-proc r.within g a (wider-expr n (into r.is) xa) k in
       becomes _ _ _ a k _ (form-rep n _ _ a k c x p) (IsLowProc.replicated (low-expr n h xc) r.is gp)
-  low-proc {scope = scope} {wider = wider} {next = next} h (IsSoundProc.agent {p = p} {q = q} g d) a xa k =
-      let b = next.binder in
+  low-proc {scope = scope} {wider = wider} h (IsSoundProc.agent {b = b} {p = p} {q = q} g d) a xa k =
       let inner : Within (b ∷ scope) (b ∷ k ∷ wider) = under b scope (k ∷ wider) (λ x m. inr (h x m)) in
       let theirs : IsLowExpr n (b ∷ k ∷ wider) a = wider-expr n (λ x m. inr (inr m)) xa in
       let gp = low-proc inner g (variable b) (IsLowExpr.variable (inl refl)) (k + 1) in
@@ -229,7 +227,7 @@ module _ (n : ℕ) (some : 0 < n) where
       let gp = low-proc h g a xa k in
       let gq = low-proc h d a xa (translated n p a k).next in
       becomes _ _ _ a k _ (form-if n _ _ a k e p q) (IsLowProc.test (low-expr n h xe) gp gq)
-  low-proc h (IsSoundProc.bind {x = x} {e = e} {p = p} m b xe g) a xa k =
+  low-proc h (IsSoundProc.bind {x = x} {e = e} {p = p} b xe g) a xa k =
       let r = entered h b in
       let gp = low-proc r.within g a (wider-expr n (into r.is) xa) k in
       becomes _ _ _ a k _ (form-let n _ _ a k x e p) (IsLowProc.bind (low-expr n h xe) r.is gp)

@@ -14,7 +14,10 @@ use Rattle.np_syntax.specs.declared.process.Proc.{Proc}
 use Rattle.np_syntax.specs.declared.process.ProcForm.{ProcForm, ProcForm-F, out-ProcForm, map-ProcForm, fold-ProcForm}
 use Rattle.np_syntax.specs.declared.process.ProcForm as form
 use Rattle.np_syntax.specs.declared.process.ProcForm.TheVariants.{outs-Stop, outs-Par, outs-New, outs-Out, outs-Inp, outs-Rep, outs-IfLocal, outs-Send, outs-If, outs-Let, outs-Print, outs-Open, outs-Lookup}
+use Rattle.np_syntax.proofs.Bools.{and-out}
 use Rattle.np_syntax.proofs.Options as maybe
+use Rattle.np_syntax.proofs.Results.{then, done}
+use Rattle.np_syntax.proofs.Trees.{With, PatHyps, pat_of, pat_ind}
 use Rattle.np_types.specs.declared.fault.Rule.TheVariants as rule
 use Rattle.np_types.specs.Sub.{is_agent, as_tuple}
 use Rattle.np_syntax.specs.Results.{◌>>◌}
@@ -23,15 +26,13 @@ use Rattle.np_types.specs.Worlds.{World}
 use Rattle.np_types.specs.Least.{Types}
 use Rattle.np_types.specs.Covers.{Covering, cover, cover_each, cover_step, as_long}
 use Rattle.np_types.proofs.Below.{agent_below}
-use Rattle.np_types.proofs.Bools.{and-out}
 use Rattle.np_types.proofs.Covers.{cover_layer, cover-out}
 use Rattle.np_types.proofs.Subs.{sub-itself, sub-trans}
-use Rattle.np_types.proofs.Trees.{With, PatHyps, pat_of, pat_ind}
+use Rattle.np_types.proofs.Passed.{when, take}
 use Rattle.np_eval.specs.Forms.{Layer, layer}
 use Rattle.np_check.specs.Faults.{lock_type}
 use Rattle.np_safety.proofs.Forms.{Good, GoodForm, Tested, good-form}
 use Rattle.np_safety.proofs.Narrowing.{Narrower, weaker, weak_tested, narrower-put, same_world}
-use Rattle.np_safety.proofs.Passed.{then, when, take, done}
 use Rattle.np_safety.proofs.Processes.{ProcHyps, proc_of, proc_ind}
 use Rattle.daemon_encode.specs.declared.translated.Translated.{Translated}
 use Rattle.daemon_encode.specs.Pieces.{variable}
@@ -188,11 +189,11 @@ module _ (n : ℕ) (some : nat_lt 0 n ≡ true) where
       let d = p.1 g.inner b.0 a k (covered q g.carries.1 types g.inner free b.0 a k pl b.1 g.covers) b.2 g.body in
       record { good = good-made w types _ _ (outs-Rep x q _) (record { carries = g.carries; on = g.on; may_read = g.may_read; inner = g.inner; covers = g.covers; body = d.good }); next = d.next }
   keep_layer (ProcForm-F.Agent x p q) t o types free a k pl c g =
+      let none : table.get types k ≡ None = pl.room.fresh k (omega arith) in
       let b = and-out _ _ c in
       let d = and-out _ _ b.1 in
       let first = table.insert types k ty.Site in
       let inner = created n some types k x in
-      let none : table.get types k ≡ None = pl.room.fresh k (omega arith) in
       let below : x < k = pl.room.small x b.0 in
       let less : Narrower inner (table.insert types x ty.Agent) = narrower-put first types x ty.Agent ty.Agent (sub-itself ty.Agent) (newer types k ty.Site none) in
       let room : Room inner (without free x) (k + 1) = room-bind first free (k + 1) x ty.Agent b.0 (room-new types free k ty.Site pl.room) in

@@ -22,7 +22,7 @@ use Rattle.daemon_encode.proofs.DaemonTyped.{low, good-daemon}
 use Rattle.daemon_encode.proofs.LowSounds.{encodes-sound}
 use Rattle.daemon_encode.proofs.Making.{least-agent}
 use Rattle.daemon_encode.proofs.ProcessesTyped.{Place, translated-good}
-use Rattle.daemon_encode.proofs.SoundBinds.{sound-clean}
+use Rattle.daemon_encode.proofs.SoundBinds.{among-below, sound-clean}
 use Rattle.daemon_encode.proofs.TextsTyped.{good-main}
 
 is_below : (x n : ℕ) → nat_lt x n ≡ true → x < n
@@ -41,7 +41,7 @@ at_first p some = record {
 
 clean-main : (p : Program) → IsAccepted p → clean p.main (own_binders p) ≡ true
 unfolding own_binders
-clean-main p a = sound-clean (own_binders p) a.sound.main (λ x above below. below-is x p.binders (subst (λ m. x < m) (sym a.sound.binders) below))
+clean-main p a = sound-clean (own_binders p) a.sound.main a.sound.once (λ x m. below-is x p.binders (among-below p.binders a.sound.bound a.sound.below x m))
 
 pub encodes-faultless : EncodesFaultless
 encodes-faultless p a =

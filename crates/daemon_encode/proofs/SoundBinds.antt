@@ -1,5 +1,5 @@
 -- A resolved program binds no number twice on one path, and each is below its number of binders.
-use Rattle.std.proofs.Common.{◌≡◌, ◌≤◌, ◌<◌, ℕ, ◌+◌, Bool, true, not, Option, Some, List, map, refl, ap, ◌∙◌, arith}
+use Rattle.std.proofs.Common.{◌≡◌, ◌<◌, inl, inr, ℕ, Bool, true, not, ◌&&◌, Option, Some, List, [], ◌∷◌, ◌++◌, map, refl, subst, sym, ap, ◌∙◌, append_assoc}
 use Rattle.std.specs.FinMap.{nat_cmp-IsAntisymmetric}
 use Rattle.std.specs.Ordering.{nat_cmp, eq_by_cmp}
 use Rattle.np_syntax.specs.declared.pattern.Pat.{Pat}
@@ -7,63 +7,80 @@ use Rattle.np_syntax.specs.declared.pattern.PatForm.{PatForm, PatForm-F, out-Pat
 use Rattle.np_syntax.specs.declared.pattern.PatForm.TheVariants as pats
 use Rattle.np_syntax.specs.declared.process.Proc.{Proc}
 use Rattle.np_syntax.specs.declared.process.ProcForm.TheVariants as forms
-use Rattle.np_types.proofs.Bools.{and-in}
+use Rattle.np_syntax.proofs.Bools.{and-in}
 use Rattle.np_eval.specs.Forms.{Layer, layer}
-use Rattle.np_scope.specs.declared.numbers.Numbers.{Numbers}
-use Rattle.np_scope.specs.Sound.{Binds, BindAll, IsSoundProc}
+use Rattle.np_scope.specs.Sound.{Among, AllBelow, NoneTwice, Binds, BindAll, IsSoundProc}
 use Rattle.daemon_encode.proofs.Binding.{Free, without, taken, taken_all, taken_step, Takes, takens, taken-out, after, clean, clean_step, Cleans, cleans, clean-out}
 use Rattle.daemon_encode.proofs.Making.{differ}
 
--- the numbers from k on, below m, may be bound
-abbrev pub FreeFrom : Free → ℕ → ℕ → Type 0
-FreeFrom free k m = (x : ℕ) → k ≤ x → x < m → free x ≡ true
+-- ---- lists of binders
+
+pub among-below : (n : ℕ) (xs : List ℕ) → AllBelow n xs → (x : ℕ) → Among x xs → x < n
+among-below n [] b x m = absurd m
+among-below n (y ∷ ys) b x (inl e) = subst (λ z. z < n) (sym e) b.0
+among-below n (y ∷ ys) b x (inr m) = among-below n ys b.1 x m
+
+among-first : (x : ℕ) (xs ys : List ℕ) → Among x xs → Among x (xs ++ ys)
+among-first x [] ys m = absurd m
+among-first x (z ∷ zs) ys (inl e) = inl e
+among-first x (z ∷ zs) ys (inr m) = inr (among-first x zs ys m)
+
+among-second : (x : ℕ) (xs ys : List ℕ) → Among x ys → Among x (xs ++ ys)
+among-second x [] ys m = m
+among-second x (z ∷ zs) ys m = inr (among-second x zs ys m)
+
+once-first : (xs ys : List ℕ) → NoneTwice (xs ++ ys) → NoneTwice xs
+once-first [] ys h = tt
+once-first (x ∷ xs) ys h = ((λ m. h.0 (among-first x xs ys m)), once-first xs ys h.1)
+
+once-second : (xs ys : List ℕ) → NoneTwice (xs ++ ys) → NoneTwice ys
+once-second [] ys h = h
+once-second (x ∷ xs) ys h = once-second xs ys h.1
+
+-- these may be bound
+abbrev pub AllFree : Free → List ℕ → Type 0
+AllFree free xs = (x : ℕ) → Among x xs → free x ≡ true
 
 unlike : (x y : ℕ) → (x ≡ y → ⊥) → not (eq_by_cmp nat_cmp x y) ≡ true
 unlike x y h = rw (differ (nat_cmp x y) (λ e. h (nat_cmp-IsAntisymmetric x y e))) refl
 
--- the next one is bound
-bound_next : (free : Free) (k m : ℕ) → FreeFrom free k m → FreeFrom (without free k) (k + 1) m
-bound_next free k m f x above below = and-in (f x (omega (arith, above)) below) (unlike x k (λ e. omega (arith, e, above)))
+-- the first one is bound
+bound_first : (free : Free) (x : ℕ) (xs : List ℕ) → (Among x xs → ⊥) → AllFree free (x ∷ xs) → AllFree (without free x) xs
+bound_first free x xs apart f y m = and-in (f y (inr m)) (unlike y x (λ e. apart (subst (λ z. Among z xs) e m)))
 
-narrowed : (free : Free) (k j l m : ℕ) → k ≤ j → l ≤ m → FreeFrom free k m → FreeFrom free j l
-narrowed free k j l m h g f x above below = f x (omega (arith, h, above)) (omega (arith, g, below))
+free-first : (free : Free) (xs ys : List ℕ) → AllFree free (xs ++ ys) → AllFree free xs
+free-first free xs ys f x m = f x (among-first x xs ys m)
+
+free-second : (free : Free) (xs ys : List ℕ) → AllFree free (xs ++ ys) → AllFree free ys
+free-second free xs ys f x m = f x (among-second x xs ys m)
 
 -- ---- patterns
 
-record Took (o : Option Free) (k m : ℕ) : Type 0 where
+-- what is left, where these are bound behind the pattern
+record Took (o : Option Free) (ys : List ℕ) : Type 0 where
   left : Free
   is : o ≡ Some left
-  rest : FreeFrom left k m
+  rest : AllFree left ys
 
 taken-as : (p : Pat) (y : PatForm-F PatForm Pat) (free : Free) → out-PatForm p.form ≡ y → taken p free ≡ taken_step (takens y) free
 taken-as p y free is = ap (λ (g : Takes). g free) (taken-out p ∙ ap (λ x. taken_step (takens x)) is)
 
 mutual
-  up_pat : {scope inner : List ℕ} {next k : ℕ} {p : Pat} → Binds scope next p inner k → next ≤ k
-  up_pat Binds.any = omega arith
-  up_pat Binds.name = omega arith
-  up_pat (Binds.tuple bs) = up_pats bs
-
-  up_pats : {scope inner : List ℕ} {next k : ℕ} {ps : List Pat} → BindAll scope next ps inner k → next ≤ k
-  up_pats BindAll.none = omega arith
-  up_pats (BindAll.more b bs) = let h = up_pat b in let g = up_pats bs in omega (arith, h, g)
-
-mutual
-  took_pat : {scope inner : List ℕ} {next k : ℕ} {p : Pat} (free : Free) (m : ℕ) → Binds scope next p inner k → k ≤ m → FreeFrom free next m → Took (taken p free) k m
-  took_pat free m Binds.any h f = record { left = free; is = taken-as _ _ free pats.outs-Any; rest = f }
-  took_pat {next = next} free m Binds.name h f =
-      record { left = without free next; is = taken-as _ _ free (pats.outs-Bind next) ∙ rw (f next (omega arith) (omega (arith, h))) refl; rest = bound_next free next m f }
-  took_pat free m (Binds.tuple {ps = ps} bs) h f =
-      let r = took_pats free m bs h f in
+  took_pat : {scope inner xs : List ℕ} {p : Pat} (free : Free) (ys : List ℕ) → Binds scope p inner xs → NoneTwice (xs ++ ys) → AllFree free (xs ++ ys) → Took (taken p free) ys
+  took_pat free ys Binds.any once f = record { left = free; is = taken-as _ _ free pats.outs-Any; rest = f }
+  took_pat free ys (Binds.name {x = x}) once f =
+      record { left = without free x; is = taken-as _ _ free (pats.outs-Bind x) ∙ rw (f x (inl refl)) refl; rest = bound_first free x ys once.0 f }
+  took_pat free ys (Binds.tuple {ps = ps} bs) once f =
+      let r = took_pats free ys bs once f in
       record { left = r.left; is = taken-as _ _ free (pats.outs-Tuple ps) ∙ r.is; rest = r.rest }
 
-  took_pats : {scope inner : List ℕ} {next k : ℕ} {ps : List Pat} (free : Free) (m : ℕ) → BindAll scope next ps inner k → k ≤ m → FreeFrom free next m
-      → Took (taken_all (map taken ps) free) k m
-  took_pats free m BindAll.none h f = record { left = free; is = refl; rest = f }
-  took_pats free m (BindAll.more {k = k} b bs) h f =
-      let g = up_pats bs in
-      let r = took_pat free m b (omega (arith, h, g)) f in
-      let s = took_pats r.left m bs h r.rest in
+  took_pats : {scope inner xs : List ℕ} {ps : List Pat} (free : Free) (ys : List ℕ) → BindAll scope ps inner xs → NoneTwice (xs ++ ys) → AllFree free (xs ++ ys)
+      → Took (taken_all (map taken ps) free) ys
+  took_pats free ys BindAll.none once f = record { left = free; is = refl; rest = f }
+  took_pats free ys (BindAll.more {xs = xs} {ys = zs} b bs) once f =
+      let apart : NoneTwice (xs ++ (zs ++ ys)) = subst NoneTwice (append_assoc xs zs ys) once in
+      let r = took_pat free (zs ++ ys) b apart (subst (AllFree free) (append_assoc xs zs ys) f) in
+      let s = took_pats r.left ys bs (once-second xs (zs ++ ys) apart) r.rest in
       record { left = s.left; is = rw r.is s.is; rest = s.rest }
 
 -- ---- processes
@@ -74,64 +91,44 @@ clean-as p y free is h = ap (λ (g : Cleans). g free) (clean-out p ∙ ap (λ x.
 goes_on : (o : Option Free) (p : Free → Bool) (left : Free) → o ≡ Some left → p left ≡ true → after o p ≡ true
 goes_on o p left is h = rw is h
 
-module _ {n : ℕ} where
-  up : {scope : List ℕ} {next after : Numbers} {p : Proc} → IsSoundProc n scope next p after → next.binder ≤ after.binder
-  up IsSoundProc.stop = omega arith
-  up (IsSoundProc.parallel g h) = let a = up g in let b = up h in omega (arith, a, b)
-  up (IsSoundProc.channel t g) = let a = up g in omega (arith, a)
-  up (IsSoundProc.output c e) = omega arith
-  up (IsSoundProc.input k c b g) = let a = up g in let u = up_pat b in omega (arith, a, u)
-  up (IsSoundProc.replicated k c b g) = let a = up g in let u = up_pat b in omega (arith, a, u)
-  up (IsSoundProc.agent g h) = let a = up g in let b = up h in omega (arith, a, b)
-  up (IsSoundProc.migrate s g) = up g
-  up (IsSoundProc.iflocal b c e g h) = let a = up g in let d = up h in omega (arith, a, d)
-  up (IsSoundProc.send b s c e) = omega arith
-  up (IsSoundProc.post b c e) = omega arith
-  up (IsSoundProc.test e g h) = let a = up g in let b = up h in omega (arith, a, b)
-  up (IsSoundProc.bind k b e g) = let a = up g in let u = up_pat b in omega (arith, a, u)
-  up (IsSoundProc.print e) = omega arith
+-- clean, where these binders of it may be bound
+abbrev pub CleanWhere : Free → List ℕ → Proc → Type 0
+CleanWhere free xs p = NoneTwice xs → AllFree free xs → clean p free ≡ true
 
-  pub sound-clean : {scope : List ℕ} {next after : Numbers} {p : Proc} (free : Free) → IsSoundProc n scope next p after → FreeFrom free next.binder after.binder → clean p free ≡ true
-  sound-clean free IsSoundProc.stop f = clean-as _ _ free forms.outs-Stop refl
-  sound-clean {next = next} {after = last} free (IsSoundProc.parallel {mid = mid} {p = p} {q = q} g h) f =
-      let a : next.binder ≤ mid.binder = up g in
-      let b : mid.binder ≤ last.binder = up h in
-      clean-as _ _ free (forms.outs-Par p q) (and-in
-      (sound-clean free g (narrowed free next.binder next.binder mid.binder last.binder (omega arith) b f))
-      (sound-clean free h (narrowed free next.binder mid.binder last.binder last.binder a (omega arith) f)))
-  sound-clean {next = next} {after = last} free (IsSoundProc.channel {t = t} {p = p} k g) f =
-      let a : next.binder + 1 ≤ last.binder = up g in
-      clean-as _ _ free (forms.outs-New next.binder t p) (and-in (f next.binder (omega arith) (omega (arith, a))) (sound-clean (without free next.binder) g (bound_next free next.binder last.binder f)))
-  sound-clean free (IsSoundProc.output {c = c} {e = e} hc he) f = clean-as _ _ free (forms.outs-Out c e) refl
-  sound-clean {next = next} {after = last} free (IsSoundProc.input {c = c} {x = x} {p = p} k hc b g) f =
-      let r = took_pat free last.binder b (up g) f in
-      clean-as _ _ free (forms.outs-Inp c x p) (goes_on (taken x free) (clean p) r.left r.is (sound-clean r.left g r.rest))
-  sound-clean {next = next} {after = last} free (IsSoundProc.replicated {c = c} {x = x} {p = p} k hc b g) f =
-      let r = took_pat free last.binder b (up g) f in
-      clean-as _ _ free (forms.outs-Rep c x p) (goes_on (taken x free) (clean p) r.left r.is (sound-clean r.left g r.rest))
-  sound-clean {next = next} {after = last} free (IsSoundProc.agent {mid = mid} {p = p} {q = q} g h) f =
-      let a : next.binder + 1 ≤ mid.binder = up g in
-      let b : mid.binder ≤ last.binder = up h in
-      let inner : FreeFrom (without free next.binder) (next.binder + 1) last.binder = bound_next free next.binder last.binder f in
-      clean-as _ _ free (forms.outs-Agent next.binder p q) (and-in (f next.binder (omega arith) (omega (arith, a, b))) (and-in
-      (sound-clean (without free next.binder) g (narrowed (without free next.binder) (next.binder + 1) (next.binder + 1) mid.binder last.binder (omega arith) b inner))
-      (sound-clean (without free next.binder) h (narrowed (without free next.binder) (next.binder + 1) mid.binder last.binder last.binder a (omega arith) inner))))
-  sound-clean free (IsSoundProc.migrate {s = s} {p = p} hs g) f = clean-as _ _ free (forms.outs-Migrate s p) (sound-clean free g f)
-  sound-clean {next = next} {after = last} free (IsSoundProc.iflocal {mid = mid} {b = b} {c = c} {e = e} {p = p} {q = q} hb hc he g h) f =
-      let a : next.binder ≤ mid.binder = up g in
-      let d : mid.binder ≤ last.binder = up h in
-      clean-as _ _ free (forms.outs-IfLocal b c e p q) (and-in
-      (sound-clean free g (narrowed free next.binder next.binder mid.binder last.binder (omega arith) d f))
-      (sound-clean free h (narrowed free next.binder mid.binder last.binder last.binder a (omega arith) f)))
-  sound-clean free (IsSoundProc.send {b = b} {s = s} {c = c} {e = e} hb hs hc he) f = clean-as _ _ free (forms.outs-Send b s c e) refl
-  sound-clean free (IsSoundProc.post {b = b} {c = c} {e = e} hb hc he) f = clean-as _ _ free (forms.outs-Post b c e) refl
-  sound-clean {next = next} {after = last} free (IsSoundProc.test {mid = mid} {e = e} {p = p} {q = q} he g h) f =
-      let a : next.binder ≤ mid.binder = up g in
-      let b : mid.binder ≤ last.binder = up h in
-      clean-as _ _ free (forms.outs-If e p q) (and-in
-      (sound-clean free g (narrowed free next.binder next.binder mid.binder last.binder (omega arith) b f))
-      (sound-clean free h (narrowed free next.binder mid.binder last.binder last.binder a (omega arith) f)))
-  sound-clean {next = next} {after = last} free (IsSoundProc.bind {x = x} {e = e} {p = p} k b he g) f =
-      let r = took_pat free last.binder b (up g) f in
-      clean-as _ _ free (forms.outs-Let x e p) (goes_on (taken x free) (clean p) r.left r.is (sound-clean r.left g r.rest))
-  sound-clean free (IsSoundProc.print {e = e} he) f = clean-as _ _ free (forms.outs-Print e) refl
+-- two parts, one behind the other
+both : (p q : Proc) (free : Free) (xs ys : List ℕ) → CleanWhere free xs p → CleanWhere free ys q → NoneTwice (xs ++ ys) → AllFree free (xs ++ ys)
+    → (clean p free && clean q free) ≡ true
+both p q free xs ys g h once f = and-in (g (once-first xs ys once) (free-first free xs ys f)) (h (once-second xs ys once) (free-second free xs ys f))
+
+-- a body behind a pattern
+behind : {scope inner xs : List ℕ} {x : Pat} (p : Proc) (free : Free) (ys : List ℕ) → Binds scope x inner xs → ((left : Free) → CleanWhere left ys p)
+    → NoneTwice (xs ++ ys) → AllFree free (xs ++ ys) → after (taken x free) (clean p) ≡ true
+behind {xs = xs} {x = x} p free ys b g once f =
+    let r = took_pat free ys b once f in
+    goes_on (taken x free) (clean p) r.left r.is (g r.left (once-second xs ys once) r.rest)
+
+pub sound-clean : {n : ℕ} {scope bound : List ℕ} {node after : ℕ} {p : Proc} (free : Free) → IsSoundProc n scope node p after bound → CleanWhere free bound p
+sound-clean free IsSoundProc.stop once f = clean-as _ _ free forms.outs-Stop refl
+sound-clean free (IsSoundProc.parallel {xs = xs} {ys = ys} {p = p} {q = q} g h) once f =
+    clean-as _ _ free (forms.outs-Par p q) (both p q free xs ys (sound-clean free g) (sound-clean free h) once f)
+sound-clean free (IsSoundProc.channel {xs = xs} {c = c} {t = t} {p = p} k g) once f =
+    clean-as _ _ free (forms.outs-New c t p) (and-in (f c (inl refl)) (sound-clean (without free c) g once.1 (bound_first free c xs once.0 f)))
+sound-clean free (IsSoundProc.output {c = c} {e = e} hc he) once f = clean-as _ _ free (forms.outs-Out c e) refl
+sound-clean free (IsSoundProc.input {ys = ys} {c = c} {x = x} {p = p} hc b g) once f =
+    clean-as _ _ free (forms.outs-Inp c x p) (behind p free ys b (λ left. sound-clean left g) once f)
+sound-clean free (IsSoundProc.replicated {ys = ys} {c = c} {x = x} {p = p} hc b g) once f =
+    clean-as _ _ free (forms.outs-Rep c x p) (behind p free ys b (λ left. sound-clean left g) once f)
+sound-clean free (IsSoundProc.agent {xs = xs} {ys = ys} {b = b} {p = p} {q = q} g h) once f =
+    let inner = without free b in
+    clean-as _ _ free (forms.outs-Agent b p q)
+    (and-in (f b (inl refl)) (both p q inner xs ys (sound-clean inner g) (sound-clean inner h) once.1 (bound_first free b (xs ++ ys) once.0 f)))
+sound-clean free (IsSoundProc.migrate {s = s} {p = p} hs g) once f = clean-as _ _ free (forms.outs-Migrate s p) (sound-clean free g once f)
+sound-clean free (IsSoundProc.iflocal {xs = xs} {ys = ys} {b = b} {c = c} {e = e} {p = p} {q = q} hb hc he g h) once f =
+    clean-as _ _ free (forms.outs-IfLocal b c e p q) (both p q free xs ys (sound-clean free g) (sound-clean free h) once f)
+sound-clean free (IsSoundProc.send {b = b} {s = s} {c = c} {e = e} hb hs hc he) once f = clean-as _ _ free (forms.outs-Send b s c e) refl
+sound-clean free (IsSoundProc.post {b = b} {c = c} {e = e} hb hc he) once f = clean-as _ _ free (forms.outs-Post b c e) refl
+sound-clean free (IsSoundProc.test {xs = xs} {ys = ys} {e = e} {p = p} {q = q} he g h) once f =
+    clean-as _ _ free (forms.outs-If e p q) (both p q free xs ys (sound-clean free g) (sound-clean free h) once f)
+sound-clean free (IsSoundProc.bind {ys = ys} {x = x} {e = e} {p = p} b he g) once f =
+    clean-as _ _ free (forms.outs-Let x e p) (behind p free ys b (λ left. sound-clean left g) once f)
+sound-clean free (IsSoundProc.print {e = e} he) once f = clean-as _ _ free (forms.outs-Print e) refl
