@@ -8,4 +8,5 @@ pub mod ProcessesTyped
 pub mod SoundBinds
 pub mod ProgramsTyped
 pub mod LowSounds
+pub mod LowAgents
 pub mod ExampleTexts

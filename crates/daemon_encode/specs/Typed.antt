@@ -4,6 +4,7 @@ use Rattle.np_syntax.specs.declared.program.Program.{Program}
 use Rattle.np_syntax.specs.declared.event.Event.{Event}
 use Rattle.np_calculus.specs.Config.{Config}
 use Rattle.np_calculus.specs.Reductions.{run}
+use Rattle.np_calculus.specs.Runs.{RunsWell}
 use Rattle.np_calculus.specs.Starts.{start_low}
 use Rattle.np_calculus.specs.Well.{WellAlong}
 use Rattle.np_check.specs.Faults.{IsAccepted}
@@ -24,3 +25,7 @@ EncodesSound = (p : Program) → IsAccepted p → IsLowSound (encoded p)
 abbrev pub EncodesWellTyped : Type 0
 EncodesWellTyped = (p : Program) → IsAccepted p → (events : List Event) (d : Config) → run (start_low (encoded p)) events ≡ Some d
     → TypedAlong (start_low (encoded p)) (infrastructure (length p.sites)) events × WellAlong (start_low (encoded p)) events
+
+-- its low start can run: it meets the condition of the serial run
+abbrev pub EncodesRunsWell : Type 0
+EncodesRunsWell = (p : Program) → IsAccepted p → RunsWell (start_low (encoded p)) p.at

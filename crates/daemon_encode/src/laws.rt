@@ -1,6 +1,6 @@
 ghost use Rattle.daemon_encode.specs.Examples.{LowTextOfSeven};
 ghost use Rattle.daemon_encode.specs.Translates.{TranslatesItself, EncodesItself};
-ghost use Rattle.daemon_encode.specs.Typed.{EncodesFaultless, EncodesSound, EncodesWellTyped};
+ghost use Rattle.daemon_encode.specs.Typed.{EncodesFaultless, EncodesRunsWell, EncodesSound, EncodesWellTyped};
 
 /// What the translation makes is a low process of what it is made from, and so is a low program.
 pub fn law_translates()
@@ -15,6 +15,11 @@ pub fn law_encodes_typed()
     ensures faultless { EncodesFaultless }
     ensures sound { EncodesSound }
     ensures along { EncodesWellTyped }
+{}
+
+/// The low start of an accepted program can run: it meets the condition of the serial run.
+pub fn law_low_runs_well()
+    ensures { EncodesRunsWell }
 {}
 
 /// What the definitions say of a small program.

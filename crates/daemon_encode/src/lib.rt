@@ -11,6 +11,6 @@ mod translated;
 mod translator;
 mod writer;
 
-pub use laws::{law_encodes_typed, law_examples, law_translates};
+pub use laws::{law_encodes_typed, law_examples, law_low_runs_well, law_translates};
 pub use programs::encode;
 pub use servers::daemon;

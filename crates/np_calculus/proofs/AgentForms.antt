@@ -5,7 +5,7 @@ use Rattle.np_syntax.specs.declared.expression.Expr.{Expr}
 use Rattle.np_syntax.specs.declared.process.Proc.{Proc, fold_out-Proc}
 use Rattle.np_syntax.specs.declared.process.ProcForm.{ProcForm, map-ProcForm, fold-ProcForm, fold_out-ProcForm}
 use Rattle.np_syntax.proofs.Options.{done}
-use Rattle.np_calculus.specs.Agents.{Agents, IsIn, expr_agents, proc_agents, proc_step}
+use Rattle.np_calculus.specs.Agents.{Agents, Each, IsIn, expr_agents, proc_agents, proc_step}
 use Rattle.np_eval.specs.Forms.{Layer, layer}
 
 abbrev forms : ProcForm → Agents
@@ -18,10 +18,6 @@ form_agents l = proc_step (map-ProcForm ProcForm Proc Agents Agents forms proc_a
 pub proc-out : (p : Proc) → proc_agents p ≡ form_agents (layer p)
 unfolding proc_agents
 proc-out p = fold_out-Proc Agents Agents proc_step (λ p. p.form) p ∙ fold_out-ProcForm Agents Agents proc_step (λ p. p.form) p.form
-
--- this holds of each agent in the list
-pub record Each (P : Name → Type 0) (agents : Agents) : Type 0 where
-  pub each : (a : Name) → IsIn a agents → P a
 
 module _ (P : Name → Type 0) where
   first_in : (xs ys : Agents) → ((a : Name) → IsIn a (xs ++ ys) → P a) → (a : Name) → IsIn a xs → P a

@@ -18,7 +18,7 @@ use Rattle.np_syntax.specs.declared.pattern.Pat.{Pat, fold_out-Pat}
 use Rattle.np_syntax.specs.declared.pattern.PatForm.{PatForm, PatForm-F, out-PatForm, map-PatForm, fold_out-PatForm}
 use Rattle.np_syntax.specs.Options.{all_some}
 use Rattle.np_syntax.proofs.Options.{then, done}
-use Rattle.np_calculus.specs.Agents.{Agents, joined, value_step, value_agents, expr_step, expr_agents}
+use Rattle.np_calculus.specs.Agents.{Agents, Each, joined, value_step, value_agents, expr_step, expr_agents}
 use Rattle.np_eval.specs.Eval.{Env, ValueLayer, Binding, as_agent, as_chan, as_places, as_tuple, as_letter, put_place, with_place}
 use Rattle.np_eval.specs.Eval.{eval, eval_step, operate_at, equal_at}
 use Rattle.np_eval.specs.Levels.{eval_form}
@@ -26,7 +26,7 @@ use Rattle.np_eval.specs.Eval.{agent_of, letter_of, bind, bind_each, bind_step}
 use Rattle.np_eval.specs.Levels.{bind_form}
 use Rattle.np_syntax.proofs.Trees.{With, ExprHyps, expr_of, expr_ind, PatHyps, pat_of, pat_ind}
 use Rattle.np_eval.proofs.Layers.{eval_layer, eval-out, bind_layer, bind-out}
-use Rattle.np_calculus.proofs.AgentForms.{Each, OfExpr, nobody, first-part, last-part, both-parts}
+use Rattle.np_calculus.proofs.AgentForms.{OfExpr, nobody, first-part, last-part, both-parts}
 
 -- the agents in a value's form
 abbrev layer_agents : ValueLayer → Agents

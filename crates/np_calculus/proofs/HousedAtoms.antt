@@ -1,5 +1,5 @@
 -- Atoms and packets whose agents all have places: what they send, and how they go on.
-use Rattle.std.proofs.Common.{◌≡◌, ℕ, Bool, true, false, cond, inl, inr, Option, None, Some, IsSome, subst, sym, ◌∙◌}
+use Rattle.std.proofs.Common.{◌≡◌, ℕ, Bool, true, false, cond, inl, inr, Option, None, Some, subst, sym, ◌∙◌}
 use Rattle.std.specs.FinMap as map
 use Rattle.std.specs.FinMap.{get-empty}
 use Rattle.std.specs.Ordering.{nat_cmp}
@@ -14,8 +14,7 @@ use Rattle.np_syntax.proofs.Options.{then, done}
 use Rattle.np_tables.proofs.Tables.{put_cases, cut_cases}
 use Rattle.np_calculus.specs.declared.config.Atom.{Atom}
 use Rattle.np_calculus.specs.declared.config.Packet.{Packet}
-use Rattle.np_calculus.specs.declared.config.Place.{Place}
-use Rattle.np_calculus.specs.Agents.{Agents}
+use Rattle.np_calculus.specs.Agents.{Agents, Each, OfAtom}
 use Rattle.np_calculus.specs.Config.{Config}
 use Rattle.np_eval.specs.Eval.{Env, eval, chan_of}
 use Rattle.np_eval.specs.Forms.{layer, as_out}
@@ -23,18 +22,8 @@ use Rattle.np_calculus.specs.Reductions.{goes, goes_under, sends, output, output
 use Rattle.np_calculus.specs.Seen.{offered}
 use Rattle.np_eval.proofs.FormsByParts.{out-form}
 use Rattle.np_calculus.proofs.Steps.{offered-step}
-use Rattle.np_calculus.proofs.AgentForms.{Each, OfProc, of-proc, of-layer, both-parts, last-part}
+use Rattle.np_calculus.proofs.AgentForms.{OfProc, of-proc, of-layer, both-parts, last-part}
 use Rattle.np_calculus.proofs.AgentValues.{OfValue, OfEnv, chan-fits, eval-fits, env-put, expr_value}
-
--- the agent has a place
-abbrev pub HasPlace : NameMap Place → Name → Type 0
-HasPlace places agent = IsSome (map.get places agent)
-
--- this holds of the atom's agent, and of each agent that its process or a value of its environment names
-pub record OfAtom (P : Name → Type 0) (a : Atom) : Type 0 where
-  pub agent : P a.agent
-  pub proc : OfProc P a.proc
-  pub env : OfEnv P a.env
 
 module _ (P : Name → Type 0) where
   abbrev pub OfAtoms : NameMap Atom → Type 0

@@ -12,6 +12,7 @@ use Rattle.np_tables.proofs.Tables.{put_there, kept}
 use Rattle.np_calculus.specs.declared.config.Atom.{Atom}
 use Rattle.np_calculus.specs.declared.config.Place.{Place}
 use Rattle.np_calculus.specs.declared.config.Place.TheVariants as place
+use Rattle.np_calculus.specs.Agents.{HasPlace, Housed, OfAtom}
 use Rattle.np_calculus.specs.Config.{Config}
 use Rattle.np_eval.specs.Eval.{find_place}
 use Rattle.np_calculus.specs.Reductions.{goes, output_in, row}
@@ -21,13 +22,8 @@ use Rattle.np_calculus.proofs.Inversions.{TestStep, stop-step, fork-step, new-st
 use Rattle.np_calculus.proofs.Inversions.{arrive-step, local-step, send-step, land-step, print-step, open-step, lookup-step, post-step}
 use Rattle.np_calculus.proofs.AgentForms.{of-layer, first-part, last-part}
 use Rattle.np_calculus.proofs.AgentValues.{OfValue, chan-fits, agent-fits, eval-fits, agent_of-fits, letter_of-fits, env-put, bind-fits}
-use Rattle.np_calculus.proofs.HousedAtoms.{HasPlace, OfAtom, OfAtoms, OfPackets, atoms-put, atoms-cut, packets-put, packets-cut}
+use Rattle.np_calculus.proofs.HousedAtoms.{OfAtoms, OfPackets, atoms-put, atoms-cut, packets-put, packets-cut}
 use Rattle.np_calculus.proofs.HousedAtoms.{goes-on, goes-in, found-on, choose, made-fits, offered-fits, atom-wider, atoms-wider, packets-wider}
-
--- the agent of each atom has a place, and so does each agent that an atom's process, a value of its environment or a packet's value names
-pub record Housed (c : Config) : Type 0 where
-  pub atoms : OfAtoms (HasPlace c.places) c.atoms
-  pub packets : OfPackets (HasPlace c.places) c.packets
 
 -- an agent that is at a site has a place
 at-site : (c : Config) (agent : Name) (site : ℕ) → is_at c agent site ≡ true → HasPlace c.places agent

@@ -4,7 +4,7 @@ use Rattle.std.specs.FinSet as set
 use Rattle.np_syntax.specs.declared.value.Name.{Name}
 use Rattle.np_tables.specs.Names.{NameSet, same_name}
 use Rattle.np_tables.proofs.Tables.{contains-none, born_insert, born_here, same_name-is}
-use Rattle.np_calculus.specs.Starts.{own, own_names, own_numbers, main_mark, with_all}
+use Rattle.np_calculus.specs.Starts.{own, own_names, own_numbers, main_mark, daemon_mark, with_all}
 
 or_true : (t : Bool) → (t || true) ≡ true
 or_true true = refl
@@ -17,6 +17,9 @@ with_all-keeps names (m ∷ more) q h = with_all-keeps (set.insert names m) more
 
 pub mark-born : (n : ℕ) → set.contains (own_names n) (main_mark n) ≡ true
 mark-born n = with_all-keeps _ (map (own n) (12 ∷ 13 ∷ 14 ∷ 15 ∷ 16 ∷ [])) (main_mark n) (born_here _ (main_mark n))
+
+pub daemon_mark-born : (n : ℕ) → set.contains (own_names n) (daemon_mark n) ≡ true
+daemon_mark-born n = with_all-keeps _ (map (own n) (13 ∷ 14 ∷ 15 ∷ 16 ∷ [])) (daemon_mark n) (born_here _ (daemon_mark n))
 
 pub not_true : (b : Bool) → (b ≡ true → ⊥) → b ≡ false
 not_true true h = absurd (h refl)

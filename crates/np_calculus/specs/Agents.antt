@@ -1,13 +1,21 @@
 -- The agents that values, expressions and processes name (docs/LANGUAGE.md, "Reductions").
-use Rattle.std.specs.Prelude.{◌≡◌, ◌⊎◌, List, [], ◌∷◌, ◌++◌, length}
+use Rattle.std.specs.Prelude.{◌≡◌, ◌⊎◌, ℕ, List, [], ◌∷◌, ◌++◌, Some, IsSome}
+use Rattle.std.specs.FinMap as map
 use Rattle.np_syntax.specs.declared.value.Name.{Name}
 use Rattle.np_syntax.specs.declared.value.Value.{Value, Value-F, fold-Value}
 use Rattle.np_syntax.specs.declared.expression.Expr.{Expr, fold-Expr}
 use Rattle.np_syntax.specs.declared.expression.ExprForm.{ExprForm-F}
 use Rattle.np_syntax.specs.declared.process.Proc.{Proc, fold-Proc}
 use Rattle.np_syntax.specs.declared.process.ProcForm.{ProcForm-F}
-use Rattle.np_syntax.specs.declared.program.Program.{Program}
-use Rattle.np_calculus.specs.Starts.{main_agent}
+use Rattle.np_syntax.specs.declared.event.Event.{Event}
+use Rattle.np_tables.specs.Names.{NameMap}
+use Rattle.np_calculus.specs.declared.config.Atom.{Atom}
+use Rattle.np_calculus.specs.declared.config.Packet.{Packet}
+use Rattle.np_calculus.specs.declared.config.Place.{Place}
+use Rattle.np_calculus.specs.Config.{Config}
+use Rattle.np_calculus.specs.Parts.{IsLodged}
+use Rattle.np_calculus.specs.Reductions.{run}
+use Rattle.np_calculus.specs.Sight.{inside}
 
 abbrev pub Agents : Type 0
 Agents = List Name
@@ -66,6 +74,25 @@ abbrev pub IsIn : Name → Agents → Type 0
 IsIn a [] = ⊥
 IsIn a (b ∷ bs) = (a ≡ b) ⊎ IsIn a bs
 
--- main's process names no agent but main
-pub record OwnAgents (p : Program) : Type 0 where
-  pub each : (a : Name) → IsIn a (proc_agents p.main) → a ≡ main_agent (length p.sites)
+-- this holds of each agent in the list
+pub record Each (P : Name → Type 0) (agents : Agents) : Type 0 where
+  pub each : (a : Name) → IsIn a agents → P a
+
+-- this holds of the atom's agent, and of each agent that its process or a value of its environment names
+pub record OfAtom (P : Name → Type 0) (a : Atom) : Type 0 where
+  pub agent : P a.agent
+  pub proc : Each P (proc_agents a.proc)
+  pub env : (x : ℕ) (v : Value) → map.get a.env x ≡ Some v → Each P (value_agents v)
+
+-- the agent has a place
+abbrev pub HasPlace : NameMap Place → Name → Type 0
+HasPlace places agent = IsSome (map.get places agent)
+
+-- the agent of each atom has a place, and so does each agent that an atom's process, a value of its environment or a packet's value names
+pub record Housed (c : Config) : Type 0 where
+  pub atoms : (m : Name) (a : Atom) → map.get c.atoms m ≡ Some a → OfAtom (HasPlace c.places) a
+  pub packets : (m : Name) (p : Packet) → map.get c.packets m ≡ Some p → Each (HasPlace c.places) (value_agents p.value)
+
+-- along each run from such a configuration the agent of each atom has a place
+abbrev pub StaysLodged : Type 0
+StaysLodged = (c : Config) → Housed c → (events : List Event) (d : Config) → run c events ≡ Some d → IsLodged (inside d)

@@ -44,28 +44,23 @@ own_names n = with_all set.empty (map (own n) own_numbers)
 abbrev pub first_atom : Name → Proc → Atom
 first_atom agent p = record { agent = agent; proc = p; env = table.empty }
 
+-- no agents, and no names but the program's own
+abbrev pub no_agents : ℕ → Config
+no_agents n = record { sites = n; places = table.empty; atoms = table.empty; packets = table.empty; born = own_names n; said = [] }
+
+-- one agent more, at a site, with its atom under a mark
+abbrev pub with_atom : Config → ℕ → Name → Atom → Config
+with_atom c site mark a = record c { places = table.insert c.places a.agent (place.At site); atoms = table.insert c.atoms mark a }
+
+abbrev pub with_main : ℕ → ℕ → Proc → Config
+with_main n at p = with_atom (no_agents n) at (main_mark n) (first_atom (main_agent n) p)
+
 -- main at its site, with its process
 unfoldable pub start_high : Program → Config
-start_high p =
-    let n : ℕ = length p.sites in
-    record {
-      sites = n;
-      places = table.insert table.empty (main_agent n) (place.At p.at);
-      atoms = table.insert table.empty (main_mark n) (first_atom (main_agent n) p.main);
-      packets = table.empty;
-      born = own_names n;
-      said = [];
-    }
+start_high p = with_main (length p.sites) p.at p.main
 
 -- main at its site and the daemon at the first one, each with its process
 unfoldable pub start_low : LowProgram → Config
 start_low q =
     let n : ℕ = length q.sites in
-    record {
-      sites = n;
-      places = table.insert (table.insert table.empty (main_agent n) (place.At q.at)) (daemon_agent n) (place.At 0);
-      atoms = table.insert (table.insert table.empty (main_mark n) (first_atom (main_agent n) q.main)) (daemon_mark n) (first_atom (daemon_agent n) q.daemon);
-      packets = table.empty;
-      born = own_names n;
-      said = [];
-    }
+    with_atom (with_main n q.at q.main) 0 (daemon_mark n) (first_atom (daemon_agent n) q.daemon)

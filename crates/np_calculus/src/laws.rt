@@ -1,4 +1,5 @@
 ghost use Rattle.np_calculus.specs.Acting.{ActsWhereEnabled};
+ghost use Rattle.np_calculus.specs.Agents.{StaysLodged};
 ghost use Rattle.np_calculus.specs.Examples.{TwoPrints, Communication, Replication, Migration};
 ghost use Rattle.np_calculus.specs.Footprints.{DependsOnTouched, Unseen};
 ghost use Rattle.np_calculus.specs.FrameRule.{FrameBack, FrameRule, KeepsLodged, KeepsOfSite};
@@ -32,4 +33,9 @@ pub fn law_frame()
 pub fn law_footprints()
     ensures depends { DependsOnTouched }
     ensures unseen { Unseen }
+{}
+
+/// Where each agent that a configuration names has a place, the agent of each atom has one along each run.
+pub fn law_lodged()
+    ensures { StaysLodged }
 {}

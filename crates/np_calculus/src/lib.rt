@@ -5,4 +5,4 @@ mod config;
 mod laws;
 
 pub use config::{Atom, Packet, Place};
-pub use laws::{law_acts_where_enabled, law_examples, law_footprints, law_frame};
+pub use laws::{law_acts_where_enabled, law_examples, law_footprints, law_frame, law_lodged};

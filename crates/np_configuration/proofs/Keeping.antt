@@ -98,8 +98,6 @@ pub kept-as : {work : NameMap Errand} {atoms : NameMap Atom} {packets : NameMap 
     → (work' : NameMap Errand) (atoms' : NameMap Atom) → work' ≡ work → atoms' ≡ atoms → IsKept work' atoms' packets born
 kept-as k work' atoms' e f = rw (e, f) k
 
--- one atom under a mark that is born
-pub kept-start : (m : Name) (a : Atom) (born : NameSet) → set.contains born m ≡ true
-    → IsKept (map.insert map.empty m (errand_of a)) (map.insert map.empty m a) map.empty born
-kept-start m a born known =
-    kept-put (record { filed = sym (mapped-empty errand_of); marked = λ q h. absurd (none_some _ (get-none q) h); flown = λ q h. absurd (none_some _ (get-none q) h) }) m a known
+-- nothing stands there
+pub kept-none : (born : NameSet) → IsKept map.empty map.empty map.empty born
+kept-none born = record { filed = sym (mapped-empty errand_of); marked = λ q h. absurd (none_some _ (get-none q) h); flown = λ q h. absurd (none_some _ (get-none q) h) }

@@ -5,6 +5,4 @@ pub mod Keeping
 pub mod NewOutputs
 pub mod RestTests
 pub mod Rests
-pub mod SerialEvents
-pub mod Travels
 pub mod Ways

@@ -17,8 +17,8 @@ use Rattle.np_configuration.specs.Errands.{IsKept}
 use Rattle.np_calculus.specs.Idle.{Idle}
 use Rattle.np_calculus.specs.Parts.{IsLodged}
 use Rattle.np_calculus.specs.Sight.{inside}
-use Rattle.np_configuration.specs.Placed.{NoneTravels}
-use Rattle.np_configuration.specs.Serial.{IsNext}
+use Rattle.np_agents.specs.Placed.{NoneTravels}
+use Rattle.np_configuration.specs.Next.{IsNext}
 use Rattle.np_configuration.proofs.Keeping.{none_some}
 use Rattle.np_configuration.proofs.Rests.{quiet-idle, idle-still, idle-quiet}
 

@@ -19,7 +19,7 @@ use Rattle.np_configuration.specs.Going.{AnyMayAct}
 use Rattle.np_calculus.specs.Idle.{HasWork, HasMeeting, HasPacket, HasArrival, HasAgent, Idle}
 use Rattle.np_calculus.specs.Parts.{IsLodged}
 use Rattle.np_calculus.specs.Sight.{inside}
-use Rattle.np_configuration.specs.Placed.{NoneTravels}
+use Rattle.np_agents.specs.Placed.{NoneTravels}
 use Rattle.np_eval.specs.Errands.{errand_at}
 use Rattle.np_configuration.specs.Errands.{errand_of}
 use Rattle.np_configuration.proofs.ErrandForms.{free-acts, acts-free, given-errand, taken-errand, gives-form, takes-form, mapped_from}

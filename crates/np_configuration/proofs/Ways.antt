@@ -19,7 +19,7 @@ use Rattle.np_calculus.proofs.Steps.{acting-step, one-new}
 use Rattle.np_eval.specs.Eval.{Env, agent_of, chan_of, eval}
 use Rattle.np_eval.specs.Forms.{layer}
 use Rattle.np_configuration.specs.Found.{IsLocal, IsLookup, found_env}
-use Rattle.np_configuration.specs.Moves.{way_in}
+use Rattle.np_agents.specs.Moves.{way_in}
 use Rattle.np_configuration.specs.Rows.{local_row}
 
 -- what was found or not gives the process and its environment

@@ -16,7 +16,7 @@ use Rattle.np_calculus.specs.Seen.{acting}
 use Rattle.np_eval.specs.Eval.{Env}
 use Rattle.np_eval.specs.Forms.{layer}
 use Rattle.np_eval.specs.Errands.{errand_at}
-use Rattle.np_configuration.specs.Moves.{way_at}
+use Rattle.np_agents.specs.Moves.{way_at}
 
 -- an environment with the channel that was found as a binder's value, if one was
 abbrev pub found_env : Env → ℕ → Option Name → Env

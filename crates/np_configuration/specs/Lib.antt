@@ -4,7 +4,5 @@ pub mod Errands
 pub mod Found
 pub mod Going
 pub mod Met
-pub mod Moves
-pub mod Placed
+pub mod Next
 pub mod Rows
-pub mod Serial

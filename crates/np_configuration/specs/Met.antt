@@ -13,7 +13,7 @@ use Rattle.np_calculus.specs.Seen.{acting}
 use Rattle.np_eval.specs.Eval.{Env}
 use Rattle.np_eval.specs.Forms.{layer}
 use Rattle.np_eval.specs.Errands.{errand_at}
-use Rattle.np_configuration.specs.Moves.{body_at}
+use Rattle.np_agents.specs.Moves.{body_at}
 
 -- a communication is enabled: the input takes the output of the mark, and goes on under the environment, with the errand
 pub record IsComm (c : Config) (e : Event) (mark : Name) (env : Env) (errand : Errand) : Type 0 where

@@ -3,8 +3,7 @@ ghost use Rattle.np_configuration.specs.Applied.{Applied};
 
 use super::cfg::Cfg;
 use super::fail::ApplyFail::{self, NotEnabled};
-use super::moves::{chosen, enter, go_on, split};
-use super::views::{no_other, none_made, one_made};
+use np_agents::{chosen, enter, go_on, no_other, none_made, one_made, split};
 use np_eval::{as_if, as_let, as_new, as_par, as_print, as_stop, bind, errand_of, eval, truth_of};
 use np_syntax::{Event, Value};
 use std::alloc::Global;

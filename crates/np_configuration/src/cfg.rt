@@ -3,11 +3,11 @@ ghost use Rattle.std.specs.Option.{option_copied};
 ghost use Rattle.std.specs.FinMap as map;
 ghost use Rattle.np_calculus.specs.Idle.{Idle};
 ghost use Rattle.np_calculus.specs.Seen.{acting, fresh, is_at, offered, site_of};
-ghost use Rattle.np_configuration.specs.Serial.{IsNext};
+ghost use Rattle.np_configuration.specs.Next.{IsNext};
 
 use super::going::any_may_act;
-use super::places::Places;
 use super::step::Step;
+use np_agents::Places;
 use np_calculus::{Atom, Packet, Place};
 use np_eval::{Frame, chan_of, eval};
 use np_syntax::{Event, Expr, List, Memory, Name, ProcForm, Value};
@@ -52,6 +52,13 @@ impl Model for Cfg {
 }
 
 impl Cfg {
+    /// How many sites the program has.
+    pub fn sites(&self) -> u32
+        ensures { result ≡ self.now.sites }
+    {
+        self.sites
+    }
+
     /// Where an agent is.
     pub fn place(&self, agent: Name) -> Option<Place>
         ensures { result ≡ map.get self.now.places agent }
@@ -115,13 +122,10 @@ impl Cfg {
     }
 
     /// Whether an agent is at a site.
-    pub(super) fn is_at(&self, agent: Name, site: u32) -> bool
+    pub fn is_at(&self, agent: Name, site: u32) -> bool
         ensures { result ≡ is_at self.now agent site }
     {
-        match self.places.get(agent) {
-            Some(Place::At(at)) => at == site,
-            _ => false,
-        }
+        self.places.is_at(agent, site)
     }
 
     /// The value that the atom of a mark, in this agent, outputs on this channel.
@@ -150,7 +154,7 @@ impl Cfg {
     }
 
     /// What happens next: an agent under way arrives, else a packet lands, else atoms go on.
-    pub(super) fn next(&mut self) -> Option<Step>
+    pub fn next(&mut self) -> Option<Step>
         ensures same { self.new ≡ self.old }
         ensures next { IfSome result (IsNext self.old) }
         ensures none { IfNone result (Idle self.old) }

@@ -5,9 +5,7 @@ ghost use Rattle.np_configuration.specs.Found.{IsLookup, found_env};
 
 use super::cfg::Cfg;
 use super::fail::ApplyFail::{self, NotEnabled};
-use super::moves::{chosen, go_under};
-use super::outputs::output_in;
-use super::views::{no_other, none_made};
+use np_agents::{chosen, go_under, no_other, none_made, output_in};
 use np_eval::{Frame, agent_of, as_lookup, as_open, errand_of, find_place, letter_of, places_of};
 use np_syntax::{Event, Memory, Name, Value};
 use np_tables::{Errand, Meeting};

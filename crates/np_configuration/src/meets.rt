@@ -5,8 +5,7 @@ ghost use Rattle.np_configuration.specs.Met.{IsComm, IsRep};
 
 use super::cfg::Cfg;
 use super::fail::ApplyFail::{self, NotEnabled};
-use super::moves::enter;
-use super::views::none_made;
+use np_agents::{enter, none_made};
 use np_calculus::Atom;
 use np_eval::{Frame, as_inp, as_rep, bind, chan_of, errand_of};
 use np_syntax::{Event, Memory, Name};

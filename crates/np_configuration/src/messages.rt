@@ -7,9 +7,7 @@ ghost use Rattle.np_configuration.specs.Found.{IsLocal};
 
 use super::cfg::Cfg;
 use super::fail::ApplyFail::{self, NotEnabled};
-use super::moves::{chosen, go_on};
-use super::outputs::output_in;
-use super::views::{no_other, none_made, one_made, one_site, one_tag};
+use np_agents::{chosen, go_on, no_other, none_made, one_made, one_site, one_tag, output_in};
 use np_calculus::Packet;
 use np_eval::{agent_of, as_iflocal, as_post, as_send, chan_of, errand_of, eval};
 use np_syntax::{Event, Memory, Name, Value};

@@ -1,19 +1,22 @@
-ghost use Rattle.std.specs.Prelude.{◌≡◌, ◌<◌, ◌≤◌, ◌^◌, length, map, IfOk};
-ghost use Rattle.std.specs.FinMap as table;
+ghost use Rattle.std.specs.Prelude.{◌≡◌, ◌<◌, ◌^◌, true, length, map, IfOk, OnOk};
 ghost use Rattle.std.specs.FinSet as set;
-ghost use Rattle.np_calculus.specs.declared.config.Place.TheVariants as place;
-ghost use Rattle.np_calculus.specs.Starts.{start_high, own, with_all, first_atom};
-ghost use Rattle.np_configuration.specs.Errands.{errand_of};
+ghost use Rattle.np_calculus.specs.Starts.{start_high, start_low, first_atom, no_agents, with_atom, with_main, own, with_all};
 
 use super::cfg::Cfg;
-use super::places::Places;
+use np_agents::Places;
 use np_calculus::{Atom, Place};
 use np_eval::{Frame, errand_of};
-use np_syntax::{List, Memory, Name, Proc, Program};
+use np_syntax::{List, LowProgram, Memory, Name, Proc, Program};
 use np_tables::{Names, Table, WorkLists};
 use std::alloc::Global;
 
 const OWN_NUMBERS: [u32; 17] = [0, 1, 2, 3, 4, 5, 6, 7, 8, 9, 10, 11, 12, 13, 14, 15, 16];
+
+// The numbers of the agents that a program starts with, and of the marks of their first atoms.
+const MAIN: u32 = 0;
+const DAEMON: u32 = 1;
+const MAIN_MARK: u32 = 11;
+const DAEMON_MARK: u32 = 12;
 
 /// The names of these numbers that a program of so many sites has for its own.
 fn names_of(alloc: Global, sites: u32, numbers: &[u32]) -> Result<Names, Memory>
@@ -26,43 +29,65 @@ fn names_of(alloc: Global, sites: u32, numbers: &[u32]) -> Result<Names, Memory>
     Ok(names)
 }
 
-/// One agent, at a site.
-fn one_place(alloc: Global, agent: Name, site: u32) -> Result<Places, Memory>
-    ensures { IfOk result (λ places. places.items ≡ table.insert table.empty agent (place.At site)) }
+/// No agents, and no names but the program's own.
+fn no_agents(alloc: Global, sites: u32) -> Result<Cfg, Memory>
+    ensures { IfOk result (λ c. c ≡ no_agents sites) }
 {
-    let mut places = Places::new(alloc);
-    places.reserve(1)?;
-    places.put(agent, Place::At(site));
-    Ok(places)
+    let born = names_of(alloc, sites, &OWN_NUMBERS)?;
+    Ok(Cfg {
+        sites,
+        places: Places::new(alloc),
+        atoms: Table::new(alloc),
+        packets: Table::new(alloc),
+        born,
+        said: List::new(alloc),
+        work: WorkLists::new(alloc),
+    })
 }
 
-/// No atoms, and room for one.
-fn room_for_one(alloc: Global) -> Result<Table<Atom>, Memory>
-    ensures empty { IfOk result (λ atoms. atoms.items ≡ table.empty) }
-    ensures room { IfOk result (λ atoms. 1 ≤ atoms.spare) }
+/// The first atom of an agent, with a copy of its process.
+fn first_atom(alloc: Global, agent: Name, proc: &Proc) -> Result<Atom, Memory>
+    ensures { IfOk result (λ atom. atom ≡ first_atom agent proc.now) }
 {
-    let mut atoms = Table::new(alloc);
-    atoms.reserve(1)?;
-    Ok(atoms)
-}
-
-/// Puts the first atom of an agent under a mark, in the empty frame.
-fn put_first(alloc: Global, atoms: &mut Table<Atom>, mark: Name, agent: Name, proc: Proc)
-    requires { 1 ≤ atoms.old.spare }
-    ensures { atoms.new.items ≡ table.insert atoms.old.items mark (first_atom agent proc) }
-{
+    let proc = proc.copy(alloc)?;
     let env = Frame::new(alloc);
-    atoms.put(mark, Atom { agent, proc, env });
+    Ok(Atom { agent, proc, env })
 }
 
-/// The work lists of one atom, under a mark, in the empty frame.
-fn one_errand(alloc: Global, mark: Name, agent: Name, proc: &Proc) -> Result<WorkLists, Memory>
-    ensures { IfOk result (λ work. work ≡ table.insert table.empty mark (errand_of (first_atom agent proc.now))) }
+impl Cfg {
+    /// One agent more, at a site, with its atom under a mark that is born.
+    #[tactic(auto, using(np_tables::proofs::Tables::puts))]
+    fn add_agent(&mut self, site: u32, mark: Name, atom: Atom) -> Result<(), Memory>
+        requires { set.contains self.old.born mark ≡ true }
+        ensures { OnOk result (self.new ≡ with_atom self.old site mark atom) }
+    {
+        let agent = atom.agent;
+        let errand = errand_of(agent, &atom.proc, &atom.env);
+        self.places.reserve(1)?;
+        self.atoms.reserve(1)?;
+        self.work.file(mark, errand)?;
+        self.places.put(agent, Place::At(site));
+        self.atoms.put(mark, atom);
+        Ok(())
+    }
+}
+
+/// Main alone, at a site, with its process.
+fn with_main(alloc: Global, sites: u32, at: u32, main: &Proc) -> Result<Cfg, Memory>
+    ensures { IfOk result (λ c. c ≡ with_main sites at main.now) }
 {
-    let env = Frame::new(alloc);
-    let mut work = WorkLists::new(alloc);
-    work.file(mark, errand_of(agent, proc, &env))?;
-    Ok(work)
+    let mut start = no_agents(alloc, sites)?;
+    let agent = Name {
+        site: sites,
+        n: MAIN,
+    };
+    let mark = Name {
+        site: sites,
+        n: MAIN_MARK,
+    };
+    let atom = first_atom(alloc, agent, main)?;
+    start.add_agent(at, mark, atom)?;
+    Ok(start)
 }
 
 /// Main at its site, with its process.
@@ -71,21 +96,25 @@ pub fn start_high(alloc: Global, p: &Program) -> Result<Cfg, Memory>
     ensures { IfOk result (λ c. c ≡ start_high p.now) }
 {
     let sites = p.sites.len() as u32;
-    let agent = Name { site: sites, n: 0 };
-    let mark = Name { site: sites, n: 11 };
-    let born = names_of(alloc, sites, &OWN_NUMBERS)?;
-    let places = one_place(alloc, agent, p.at)?;
-    let work = one_errand(alloc, mark, agent, &p.main)?;
-    let mut atoms = room_for_one(alloc)?;
-    let proc = p.main.copy(alloc)?;
-    put_first(alloc, &mut atoms, mark, agent, proc);
-    Ok(Cfg {
-        sites,
-        places,
-        atoms,
-        packets: Table::new(alloc),
-        born,
-        said: List::new(alloc),
-        work,
-    })
+    with_main(alloc, sites, p.at, &p.main)
+}
+
+/// Main at its site and the daemon at the first one, each with its process.
+pub fn start_low(alloc: Global, q: &LowProgram) -> Result<Cfg, Memory>
+    requires { length q.now.sites < 2 ^ 32 }
+    ensures { IfOk result (λ c. c ≡ start_low q.now) }
+{
+    let sites = q.sites.len() as u32;
+    let mut start = with_main(alloc, sites, q.at, &q.main)?;
+    let agent = Name {
+        site: sites,
+        n: DAEMON,
+    };
+    let mark = Name {
+        site: sites,
+        n: DAEMON_MARK,
+    };
+    let atom = first_atom(alloc, agent, &q.daemon)?;
+    start.add_agent(0, mark, atom)?;
+    Ok(start)
 }

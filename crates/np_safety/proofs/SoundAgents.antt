@@ -11,9 +11,9 @@ use Rattle.np_syntax.specs.declared.process.ProcForm.TheVariants as forms
 use Rattle.np_syntax.specs.declared.program.Program.{Program}
 use Rattle.np_scope.specs.Sound.{IsSound, IsSoundExpr, AreSoundExprs, IsSoundProc}
 use Rattle.np_scope.specs.Written.{IsLiteral}
-use Rattle.np_calculus.specs.Agents.{OwnAgents, joined, expr_agents}
+use Rattle.np_calculus.specs.Agents.{Each, joined, expr_agents, proc_agents}
 use Rattle.np_calculus.specs.Starts.{main_agent}
-use Rattle.np_calculus.proofs.AgentForms.{Each, OfExpr, OfProc, nobody, both-parts, of-proc}
+use Rattle.np_calculus.proofs.AgentForms.{OfExpr, OfProc, nobody, both-parts, of-proc}
 use Rattle.np_calculus.proofs.AgentValues.{OfValue, agent-fits, of-value, of-expr, expr_value}
 
 module _ (n : ℕ) where
@@ -83,5 +83,5 @@ module _ (n : ℕ) where
   sound-proc (IsSoundProc.print {e = e} he) = of-proc P _ _ (forms.outs-Print e) (sound-expr he)
 
 -- main's process in a resolved program names no agent but main
-pub own-agents : (p : Program) → IsSound p → OwnAgents p
-own-agents p s = record { each = (sound-proc (length p.sites) s.main).each }
+pub own-agents : (p : Program) → IsSound p → Each (λ a. a ≡ main_agent (length p.sites)) (proc_agents p.main)
+own-agents p s = sound-proc (length p.sites) s.main

@@ -11,6 +11,7 @@ use Rattle.np_types.specs.Checks.{Check, found}
 use Rattle.np_types.specs.Worlds.{bare}
 use Rattle.np_calculus.specs.Config.{Config}
 use Rattle.np_calculus.specs.Starts.{start_high, main_agent, main_mark, first_atom}
+use Rattle.np_calculus.proofs.Housed.{high-housed, stays-lodged}
 use Rattle.np_check.specs.Faults.{IsAccepted, check}
 use Rattle.np_check.specs.Laws.{HasSites}
 use Rattle.np_check.proofs.Resolved.{same_check}
@@ -68,9 +69,10 @@ well-typed p a =
     stays-typed c map.empty (subst (λ n. Typed (world n map.empty) c) (start-sites p) (starts-typed p a)) (λ n k h. absurd (nothing n k h))
 
 pub runs-well : RunsWellTyped
+unfolding start_high
 runs-well p a = record {
   sites = a.sound.sites;
-  at = a.sound.at;
-  agents = own-agents p a.sound;
+  site = a.sound.at;
+  lodged = stays-lodged (start_high p) (high-housed p (own-agents p a.sound));
   well = λ events d h. (well-typed p a events d h).1;
 }

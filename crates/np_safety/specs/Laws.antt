@@ -43,6 +43,6 @@ abbrev pub WellTyped : Type 0
 WellTyped = (p : Program) → IsAccepted p → (events : List Event) (d : Config) → run (start_high p) events ≡ Some d
     → TypedAlong (start_high p) map.empty events × WellAlong (start_high p) events
 
--- such a program meets the condition of the serial run
+-- the start of such a program can run
 abbrev pub RunsWellTyped : Type 0
-RunsWellTyped = (p : Program) → IsAccepted p → RunsWell p
+RunsWellTyped = (p : Program) → IsAccepted p → RunsWell (start_high p) p.at

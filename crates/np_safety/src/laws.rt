@@ -23,7 +23,7 @@ pub fn law_low_well_typed()
     ensures along { LowWellTyped }
 {}
 
-/// A resolved program without a fault can run: it meets the condition of the serial run.
+/// The high start of a resolved program without a fault can run: it meets the condition of the serial run.
 pub fn law_runs_well()
     ensures { RunsWellTyped }
 {}

@@ -1,14 +1,8 @@
-use Rattle.std.proofs.Common.{refl}
-use Rattle.np_calculus.specs.Starts.{start_high}
-use Rattle.np_calculus.proofs.OwnNames.{mark-born}
-use Rattle.np_configuration.proofs.Keeping.{kept-start}
+use Rattle.std.proofs.Common.{subst, ◌≡◌}
+use Rattle.std.specs.Prelude.{IfOk}
+use Rattle.np_calculus.specs.Starts.{start_high, with_main}
 use Rattle.np_configuration.proofs.start.start_high.Goals as goal
-
-pub invariant_of-result : goal.invariant_of-result
-invariant_of-result c =
-    rw (c.in_ok-work.ensures, c.put_first.ensures, c.in_ok-atoms.ensures.empty, c.in_ok-proc.ensures, c.new.ensures, c.in_ok-born.ensures)
-    (kept-start _ _ _ (mark-born _))
 
 pub returns : goal.returns
 unfolding start_high
-returns c = rw (c.in_ok-places.ensures, c.put_first.ensures, c.in_ok-atoms.ensures.empty, c.in_ok-proc.ensures, c.new.ensures, c.new-2.ensures, c.in_ok-born.ensures, c.len-sites.ensures) refl
+returns c = subst (λ n. IfOk c.with_main.result (λ d. d ≡ with_main n c.args.p.now.at c.args.p.now.main)) c.len-sites.ensures c.with_main.ensures

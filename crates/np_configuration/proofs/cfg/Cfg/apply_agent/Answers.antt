@@ -14,7 +14,7 @@ use Rattle.np_configuration.specs.contracts.cfg.Cfg.{the_view}
 use Rattle.np_eval.specs.Eval.{Env}
 use Rattle.np_eval.specs.Forms.{layer}
 use Rattle.np_eval.specs.FormParts.{as_agent_form}
-use Rattle.np_configuration.specs.Moves.{agent_in}
+use Rattle.np_agents.specs.Moves.{agent_in}
 use Rattle.np_calculus.specs.Reductions.{goes_under}
 use Rattle.np_calculus.specs.Seen.{acting}
 use Rattle.np_calculus.proofs.Inversions.{step-agent}

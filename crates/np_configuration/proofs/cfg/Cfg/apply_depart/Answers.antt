@@ -3,7 +3,7 @@ use Rattle.std.specs.FinMap as map
 use Rattle.np_calculus.specs.Config.{Config}
 use Rattle.np_calculus.specs.Seen.{acting}
 use Rattle.np_eval.specs.Forms.{layer}
-use Rattle.np_configuration.specs.Moves.{way_at}
+use Rattle.np_agents.specs.Moves.{way_at}
 use Rattle.np_calculus.specs.Reductions.{goes}
 use Rattle.np_configuration.proofs.Keeping.{kept-on}
 use Rattle.np_calculus.proofs.Steps.{acting-step}

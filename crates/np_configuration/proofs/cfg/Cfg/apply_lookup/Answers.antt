@@ -5,7 +5,7 @@ use Rattle.np_configuration.specs.contracts.cfg.Cfg.{the_view}
 use Rattle.np_calculus.specs.declared.config.Atom.{Atom}
 use Rattle.np_calculus.specs.Config.{Config}
 use Rattle.np_configuration.specs.Found.{IsLookup}
-use Rattle.np_configuration.specs.Moves.{way_in}
+use Rattle.np_agents.specs.Moves.{way_in}
 use Rattle.np_calculus.specs.Reductions.{goes_under}
 use Rattle.np_calculus.proofs.Rows.{lookup-row}
 use Rattle.np_configuration.proofs.Keeping.{kept-on, kept-as}

@@ -2,7 +2,7 @@ use Rattle.std.proofs.Common.{◌≡◌, Some, rules, refl, ap, ◌∙◌}
 use Rattle.std.specs.FinMap as map
 use Rattle.np_calculus.specs.Config.{Config}
 use Rattle.np_eval.specs.Forms.{layer}
-use Rattle.np_configuration.specs.Moves.{body_at}
+use Rattle.np_agents.specs.Moves.{body_at}
 use Rattle.np_calculus.specs.Reductions.{goes_under}
 use Rattle.np_calculus.specs.Seen.{acting}
 use Rattle.np_configuration.proofs.Keeping.{kept-on, kept-born}

@@ -7,7 +7,7 @@ use Rattle.np_eval.specs.Forms.{layer}
 use Rattle.np_eval.proofs.FormsByParts.{lookup-form}
 use Rattle.np_calculus.proofs.Inversions.{step-lookup}
 use Rattle.np_configuration.specs.Found.{found_env}
-use Rattle.np_configuration.specs.Moves.{way_at}
+use Rattle.np_agents.specs.Moves.{way_at}
 use Rattle.np_configuration.proofs.Ways.{found-goes}
 use Rattle.np_configuration.proofs.cfg.Cfg.find_lookup.Goals as goal
 

@@ -1,0 +1,242 @@
+ghost use Rattle.std.specs.Prelude.{◌≡◌, ◌≤◌, cond, IsSome, option_map};
+ghost use Rattle.np_agents.specs.Moves.{Splits, par_in, body_at, body_in, Enters, way_at, way_in, GoesOn, GoesUnder, agent_in, SplitsAgent};
+ghost use Rattle.np_syntax.specs.declared.process.ProcForm.{out-ProcForm};
+ghost use Rattle.np_eval.specs.Forms.{layer};
+ghost use Rattle.np_eval.specs.FormParts.{as_par, as_agent_form};
+ghost use Rattle.np_calculus.specs.Reductions.{goes, goes_under};
+
+use np_calculus::Atom;
+use np_eval::Frame;
+use np_syntax::{Boxed, Name, Proc, ProcForm};
+use np_tables::Table;
+
+/// The atoms that a composition goes on as, moved out of it; the second has a frame of its own.
+pub fn halves(atom: Atom, env: Frame) -> Option<(Atom, Atom)>
+    ensures { result ≡ option_map (λ parts. (goes atom parts.0, goes_under atom parts.1 env)) (as_par (layer atom.proc)) }
+{
+    let Atom {
+        agent,
+        proc,
+        env: own,
+    } = atom;
+    match proc.form {
+        ProcForm::Par(left, right) => Some((
+            Atom {
+                agent,
+                proc: left.into_inner(),
+                env: own,
+            },
+            Atom {
+                agent,
+                proc: right.into_inner(),
+                env,
+            },
+        )),
+        other => {
+            drop(other);
+            None
+        }
+    }
+}
+
+/// The body of a form that has one, moved out of it.
+fn body_of(form: ProcForm) -> Option<Proc>
+    ensures { result ≡ body_at (out-ProcForm form) }
+{
+    match form {
+        ProcForm::New(_binder, _ty, body) => Some(body.into_inner()),
+        ProcForm::Inp(_chan, _pat, body) => Some(body.into_inner()),
+        ProcForm::Let(_pat, _value, body) => Some(body.into_inner()),
+        ProcForm::Migrate(_site, body) => Some(body.into_inner()),
+        other => {
+            drop(other);
+            None
+        }
+    }
+}
+
+/// The atom of a form with one body, gone on as that under another frame.
+fn body(atom: Atom, env: Frame) -> Option<Atom>
+    ensures { result ≡ option_map (λ body. goes_under atom body env) (body_at (layer atom.proc)) }
+{
+    let Atom { agent, proc, .. } = atom;
+    match body_of(proc.form) {
+        Some(proc) => Some(Atom { agent, proc, env }),
+        None => None,
+    }
+}
+
+/// Lets a composition go on as its first part, and puts its second part under a mark, with a frame of its own.
+#[tactic(auto, using(np_tables::proofs::Tables::puts))]
+pub fn split(atoms: &mut Table<Atom>, actor: Name, mark: Name, env: Frame)
+    requires room { 2 ≤ atoms.old.spare }
+    requires whole { IsSome (par_in atoms.old.items actor) }
+    ensures { Splits atoms.old.items atoms.new.items actor mark env }
+{
+    let Some(whole) = atoms.take(actor) else {
+        unreachable!();
+    };
+    let Some((left, right)) = halves(whole, env) else {
+        unreachable!();
+    };
+    atoms.put(mark, right);
+    atoms.put(actor, left);
+}
+
+/// Lets an atom go on as its body, under another frame.
+#[tactic(auto, using(np_tables::proofs::Tables::puts))]
+pub fn enter(atoms: &mut Table<Atom>, actor: Name, env: Frame)
+    requires room { 1 ≤ atoms.old.spare }
+    requires whole { IsSome (body_in atoms.old.items actor) }
+    ensures { Enters atoms.old.items atoms.new.items actor env }
+{
+    let Some(whole) = atoms.take(actor) else {
+        unreachable!();
+    };
+    let Some(atom) = body(whole, env) else {
+        unreachable!();
+    };
+    atoms.put(actor, atom);
+}
+
+/// The first or the second of two processes.
+pub fn chosen<'a>(met: &'a Proc, unmet: &'a Proc, first: bool) -> &'a Proc
+    ensures { result.now ≡ cond first met.now unmet.now }
+{
+    if first { met } else { unmet }
+}
+
+/// The same of processes that are moved.
+fn either(met: Boxed<Proc>, unmet: Boxed<Proc>, first: bool) -> Proc
+    ensures { result ≡ cond first met unmet }
+{
+    if first {
+        met.into_inner()
+    } else {
+        unmet.into_inner()
+    }
+}
+
+/// The process that a migration, a test or a lookup goes on as, moved out of it.
+fn way_of(form: ProcForm, first: bool) -> Option<Proc>
+    ensures { result ≡ way_at (out-ProcForm form) first }
+{
+    match form {
+        ProcForm::Migrate(_site, body) => Some(body.into_inner()),
+        ProcForm::If(_test, met, unmet) => Some(either(met, unmet, first)),
+        ProcForm::IfLocal(_agent, _chan, _value, met, unmet) => Some(either(met, unmet, first)),
+        ProcForm::Lookup(_agent, _places, _binder, met, unmet) => Some(either(met, unmet, first)),
+        other => {
+            drop(other);
+            None
+        }
+    }
+}
+
+/// The atom gone on as a process in it.
+fn way(atom: Atom, first: bool) -> Option<Atom>
+    ensures { result ≡ option_map (λ p. goes atom p) (way_at (layer atom.proc) first) }
+{
+    let Atom { agent, proc, env } = atom;
+    match way_of(proc.form, first) {
+        Some(proc) => Some(Atom { agent, proc, env }),
+        None => None,
+    }
+}
+
+/// Lets an atom go on as a process in it, under the frame that it has; of two processes it is the first or the second.
+#[tactic(auto, using(np_tables::proofs::Tables::puts))]
+pub fn go_on(atoms: &mut Table<Atom>, actor: Name, first: bool)
+    requires room { 1 ≤ atoms.old.spare }
+    requires whole { IsSome (way_in atoms.old.items actor first) }
+    ensures { GoesOn atoms.old.items atoms.new.items actor first }
+{
+    let Some(whole) = atoms.take(actor) else {
+        unreachable!();
+    };
+    let Some(atom) = way(whole, first) else {
+        unreachable!();
+    };
+    atoms.put(actor, atom);
+}
+
+/// The atom gone on as a process in it, under another frame.
+fn way_under(atom: Atom, first: bool, env: Frame) -> Option<Atom>
+    ensures { result ≡ option_map (λ p. goes_under atom p env) (way_at (layer atom.proc) first) }
+{
+    let Atom { agent, proc, .. } = atom;
+    match way_of(proc.form, first) {
+        Some(proc) => Some(Atom { agent, proc, env }),
+        None => None,
+    }
+}
+
+/// Lets an atom go on as a process in it, under another frame; of two processes it is the first or the second.
+#[tactic(auto, using(np_tables::proofs::Tables::puts))]
+pub fn go_under(atoms: &mut Table<Atom>, actor: Name, first: bool, env: Frame)
+    requires room { 1 ≤ atoms.old.spare }
+    requires whole { IsSome (way_in atoms.old.items actor first) }
+    ensures { GoesUnder atoms.old.items atoms.new.items actor first env }
+{
+    let Some(whole) = atoms.take(actor) else {
+        unreachable!();
+    };
+    let Some(atom) = way_under(whole, first, env) else {
+        unreachable!();
+    };
+    atoms.put(actor, atom);
+}
+
+/// The new agent's atom and the one that goes on, moved out of the atom that makes the agent.
+fn agent_halves(atom: Atom, agent: Name, env: Frame, own: Frame) -> Option<(Atom, Atom)>
+    ensures { result ≡ option_map (λ parts. (record { agent = agent; proc = parts.1; env = env }, goes_under atom parts.2 own)) (as_agent_form (layer atom.proc)) }
+{
+    let Atom {
+        agent: at,
+        proc,
+        ..
+    } = atom;
+    match proc.form {
+        ProcForm::Agent(_binder, body, rest) => Some((
+            Atom {
+                agent,
+                proc: body.into_inner(),
+                env,
+            },
+            Atom {
+                agent: at,
+                proc: rest.into_inner(),
+                env: own,
+            },
+        )),
+        other => {
+            drop(other);
+            None
+        }
+    }
+}
+
+/// Lets an atom that makes an agent go on, and puts the agent's process under a mark; each has one of two equal frames.
+#[tactic(auto, using(np_tables::proofs::Tables::puts))]
+pub fn split_agent(
+    atoms: &mut Table<Atom>,
+    actor: Name,
+    agent: Name,
+    mark: Name,
+    env: Frame,
+    own: Frame,
+)
+    requires room { 2 ≤ atoms.old.spare }
+    requires same { own ≡ env }
+    requires whole { IsSome (agent_in atoms.old.items actor) }
+    ensures { SplitsAgent atoms.old.items atoms.new.items actor agent mark env }
+{
+    let Some(whole) = atoms.take(actor) else {
+        unreachable!();
+    };
+    let Some((body, rest)) = agent_halves(whole, agent, env, own) else {
+        unreachable!();
+    };
+    atoms.put(mark, body);
+    atoms.put(actor, rest);
+}

@@ -1,0 +1,9 @@
+use Rattle.std.proofs.Common.{true, subst, sym, ◌≡◌}
+use Rattle.std.specs.FinSet as set
+use Rattle.np_calculus.specs.Config.{Config}
+use Rattle.np_calculus.specs.Starts.{main_mark}
+use Rattle.np_calculus.proofs.OwnNames.{mark-born}
+use Rattle.np_configuration.proofs.start.with_main.Goals as goal
+
+pub add_agent-requires : goal.add_agent-requires
+add_agent-requires c = subst (λ (d : Config). set.contains d.born (main_mark c.args.sites) ≡ true) (sym c.in_ok-start.ensures) (mark-born c.args.sites)
