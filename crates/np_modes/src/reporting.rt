@@ -1,5 +1,5 @@
 ghost use Rattle.std.specs.Prelude.{◌≡◌, ◌++◌, IfOk, OnOk};
-ghost use Rattle.np_run.specs.Report.{said_line, last_line, report_text};
+ghost use Rattle.np_modes.specs.Report.{said_line, last_line, report_text};
 
 use np_syntax::{End, List, Memory, Text, Value, print_value};
 use std::alloc::Global;

@@ -1,7 +1,7 @@
 ghost use Rattle.std.specs.Prelude.{◌≡◌, option_map};
 ghost use Rattle.std.specs.Char.{is_ascii_digit};
 ghost use Rattle.std.specs.List.{list_all};
-ghost use Rattle.np_run.specs.Words.{Plan, budget_of, is_numeral, mode_of, plan, running_mode_of, within_limit};
+ghost use Rattle.np_modes.specs.Words.{Plan, budget_of, is_numeral, mode_of, plan, running_mode_of, within_limit};
 
 use np_io::Word;
 use np_syntax::{LARGEST_BUDGET, USUAL_BUDGET};

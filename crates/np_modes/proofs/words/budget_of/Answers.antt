@@ -1,5 +1,5 @@
 use Rattle.std.proofs.Common.{◌≡◌, ℕ, ◌<◌, ◌^◌, List, length, Option, None, Result, Ok, Err, true, false, ◌&&◌, refl, sym, ap, ◌∙◌, rules, arith}
-use Rattle.std.specs.Prelude.{Bool, nat_le, nat_lt}
+use Rattle.std.specs.Prelude.{nat_le, nat_lt}
 use Rattle.std.specs.List.{list_all}
 use Rattle.std.specs.Char.{is_ascii_digit}
 use Rattle.std.specs.Str.Parse.{digits_value, ParsesUnsigned}
@@ -8,8 +8,8 @@ use Rattle.std.proofs.lemmas.Bool.Decides.{nat_tests}
 use Rattle.std.proofs.lemmas.Str.Parse.{IsNumeralModel, numerals_by_value, parse_digits}
 use Rattle.np_syntax.specs.declared.limits.TheConstants.{LARGEST_BUDGET}
 use Rattle.np_syntax.proofs.Bools.{and-out, and-false}
-use Rattle.np_run.specs.Words.{budget_of, is_numeral, within_limit}
-use Rattle.np_run.proofs.words.budget_of.Goals as goal
+use Rattle.np_modes.specs.Words.{budget_of, is_numeral, within_limit}
+use Rattle.np_modes.proofs.words.budget_of.Goals as goal
 
 own : IsNumeralModel (λ ds. list_all is_ascii_digit ds ≡ true) (digits_value 10)
 own = numerals_by_value _ (search rules)

@@ -5,8 +5,8 @@ use Rattle.std.specs.List.{list_all}
 use Rattle.std.specs.Str.{bytes_eq}
 use Rattle.std.specs.Str.Parse.{digits_value}
 use Rattle.np_syntax.specs.declared.limits.TheConstants.{LARGEST_BUDGET, USUAL_BUDGET}
-use Rattle.np_run.specs.declared.words.Mode.{Mode}
-use Rattle.np_run.specs.declared.words.Mode.TheVariants as mode
+use Rattle.np_modes.specs.declared.words.Mode.{Mode}
+use Rattle.np_modes.specs.declared.words.Mode.TheVariants as mode
 
 -- what the words ask for: the mode, the name of the source, and how many events a run may have
 pub record Plan : Type 0 where

@@ -1,10 +1,10 @@
 ghost use Rattle.std.specs.Prelude.{◌≡◌, ◌≢◌, ◌+◌, ◌≤◌, length, IfOk, IfErr};
-ghost use Rattle.np_run.specs.Words.{plan, texts_read};
-ghost use Rattle.np_run.specs.Answers.{Reading, Stands, HasMade, IsRunOf, Runs, KeepsRun, KeepsHigh, Shows, Checks, Does, record_of};
-ghost use Rattle.np_run.specs.Faults.{Faulty, IsWellTyped};
+ghost use Rattle.np_modes.specs.Words.{plan, texts_read};
+ghost use Rattle.np_modes.specs.Causes.{Reading, Stands, HasMade, IsRunOf, Runs, KeepsRun, KeepsHigh, Shows, Checks, Does, record_of};
+ghost use Rattle.np_modes.specs.Faults.{Faulty, IsWellTyped};
 
-use super::answer::Record;
 use super::reading::{checked_program, tokens_of, tree_of};
+use super::record::Record;
 use super::refusal::Refusal;
 use super::reporting::report;
 use super::words::{Mode, planned};
@@ -18,14 +18,14 @@ use std::alloc::Global;
 
 /// The text to write to standard output, and the run if there was one.
 #[derive(Drop)]
-pub(crate) struct Job {
-    pub(crate) kept: Option<Record>,
-    pub(crate) high: Option<SerialRun>,
-    pub(crate) text: Text,
+pub struct Job {
+    pub kept: Option<Record>,
+    pub high: Option<SerialRun>,
+    pub text: Text,
 }
 
 /// Reads the file that the command line names, and does what its mode asks for.
-pub(crate) fn work<T: Texts>(alloc: Global, words: &[Word], texts: &mut T) -> Result<Job, Refusal>
+pub fn work<T: Texts>(alloc: Global, words: &[Word], texts: &mut T) -> Result<Job, Refusal>
     ensures begins { T.begins texts.new ≤ T.begins texts.old + texts_read (plan words.now) }
     ensures made { let seen : Reading = record {
       held = T.held texts.old;

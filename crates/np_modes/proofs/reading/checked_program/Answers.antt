@@ -1,5 +1,5 @@
 use Rattle.std.proofs.Common.{inr, refl, rules}
-use Rattle.np_run.proofs.reading.checked_program.Goals as goal
+use Rattle.np_modes.proofs.reading.checked_program.Goals as goal
 
 pub returns-in-Err-TypeFault-clause-refused : goal.returns-in-Err-TypeFault-clause-refused
 returns-in-Err-TypeFault-clause-refused c = λ _. inr (inr (record {

@@ -1,7 +1,7 @@
 use Rattle.std.proofs.Common.{inr, ap, ◌∙◌}
 use Rattle.np_scope.proofs.FromGrammar.{written}
-use Rattle.np_run.specs.Faults.{of_scope}
-use Rattle.np_run.proofs.reading.program_of.Goals as goal
+use Rattle.np_modes.specs.Faults.{of_scope}
+use Rattle.np_modes.proofs.reading.program_of.Goals as goal
 
 pub resolve-resolved-requires-clause-written : goal.resolve-resolved-requires-clause-written
 resolve-resolved-requires-clause-written c = written c.in_ok-tree.ensures.found

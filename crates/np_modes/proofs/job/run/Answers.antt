@@ -2,8 +2,8 @@ use Rattle.std.proofs.Common.{sym, subst, ap, ◌∙◌}
 use Rattle.np_syntax.specs.declared.program.Program.{Program}
 use Rattle.np_configuration.specs.Serial.{IsSerialRun}
 use Rattle.np_calculus.specs.Runs.{RunsWell}
-use Rattle.np_run.specs.Report.{report_text}
-use Rattle.np_run.proofs.job.run.Goals as goal
+use Rattle.np_modes.specs.Report.{report_text}
+use Rattle.np_modes.proofs.job.run.Goals as goal
 
 pub run_serial-requires : goal.run_serial-requires
 run_serial-requires c = subst (λ (p : Program). RunsWell p) (sym c.program-program.ensures.value) (c.law_runs_well.ensures _ c.program-program.ensures.accepted)

@@ -23,12 +23,12 @@ use Rattle.np_scope.specs.declared.fail.ScopeFail.TheVariants as scope
 use Rattle.np_scope.specs.Resolved.{resolved}
 use Rattle.np_types.specs.declared.fault.TypeFault.{TypeFault as FirstFault}
 use Rattle.np_check.specs.Faults.{faults}
-use Rattle.np_run.specs.Faults.{HasProgram, HasNoTree, HasNoProgram, IsIllTyped, IsWellTyped, IsNoProgram, Wrong, Accepted, Faulty, of_tokens, of_grammar, of_scope}
-use Rattle.np_run.specs.Lines.{status_of}
-use Rattle.np_run.specs.declared.refusal.Refusal.{Refusal}
-use Rattle.np_run.specs.declared.refusal.Refusal.TheVariants.{Usage, TooLong, TypeFault}
-use Rattle.np_run.specs.declared.words.Mode.{Mode}
-use Rattle.np_run.specs.declared.words.Mode.TheVariants as mode
+use Rattle.np_modes.specs.Faults.{HasProgram, HasNoTree, HasNoProgram, IsIllTyped, IsWellTyped, IsNoProgram, Wrong, Accepted, Faulty, of_tokens, of_grammar, of_scope}
+use Rattle.np_modes.specs.Lines.{status_of}
+use Rattle.np_modes.specs.declared.refusal.Refusal.{Refusal}
+use Rattle.np_modes.specs.declared.refusal.Refusal.TheVariants.{Usage, TooLong, TypeFault}
+use Rattle.np_modes.specs.declared.words.Mode.{Mode}
+use Rattle.np_modes.specs.declared.words.Mode.TheVariants as mode
 
 -- ---- two cuts of one list
 

@@ -1,6 +1,6 @@
 ghost use Rattle.std.specs.Prelude.{◌≡◌, ◌++◌, IfOk, codes};
-ghost use Rattle.np_run.specs.Faults.{of_grammar, of_scope, of_tokens};
-ghost use Rattle.np_run.specs.Lines.{line_of, placed_line, rule_text, status_of};
+ghost use Rattle.np_modes.specs.Faults.{of_grammar, of_scope, of_tokens};
+ghost use Rattle.np_modes.specs.Lines.{line_of, placed_line, rule_text, status_of};
 
 use super::statuses::{BAD_SOURCE, BAD_USAGE, NO_MEMORY, READ_FAILED};
 use np_lex::LexFail;

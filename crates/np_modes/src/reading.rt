@@ -6,7 +6,7 @@ ghost use Rattle.np_tree.specs.Grammar.{IsProgram};
 ghost use Rattle.np_tree.specs.Sizes.{nodes, binders};
 ghost use Rattle.np_scope.specs.Sound.{IsSound};
 ghost use Rattle.np_check.specs.Faults.{faults};
-ghost use Rattle.np_run.specs.Faults.{HasNoTokens, HasNoTree, HasNoProgram, HasProgram, IsNoProgram};
+ghost use Rattle.np_modes.specs.Faults.{HasNoTokens, HasNoTree, HasNoProgram, HasProgram, IsNoProgram};
 
 use super::refusal::{Refusal, of_grammar, of_scope, of_tokens};
 use np_check::{CheckFail, Checked, check};

@@ -1,7 +1,7 @@
 use Rattle.std.proofs.Common.{◌≡◌, take}
 use Rattle.std.specs.List.{flat_map}
-use Rattle.np_run.specs.Report.{said_line}
-use Rattle.np_run.proofs.reporting.report.Given as goal
+use Rattle.np_modes.specs.Report.{said_line}
+use Rattle.np_modes.proofs.reporting.report.Given as goal
 
 -- the lines of the values so far
 abbrev pub invariant-loop-site : goal.invariant-loop-site

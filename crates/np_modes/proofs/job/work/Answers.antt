@@ -1,11 +1,13 @@
 use Rattle.std.proofs.Common.{◌≡◌, ◌≢◌, ℕ, List, Result, Ok, Err, IfOk, IfErr, sym, subst, rules}
-use Rattle.np_run.specs.Faults.{Faulty}
-use Rattle.np_run.specs.Words.{Plan}
-use Rattle.np_run.specs.Answers.{Reading, IsRead, HasMade, Does, Stands}
-use Rattle.np_run.specs.declared.refusal.Refusal.{Refusal}
-use Rattle.np_run.specs.declared.refusal.Refusal.TheVariants.{Memory}
-use Rattle.np_run.specs.declared.job.Job.{Job}
-use Rattle.np_run.proofs.job.work.Goals as goal
+use Rattle.np_io.specs.declared.texts.ReadFail.{ReadFail}
+use Rattle.np_io.specs.declared.texts.ReadFail.TheVariants.{ReadFault, TooLong}
+use Rattle.np_modes.specs.Faults.{Faulty}
+use Rattle.np_modes.specs.Words.{Plan}
+use Rattle.np_modes.specs.Causes.{Reading, IsRead, HasMade, Does, Stands}
+use Rattle.np_modes.specs.declared.refusal.Refusal.{Refusal}
+use Rattle.np_modes.specs.declared.refusal.Refusal.TheVariants.{Memory}
+use Rattle.np_modes.specs.declared.job.Job.{Job}
+use Rattle.np_modes.proofs.job.work.Goals as goal
 
 -- a refusal of a source that was read has its cause
 has_cause : {A : Type 0} (words : List (List ℕ)) (texts : Reading) (asked : Plan) (bytes given : List ℕ) → given ≡ bytes → IsRead words texts asked bytes
@@ -22,11 +24,15 @@ is_made words texts asked bytes given same read (Ok job) h =
     record { asked = asked; bytes = bytes; read = read; does = subst (λ (b : List ℕ). Does asked.mode asked.budget b job.kept job.high job.text) same h }
 is_made words texts asked bytes given same read (Err e) h = tt
 
+-- a fault of reading is not that the text is too long
+fault_alone : {A : Type 0} (result : Result A ReadFail) → result ≡ Err ReadFault → result ≢ Err TooLong
+fault_alone result fault long = cc
+
 pub returns-in_default-clause-refused : goal.returns-in_default-clause-refused
 returns-in_default-clause-refused g c = λ _. Stands.words (search rules)
 
 pub returns-in-Err-ReadFault-clause-refused : goal.returns-in-Err-ReadFault-clause-refused
-returns-in-Err-ReadFault-clause-refused g c = λ _. Stands.fault (sym c.in-Some.ensures) (c.read_all.ensures.cause (search rules)) (c.read_all.ensures.within (λ e. cc))
+returns-in-Err-ReadFault-clause-refused g c = λ _. Stands.fault (sym c.in-Some.ensures) (c.read_all.ensures.cause (search rules)) (c.read_all.ensures.within (fault_alone c.read_all.result (search rules)))
 
 pub returns-in-Err-TooLong-clause-refused : goal.returns-in-Err-TooLong-clause-refused
 returns-in-Err-TooLong-clause-refused g c = λ _. Stands.long (sym c.in-Some.ensures) (c.read_all.ensures.long (search rules)) (c.read_all.ensures.long_text (search rules))
