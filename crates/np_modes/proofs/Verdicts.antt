@@ -159,6 +159,7 @@ wrong_once mode.Run ts a b f g = no_program_once ts a b f g
 wrong_once mode.High ts a b f g = no_program_once ts a b f g
 wrong_once mode.Show ts a b f g = tree_refused_once ts a b f g
 wrong_once mode.Check ts a b f g = no_program_once ts a b f g
+wrong_once mode.Low ts a b f g = no_program_once ts a b f g
 
 -- with tokens of a program that is well typed nothing is wrong
 typed_not_wrong : (ts : List Token) (p : Program) (r : Refusal) → HasProgram ts p → faults p ≡ [] → IsNoProgram ts r → ⊥
@@ -202,6 +203,7 @@ not_both mode.Show bytes refusal a (inr f) =
     let wrong : HasNoTree a.1.tokens refusal = subst (λ (ts : List Token). Wrong mode.Show ts refusal) same f.wrong in
     no_tree DEEPEST a.1.tokens a.0 wrong.fail a.1.parsed wrong.refused
 not_both mode.Check bytes refusal a f = well_typed_not_refused bytes a.0 refusal a.1 f
+not_both mode.Low bytes refusal a f = well_typed_not_refused bytes a.0 refusal a.1 (to_check mode.Low (λ ts r w. w) bytes refusal f)
 
 -- a source is refused in one way
 pub same_fault : (m : Mode) (bytes : List ℕ) (a b : Refusal) → Faulty m bytes a → Faulty m bytes b → a ≡ b
@@ -223,6 +225,7 @@ not_source refusal a b c d mode.Run bytes (inr f) = elim (f.wrong) [ inl w ↦ b
 not_source refusal a b c d mode.High bytes (inr f) = elim (f.wrong) [ inl w ↦ b w.fail w.is | inr rest ↦ elim rest [ inl w ↦ c w.fail w.is | inr w ↦ d w.fault w.is ] ]
 not_source refusal a b c d mode.Show bytes (inr f) = let w : HasNoTree f.tokens refusal = f.wrong in b w.fail w.is
 not_source refusal a b c d mode.Check bytes (inr f) = elim (f.wrong) [ inl w ↦ b w.fail w.is | inr rest ↦ elim rest [ inl w ↦ c w.fail w.is | inr w ↦ d w.fault w.is ] ]
+not_source refusal a b c d mode.Low bytes (inr f) = elim (f.wrong) [ inl w ↦ b w.fail w.is | inr rest ↦ elim rest [ inl w ↦ c w.fail w.is | inr w ↦ d w.fault w.is ] ]
 
 long_tokens : (e : LexFail) → TooLong ≡ of_tokens e → ⊥
 long_tokens lex.Memory e = cc
@@ -283,6 +286,7 @@ faulty_status mode.Run bytes refusal (inr f) = wrong_status f.tokens refusal f.w
 faulty_status mode.High bytes refusal (inr f) = wrong_status f.tokens refusal f.wrong
 faulty_status mode.Show bytes refusal (inr f) = wrong_status f.tokens refusal (inl f.wrong)
 faulty_status mode.Check bytes refusal (inr f) = wrong_status f.tokens refusal f.wrong
+faulty_status mode.Low bytes refusal (inr f) = wrong_status f.tokens refusal f.wrong
 
 pub not_usage : (m : Mode) (bytes : List ℕ) → Faulty m bytes Usage → ⊥
 not_usage m bytes f = elim (faulty_status m bytes Usage f) [ inl e ↦ omega (arith, e) | inr e ↦ omega (arith, e) ]

@@ -6,6 +6,8 @@ use Rattle.np_io.specs.Causes.{Counts, Rose}
 use Rattle.np_io.specs.Bytes.{Held}
 use Rattle.np_tree.specs.declared.tree.Tree.{Tree}
 use Rattle.np_show.specs.Shown.{shown}
+use Rattle.np_low_text.specs.LowText.{low_text}
+use Rattle.daemon_encode.specs.Encoded.{encoded}
 use Rattle.np_configuration.specs.declared.serial.SerialRun.{SerialRun}
 use Rattle.np_configuration.specs.Serial.{IsSerialRun}
 use Rattle.np_modes.specs.Faults.{HasTree, IsWellTyped, Faulty}
@@ -107,12 +109,22 @@ pub record Checks (bytes : List ℕ) (kept : Option Record) (high : Option Seria
   pub is_kept : kept ≡ None
   pub is_high : high ≡ None
 
--- what the mode makes of a source within a budget: a run, which is kept, the canonical text, or that it is well typed
+-- the source is well typed, and this is the low text of its low program
+pub record Lowers (bytes : List ℕ) (kept : Option Record) (high : Option SerialRun) (text : List ℕ) : Type 0 where
+  pub program : Program
+  pub accepted : IsWellTyped bytes program
+  pub lowers : text ≡ low_text (encoded program)
+  pub is_kept : kept ≡ None
+  pub is_high : high ≡ None
+
+-- what the mode makes of a source within a budget: a run, which is kept, the canonical text, that it is well typed, or the low
+-- text
 abbrev pub Does : Mode → ℕ → List ℕ → Option Record → Option SerialRun → List ℕ → Type 0
 Does mode.Run budget bytes kept high text = KeepsRun budget bytes kept high text
 Does mode.High budget bytes kept high text = KeepsHigh budget bytes kept high text
 Does mode.Show budget bytes kept high text = Shows bytes kept high text
 Does mode.Check budget bytes kept high text = Checks bytes kept high text
+Does mode.Low budget bytes kept high text = Lowers bytes kept high text
 
 -- the words name a source, and this was made of it
 pub record HasMade (words : List (List ℕ)) (texts : Reading) (kept : Option Record) (high : Option SerialRun) (text : List ℕ) : Type 0 where

@@ -70,6 +70,7 @@ Accepted mode.Run bytes = (program : Program) × IsWellTyped bytes program
 Accepted mode.High bytes = (program : Program) × IsWellTyped bytes program
 Accepted mode.Show bytes = (tree : Tree) × HasTree bytes tree
 Accepted mode.Check bytes = (program : Program) × IsWellTyped bytes program
+Accepted mode.Low bytes = (program : Program) × IsWellTyped bytes program
 
 -- ---- what is refused
 
@@ -111,6 +112,7 @@ Wrong mode.Run ts refusal = IsNoProgram ts refusal
 Wrong mode.High ts refusal = IsNoProgram ts refusal
 Wrong mode.Show ts refusal = HasNoTree ts refusal
 Wrong mode.Check ts refusal = IsNoProgram ts refusal
+Wrong mode.Low ts refusal = IsNoProgram ts refusal
 
 -- the bytes have tokens, and the mode finds this wrong with them
 pub record AreWrong (m : Mode) (bytes : List ℕ) (refusal : Refusal) : Type 0 where

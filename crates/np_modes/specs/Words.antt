@@ -16,7 +16,8 @@ pub record Plan : Type 0 where
 
 abbrev pub mode_of : List ℕ → Option Mode
 mode_of word = if bytes_eq word (codes "run") then Some mode.Run else (if bytes_eq word (codes "high") then Some mode.High
-    else (if bytes_eq word (codes "show") then Some mode.Show else (if bytes_eq word (codes "check") then Some mode.Check else None)))
+    else (if bytes_eq word (codes "show") then Some mode.Show else (if bytes_eq word (codes "check") then Some mode.Check
+    else (if bytes_eq word (codes "low") then Some mode.Low else None))))
 
 -- the mode of a word, where it runs sources
 abbrev pub running_mode_of : List ℕ → Option Mode

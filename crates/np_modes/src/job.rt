@@ -1,6 +1,8 @@
 ghost use Rattle.std.specs.Prelude.{◌≡◌, ◌≢◌, ◌+◌, ◌≤◌, length, IfOk, IfErr};
+ghost use Rattle.np_low_text.specs.LowText.{low_text};
+ghost use Rattle.daemon_encode.specs.Encoded.{encoded};
 ghost use Rattle.np_modes.specs.Words.{plan, texts_read};
-ghost use Rattle.np_modes.specs.Causes.{Reading, Stands, HasMade, IsRunOf, Runs, KeepsRun, KeepsHigh, Shows, Checks, Does, record_of};
+ghost use Rattle.np_modes.specs.Causes.{Reading, Stands, HasMade, IsRunOf, Runs, KeepsRun, KeepsHigh, Shows, Checks, Lowers, Does, record_of};
 ghost use Rattle.np_modes.specs.Faults.{Faulty, IsWellTyped};
 
 use super::reading::{checked_program, tokens_of, tree_of};
@@ -8,9 +10,11 @@ use super::record::Record;
 use super::refusal::Refusal;
 use super::reporting::report;
 use super::words::{Mode, planned};
+use daemon_encode::encode;
 use np_check::Checked;
 use np_configuration::{SerialRun, run_serial};
 use np_io::{ReadFail, Texts, Word, read_all};
+use np_low_text::print_low;
 use np_safety::law_runs_well;
 use np_show::show;
 use np_syntax::{LONGEST_SOURCE, List, Memory, Text};
@@ -67,6 +71,7 @@ fn job_of(alloc: Global, mode: Mode, budget: u32, bytes: &[u8]) -> Result<Job, R
         Mode::High => high_source(alloc, budget, bytes),
         Mode::Show => show_source(alloc, bytes),
         Mode::Check => check_source(alloc, bytes),
+        Mode::Low => low_source(alloc, bytes),
     }
 }
 
@@ -136,6 +141,33 @@ fn check_source(alloc: Global, bytes: &[u8]) -> Result<Job, Refusal>
         }),
         Err(Memory) => Err(Refusal::Memory),
     }
+}
+
+/// The low text of a source.
+fn low_source(alloc: Global, bytes: &[u8]) -> Result<Job, Refusal>
+    requires { length bytes.now ≤ LONGEST_SOURCE }
+    ensures made { IfOk result (λ job. Lowers bytes.now job.kept job.high job.text) }
+    ensures refused { IfErr result (λ refusal. refusal ≢ Refusal.Memory → Faulty Mode.Low bytes.now refusal) }
+{
+    let checked = checked_source(alloc, bytes)?;
+    match low_text(alloc, checked) {
+        Ok(text) => Ok(Job {
+            kept: None,
+            high: None,
+            text,
+        }),
+        Err(Memory) => Err(Refusal::Memory),
+    }
+}
+
+/// The low text of a checked program, which is dropped before the text is made.
+fn low_text(alloc: Global, checked: Checked) -> Result<Text, Memory>
+    ensures { IfOk result (λ text. text ≡ low_text (encoded checked)) }
+{
+    let made = encode(alloc, &checked);
+    drop(checked);
+    let low = made?;
+    print_low(alloc, &low)
 }
 
 /// The checked program of a source, or its refusal.

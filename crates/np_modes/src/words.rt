@@ -6,14 +6,15 @@ ghost use Rattle.np_modes.specs.Words.{Plan, budget_of, is_numeral, mode_of, pla
 use np_io::Word;
 use np_syntax::{LARGEST_BUDGET, USUAL_BUDGET};
 
-/// What the program does with a source: runs it, runs it at the high level, shows its canonical text, or
-/// checks its types.
+/// What the program does with a source: runs it, runs it at the high level, shows its canonical text,
+/// checks its types, or translates it and shows its low text.
 #[derive(Clone, Copy, Debug, PartialEq, Eq)]
 pub enum Mode {
     Run,
     High,
     Show,
     Check,
+    Low,
 }
 
 /// The mode that a word names, if it is one that runs a source.
@@ -41,6 +42,8 @@ fn mode_of(word: &str) -> Option<Mode>
         Some(Mode::Show)
     } else if word == "check" {
         Some(Mode::Check)
+    } else if word == "low" {
+        Some(Mode::Low)
     } else {
         None
     }

@@ -42,6 +42,7 @@ does_accept mode.Run budget bytes kept high text d = (d.runs.program, d.runs.acc
 does_accept mode.High budget bytes kept high text d = (d.runs.program, d.runs.accepted)
 does_accept mode.Show budget bytes kept high text d = (d.tree, d.accepted)
 does_accept mode.Check budget bytes kept high text d = (d.program, d.accepted)
+does_accept mode.Low budget bytes kept high text d = (d.program, d.accepted)
 
 -- what is made is made of an accepted source
 pub made_accepts : (call : Call) (asked : Plan) (bytes : List ℕ) (kept : Option Record) (high : Option SerialRun) (text : List ℕ) → Reads call asked bytes
