@@ -4,13 +4,14 @@ use Rattle.std.specs.Io.KnownBytes.{Appends, Keeps}
 use Rattle.np_syntax.specs.declared.event.End.{End}
 use Rattle.np_syntax.specs.declared.event.End.TheVariants.{Rest, Spent}
 use Rattle.np_configuration.specs.declared.serial.SerialRun.{SerialRun}
-use Rattle.np_run.specs.Words.{plan, texts_read}
-use Rattle.np_run.specs.Lines.{line_of, status_of}
-use Rattle.np_run.specs.Answers.{Call, HasCauses, IsDone, IsRefused, IsStatus, IsWanting, Stands, end_status, status_at}
+use Rattle.np_modes.specs.Words.{plan, texts_read}
+use Rattle.np_modes.specs.Lines.{line_of, status_of}
+use Rattle.np_modes.specs.Causes.{Stands}
+use Rattle.np_run.specs.Answers.{Call, HasCauses, IsDone, IsRefused, IsStatus, IsWanting, end_status, status_at}
 use Rattle.np_run.specs.declared.answer.Answer.{Answer}
-use Rattle.np_run.specs.declared.answer.Record.{Record}
-use Rattle.np_run.specs.declared.refusal.Refusal.{Refusal}
-use Rattle.np_run.specs.declared.refusal.Refusal.TheVariants.{Memory, Usage, ReadFault, TooLong, BadChar, BadString, BigNumber, Syntax, TooDeep, Unbound, SiteTwice, TooManySites, NotASite, TypeFault}
+use Rattle.np_modes.specs.declared.record.Record.{Record}
+use Rattle.np_modes.specs.declared.refusal.Refusal.{Refusal}
+use Rattle.np_modes.specs.declared.refusal.Refusal.TheVariants.{Memory, Usage, ReadFault, TooLong, BadChar, BadString, BigNumber, Syntax, TooDeep, Unbound, SiteTwice, TooManySites, NotASite, TypeFault}
 
 abbrev refusing : ℕ → Answer
 refusing status = record { status = status; kept = None; high = None }

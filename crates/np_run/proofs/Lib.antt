@@ -1,3 +1,2 @@
 mod Answered
-mod Verdicts
 pub mod Outcomes

@@ -3,18 +3,19 @@ use Rattle.std.proofs.Common.{◌≡◌, ◌≢◌, ℕ, ◌≤◌, ◌<◌, ◌
 use Rattle.np_syntax.specs.declared.limits.TheConstants.{LONGEST_SOURCE}
 use Rattle.np_io.specs.Causes.{Rose}
 use Rattle.np_io.specs.Bytes.{Held}
-use Rattle.np_run.specs.Faults.{Accepted, Faulty}
-use Rattle.np_run.specs.Words.{Plan, plan}
-use Rattle.np_run.specs.Lines.{status_of}
-use Rattle.np_run.specs.Answers.{Call, HasCauses, HasMade, Does, IsRead, IsRefused, Stands}
+use Rattle.np_modes.specs.Faults.{Accepted, Faulty}
+use Rattle.np_modes.specs.Words.{Plan, plan}
+use Rattle.np_modes.specs.Lines.{status_of}
+use Rattle.np_modes.specs.Causes.{HasMade, Does, IsRead, Stands}
+use Rattle.np_run.specs.Answers.{Call, HasCauses, IsRefused}
 use Rattle.np_run.specs.Laws.{Reads}
 use Rattle.np_run.specs.declared.answer.Answer.{Answer}
-use Rattle.np_run.specs.declared.answer.Record.{Record}
+use Rattle.np_modes.specs.declared.record.Record.{Record}
 use Rattle.np_configuration.specs.declared.serial.SerialRun.{SerialRun}
-use Rattle.np_run.specs.declared.refusal.Refusal.{Refusal}
-use Rattle.np_run.specs.declared.refusal.Refusal.TheVariants.{Usage, ReadFault, TooLong}
-use Rattle.np_run.specs.declared.words.Mode.{Mode}
-use Rattle.np_run.specs.declared.words.Mode.TheVariants as mode
+use Rattle.np_modes.specs.declared.refusal.Refusal.{Refusal}
+use Rattle.np_modes.specs.declared.refusal.Refusal.TheVariants.{Usage, ReadFault, TooLong}
+use Rattle.np_modes.specs.declared.words.Mode.{Mode}
+use Rattle.np_modes.specs.declared.words.Mode.TheVariants as mode
 
 -- ---- the file and its bytes
 
@@ -41,6 +42,7 @@ does_accept mode.Run budget bytes kept high text d = (d.runs.program, d.runs.acc
 does_accept mode.High budget bytes kept high text d = (d.runs.program, d.runs.accepted)
 does_accept mode.Show budget bytes kept high text d = (d.tree, d.accepted)
 does_accept mode.Check budget bytes kept high text d = (d.program, d.accepted)
+does_accept mode.Low budget bytes kept high text d = (d.program, d.accepted)
 
 -- what is made is made of an accepted source
 pub made_accepts : (call : Call) (asked : Plan) (bytes : List ℕ) (kept : Option Record) (high : Option SerialRun) (text : List ℕ) → Reads call asked bytes

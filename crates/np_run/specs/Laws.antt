@@ -2,13 +2,14 @@
 use Rattle.std.specs.Prelude.{◌≡◌, ◌≢◌, ℕ, ◌<◌, ◌≤◌, ◌⊎◌, ◌↔◌, List, length, Some, None}
 use Rattle.np_syntax.specs.declared.limits.TheConstants.{LONGEST_SOURCE}
 use Rattle.np_io.specs.Causes.{Rose}
-use Rattle.np_run.specs.Faults.{Accepted, Faulty}
-use Rattle.np_run.specs.Words.{Plan, plan}
-use Rattle.np_run.specs.Answers.{Call, HasCauses, IsRefused, Stands}
+use Rattle.np_modes.specs.Faults.{Accepted, Faulty}
+use Rattle.np_modes.specs.Words.{Plan, plan}
+use Rattle.np_modes.specs.Causes.{Stands}
+use Rattle.np_run.specs.Answers.{Call, HasCauses, IsRefused}
 use Rattle.np_run.specs.declared.answer.Answer.{Answer}
-use Rattle.np_run.specs.declared.refusal.Refusal.{Refusal}
-use Rattle.np_run.specs.declared.refusal.Refusal.TheVariants.{TooLong}
-use Rattle.np_run.specs.declared.statuses.TheConstants.{BAD_SOURCE, BAD_USAGE, BUDGET_SPENT, DONE, NO_MEMORY}
+use Rattle.np_modes.specs.declared.refusal.Refusal.{Refusal}
+use Rattle.np_modes.specs.declared.refusal.Refusal.TheVariants.{TooLong}
+use Rattle.np_modes.specs.declared.statuses.TheConstants.{BAD_SOURCE, BAD_USAGE, BUDGET_SPENT, DONE, NO_MEMORY}
 
 -- the words ask for this, the file that they name holds these bytes, and no read of it failed
 pub record Reads (call : Call) (asked : Plan) (bytes : List ℕ) : Type 0 where

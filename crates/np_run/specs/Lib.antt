@@ -1,6 +1,2 @@
-pub mod Words
-pub mod Report
-pub mod Lines
-pub mod Faults
 pub mod Answers
 pub mod Laws

@@ -1,12 +1,5 @@
 use np_configuration::SerialRun;
-use np_syntax::{End, Event, List};
-
-/// A run: its events in order, and how it ended.
-#[derive(Drop)]
-pub struct Record {
-    pub events: List<Event>,
-    pub end: End,
-}
+use np_modes::Record;
 
 /// The exit status, and the run if there was one: `kept` in the mode `run`, `high` in the mode
 /// `high`.

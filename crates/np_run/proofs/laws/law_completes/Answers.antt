@@ -1,12 +1,12 @@
 use Rattle.std.proofs.Common.{ℕ, ◌≤◌, List, length, inl, inr, arith}
 use Rattle.np_syntax.specs.declared.limits.TheConstants.{LONGEST_SOURCE}
-use Rattle.np_run.specs.Answers.{Stands}
-use Rattle.np_run.specs.Faults.{Accepted}
-use Rattle.np_run.specs.declared.refusal.Refusal.{Refusal}
-use Rattle.np_run.specs.declared.refusal.Refusal.TheVariants.{Usage, ReadFault}
-use Rattle.np_run.specs.declared.words.Mode.{Mode}
+use Rattle.np_modes.specs.Causes.{Stands}
+use Rattle.np_modes.specs.Faults.{Accepted}
+use Rattle.np_modes.specs.declared.refusal.Refusal.{Refusal}
+use Rattle.np_modes.specs.declared.refusal.Refusal.TheVariants.{Usage, ReadFault}
+use Rattle.np_modes.specs.declared.words.Mode.{Mode}
 use Rattle.np_run.proofs.Outcomes.{Says, stands_says}
-use Rattle.np_run.proofs.Verdicts.{not_both}
+use Rattle.np_modes.proofs.Verdicts.{not_both}
 use Rattle.np_run.proofs.laws.law_completes.Goals as goal
 
 -- no refusal says anything of an accepted source

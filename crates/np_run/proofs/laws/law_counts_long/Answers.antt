@@ -1,12 +1,13 @@
-use Rattle.std.proofs.Common.{◌≡◌, ℕ, ◌<◌, Some, arith}
+use Rattle.std.proofs.Common.{◌≡◌, ◌<◌, Some, arith}
 use Rattle.np_syntax.specs.declared.limits.TheConstants.{LONGEST_SOURCE}
-use Rattle.np_run.specs.Words.{Plan, plan}
-use Rattle.np_run.specs.Answers.{Call, IsRefused, Stands}
+use Rattle.np_modes.specs.Words.{Plan, plan}
+use Rattle.np_modes.specs.Causes.{Stands}
+use Rattle.np_run.specs.Answers.{Call, IsRefused}
 use Rattle.np_run.specs.declared.answer.Answer.{Answer}
-use Rattle.np_run.specs.declared.refusal.Refusal.{Refusal}
-use Rattle.np_run.specs.declared.refusal.Refusal.TheVariants.{TooLong}
+use Rattle.np_modes.specs.declared.refusal.Refusal.{Refusal}
+use Rattle.np_modes.specs.declared.refusal.Refusal.TheVariants.{TooLong}
 use Rattle.np_run.proofs.Outcomes.{Outcome, outcome}
-use Rattle.np_run.proofs.Verdicts.{not_long}
+use Rattle.np_modes.proofs.Verdicts.{not_long}
 use Rattle.np_run.proofs.laws.law_counts_long.Goals as goal
 
 -- what is refused as too long has more than a source may have

@@ -2,13 +2,13 @@ use Rattle.std.proofs.Common.{ℕ, ◌<◌, List, length, arith, inl, inr, subst
 use Rattle.np_syntax.specs.declared.limits.TheConstants.{LONGEST_SOURCE}
 use Rattle.np_run.specs.Answers.{Call, IsRefused}
 use Rattle.np_run.specs.Laws.{Reads}
-use Rattle.np_run.specs.Words.{Plan}
+use Rattle.np_modes.specs.Words.{Plan}
 use Rattle.np_run.specs.declared.answer.Answer.{Answer}
-use Rattle.np_run.specs.declared.refusal.Refusal.{Refusal}
-use Rattle.np_run.specs.declared.refusal.Refusal.TheVariants.{TooLong}
-use Rattle.np_run.specs.declared.words.Mode.{Mode}
+use Rattle.np_modes.specs.declared.refusal.Refusal.{Refusal}
+use Rattle.np_modes.specs.declared.refusal.Refusal.TheVariants.{TooLong}
+use Rattle.np_modes.specs.declared.words.Mode.{Mode}
 use Rattle.np_run.proofs.Outcomes.{Outcome, outcome, Says, stands_says, made_accepts}
-use Rattle.np_run.proofs.Verdicts.{not_long}
+use Rattle.np_modes.proofs.Verdicts.{not_long}
 use Rattle.np_run.proofs.laws.law_refuses_long.Goals as goal
 
 -- of a source that is too long no other refusal says anything

@@ -1,14 +1,15 @@
 use Rattle.std.proofs.Common.{◌≡◌, ◌≢◌, ℕ, ◌≤◌, List, length, inl, inr, subst, ap, ◌∙◌}
 use Rattle.np_syntax.specs.declared.limits.TheConstants.{LONGEST_SOURCE}
-use Rattle.np_run.specs.Lines.{status_of}
-use Rattle.np_run.specs.Answers.{Call, IsRefused, Stands}
-use Rattle.np_run.specs.Faults.{Faulty}
+use Rattle.np_modes.specs.Lines.{status_of}
+use Rattle.np_modes.specs.Causes.{Stands}
+use Rattle.np_run.specs.Answers.{Call, IsRefused}
+use Rattle.np_modes.specs.Faults.{Faulty}
 use Rattle.np_run.specs.Laws.{Reads, RefusesAlone}
-use Rattle.np_run.specs.Words.{Plan}
+use Rattle.np_modes.specs.Words.{Plan}
 use Rattle.np_run.specs.declared.answer.Answer.{Answer}
-use Rattle.np_run.specs.declared.refusal.Refusal.{Refusal}
+use Rattle.np_modes.specs.declared.refusal.Refusal.{Refusal}
 use Rattle.np_run.proofs.Outcomes.{Outcome, outcome, stands_says, says_faulty, made_accepts}
-use Rattle.np_run.proofs.Verdicts.{not_both, same_fault, faulty_status}
+use Rattle.np_modes.proofs.Verdicts.{not_both, same_fault, faulty_status}
 use Rattle.np_run.proofs.laws.law_refuses_once.Goals as goal
 
 module _ (call : Call) (asked : Plan) (bytes : List ℕ) (r : Reads call asked bytes) (short : length bytes ≤ LONGEST_SOURCE) where

@@ -1,13 +1,13 @@
 use Rattle.std.proofs.Common.{ℕ, ◌≤◌, List, length, subst}
 use Rattle.np_syntax.specs.declared.limits.TheConstants.{LONGEST_SOURCE}
 use Rattle.np_run.specs.Answers.{Call, IsRefused}
-use Rattle.np_run.specs.Faults.{Faulty}
+use Rattle.np_modes.specs.Faults.{Faulty}
 use Rattle.np_run.specs.Laws.{Reads}
-use Rattle.np_run.specs.Words.{Plan}
+use Rattle.np_modes.specs.Words.{Plan}
 use Rattle.np_run.specs.declared.answer.Answer.{Answer}
-use Rattle.np_run.specs.declared.refusal.Refusal.{Refusal}
+use Rattle.np_modes.specs.declared.refusal.Refusal.{Refusal}
 use Rattle.np_run.proofs.Outcomes.{Outcome, outcome, stands_says, says_faulty, made_accepts}
-use Rattle.np_run.proofs.Verdicts.{not_both, same_fault}
+use Rattle.np_modes.proofs.Verdicts.{not_both, same_fault}
 use Rattle.np_run.proofs.laws.law_refuses_sources.Goals as goal
 
 by_outcome : (call : Call) (answer : Answer) (asked : Plan) (bytes : List ℕ) (refusal : Refusal) → Reads call asked bytes → length bytes ≤ LONGEST_SOURCE

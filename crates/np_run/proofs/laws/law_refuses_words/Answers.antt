@@ -1,12 +1,13 @@
 use Rattle.std.proofs.Common.{◌≡◌, ℕ, None}
-use Rattle.np_run.specs.Words.{plan}
-use Rattle.np_run.specs.Lines.{status_of}
-use Rattle.np_run.specs.Answers.{Call, Stands}
+use Rattle.np_modes.specs.Words.{plan}
+use Rattle.np_modes.specs.Lines.{status_of}
+use Rattle.np_modes.specs.Causes.{Stands}
+use Rattle.np_run.specs.Answers.{Call}
 use Rattle.np_run.specs.declared.answer.Answer.{Answer}
-use Rattle.np_run.specs.declared.refusal.Refusal.{Refusal}
-use Rattle.np_run.specs.declared.refusal.Refusal.TheVariants.{Usage}
+use Rattle.np_modes.specs.declared.refusal.Refusal.{Refusal}
+use Rattle.np_modes.specs.declared.refusal.Refusal.TheVariants.{Usage}
 use Rattle.np_run.proofs.Outcomes.{Outcome, outcome}
-use Rattle.np_run.proofs.Verdicts.{not_usage}
+use Rattle.np_modes.proofs.Verdicts.{not_usage}
 use Rattle.np_run.proofs.laws.law_refuses_words.Goals as goal
 
 -- where the words ask for nothing that the program does, usage alone stands

@@ -1,0 +1,5 @@
+pub mod Words
+pub mod Report
+pub mod Lines
+pub mod Faults
+pub mod Causes
