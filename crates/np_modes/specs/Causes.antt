@@ -7,9 +7,11 @@ use Rattle.np_io.specs.Bytes.{Held}
 use Rattle.np_tree.specs.declared.tree.Tree.{Tree}
 use Rattle.np_show.specs.Shown.{shown}
 use Rattle.np_low_text.specs.LowText.{low_text}
+use Rattle.np_calculus.specs.Config.{Config}
+use Rattle.np_calculus.specs.Starts.{start_high, start_low}
 use Rattle.daemon_encode.specs.Encoded.{encoded}
-use Rattle.np_configuration.specs.declared.serial.SerialRun.{SerialRun}
-use Rattle.np_configuration.specs.Serial.{IsSerialRun}
+use Rattle.np_serial.specs.declared.serial.SerialRun.{SerialRun}
+use Rattle.np_serial.specs.Serial.{IsSerialRun}
 use Rattle.np_modes.specs.Faults.{HasTree, IsWellTyped, Faulty}
 use Rattle.np_modes.specs.Words.{Plan, plan}
 use Rattle.np_modes.specs.Report.{report_text}
@@ -64,16 +66,22 @@ pub data Stands (words : List (List ℕ)) (texts : Reading) : Refusal → Type 0
   -- the mode refuses the source
   source : {refusal : Refusal} → IsFaulty words texts refusal → Stands words texts refusal
 
--- a run of the program within the budget, and the text of its report
-pub record IsRunOf (program : Program) (budget : ℕ) (made : SerialRun) (text : List ℕ) : Type 0 where
-  pub run : IsSerialRun program budget made.events made.last made.end
-  pub report : text ≡ report_text program.sites made.last.said made.end
+-- a run from the start within the budget, and the text of its report
+pub record IsRunOf (sites : List (List ℕ)) (start : Config) (budget : ℕ) (made : SerialRun) (text : List ℕ) : Type 0 where
+  pub run : IsSerialRun start budget made.events made.last made.end
+  pub report : text ≡ report_text sites made.last.said made.end
 
 -- the source is accepted, and its program was run
 pub record Runs (budget : ℕ) (bytes : List ℕ) (made : SerialRun) (text : List ℕ) : Type 0 where
   pub program : Program
   pub accepted : IsWellTyped bytes program
-  pub run : IsRunOf program budget made text
+  pub run : IsRunOf program.sites (start_high program) budget made text
+
+-- the source is accepted, and its low program was run
+pub record RunsLow (budget : ℕ) (bytes : List ℕ) (made : SerialRun) (text : List ℕ) : Type 0 where
+  pub program : Program
+  pub accepted : IsWellTyped bytes program
+  pub run : IsRunOf program.sites (start_low (encoded program)) budget made text
 
 -- the record of a run
 abbrev pub record_of : SerialRun → Record

@@ -2,20 +2,19 @@ ghost use Rattle.std.specs.Prelude.{◌≡◌, ◌≢◌, ◌+◌, ◌≤◌, le
 ghost use Rattle.np_low_text.specs.LowText.{low_text};
 ghost use Rattle.daemon_encode.specs.Encoded.{encoded};
 ghost use Rattle.np_modes.specs.Words.{plan, texts_read};
-ghost use Rattle.np_modes.specs.Causes.{Reading, Stands, HasMade, IsRunOf, Runs, KeepsRun, KeepsHigh, Shows, Checks, Lowers, Does, record_of};
-ghost use Rattle.np_modes.specs.Faults.{Faulty, IsWellTyped};
+ghost use Rattle.np_modes.specs.Causes.{Reading, Stands, HasMade, KeepsRun, KeepsHigh, Shows, Checks, Lowers, Does, record_of};
+ghost use Rattle.np_modes.specs.Faults.{Faulty};
 
-use super::reading::{checked_program, tokens_of, tree_of};
+use super::reading::{checked_source, tokens_of, tree_of};
 use super::record::Record;
 use super::refusal::Refusal;
-use super::reporting::report;
+use super::runs::run_of;
 use super::words::{Mode, planned};
 use daemon_encode::encode;
 use np_check::Checked;
-use np_configuration::{SerialRun, run_serial};
 use np_io::{ReadFail, Texts, Word, read_all};
 use np_low_text::print_low;
-use np_safety::law_runs_well;
+use np_serial::SerialRun;
 use np_show::show;
 use np_syntax::{LONGEST_SOURCE, List, Memory, Text};
 use std::alloc::Global;
@@ -168,42 +167,6 @@ fn low_text(alloc: Global, checked: Checked) -> Result<Text, Memory>
     drop(checked);
     let low = made?;
     print_low(alloc, &low)
-}
-
-/// The checked program of a source, or its refusal.
-fn checked_source(alloc: Global, bytes: &[u8]) -> Result<Checked, Refusal>
-    requires { length bytes.now ≤ LONGEST_SOURCE }
-    ensures found { IfOk result (IsWellTyped bytes.now) }
-    ensures refused { IfErr result (λ refusal. refusal ≢ Refusal.Memory → Faulty Mode.Check bytes.now refusal) }
-{
-    let tokens = tokens_of(alloc, bytes)?;
-    let read = checked_program(alloc, &tokens);
-    drop(tokens);
-    read
-}
-
-/// The run of a source, with the text of its report.
-fn run_of(alloc: Global, budget: u32, bytes: &[u8]) -> Result<(SerialRun, Text), Refusal>
-    requires { length bytes.now ≤ LONGEST_SOURCE }
-    ensures made { IfOk result (λ made. Runs budget bytes.now made.0 made.1) }
-    ensures refused { IfErr result (λ refusal. refusal ≢ Refusal.Memory → Faulty Mode.Check bytes.now refusal) }
-{
-    let checked = checked_source(alloc, bytes)?;
-    match run(alloc, budget, &checked) {
-        Ok(made) => Ok(made),
-        Err(Memory) => Err(Refusal::Memory),
-    }
-}
-
-/// Runs the program and makes the report.
-fn run(alloc: Global, budget: u32, checked: &Checked) -> Result<(SerialRun, Text), Memory>
-    ensures { IfOk result (λ made. IsRunOf checked.now budget made.0 made.1) }
-{
-    law_runs_well();
-    let program = checked.program();
-    let made = run_serial(alloc, program, budget)?;
-    let text = report(alloc, &program.sites, made.last.said(), made.end)?;
-    Ok((made, text))
 }
 
 /// The events of a run and how it ended. The last configuration is dropped.

@@ -6,6 +6,7 @@ mod reading;
 mod record;
 mod refusal;
 mod reporting;
+mod runs;
 mod statuses;
 mod words;
 
@@ -13,6 +14,7 @@ pub use job::{Job, work};
 pub use record::Record;
 pub use refusal::{Refusal, line, status};
 pub use reporting::report;
+pub use runs::run_low;
 pub use statuses::{
     BAD_SOURCE, BAD_USAGE, BUDGET_SPENT, DONE, NO_MEMORY, READ_FAILED, WRITE_FAILED,
 };

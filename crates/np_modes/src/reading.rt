@@ -6,9 +6,10 @@ ghost use Rattle.np_tree.specs.Grammar.{IsProgram};
 ghost use Rattle.np_tree.specs.Sizes.{nodes, binders};
 ghost use Rattle.np_scope.specs.Sound.{IsSound};
 ghost use Rattle.np_check.specs.Faults.{faults};
-ghost use Rattle.np_modes.specs.Faults.{HasNoTokens, HasNoTree, HasNoProgram, HasProgram, IsNoProgram};
+ghost use Rattle.np_modes.specs.Faults.{Faulty, HasNoTokens, HasNoTree, HasNoProgram, HasProgram, IsNoProgram, IsWellTyped};
 
 use super::refusal::{Refusal, of_grammar, of_scope, of_tokens};
+use super::words::Mode;
 use np_check::{CheckFail, Checked, check};
 use np_lex::{Tokens, lex};
 use np_parse::parse;
@@ -60,7 +61,7 @@ fn program_of(alloc: Global, tokens: &Tokens) -> Result<Program, Refusal>
 }
 
 /// The checked program of tokens, or the first refusal of the grammar, of scope or of types.
-pub(crate) fn checked_program(alloc: Global, tokens: &Tokens) -> Result<Checked, Refusal>
+fn checked_program(alloc: Global, tokens: &Tokens) -> Result<Checked, Refusal>
     requires { length tokens.now ≤ 1048577 }
     ensures found { IfOk result (λ checked. HasProgram tokens.now checked) }
     ensures faultless { IfOk result (λ checked. faults checked ≡ []) }
@@ -72,4 +73,16 @@ pub(crate) fn checked_program(alloc: Global, tokens: &Tokens) -> Result<Checked,
         Err(CheckFail::TypeFault(fault)) => Err(Refusal::TypeFault(fault)),
         Err(CheckFail::Memory) => Err(Refusal::Memory),
     }
+}
+
+/// The checked program of a source, or its refusal.
+pub(crate) fn checked_source(alloc: Global, bytes: &[u8]) -> Result<Checked, Refusal>
+    requires { length bytes.now ≤ LONGEST_SOURCE }
+    ensures found { IfOk result (IsWellTyped bytes.now) }
+    ensures refused { IfErr result (λ refusal. refusal ≢ Refusal.Memory → Faulty Mode.Check bytes.now refusal) }
+{
+    let tokens = tokens_of(alloc, bytes)?;
+    let read = checked_program(alloc, &tokens);
+    drop(tokens);
+    read
 }

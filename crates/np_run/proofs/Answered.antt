@@ -3,7 +3,7 @@ use Rattle.std.proofs.Common.{◌≡◌, ◌≢◌, ℕ, ◌+◌, ◌≤◌, ◌
 use Rattle.std.specs.Io.KnownBytes.{Appends, Keeps}
 use Rattle.np_syntax.specs.declared.event.End.{End}
 use Rattle.np_syntax.specs.declared.event.End.TheVariants.{Rest, Spent}
-use Rattle.np_configuration.specs.declared.serial.SerialRun.{SerialRun}
+use Rattle.np_serial.specs.declared.serial.SerialRun.{SerialRun}
 use Rattle.np_modes.specs.Words.{plan, texts_read}
 use Rattle.np_modes.specs.Lines.{line_of, status_of}
 use Rattle.np_modes.specs.Causes.{Stands}

@@ -11,7 +11,7 @@ use Rattle.np_run.specs.Answers.{Call, HasCauses, IsRefused}
 use Rattle.np_run.specs.Laws.{Reads}
 use Rattle.np_run.specs.declared.answer.Answer.{Answer}
 use Rattle.np_modes.specs.declared.record.Record.{Record}
-use Rattle.np_configuration.specs.declared.serial.SerialRun.{SerialRun}
+use Rattle.np_serial.specs.declared.serial.SerialRun.{SerialRun}
 use Rattle.np_modes.specs.declared.refusal.Refusal.{Refusal}
 use Rattle.np_modes.specs.declared.refusal.Refusal.TheVariants.{Usage, ReadFault, TooLong}
 use Rattle.np_modes.specs.declared.words.Mode.{Mode}

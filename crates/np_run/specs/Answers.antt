@@ -5,7 +5,7 @@ use Rattle.np_syntax.specs.declared.event.End.{End}
 use Rattle.np_syntax.specs.declared.event.End.TheVariants.{Rest, Spent}
 use Rattle.np_io.specs.Causes.{Rose}
 use Rattle.np_io.specs.Bytes.{AppendsPrefix}
-use Rattle.np_configuration.specs.declared.serial.SerialRun.{SerialRun}
+use Rattle.np_serial.specs.declared.serial.SerialRun.{SerialRun}
 use Rattle.np_modes.specs.Causes.{Reading, Stands, HasMade}
 use Rattle.np_modes.specs.Words.{plan, texts_read}
 use Rattle.np_modes.specs.Lines.{line_of, status_of}

@@ -1,5 +1,5 @@
-use np_configuration::SerialRun;
 use np_modes::Record;
+use np_serial::SerialRun;
 
 /// The exit status, and the run if there was one: `kept` in the mode `run`, `high` in the mode
 /// `high`.

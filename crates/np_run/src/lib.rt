@@ -12,6 +12,6 @@ pub use laws::{
 };
 pub use np_modes::{
     BAD_SOURCE, BAD_USAGE, BUDGET_SPENT, DONE, Mode, NO_MEMORY, READ_FAILED, Record, Refusal,
-    WRITE_FAILED, line, report, status,
+    WRITE_FAILED, line, report, run_low, status,
 };
 pub use top::np;

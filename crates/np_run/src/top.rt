@@ -2,11 +2,11 @@ ghost use Rattle.std.specs.Prelude.{◌≡◌, None};
 ghost use Rattle.np_run.specs.Answers.{HasCauses, end_status, status_at};
 
 use super::answer::Answer;
-use np_configuration::SerialRun;
 use np_io::{Sink, Texts, Word, write_all};
 use np_modes::{
     BUDGET_SPENT, DONE, Job, NO_MEMORY, Record, Refusal, WRITE_FAILED, line, status, work,
 };
+use np_serial::SerialRun;
 use np_syntax::End;
 use std::alloc::Global;
 use std::sync::Wait;
