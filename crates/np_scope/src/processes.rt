@@ -276,9 +276,7 @@ impl Resolver {
         ensures scope { OnOk result (scope.new ≡ scope.old) }
         ensures behind { IfOk result (λ r. IsBehindForm next (raw.IfLocal agent.now chan.now value.now met.now unmet.now) r.1) }
     {
-        let agent = self.expr(scope, agent)?;
-        let chan = use_of(scope, chan)?;
-        let value = self.expr(scope, value)?;
+        let (agent, chan, value) = self.addressed(scope, agent, chan, value)?;
         let (met, unmet, after) = self.two(scope, next.next_node(), met, unmet)?;
         Ok((ProcForm::IfLocal(agent, chan, value, met, unmet), after))
     }
