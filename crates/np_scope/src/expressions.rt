@@ -33,12 +33,7 @@ pub fn use_of(scope: &Scope<'_>, name: &Ident) -> Result<Expr, ScopeFail>
 }
 
 /// An operation on two expressions.
-fn operation(
-    alloc: Global,
-    op: Op,
-    left: Expr,
-    right: Expr,
-) -> Result<ExprForm, Memory>
+fn operation(alloc: Global, op: Op, left: Expr, right: Expr) -> Result<ExprForm, Memory>
     ensures { IfOk result (λ form. form ≡ expr.Bin op left right) }
 {
     let left = Boxed::of(alloc, left)?;
