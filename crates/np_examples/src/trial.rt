@@ -4,7 +4,7 @@ use super::example::Example;
 use super::fail::ExampleFail;
 use np_io::{MemSink, MemTexts, Word};
 use np_run::{Answer, np};
-use np_syntax::List;
+use np_syntax::{List, Memory};
 use std::alloc::Global;
 use std::sync::Wait;
 use std::thread::Threads;
@@ -32,25 +32,30 @@ fn words_of(alloc: Global, line: &str) -> Result<List<Word>, ExampleFail> {
     Ok(words)
 }
 
+/// Puts a text under a name.
+fn hold(alloc: Global, texts: &mut MemTexts, name: &str, bytes: &[u8]) -> Result<(), Memory> {
+    let name = Word::new(alloc, name)?;
+    let bytes = List::from_slice(alloc, bytes)?;
+    texts.add(name, bytes)
+}
+
 /// The texts of an example, and the source under the name `a`.
-fn texts_of(
+fn hold_all(
     alloc: Global,
+    texts: &mut MemTexts,
     example: &Example,
     source: Option<&str>,
-) -> Result<MemTexts, ExampleFail> {
-    let mut texts = MemTexts::new(alloc);
+) -> Result<(), Memory> {
     for text in example.texts.iter() {
-        let name = Word::new(alloc, text.name.as_str())?;
-        texts.add(name, List::from_slice(alloc, text.bytes.as_slice())?)?;
+        hold(alloc, texts, text.name.as_str(), text.bytes.as_slice())?;
     }
     if let Some(source) = source {
-        let name = Word::new(alloc, "a")?;
-        texts.add(name, List::from_slice(alloc, source.as_bytes())?)?;
+        hold(alloc, texts, "a", source.as_bytes())?;
     }
     for call in example.devices.texts.iter() {
         texts.fail(*call)?;
     }
-    Ok(texts)
+    Ok(())
 }
 
 /// A sink that takes so many bytes a call, at least one, and fails at these calls.
@@ -80,7 +85,8 @@ pub(crate) fn came_of<R: Threads + Wait + Sync>(
     source: Option<&str>,
 ) -> Result<Came, ExampleFail> {
     let words = words_of(alloc, words)?;
-    let mut texts = texts_of(alloc, example, source)?;
+    let mut texts = MemTexts::new(alloc);
+    hold_all(alloc, &mut texts, example, source)?;
     let devices = &example.devices;
     let mut out = sink_of(alloc, devices.piece, devices.out.as_slice())?;
     let mut err = sink_of(alloc, devices.piece, devices.err.as_slice())?;

@@ -183,4 +183,6 @@ proc-let n scope next x e p = proc-layer n (form.Let x e p) scope next ∙ ap (p
 pub proc-print : (n : ℕ) (scope : List Named) (next : Numbers) (e : RawExpr) → proc_form_of n (form.Print e) scope next ≡ print_form n e scope next
 proc-print n scope next e = proc-layer n (form.Print e) scope next ∙ ap (proc_stepped n scope next) (formv.outs-Print e)
 
-pub ruleset processes = (proc-form, proc-stop, proc-par, proc-new, proc-out, proc-inp, proc-rep, proc-agent, proc-migrate, proc-iflocal, proc-send, proc-post, proc-if, proc-let, proc-print)
+pub ruleset placed_forms = (proc-form)
+
+pub ruleset processes = (proc-stop, proc-par, proc-new, proc-out, proc-inp, proc-rep, proc-agent, proc-migrate, proc-iflocal, proc-send, proc-post, proc-if, proc-let, proc-print)

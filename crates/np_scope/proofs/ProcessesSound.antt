@@ -24,7 +24,7 @@ use Rattle.np_scope.specs.declared.scope.Meaning.TheVariants as meaning
 use Rattle.np_scope.specs.Naming.{Named, meaning_of, meant_at, meant, use_of}
 use Rattle.np_scope.specs.Resolved.{expression, expr_of, exprs_of, Bound, pat_of, next_node, next_both, with_binder, FormIn, two, under, proc_of, proc_form_of}
 use Rattle.np_scope.specs.Resolved.{stop_form, par_form, new_form, out_form, inp_form, rep_form, agent_form, migrate_form, iflocal_form, send_form, post_form}
-use Rattle.np_scope.specs.Resolved.{if_form, let_form, print_form}
+use Rattle.np_scope.specs.Resolved.{if_form, let_form, print_form, message, addressed, located}
 use Rattle.np_scope.specs.Sound.{IsSoundExpr, AreSoundExprs, AreNext, Binds, IsSoundProc, process}
 use Rattle.np_scope.specs.Written.{IsChannelType, HasLiterals, HaveLiterals, IsWritten}
 use Rattle.np_scope.proofs.Outcomes.{All, done, refused, moved, and_then}
@@ -62,6 +62,24 @@ mutual
   exprs-sound n scope bs h HaveLiterals.none = done AreSoundExprs.none
   exprs-sound n scope bs h (HaveLiterals.more {e = e} {es = es} g gs) =
       and_then (expr_of n e scope) (expr-sound n scope bs h g) (λ x s. and_then (exprs_of n es scope) (exprs-sound n scope bs h gs) (λ xs t. done (AreSoundExprs.more s t)))
+
+message-sound : (n : ℕ) (c : Ident) (e : RawExpr) (scope : List Named) (bs : List ℕ) → Agrees n scope bs → HasLiterals e
+    → All (λ m. IsSoundExpr n bs m.0 × IsSoundExpr n bs m.1) (message n c e scope)
+unfolding message
+message-sound n c e scope bs h l =
+    and_then (use_of scope c) (use-sound n scope bs c h) (λ x s. and_then (expr_of n e scope) (expr-sound n scope bs h l) (λ y t. done (s, t)))
+
+addressed-sound : (n : ℕ) (b : RawExpr) (c : Ident) (e : RawExpr) (scope : List Named) (bs : List ℕ) → Agrees n scope bs → HasLiterals b → HasLiterals e
+    → All (λ m. IsSoundExpr n bs m.0 × IsSoundExpr n bs m.1 × IsSoundExpr n bs m.2) (addressed n b c e scope)
+unfolding addressed
+addressed-sound n b c e scope bs h k l =
+    and_then (expr_of n b scope) (expr-sound n scope bs h k) (λ x s. and_then (message n c e scope) (message-sound n c e scope bs h l) (λ m t. done (s, t.0, t.1)))
+
+located-sound : (n : ℕ) (b s : RawExpr) (scope : List Named) (bs : List ℕ) → Agrees n scope bs → HasLiterals b → HasLiterals s
+    → All (λ m. IsSoundExpr n bs m.0 × IsSoundExpr n bs m.1) (located n b s scope)
+unfolding located
+located-sound n b s scope bs h k l =
+    and_then (expr_of n b scope) (expr-sound n scope bs h k) (λ x r. and_then (expr_of n s scope) (expr-sound n scope bs h l) (λ y t. done (r, t)))
 
 -- ---- processes
 
@@ -179,9 +197,8 @@ new-sound n c t p is f scope bs next h =
 out-sound : (n : ℕ) (c : Ident) (e : RawExpr) → HasLiterals e → FormSound n (raw.Out c e) (out_form n c e)
 unfolding out_form
 out-sound n c e l scope bs next h =
-    and_then (use_of scope c) (use-sound n scope bs c h) (λ x s.
-    and_then (expr_of n e scope) (expr-sound n scope bs h l) (λ y t.
-    done (record { bound = []; sound = λ at. IsSoundProc.output s t; numbered = AreNext.none; node = omega (arith, nodes-out c e); binder = omega (arith, binders-out c e) })))
+    and_then (message n c e scope) (message-sound n c e scope bs h l) (λ m s.
+    done (record { bound = []; sound = λ at. IsSoundProc.output s.0 s.1; numbered = AreNext.none; node = omega (arith, nodes-out c e); binder = omega (arith, binders-out c e) }))
 
 inp-sound : (n : ℕ) (c : Ident) (x : RawPat) (p : RawProc) → ProcSound n p → FormSound n (raw.Inp c x p) (inp_form c x (proc_of n p))
 unfolding inp_form
@@ -244,47 +261,41 @@ iflocal-sound : (n : ℕ) (b : RawExpr) (c : Ident) (e : RawExpr) (p q : RawProc
     → FormSound n (raw.IfLocal b c e p q) (iflocal_form n b c e (proc_of n p) (proc_of n q))
 unfolding iflocal_form
 iflocal-sound n b c e p q k l f g scope bs next h =
-    and_then (expr_of n b scope) (expr-sound n scope bs h k) (λ w u.
-    and_then (use_of scope c) (use-sound n scope bs c h) (λ z v.
-    and_then (expr_of n e scope) (expr-sound n scope bs h l) (λ y t.
+    and_then (addressed n b c e scope) (addressed-sound n b c e scope bs h k l) (λ m t.
     and_then (two (proc_of n p) (proc_of n q) scope (next_node next)) (two-sound n p q f g scope bs (next_node next) h) (λ r s.
     let i = s.node in let j = s.binder in
     done (record {
       bound = s.xs ++ s.ys;
-      sound = λ at. IsSoundProc.iflocal u v t s.first s.second;
+      sound = λ at. IsSoundProc.iflocal t.0 t.1 t.2 s.first s.second;
       numbered = s.numbered;
       node = omega (arith, nodes-iflocal b c e p q, i);
       binder = omega (arith, binders-iflocal b c e p q, j);
-    })))))
+    })))
 
 send-sound : (n : ℕ) (b s : RawExpr) (c : Ident) (e : RawExpr) → HasLiterals b → HasLiterals s → HasLiterals e → FormSound n (raw.Send b s c e) (send_form n b s c e)
 unfolding send_form
 send-sound n b s c e i j l scope bs next h =
-    and_then (expr_of n b scope) (expr-sound n scope bs h i) (λ w r.
-    and_then (expr_of n s scope) (expr-sound n scope bs h j) (λ z q.
-    and_then (use_of scope c) (use-sound n scope bs c h) (λ x u.
-    and_then (expr_of n e scope) (expr-sound n scope bs h l) (λ y t.
+    and_then (located n b s scope) (located-sound n b s scope bs h i j) (λ a r.
+    and_then (message n c e scope) (message-sound n c e scope bs h l) (λ m t.
     done (record {
       bound = [];
-      sound = λ at. IsSoundProc.send r q u t;
+      sound = λ at. IsSoundProc.send r.0 r.1 t.0 t.1;
       numbered = AreNext.none;
       node = omega (arith, nodes-send b s c e);
       binder = omega (arith, binders-send b s c e);
-    })))))
+    })))
 
 post-sound : (n : ℕ) (b : RawExpr) (c : Ident) (e : RawExpr) → HasLiterals b → HasLiterals e → FormSound n (raw.Post b c e) (post_form n b c e)
 unfolding post_form
 post-sound n b c e i l scope bs next h =
-    and_then (expr_of n b scope) (expr-sound n scope bs h i) (λ w r.
-    and_then (use_of scope c) (use-sound n scope bs c h) (λ x u.
-    and_then (expr_of n e scope) (expr-sound n scope bs h l) (λ y t.
+    and_then (addressed n b c e scope) (addressed-sound n b c e scope bs h i l) (λ m t.
     done (record {
       bound = [];
-      sound = λ at. IsSoundProc.post r u t;
+      sound = λ at. IsSoundProc.post t.0 t.1 t.2;
       numbered = AreNext.none;
       node = omega (arith, nodes-post b c e);
       binder = omega (arith, binders-post b c e);
-    }))))
+    }))
 
 if-sound : (n : ℕ) (e : RawExpr) (p q : RawProc) → HasLiterals e → ProcSound n p → ProcSound n q → FormSound n (raw.If e p q) (if_form n e (proc_of n p) (proc_of n q))
 unfolding if_form

@@ -152,6 +152,27 @@ FormIn = List Named → Numbers → Outcome (ProcForm × Numbers)
 abbrev pub with_binder : Ident → Numbers → List Named → List Named
 with_binder name next scope = (name.text, meaning.Binder next.binder) ∷ scope
 
+-- a channel, and then the value for it
+unfoldable pub message : ℕ → Ident → RawExpr → List Named → Outcome (Expr × Expr)
+message n c e scope = do
+  chan ← use_of scope c
+  v ← expr_of n e scope
+  Ok (chan, v)
+
+-- an agent, and then the message for it
+unfoldable pub addressed : ℕ → RawExpr → Ident → RawExpr → List Named → Outcome (Expr × Expr × Expr)
+addressed n b c e scope = do
+  agent ← expr_of n b scope
+  m ← message n c e scope
+  Ok (agent, m.0, m.1)
+
+-- an agent, and then the site where it is
+unfoldable pub located : ℕ → RawExpr → RawExpr → List Named → Outcome (Expr × Expr)
+located n b s scope = do
+  agent ← expr_of n b scope
+  site ← expr_of n s scope
+  Ok (agent, site)
+
 -- two processes, the second behind the first, and the numbers behind both
 unfoldable pub two : ProcIn → ProcIn → List Named → Numbers → Outcome (Proc × Proc × Numbers)
 two first second scope next = do
@@ -181,9 +202,8 @@ new_form c ty body scope next = do
 
 unfoldable pub out_form : ℕ → Ident → RawExpr → FormIn
 out_form n c e scope next = do
-  chan ← use_of scope c
-  v ← expr_of n e scope
-  Ok (form.Out chan v, next_node next)
+  m ← message n c e scope
+  Ok (form.Out m.0 m.1, next_node next)
 
 unfoldable pub inp_form : Ident → RawPat → ProcIn → FormIn
 inp_form c x body scope next = do
@@ -210,26 +230,20 @@ migrate_form n s body scope next = do
 
 unfoldable pub iflocal_form : ℕ → RawExpr → Ident → RawExpr → ProcIn → ProcIn → FormIn
 iflocal_form n b c e met unmet scope next = do
-  agent ← expr_of n b scope
-  chan ← use_of scope c
-  v ← expr_of n e scope
+  m ← addressed n b c e scope
   r ← two met unmet scope (next_node next)
-  Ok (form.IfLocal agent chan v r.0 r.1, r.2)
+  Ok (form.IfLocal m.0 m.1 m.2 r.0 r.1, r.2)
 
 unfoldable pub send_form : ℕ → RawExpr → RawExpr → Ident → RawExpr → FormIn
 send_form n b s c e scope next = do
-  agent ← expr_of n b scope
-  site ← expr_of n s scope
-  chan ← use_of scope c
-  v ← expr_of n e scope
-  Ok (form.Send agent site chan v, next_node next)
+  l ← located n b s scope
+  m ← message n c e scope
+  Ok (form.Send l.0 l.1 m.0 m.1, next_node next)
 
 unfoldable pub post_form : ℕ → RawExpr → Ident → RawExpr → FormIn
 post_form n b c e scope next = do
-  agent ← expr_of n b scope
-  chan ← use_of scope c
-  v ← expr_of n e scope
-  Ok (form.Post agent chan v, next_node next)
+  m ← addressed n b c e scope
+  Ok (form.Post m.0 m.1 m.2, next_node next)
 
 unfoldable pub if_form : ℕ → RawExpr → ProcIn → ProcIn → FormIn
 if_form n e met unmet scope next = do

@@ -1,6 +1,7 @@
 //! Expressions and their names.
 
-ghost use Rattle.std.specs.Prelude.{◌≡◌};
+ghost use Rattle.std.specs.Prelude.{◌≡◌, IfOk};
+ghost use Rattle.np_syntax.specs.declared.expression.ExprForm as expr;
 ghost use Rattle.np_scope.specs.Naming.{meant, use_of};
 ghost use Rattle.np_scope.specs.Outcomes.{Gives};
 ghost use Rattle.np_scope.specs.Resolved as spec;
@@ -8,8 +9,9 @@ ghost use Rattle.np_scope.specs.Resolved as spec;
 use super::fail::ScopeFail;
 use super::resolver::Resolver;
 use super::scope::{Meaning, Scope};
-use np_syntax::{Boxed, Expr, ExprForm, List, Value};
+use np_syntax::{Boxed, Expr, ExprForm, List, Memory, Op, Value};
 use np_tree::{Ident, RawExpr, RawExprForm};
+use std::alloc::Global;
 
 /// The form of a name that stands for a site or a binder.
 fn meant(scope: &Scope<'_>, name: &Ident) -> Result<ExprForm, ScopeFail>
@@ -28,6 +30,15 @@ pub fn use_of(scope: &Scope<'_>, name: &Ident) -> Result<Expr, ScopeFail>
 {
     let form = meant(scope, name)?;
     Ok(Expr { at: name.at, form })
+}
+
+/// An operation on two expressions.
+fn operation(alloc: Global, op: Op, left: Expr, right: Expr) -> Result<ExprForm, Memory>
+    ensures { IfOk result (λ form. form ≡ expr.Bin op left right) }
+{
+    let left = Boxed::of(alloc, left)?;
+    let right = Boxed::of(alloc, right)?;
+    Ok(ExprForm::Bin(op, left, right))
 }
 
 impl Resolver {
@@ -52,11 +63,7 @@ impl Resolver {
             RawExprForm::Bin(op, left, right) => {
                 let left = self.expr(scope, left.get())?;
                 let right = self.expr(scope, right.get())?;
-                ExprForm::Bin(
-                    *op,
-                    Boxed::of(self.alloc, left)?,
-                    Boxed::of(self.alloc, right)?,
-                )
+                operation(self.alloc, *op, left, right)?
             }
         };
         Ok(Expr { at, form })

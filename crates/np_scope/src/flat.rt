@@ -10,10 +10,56 @@ use super::fail::ScopeFail;
 use super::numbers::Numbers;
 use super::resolver::Resolver;
 use super::scope::Scope;
-use np_syntax::ProcForm;
+use np_syntax::{Expr, ProcForm};
 use np_tree::{Ident, RawExpr};
 
 impl Resolver {
+    /// A channel, and then the value for it.
+    #[tactic(auto, unfolding(crate::specs::Resolved::message))]
+    fn message(
+        self,
+        scope: &Scope<'_>,
+        chan: &Ident,
+        value: &RawExpr,
+    ) -> Result<(Expr, Expr), ScopeFail>
+        ensures { Gives (spec.message self.sites chan.now value.now scope.now) result }
+    {
+        let chan = use_of(scope, chan)?;
+        let value = self.expr(scope, value)?;
+        Ok((chan, value))
+    }
+
+    /// An agent, and then the message for it.
+    #[tactic(auto, unfolding(crate::specs::Resolved::addressed))]
+    pub fn addressed(
+        self,
+        scope: &Scope<'_>,
+        agent: &RawExpr,
+        chan: &Ident,
+        value: &RawExpr,
+    ) -> Result<(Expr, Expr, Expr), ScopeFail>
+        ensures { Gives (spec.addressed self.sites agent.now chan.now value.now scope.now) result }
+    {
+        let agent = self.expr(scope, agent)?;
+        let (chan, value) = self.message(scope, chan, value)?;
+        Ok((agent, chan, value))
+    }
+
+    /// An agent, and then the site where it is.
+    #[tactic(auto, unfolding(crate::specs::Resolved::located))]
+    fn located(
+        self,
+        scope: &Scope<'_>,
+        agent: &RawExpr,
+        site: &RawExpr,
+    ) -> Result<(Expr, Expr), ScopeFail>
+        ensures { Gives (spec.located self.sites agent.now site.now scope.now) result }
+    {
+        let agent = self.expr(scope, agent)?;
+        let site = self.expr(scope, site)?;
+        Ok((agent, site))
+    }
+
     /// An output: the channel, and then the value.
     #[tactic(auto, unfolding(crate::specs::Resolved::out_form))]
     pub fn output(
@@ -27,8 +73,7 @@ impl Resolver {
         ensures gives { Gives (spec.out_form self.sites chan.now value.now scope.now next) result }
         ensures behind { IfOk result (λ r. IsBehind next 1 0 r.1) }
     {
-        let chan = use_of(scope, chan)?;
-        let value = self.expr(scope, value)?;
+        let (chan, value) = self.message(scope, chan, value)?;
         Ok((ProcForm::Out(chan, value), next.next_node()))
     }
 
@@ -47,10 +92,8 @@ impl Resolver {
         ensures gives { Gives (spec.send_form self.sites agent.now site.now chan.now value.now scope.now next) result }
         ensures behind { IfOk result (λ r. IsBehind next 1 0 r.1) }
     {
-        let agent = self.expr(scope, agent)?;
-        let site = self.expr(scope, site)?;
-        let chan = use_of(scope, chan)?;
-        let value = self.expr(scope, value)?;
+        let (agent, site) = self.located(scope, agent, site)?;
+        let (chan, value) = self.message(scope, chan, value)?;
         Ok((ProcForm::Send(agent, site, chan, value), next.next_node()))
     }
 
@@ -68,9 +111,7 @@ impl Resolver {
         ensures gives { Gives (spec.post_form self.sites agent.now chan.now value.now scope.now next) result }
         ensures behind { IfOk result (λ r. IsBehind next 1 0 r.1) }
     {
-        let agent = self.expr(scope, agent)?;
-        let chan = use_of(scope, chan)?;
-        let value = self.expr(scope, value)?;
+        let (agent, chan, value) = self.addressed(scope, agent, chan, value)?;
         Ok((ProcForm::Post(agent, chan, value), next.next_node()))
     }
 

@@ -19,7 +19,7 @@ use np_tree::{Ident, RawExpr, RawPat, RawProc, RawProcForm};
 impl Resolver {
     /// The process with the next number, and the numbers behind it. After an error its names may be in scope.
     #[cycle(process)]
-    #[tactic(auto, using(crate::proofs::Forms::processes, crate::proofs::Sizes::process_sizes))]
+    #[tactic(auto, using(crate::proofs::Forms::placed_forms, crate::proofs::Sizes::proc_sizes))]
     pub fn proc<'a>(
         self,
         scope: &mut Scope<'a>,
@@ -37,7 +37,7 @@ impl Resolver {
 
     /// The form of the process with the next number, and the numbers behind it.
     #[cycle(process)]
-    #[tactic(auto, using(crate::proofs::Forms::processes, crate::proofs::Sizes::process_sizes))]
+    #[tactic(auto, using(crate::proofs::Forms::processes, crate::proofs::Sizes::form_sizes))]
     fn proc_form<'a>(
         self,
         scope: &mut Scope<'a>,
@@ -130,7 +130,7 @@ impl Resolver {
 
     /// Processes side by side.
     #[cycle(process)]
-    #[tactic(auto, using(crate::proofs::Sizes::process_sizes), unfolding(crate::specs::Resolved::par_form))]
+    #[tactic(auto, using(crate::proofs::Sizes::par_sizes), unfolding(crate::specs::Resolved::par_form))]
     fn parallel<'a>(
         self,
         scope: &mut Scope<'a>,
@@ -149,7 +149,7 @@ impl Resolver {
 
     /// A new channel, whose name is in scope in the body.
     #[cycle(process)]
-    #[tactic(auto, using(crate::proofs::Sizes::process_sizes), unfolding(crate::specs::Resolved::new_form))]
+    #[tactic(auto, using(crate::proofs::Sizes::new_sizes), unfolding(crate::specs::Resolved::new_form))]
     fn channel<'a>(
         self,
         scope: &mut Scope<'a>,
@@ -174,7 +174,7 @@ impl Resolver {
 
     /// An input, whose body is in the scope of the pattern's names.
     #[cycle(process)]
-    #[tactic(auto, using(crate::proofs::Sizes::process_sizes), unfolding(crate::specs::Resolved::inp_form))]
+    #[tactic(auto, using(crate::proofs::Sizes::input_sizes), unfolding(crate::specs::Resolved::inp_form))]
     fn input<'a>(
         self,
         scope: &mut Scope<'a>,
@@ -195,7 +195,7 @@ impl Resolver {
 
     /// A replicated input.
     #[cycle(process)]
-    #[tactic(auto, using(crate::proofs::Sizes::process_sizes), unfolding(crate::specs::Resolved::rep_form))]
+    #[tactic(auto, using(crate::proofs::Sizes::replicated_sizes), unfolding(crate::specs::Resolved::rep_form))]
     fn replicated<'a>(
         self,
         scope: &mut Scope<'a>,
@@ -216,7 +216,7 @@ impl Resolver {
 
     /// A new agent, whose name is in scope in its body and in the rest.
     #[cycle(process)]
-    #[tactic(auto, using(crate::proofs::Sizes::process_sizes), unfolding(crate::specs::Resolved::agent_form))]
+    #[tactic(auto, using(crate::proofs::Sizes::agent_sizes), unfolding(crate::specs::Resolved::agent_form))]
     fn agent<'a>(
         self,
         scope: &mut Scope<'a>,
@@ -238,7 +238,7 @@ impl Resolver {
 
     /// A migration, and what the agent does at the site.
     #[cycle(process)]
-    #[tactic(auto, using(crate::proofs::Sizes::process_sizes), unfolding(crate::specs::Resolved::migrate_form))]
+    #[tactic(auto, using(crate::proofs::Sizes::migrate_sizes), unfolding(crate::specs::Resolved::migrate_form))]
     fn migrate<'a>(
         self,
         scope: &mut Scope<'a>,
@@ -260,7 +260,7 @@ impl Resolver {
 
     /// A message to an agent, if it is here, and what follows in either case.
     #[cycle(process)]
-    #[tactic(auto, using(crate::proofs::Sizes::process_sizes), unfolding(crate::specs::Resolved::iflocal_form))]
+    #[tactic(auto, using(crate::proofs::Sizes::iflocal_sizes), unfolding(crate::specs::Resolved::iflocal_form))]
     fn iflocal<'a>(
         self,
         scope: &mut Scope<'a>,
@@ -276,16 +276,14 @@ impl Resolver {
         ensures scope { OnOk result (scope.new ≡ scope.old) }
         ensures behind { IfOk result (λ r. IsBehindForm next (raw.IfLocal agent.now chan.now value.now met.now unmet.now) r.1) }
     {
-        let agent = self.expr(scope, agent)?;
-        let chan = use_of(scope, chan)?;
-        let value = self.expr(scope, value)?;
+        let (agent, chan, value) = self.addressed(scope, agent, chan, value)?;
         let (met, unmet, after) = self.two(scope, next.next_node(), met, unmet)?;
         Ok((ProcForm::IfLocal(agent, chan, value, met, unmet), after))
     }
 
     /// A test, and what follows in either case.
     #[cycle(process)]
-    #[tactic(auto, using(crate::proofs::Sizes::process_sizes), unfolding(crate::specs::Resolved::if_form))]
+    #[tactic(auto, using(crate::proofs::Sizes::if_sizes), unfolding(crate::specs::Resolved::if_form))]
     fn test<'a>(
         self,
         scope: &mut Scope<'a>,
@@ -306,7 +304,7 @@ impl Resolver {
 
     /// A `let`, whose body is in the scope of the pattern's names, and whose expression is not.
     #[cycle(process)]
-    #[tactic(auto, using(crate::proofs::Sizes::process_sizes), unfolding(crate::specs::Resolved::let_form))]
+    #[tactic(auto, using(crate::proofs::Sizes::let_sizes), unfolding(crate::specs::Resolved::let_form))]
     fn bind<'a>(
         self,
         scope: &mut Scope<'a>,

@@ -16,18 +16,33 @@ fn number(n: i64) -> Expr {
     expr(ExprForm::Val(Value::Int(n)))
 }
 
+fn boxed(alloc: Global, n: i64) -> Result<Boxed<Expr>, Memory> {
+    Boxed::of(alloc, number(n))
+}
+
+fn operation(alloc: Global) -> Result<Expr, Memory> {
+    let (one, two) = (boxed(alloc, 1)?, boxed(alloc, 2)?);
+    Ok(expr(ExprForm::Bin(Op::Less, one, two)))
+}
+
+fn letter(alloc: Global) -> Result<Expr, Memory> {
+    let (one, two) = (boxed(alloc, 1)?, boxed(alloc, 2)?);
+    Ok(expr(ExprForm::Pack(one, two)))
+}
+
+fn places(alloc: Global) -> Result<Expr, Memory> {
+    let (one, two, three) = (boxed(alloc, 1)?, boxed(alloc, 2)?, boxed(alloc, 3)?);
+    Ok(expr(ExprForm::With(one, two, three)))
+}
+
 /// An expression of each form, in a tuple.
 fn all_exprs(alloc: Global) -> Result<Expr, Memory> {
     let mut parts = List::new(alloc);
     parts.add(expr(ExprForm::Val(all_values(alloc)?)))?;
     parts.add(expr(ExprForm::Var(2)))?;
-    let (one, two) = (Boxed::of(alloc, number(1))?, Boxed::of(alloc, number(2))?);
-    parts.add(expr(ExprForm::Bin(Op::Less, one, two)))?;
-    let (one, two) = (Boxed::of(alloc, number(1))?, Boxed::of(alloc, number(2))?);
-    parts.add(expr(ExprForm::Pack(one, two)))?;
-    let (one, two) = (Boxed::of(alloc, number(1))?, Boxed::of(alloc, number(2))?);
-    let three = Boxed::of(alloc, number(3))?;
-    parts.add(expr(ExprForm::With(one, two, three)))?;
+    parts.add(operation(alloc)?)?;
+    parts.add(letter(alloc)?)?;
+    parts.add(places(alloc)?)?;
     Ok(expr(ExprForm::Tuple(parts)))
 }
 
@@ -60,93 +75,147 @@ fn stop(alloc: Global) -> Result<Boxed<Proc>, Memory> {
     proc(alloc, ProcForm::Stop)
 }
 
+fn new_channel(alloc: Global) -> Result<Boxed<Proc>, Memory> {
+    let ty = Ty::Chan(Cap::Both, Boxed::of(alloc, Ty::Int)?);
+    let body = stop(alloc)?;
+    proc(alloc, ProcForm::New(0, ty, body))
+}
+
+fn input(alloc: Global, body: Boxed<Proc>) -> Result<Boxed<Proc>, Memory> {
+    let names = all_pats(alloc)?;
+    proc(alloc, ProcForm::Inp(number(1), names, body))
+}
+
+fn replicated(alloc: Global, body: Boxed<Proc>) -> Result<Boxed<Proc>, Memory> {
+    let names = all_pats(alloc)?;
+    proc(alloc, ProcForm::Rep(number(1), names, body))
+}
+
+fn bind(alloc: Global, body: Boxed<Proc>) -> Result<Boxed<Proc>, Memory> {
+    let (names, value) = (all_pats(alloc)?, all_exprs(alloc)?);
+    proc(alloc, ProcForm::Let(names, value, body))
+}
+
 /// A process of each form that has one process in it, one in the other.
 fn chain(alloc: Global) -> Result<Boxed<Proc>, Memory> {
-    let ty = Ty::Chan(Cap::Both, Boxed::of(alloc, Ty::Int)?);
-    let mut inner = proc(alloc, ProcForm::New(0, ty, stop(alloc)?))?;
-    inner = proc(alloc, ProcForm::Inp(number(1), all_pats(alloc)?, inner))?;
-    inner = proc(alloc, ProcForm::Rep(number(1), all_pats(alloc)?, inner))?;
-    inner = proc(alloc, ProcForm::Migrate(number(1), inner))?;
-    let (names, value) = (all_pats(alloc)?, all_exprs(alloc)?);
-    proc(alloc, ProcForm::Let(names, value, inner))
+    let inner = new_channel(alloc)?;
+    let inner = input(alloc, inner)?;
+    let inner = replicated(alloc, inner)?;
+    let inner = proc(alloc, ProcForm::Migrate(number(1), inner))?;
+    bind(alloc, inner)
+}
+
+/// The process with one more beside it.
+fn beside(alloc: Global, all: Boxed<Proc>, leaf: ProcForm) -> Result<Boxed<Proc>, Memory> {
+    let leaf = proc(alloc, leaf)?;
+    proc(alloc, ProcForm::Par(all, leaf))
 }
 
 /// The processes with no process in them, side by side.
 fn leaves(alloc: Global) -> Result<Boxed<Proc>, Memory> {
-    let mut all = stop(alloc)?;
-    for leaf in [
-        ProcForm::Out(number(1), number(2)),
-        ProcForm::Send(number(1), number(2), number(3), number(4)),
-        ProcForm::Post(number(1), number(2), number(3)),
-        ProcForm::Print(number(1)),
-        ProcForm::Open(number(1)),
-    ] {
-        all = proc(alloc, ProcForm::Par(all, proc(alloc, leaf)?))?;
-    }
-    Ok(all)
+    let all = stop(alloc)?;
+    let all = beside(alloc, all, ProcForm::Out(number(1), number(2)))?;
+    let send = ProcForm::Send(number(1), number(2), number(3), number(4));
+    let all = beside(alloc, all, send)?;
+    let all = beside(alloc, all, ProcForm::Post(number(1), number(2), number(3)))?;
+    let all = beside(alloc, all, ProcForm::Print(number(1)))?;
+    beside(alloc, all, ProcForm::Open(number(1)))
+}
+
+fn if_local(alloc: Global, met: Boxed<Proc>) -> Result<Boxed<Proc>, Memory> {
+    let unmet = stop(alloc)?;
+    let form = ProcForm::IfLocal(number(1), number(2), number(3), met, unmet);
+    proc(alloc, form)
+}
+
+fn test(alloc: Global, met: Boxed<Proc>) -> Result<Boxed<Proc>, Memory> {
+    let unmet = stop(alloc)?;
+    proc(alloc, ProcForm::If(number(1), met, unmet))
+}
+
+fn lookup(alloc: Global, met: Boxed<Proc>) -> Result<Boxed<Proc>, Memory> {
+    let unmet = stop(alloc)?;
+    proc(alloc, ProcForm::Lookup(number(1), number(2), 3, met, unmet))
 }
 
 /// A process of each form.
-fn all_procs(alloc: Global) -> Result<Proc, Memory> {
-    let mut all = proc(alloc, ProcForm::Par(chain(alloc)?, leaves(alloc)?))?;
-    all = proc(alloc, ProcForm::Agent(1, stop(alloc)?, all))?;
-    let unmet = stop(alloc)?;
-    all = proc(
-        alloc,
-        ProcForm::IfLocal(number(1), number(2), number(3), all, unmet),
-    )?;
-    all = proc(alloc, ProcForm::If(number(1), all, stop(alloc)?))?;
-    let unmet = stop(alloc)?;
-    all = proc(alloc, ProcForm::Lookup(number(1), number(2), 3, all, unmet))?;
-    Ok(all.into_inner())
+fn all_procs(alloc: Global) -> Result<Boxed<Proc>, Memory> {
+    let (left, right) = (chain(alloc)?, leaves(alloc)?);
+    let both = proc(alloc, ProcForm::Par(left, right))?;
+    let body = stop(alloc)?;
+    let all = proc(alloc, ProcForm::Agent(1, body, both))?;
+    let all = if_local(alloc, all)?;
+    let all = test(alloc, all)?;
+    lookup(alloc, all)
+}
+
+fn add_channel(alloc: Global, parts: &mut List<Ty>, carried: Ty) -> Result<(), Memory> {
+    let carried = Boxed::of(alloc, carried)?;
+    parts.add(Ty::Chan(Cap::Input, carried))
+}
+
+/// Channels of each type that has no other in it.
+fn add_channels(alloc: Global, parts: &mut List<Ty>) -> Result<(), Memory> {
+    add_channel(alloc, parts, Ty::Int)?;
+    add_channel(alloc, parts, Ty::Bool)?;
+    add_channel(alloc, parts, Ty::Str)?;
+    add_channel(alloc, parts, Ty::Site)?;
+    add_channel(alloc, parts, Ty::Agent)?;
+    add_channel(alloc, parts, Ty::Letter)?;
+    add_channel(alloc, parts, Ty::Places)
 }
 
 #[test]
 fn copies_types(rt: HostRuntime) -> Result<(), Fail> {
     let alloc = rt.alloc();
     let mut parts = List::new(alloc);
-    for ty in [
-        Ty::Int,
-        Ty::Bool,
-        Ty::Str,
-        Ty::Site,
-        Ty::Agent,
-        Ty::Letter,
-        Ty::Places,
-    ] {
-        parts.add(Ty::Chan(Cap::Input, Boxed::of(alloc, ty)?))?;
-    }
+    add_channels(alloc, &mut parts)?;
     let ty = Ty::Tuple(parts);
     assert!(rt; ty.copy(alloc)?.same(&ty));
     assert!(rt; !ty.same(&Ty::Int));
     Ok(())
 }
 
+/// A program in which each form is.
+fn program(alloc: Global) -> Result<Boxed<Program>, Memory> {
+    let (sites, main) = (two_sites(alloc)?, all_procs(alloc)?);
+    let program = Program {
+        sites,
+        at: 1,
+        main: main.into_inner(),
+        binders: 5,
+    };
+    Boxed::of(alloc, program)
+}
+
 #[test]
 fn copies_programs(rt: HostRuntime) -> Result<(), Fail> {
     let alloc = rt.alloc();
-    let program = Program {
-        sites: two_sites(alloc)?,
-        at: 1,
-        main: all_procs(alloc)?,
-        binders: 5,
-    };
-    let copied = program.copy(alloc)?;
-    assert_eq!(rt; (copied.at, copied.binders), (1, 5));
+    let program = program(alloc)?;
+    let copied = Boxed::of(alloc, program.get().copy(alloc)?)?;
+    assert_eq!(rt; (copied.get().at, copied.get().binders), (1, 5));
     Ok(())
+}
+
+/// A low program, in whose main process and daemon each form is.
+fn low_program(alloc: Global) -> Result<Boxed<LowProgram>, Memory> {
+    let sites = two_sites(alloc)?;
+    let (main, daemon) = (all_procs(alloc)?, all_procs(alloc)?);
+    let program = LowProgram {
+        sites,
+        at: 1,
+        main: main.into_inner(),
+        daemon: daemon.into_inner(),
+    };
+    Boxed::of(alloc, program)
 }
 
 #[test]
 fn copies_low_programs(rt: HostRuntime) -> Result<(), Fail> {
     let alloc = rt.alloc();
-    let program = LowProgram {
-        sites: two_sites(alloc)?,
-        at: 1,
-        main: all_procs(alloc)?,
-        daemon: all_procs(alloc)?,
-    };
-    let copied = program.copy(alloc)?;
-    assert_eq!(rt; copied.sites.len(), 2);
-    assert_eq!(rt; copied.daemon.tag, program.daemon.tag);
+    let program = low_program(alloc)?;
+    let copied = Boxed::of(alloc, program.get().copy(alloc)?)?;
+    assert_eq!(rt; copied.get().sites.len(), 2);
+    assert_eq!(rt; copied.get().daemon.tag, program.get().daemon.tag);
     Ok(())
 }

@@ -27,31 +27,39 @@ fn chan(alloc: Global, cap: Cap, ty: Ty) -> Result<Ty, Memory> {
 }
 
 /// Binders from 0 on: `^Int`, `?Int`, `^Site`, Agent, Places.
-fn binders(alloc: Global) -> Result<Env, Memory> {
-    let mut env = Env::new(alloc);
+fn set_binders(alloc: Global, env: &mut Env) -> Result<(), Memory> {
     env.set(0, chan(alloc, Cap::Both, Ty::Int)?)?;
     env.set(1, chan(alloc, Cap::Input, Ty::Int)?)?;
     env.set(2, chan(alloc, Cap::Both, Ty::Site)?)?;
     env.set(3, Ty::Agent)?;
-    env.set(4, Ty::Places)?;
-    Ok(env)
+    env.set(4, Ty::Places)
 }
 
 /// The rule and the place of the first fault, if there is one.
-fn fault_of(alloc: Global, form: ExprForm) -> Result<Option<(u32, Rule)>, Memory> {
-    let env = binders(alloc)?;
-    match least(alloc, &env, &Expr { at: 1, form }) {
+fn fault_in(alloc: Global, env: &Env, expr: &Expr) -> Result<Option<(u32, Rule)>, Memory> {
+    match least(alloc, env, expr) {
         Ok(_) => Ok(None),
         Err(LeastFail::Fault(TypeFault { at, rule })) => Ok(Some((at, rule))),
         Err(LeastFail::Memory) => Err(Memory),
     }
 }
 
+/// The first fault of an expression in which the binders may stand.
+fn fault_of(alloc: Global, expr: &Expr) -> Result<Option<(u32, Rule)>, Memory> {
+    let mut env = Env::new(alloc);
+    set_binders(alloc, &mut env)?;
+    fault_in(alloc, &env, expr)
+}
+
+fn whole(alloc: Global, form: ExprForm) -> Result<Boxed<Expr>, Memory> {
+    Boxed::of(alloc, Expr { at: 1, form })
+}
+
 /// `pack(c, e)` has the faults of the output `c!e`.
-fn letter(alloc: Global, chan: Leaf, value: Leaf) -> Result<ExprForm, Memory> {
+fn letter(alloc: Global, chan: Leaf, value: Leaf) -> Result<Boxed<Expr>, Memory> {
     let chan = Boxed::of(alloc, operand(2, chan))?;
     let value = Boxed::of(alloc, operand(3, value))?;
-    Ok(ExprForm::Pack(chan, value))
+    whole(alloc, ExprForm::Pack(chan, value))
 }
 
 #[test]
@@ -62,18 +70,18 @@ fn letters(rt: HostRuntime) -> Result<(), Fail> {
         (Leaf::Var(0), Leaf::Truth, Some((3, Rule::Mismatch))),
         (Leaf::Var(0), Leaf::Number, None),
     ] {
-        let form = letter(rt.alloc(), chan, value)?;
-        assert_eq!(rt; fault_of(rt.alloc(), form)?, fault);
+        let letter = letter(rt.alloc(), chan, value)?;
+        assert_eq!(rt; fault_of(rt.alloc(), letter.get())?, fault);
     }
     Ok(())
 }
 
 /// `m with a -> c`.
-fn places(alloc: Global, map: Leaf, agent: Leaf, lock: Leaf) -> Result<ExprForm, Memory> {
+fn places(alloc: Global, map: Leaf, agent: Leaf, lock: Leaf) -> Result<Boxed<Expr>, Memory> {
     let map = Boxed::of(alloc, operand(2, map))?;
     let agent = Boxed::of(alloc, operand(3, agent))?;
     let lock = Boxed::of(alloc, operand(4, lock))?;
-    Ok(ExprForm::With(map, agent, lock))
+    whole(alloc, ExprForm::With(map, agent, lock))
 }
 
 #[test]
@@ -99,8 +107,8 @@ fn maps_of_places(rt: HostRuntime) -> Result<(), Fail> {
         ),
         (Leaf::Var(4), Leaf::Var(3), Leaf::Var(2), None),
     ] {
-        let form = places(rt.alloc(), map, agent, lock)?;
-        assert_eq!(rt; fault_of(rt.alloc(), form)?, fault);
+        let places = places(rt.alloc(), map, agent, lock)?;
+        assert_eq!(rt; fault_of(rt.alloc(), places.get())?, fault);
     }
     Ok(())
 }

@@ -10,19 +10,26 @@ fn text(alloc: Global, bytes: &str) -> Result<Text, Memory> {
     List::from_slice(alloc, bytes.as_bytes())
 }
 
-/// A value of each form, in a tuple.
-pub(crate) fn all_values(alloc: Global) -> Result<Value, Memory> {
-    let mut places = List::new(alloc);
-    places.add((HERE, HERE))?;
-    let mut parts = List::new(alloc);
+fn add_values(alloc: Global, parts: &mut List<Value>) -> Result<(), Memory> {
     parts.add(Value::Int(-5))?;
     parts.add(Value::Truth(true))?;
     parts.add(Value::Str(text(alloc, "a\n")?))?;
     parts.add(Value::Site(1))?;
     parts.add(Value::Agent(HERE))?;
-    parts.add(Value::Chan(HERE))?;
+    parts.add(Value::Chan(HERE))
+}
+
+fn add_low_values(alloc: Global, parts: &mut List<Value>) -> Result<(), Memory> {
     parts.add(Value::Letter(HERE, Boxed::of(alloc, Value::Int(7))?))?;
-    parts.add(Value::Places(places))?;
+    let places = List::from_slice(alloc, [(HERE, HERE)].as_slice())?;
+    parts.add(Value::Places(places))
+}
+
+/// A value of each form, in a tuple.
+pub(crate) fn all_values(alloc: Global) -> Result<Value, Memory> {
+    let mut parts = List::new(alloc);
+    add_values(alloc, &mut parts)?;
+    add_low_values(alloc, &mut parts)?;
     Ok(Value::Tuple(parts))
 }
 
@@ -57,15 +64,23 @@ fn prints_values(rt: HostRuntime) -> Result<(), Fail> {
     Ok(())
 }
 
+/// Puts four numbers, and another in the place of the first.
+fn put_four(list: &mut List<u8>) -> Result<(), Memory> {
+    list.reserve(2)?;
+    list.add(1)?;
+    if list.push(2).is_err() {
+        return Err(Memory);
+    }
+    list.append([3, 4].as_slice())?;
+    list.set(0, 9);
+    Ok(())
+}
+
 #[test]
 fn lists_hold_what_was_put(rt: HostRuntime) -> Result<(), Fail> {
     let alloc = rt.alloc();
     let mut list = List::new(alloc);
-    list.reserve(2)?;
-    list.add(1u8)?;
-    assert!(rt; list.push(2u8).is_ok());
-    list.append([3u8, 4].as_slice())?;
-    list.set(0, 9);
+    put_four(&mut list)?;
     assert_eq!(rt; list.pop(), Some(4));
     assert_eq!(rt; list.copy(alloc)?.as_slice(), [9u8, 2, 3].as_slice());
     Ok(())

@@ -1,51 +1,66 @@
 //! Tables, sets of names and work lists.
 
+ghost use Rattle.std.specs.Prelude.{◌≡◌};
+ghost use Rattle.std.specs.FinMap as map;
+
 use np_syntax::{Memory, Name};
 use np_tables::{Errand, Meeting, Names, Ready, Table, WorkLists};
-use std::test::Fail;
 
 fn name(n: u32) -> Name {
     Name { site: 0, n }
 }
 
-#[test]
-fn a_table_holds_what_was_put(rt: HostRuntime) -> Result<(), Fail> {
-    let mut table = Table::new(rt.alloc());
+/// Puts two values, and takes the second.
+fn put_and_take(table: &mut Table<i32>) -> Result<Option<i32>, Memory> {
     table.reserve(2)?;
     table.put(name(1), 10);
     table.insert(name(2), 20)?;
-    assert_eq!(rt; table.take(name(2)), Some(20));
-    assert!(rt; table.has(name(1)) && !table.has(name(2)));
-    assert_eq!(rt; table.get(name(1)).copied(), Some(10));
-    Ok(())
+    Ok(table.take(name(2)))
 }
 
 #[test]
-fn a_value_goes_in_the_place_of_another(rt: HostRuntime) -> Result<(), Fail> {
-    let one = name(1);
+fn a_table_holds_what_was_put(rt: HostRuntime) {
     let mut table = Table::new(rt.alloc());
+    assert_eq!(rt; put_and_take(&mut table), Ok(Some(20)));
+    assert!(rt; table.has(name(1)) && !table.has(name(2)));
+    assert_eq!(rt; table.get(name(1)).copied(), Some(10));
+}
+
+/// Puts a value, another in its place, and a third by a swap.
+fn put_in_place(table: &mut Table<i32>, one: Name) -> Result<i32, Memory> {
     table.insert(one, 10)?;
     table.replace(one, 11);
-    assert_eq!(rt; table.swap(one, 12), 11);
+    Ok(table.swap(one, 12))
+}
+
+#[test]
+fn a_value_goes_in_the_place_of_another(rt: HostRuntime) {
+    let one = name(1);
+    let mut table = Table::new(rt.alloc());
+    assert_eq!(rt; put_in_place(&mut table, one), Ok(11));
     assert_eq!(rt; table.len(), 1);
     assert_eq!(rt; table.key(0), one);
     table.remove(one);
     assert!(rt; table.is_empty());
-    Ok(())
 }
 
-#[test]
-fn a_set_holds_what_was_put(rt: HostRuntime) -> Result<(), Fail> {
-    let mut names = Names::new(rt.alloc());
+/// Puts two names, and removes the first.
+fn put_and_remove(names: &mut Names) -> Result<(), Memory> {
     names.reserve(1)?;
     names.put(name(1));
     names.insert(name(2))?;
     names.remove(name(1));
+    Ok(())
+}
+
+#[test]
+fn a_set_holds_what_was_put(rt: HostRuntime) {
+    let mut names = Names::new(rt.alloc());
+    assert_eq!(rt; put_and_remove(&mut names), Ok(()));
     assert!(rt; names.has(name(2)) && !names.has(name(1)));
     assert_eq!(rt; names.first(), Some(name(2)));
     names.remove(name(2));
     assert!(rt; names.is_empty());
-    Ok(())
 }
 
 const TEN: Meeting = Meeting {
@@ -81,46 +96,57 @@ fn serve_all(work: &mut WorkLists, alike: &[Ready]) -> bool {
     true
 }
 
+fn file_ten(work: &mut WorkLists) -> Result<(), Memory> {
+    let errands = [
+        (1, Errand::Acts),
+        (11, Errand::Gives(TEN)),
+        (12, Errand::Gives(TEN)),
+        (29, Errand::Takes(TWENTY)),
+        (13, Errand::Gives(TEN)),
+        (3, Errand::Stuck),
+        (19, Errand::Takes(TEN)),
+        (21, Errand::Gives(TWENTY)),
+        (2, Errand::Acts),
+        (22, Errand::Gives(TWENTY)),
+    ];
+    file_all(work, &errands)
+}
+
+fn serve_seven(work: &mut WorkLists) -> bool {
+    let alike = [
+        Ready::Acts(name(1)),
+        Ready::Meets(name(19), name(11)),
+        Ready::Meets(name(29), name(21)),
+        Ready::Acts(name(2)),
+        Ready::Meets(name(19), name(12)),
+        Ready::Meets(name(29), name(22)),
+        Ready::Meets(name(19), name(13)),
+    ];
+    serve_all(work, &alike)
+}
+
 // What has waited longest is served first. The inputs 19 and 29 stay, as replicated inputs do.
-#[test]
-fn the_first_to_come_are_served_first(rt: HostRuntime) -> Result<(), Fail> {
-    let mut work = WorkLists::new(rt.alloc());
-    file_all(
-        &mut work,
-        &[
-            (1, Errand::Acts),
-            (11, Errand::Gives(TEN)),
-            (12, Errand::Gives(TEN)),
-            (29, Errand::Takes(TWENTY)),
-            (13, Errand::Gives(TEN)),
-            (3, Errand::Stuck),
-            (19, Errand::Takes(TEN)),
-            (21, Errand::Gives(TWENTY)),
-            (2, Errand::Acts),
-            (22, Errand::Gives(TWENTY)),
-        ],
-    )?;
-    let served = serve_all(
-        &mut work,
-        &[
-            Ready::Acts(name(1)),
-            Ready::Meets(name(19), name(11)),
-            Ready::Meets(name(29), name(21)),
-            Ready::Acts(name(2)),
-            Ready::Meets(name(19), name(12)),
-            Ready::Meets(name(29), name(22)),
-            Ready::Meets(name(19), name(13)),
-        ],
-    );
-    assert!(rt; served && work.is_quiet());
-    Ok(())
+fn file_and_serve(work: &mut WorkLists) -> Result<bool, Memory> {
+    file_ten(work)?;
+    Ok(serve_seven(work) && work.is_quiet())
 }
 
 #[test]
-fn two_are_filed_in_order(rt: HostRuntime) -> Result<(), Fail> {
+fn the_first_to_come_are_served_first(rt: HostRuntime) {
     let mut work = WorkLists::new(rt.alloc());
+    assert_eq!(rt; file_and_serve(&mut work), Ok(true));
+}
+
+fn file_and_serve_two(work: &mut WorkLists) -> Result<bool, Memory>
+    requires { work.old ≡ map.empty }
+{
     work.file_two(name(1), Errand::Acts, name(2), Errand::Acts)?;
-    assert!(rt; serve_all(&mut work, &[Ready::Acts(name(1)), Ready::Acts(name(2))]));
-    assert_eq!(rt; work.next(), None);
-    Ok(())
+    let served = serve_all(work, &[Ready::Acts(name(1)), Ready::Acts(name(2))]);
+    Ok(served && work.next().is_none())
+}
+
+#[test]
+fn two_are_filed_in_order(rt: HostRuntime) {
+    let mut work = WorkLists::new(rt.alloc());
+    assert_eq!(rt; file_and_serve_two(&mut work), Ok(true));
 }
