@@ -9,6 +9,4 @@ mod views;
 pub use moves::{chosen, enter, go_on, go_under, split, split_agent};
 pub use outputs::output_in;
 pub use places::Places;
-pub use views::{
-    no_other, none_made, one_made, one_site, one_tag, two_made, two_names, way,
-};
+pub use views::{no_other, none_made, one_made, one_site, one_tag, two_made, two_names, way};

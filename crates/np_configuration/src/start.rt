@@ -14,8 +14,11 @@ const OWN_NUMBERS: [u32; 17] = [0, 1, 2, 3, 4, 5, 6, 7, 8, 9, 10, 11, 12, 13, 14
 
 // The numbers of the agents that a program starts with, and of the marks of their first atoms.
 const MAIN: u32 = 0;
+
 const DAEMON: u32 = 1;
+
 const MAIN_MARK: u32 = 11;
+
 const DAEMON_MARK: u32 = 12;
 
 /// The names of these numbers that a program of so many sites has for its own.

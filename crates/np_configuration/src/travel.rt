@@ -5,7 +5,9 @@ ghost use Rattle.np_configuration.specs.Applied.{Applied};
 
 use super::cfg::Cfg;
 use super::fail::ApplyFail::{self, NotEnabled};
-use np_agents::{go_on, no_other, none_made, one_site, one_tag, split_agent, two_made, two_names, way};
+use np_agents::{
+    go_on, no_other, none_made, one_site, one_tag, split_agent, two_made, two_names, way,
+};
 use np_calculus::Place;
 use np_eval::{as_agent_form, as_migrate, errand_of};
 use np_syntax::{Event, Role, Tag, Value};

@@ -40,12 +40,15 @@ pub struct Example {
     pub line: u32,
     /// The words of each call, with single blanks between them.
     pub calls: Vec<String>,
+    /// Whether the low program of each source is run as well.
+    pub runs_low: bool,
     /// What stands under the name `a`: each is tried with each call.
     pub sources: Vec<String>,
     pub texts: Vec<NamedText>,
     pub devices: Devices,
     pub status: u8,
     pub events: Option<usize>,
+    pub opens: Option<usize>,
     pub lines: Option<usize>,
     pub outcome: Outcome,
     /// Outcomes that would do as well.
@@ -62,6 +65,7 @@ impl Example {
             title: String::from_str(alloc, title)?,
             line,
             calls: Vec::new(alloc),
+            runs_low: false,
             sources: Vec::new(alloc),
             texts: Vec::new(alloc),
             devices: Devices {
@@ -72,6 +76,7 @@ impl Example {
             },
             status: 0,
             events: None,
+            opens: None,
             lines: None,
             outcome: Outcome::new(alloc),
             others: Vec::new(alloc),

@@ -4,6 +4,7 @@
 
 mod example;
 mod fail;
+mod low_run;
 mod number;
 mod pieces;
 mod reader;
@@ -13,6 +14,7 @@ mod verdict;
 
 use example::Example;
 use fail::ExampleFail;
+use low_run::came_of_low;
 use reader::examples_of;
 use report::tell_failure;
 use std::alloc::Global;
@@ -89,8 +91,22 @@ fn try_file<R: Files + Alloc + Print + Threads + Wait + Sync>(
     Ok(tally)
 }
 
-/// Tries each call of an example with each of its sources.
+/// Tries each call of an example, and the runs of its low programs.
 fn try_example<R: Print + Threads + Wait + Sync>(
+    rt: &R,
+    alloc: Global,
+    file: &str,
+    example: &Example,
+) -> Result<Tally, ExampleFail> {
+    let mut tally = try_calls(rt, alloc, file, example)?;
+    if example.runs_low {
+        tally.add(try_low_runs(rt, alloc, file, example)?);
+    }
+    Ok(tally)
+}
+
+/// Tries each call of an example with each of its sources.
+fn try_calls<R: Print + Threads + Wait + Sync>(
     rt: &R,
     alloc: Global,
     file: &str,
@@ -108,6 +124,39 @@ fn try_example<R: Print + Threads + Wait + Sync>(
         }
     }
     Ok(tally)
+}
+
+/// Tries the run of the low program of each source.
+fn try_low_runs<R: Print>(
+    rt: &R,
+    alloc: Global,
+    file: &str,
+    example: &Example,
+) -> Result<Tally, ExampleFail> {
+    let mut tally = NONE;
+    if example.sources.is_empty() {
+        tally.count(try_low_run(rt, alloc, file, example, None)?);
+    }
+    for source in example.sources.iter() {
+        tally.count(try_low_run(rt, alloc, file, example, Some(source.as_str()))?);
+    }
+    Ok(tally)
+}
+
+/// Whether a run of a low program does what the example wants.
+fn try_low_run<R: Print>(
+    rt: &R,
+    alloc: Global,
+    file: &str,
+    example: &Example,
+    source: Option<&str>,
+) -> Result<bool, ExampleFail> {
+    let came = came_of_low(alloc, example, source)?;
+    let passed = meets(example, &came);
+    if !passed {
+        tell_failure(rt, file, example, "low run", source, &came)?;
+    }
+    Ok(passed)
 }
 
 /// Whether a call does what the example wants. Where it does not, what was wanted and what came is printed.

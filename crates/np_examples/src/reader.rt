@@ -52,6 +52,10 @@ fn read_line<R: Files + Alloc>(
     let (key, rest) = line.split_once(' ').unwrap_or((line, ""));
     match key {
         "words" | "main" | "source" | "text" => read_call(alloc, example, key, rest),
+        "low" if rest == "run" => {
+            example.runs_low = true;
+            Ok(())
+        }
         "fail" | "piece" => read_device(example, key, rest, number),
         _ => read_wanted(alloc, example, key, rest, number),
     }
@@ -110,6 +114,7 @@ fn read_wanted(
     match key {
         "status" => example.status = byte_of(rest, number)?,
         "events" => example.events = Some(count_of(rest, number)?),
+        "opens" => example.opens = Some(count_of(rest, number)?),
         "lines" => example.lines = Some(count_of(rest, number)?),
         "out" => add_line(&mut example.outcome.ordered, rest)?,
         "unordered" => example

@@ -18,6 +18,8 @@ pub struct Came {
     pub status: u8,
     /// How many events the run has that the answer keeps, if it keeps one.
     pub events: Option<usize>,
+    /// How many letters are opened in it, if it is the run of a low program.
+    pub opens: Option<usize>,
     pub out: MemSink,
     pub err: MemSink,
 }
@@ -59,7 +61,11 @@ fn hold_all(
 }
 
 /// A sink that takes so many bytes a call, at least one, and fails at these calls.
-fn sink_of(alloc: Global, piece: usize, failing: &[u64]) -> Result<MemSink, ExampleFail> {
+pub(crate) fn sink_of(
+    alloc: Global,
+    piece: usize,
+    failing: &[u64],
+) -> Result<MemSink, ExampleFail> {
     let mut sink = MemSink::new(alloc, piece.max(1));
     sink.reserve(ROOM)?;
     for call in failing {
@@ -94,6 +100,7 @@ pub(crate) fn came_of<R: Threads + Wait + Sync>(
     Ok(Came {
         status: answer.status,
         events: events_of(&answer),
+        opens: None,
         out,
         err,
     })

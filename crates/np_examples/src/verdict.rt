@@ -6,14 +6,15 @@ use super::trial::Came;
 /// Whether the call did what the example wants.
 pub(crate) fn meets(example: &Example, came: &Came) -> bool {
     came.status == example.status
-        && meets_events(example, came)
+        && meets_count(example.events, came.events)
+        && meets_count(example.opens, came.opens)
         && meets_out(example, came.out.bytes())
         && meets_err(example, came.err.bytes())
 }
 
-fn meets_events(example: &Example, came: &Came) -> bool {
-    match example.events {
-        Some(count) => came.events == Some(count),
+fn meets_count(wanted: Option<usize>, came: Option<usize>) -> bool {
+    match wanted {
+        Some(count) => came == Some(count),
         None => true,
     }
 }

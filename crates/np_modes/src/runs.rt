@@ -57,11 +57,7 @@ pub fn run_low(alloc: Global, budget: u32, bytes: &[u8]) -> Result<(SerialRun, T
 }
 
 /// Translates a checked program, drops it, and runs its low program.
-fn run_translated(
-    alloc: Global,
-    budget: u32,
-    checked: Checked,
-) -> Result<(SerialRun, Text), Memory>
+fn run_translated(alloc: Global, budget: u32, checked: Checked) -> Result<(SerialRun, Text), Memory>
     ensures { IfOk result (λ made. IsRunOf checked.sites (start_low (encoded checked)) budget made.0 made.1) }
 {
     law_low_runs_well();

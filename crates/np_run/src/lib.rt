@@ -14,4 +14,5 @@ pub use np_modes::{
     BAD_SOURCE, BAD_USAGE, BUDGET_SPENT, DONE, Mode, NO_MEMORY, READ_FAILED, Record, Refusal,
     WRITE_FAILED, line, report, run_low, status,
 };
+pub use np_serial::SerialRun;
 pub use top::np;
