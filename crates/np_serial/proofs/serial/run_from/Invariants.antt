@@ -5,7 +5,7 @@ use Rattle.np_serial.proofs.serial.run_from.Given as goal
 
 abbrev pub invariant-loop-n : goal.invariant-loop-n
 invariant-loop-n l = record {
-  reaches : run l.start l.events ≡ Some l.last;
+  reaches : run l.fn.start l.events ≡ Some l.last;
   made : length l.events ≡ l.n;
-  fresh : AreFresh l.last.born l.start.sites l.n;
+  fresh : AreFresh l.last.born l.fn.start.sites l.n;
 }
