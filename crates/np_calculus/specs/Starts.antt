@@ -28,8 +28,7 @@ main_mark n = own n 11
 abbrev pub daemon_mark : ℕ → Name
 daemon_mark n = own n 12
 
--- main, daemon, register, migrating, migrated, message, deliver, ack, dack, currentloc, lock, the two marks, here,
--- cache, where and found
+-- main, daemon, register, migrating, migrated, message, deliver, ack, dack, currentloc, lock, the two marks, here, cache, where and found
 abbrev pub own_numbers : List ℕ
 own_numbers = 0 ∷ 1 ∷ 2 ∷ 3 ∷ 4 ∷ 5 ∷ 6 ∷ 7 ∷ 8 ∷ 9 ∷ 10 ∷ 11 ∷ 12 ∷ 13 ∷ 14 ∷ 15 ∷ 16 ∷ []
 
@@ -44,28 +43,22 @@ own_names n = with_all set.empty (map (own n) own_numbers)
 abbrev pub first_atom : Name → Proc → Atom
 first_atom agent p = record { agent = agent; proc = p; env = table.empty }
 
+-- the names of a program of n sites, and nothing else
+abbrev pub names_alone : ℕ → Config
+names_alone n = record { sites = n; places = table.empty; atoms = table.empty; packets = table.empty; born = own_names n; said = [] }
+
+-- with an agent at a site, and its first atom
+abbrev pub with_agent : Config → Name → ℕ → Name → Proc → Config
+with_agent c agent site mark p = record c { places = table.insert c.places agent (place.At site); atoms = table.insert c.atoms mark (first_atom agent p) }
+
 -- main at its site, with its process
 unfoldable pub start_high : Program → Config
 start_high p =
     let n : ℕ = length p.sites in
-    record {
-      sites = n;
-      places = table.insert table.empty (main_agent n) (place.At p.at);
-      atoms = table.insert table.empty (main_mark n) (first_atom (main_agent n) p.main);
-      packets = table.empty;
-      born = own_names n;
-      said = [];
-    }
+    with_agent (names_alone n) (main_agent n) p.at (main_mark n) p.main
 
 -- main at its site and the daemon at the first one, each with its process
 unfoldable pub start_low : LowProgram → Config
 start_low q =
     let n : ℕ = length q.sites in
-    record {
-      sites = n;
-      places = table.insert (table.insert table.empty (main_agent n) (place.At q.at)) (daemon_agent n) (place.At 0);
-      atoms = table.insert (table.insert table.empty (main_mark n) (first_atom (main_agent n) q.main)) (daemon_mark n) (first_atom (daemon_agent n) q.daemon);
-      packets = table.empty;
-      born = own_names n;
-      said = [];
-    }
+    with_agent (with_agent (names_alone n) (main_agent n) q.at (main_mark n) q.main) (daemon_agent n) 0 (daemon_mark n) q.daemon
