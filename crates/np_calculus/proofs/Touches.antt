@@ -20,7 +20,7 @@ use Rattle.np_calculus.specs.Reductions.{acting_in, act, same_tag, sends, offere
 use Rattle.np_calculus.specs.Sight.{Contents, Sight, inside, sight, at_site}
 use Rattle.np_calculus.proofs.Fits.{actor-seen}
 use Rattle.np_calculus.proofs.OwnNames.{not_true}
-use Rattle.np_calculus.proofs.Rows.{stop-by, fork-by, new-by, let-by, if-by, agent-by, depart-by, send-by, print-by, open-by, lookup-by, post-by}
+use Rattle.np_calculus.proofs.Rows.{by}
 use Rattle.np_calculus.proofs.Writes.{inside-effect, every-map}
 
 -- two chains with the same first step
@@ -101,23 +101,7 @@ module _ (n : ℕ) (x y : Contents) (e : Event) (marks : Every (SameMark x y) (e
     act-same kind.Local (ProcForm-F.IfLocal agent c sent met unmet) is = step (agent_of agent a.env) (agent_of agent a.env) _ _ refl λ b names.
         let l : Every (SamePlace x y) (b ∷ []) = rw (is, names) at (asked-same a there) in
         rw (here-same x y e.site b l.0) refl
-    act-same kind.Comm _ is = refl
-    act-same kind.Rep _ is = refl
-    act-same kind.Local _ is = refl
-    act-same kind.Arrive l is = refl
-    act-same kind.Land l is = refl
-    act-same kind.Stop l is = stop-by v e a l ∙ sym (stop-by w e a l)
-    act-same kind.Fork l is = fork-by v e a l ∙ sym (fork-by w e a l)
-    act-same kind.New l is = new-by v e a l ∙ sym (new-by w e a l)
-    act-same kind.Let l is = let-by v e a l ∙ sym (let-by w e a l)
-    act-same kind.If l is = if-by v e a l ∙ sym (if-by w e a l)
-    act-same kind.Agent l is = agent-by v e a l ∙ sym (agent-by w e a l)
-    act-same kind.Depart l is = depart-by v e a l ∙ sym (depart-by w e a l)
-    act-same kind.Send l is = send-by v e a l ∙ sym (send-by w e a l)
-    act-same kind.Print l is = print-by v e a l ∙ sym (print-by w e a l)
-    act-same kind.Open l is = open-by v e a l ∙ sym (open-by w e a l)
-    act-same kind.Lookup l is = lookup-by v e a l ∙ sym (lookup-by w e a l)
-    act-same kind.Post l is = post-by v e a l ∙ sym (post-by w e a l)
+    act-same k l is = by k l v e a ∙ sym (by k l w e a)
 
 module _ (n : ℕ) (x y : Contents) (e : Event) where
   land-same : SameMark x y e.actor → Every (SamePlace x y) (bound_for (x.packet e.actor)) → land_row (x.packet e.actor) (sight n x e.site) e ≡ land_row (y.packet e.actor) (sight n y e.site) e
