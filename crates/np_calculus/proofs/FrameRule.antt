@@ -1,5 +1,5 @@
 -- The frame rule and its reverse, and what an event keeps.
-use Rattle.std.proofs.Common.{◌≡◌, ℕ, Bool, true, false, not, cond, ◌&&◌, ◌||◌, ◌⊎◌, inl, inr, List, [], ◌∷◌, Option, None, Some, IsSome, IfSome, refl, ap, sym, subst, ◌∙◌}
+use Rattle.std.proofs.Common.{◌≡◌, ℕ, Bool, true, false, not, cond, ◌||◌, ◌⊎◌, inl, inr, List, [], ◌∷◌, Option, None, Some, IsSome, IfSome, refl, ap, sym, subst, ◌∙◌}
 use Rattle.std.specs.FinSet as set
 use mathlib.Core.Path.{fun_ext}
 use Rattle.np_syntax.specs.declared.value.Name.{Name}
@@ -21,6 +21,7 @@ use Rattle.np_calculus.specs.FrameRule.{Comes, Every, Fits, FrameBack, FrameRule
 use Rattle.np_calculus.specs.Parts.{IsApart, IsAway, IsLodged, IsMark, IsWhole, LacksMark, beside, either}
 use Rattle.np_calculus.specs.Reductions.{acting_in, act, apply, arrive_row, land_row, change, are_new}
 use Rattle.np_calculus.specs.Sight.{Contents, Sight, inside, sight, at_site}
+use Rattle.np_syntax.proofs.Bools.{and-out}
 use Rattle.np_calculus.proofs.Fits.{comes-in, fits}
 use Rattle.np_calculus.proofs.OwnNames.{not_true}
 use Rattle.np_calculus.proofs.Steps.{at_site-is, row-step}
@@ -101,14 +102,6 @@ module _ (part rest : Contents) (q : Name) where
   mark-rest (inl h) = inl (either-there (part.atom q) (rest.atom q) h)
   mark-rest (inr h) = inr (either-there (part.packet q) (rest.packet q) h)
 
-not-first : (a b : Bool) → (not a && b) ≡ true → a ≡ false
-not-first true b h = absurd cc
-not-first false b h = refl
-
-and-second : (a b : Bool) → (a && b) ≡ true → b ≡ true
-and-second true b h = h
-and-second false b h = absurd cc
-
 not-false : (a : Bool) → not a ≡ true → a ≡ false
 not-false true h = absurd cc
 not-false false h = refl
@@ -116,9 +109,8 @@ not-false false h = refl
 made-unborn : (born : NameSet) (x : Made) (q : Name) → are_new born x ≡ true → IsMade x q → set.contains born q ≡ false
 made-unborn born made.Nothing q h is = absurd is
 made-unborn born (made.One m) q h is = ap (set.contains born) is ∙ not-false (set.contains born m) h
-made-unborn born (made.Two m n) q h (inl is) = ap (set.contains born) is ∙ not-first (set.contains born m) _ (and-second (not (same_name m n)) _ h)
-made-unborn born (made.Two m n) q h (inr is) =
-    ap (set.contains born) is ∙ not-false (set.contains born n) (and-second (not (set.contains born m)) _ (and-second (not (same_name m n)) _ h))
+made-unborn born (made.Two m n) q h (inl is) = let k = and-out _ _ (and-out _ _ h).1 in ap (set.contains born) is ∙ not-false (set.contains born m) k.0
+made-unborn born (made.Two m n) q h (inr is) = let k = and-out _ _ (and-out _ _ h).1 in ap (set.contains born) is ∙ not-false (set.contains born n) k.1
 
 or-second : (a b : Bool) → b ≡ true → (a || b) ≡ true
 or-second true b h = refl

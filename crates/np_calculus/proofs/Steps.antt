@@ -11,6 +11,7 @@ use Rattle.np_syntax.specs.declared.event.Made.{Made}
 use Rattle.np_syntax.specs.declared.event.Made.TheVariants as made
 use Rattle.np_syntax.specs.Options.{◌>>=◌, ◌>>◌, need}
 use Rattle.np_tables.specs.Names.{NameSet, same_name}
+use Rattle.np_syntax.proofs.Bools.{and-out}
 use Rattle.np_syntax.proofs.Options.{then, when, done}
 use Rattle.np_tables.proofs.Tables.{same_name-is}
 use Rattle.np_calculus.specs.declared.config.Atom.{Atom}
@@ -50,10 +51,6 @@ module _ (born : NameSet) where
   pub two-with : (x : Made) (m : Name × Name) → two_made x ≡ Some m → with_made born x ≡ set.insert (set.insert born m.0) m.1
   two-with (made.Two n o) m h = ap (λ (m : Name × Name). set.insert (set.insert born m.0) m.1) (sym (done h))
   two-with _ m h = absurd cc
-
-and_parts : (a b : Bool) → (a && b) ≡ true → (a ≡ true) × (b ≡ true)
-and_parts true b h = (refl, h)
-and_parts false b h = absurd cc
 
 pub need-met : (t : Bool) (u : Unit {0}) → need t ≡ Some u → t ≡ true
 need-met true u h = refl
@@ -95,8 +92,8 @@ module _ (c : Config) (e : Event) (d : Config) where
 
   pub two-fresh : (m : Name × Name) → two_made e.made ≡ Some m → are_new c.born e.made ≡ true → TwoFresh m
   two-fresh m made new =
-      let h = and_parts _ _ (sym (two-new c.born e.made m made) ∙ new) in
-      let k = and_parts _ _ h.1 in
+      let h = and-out _ _ (sym (two-new c.born e.made m made) ∙ new) in
+      let k = and-out _ _ h.1 in
       record { differ = h.0; first = ap need k.0; second = ap need k.1 }
 
 -- ---- the acting atom
