@@ -1,22 +1,15 @@
 -- What the definitions say of small runs, and of events that are not enabled.
 use Rattle.std.proofs.Common.{◌≡◌, ℕ, true, false, Option, None, Some, List, [], ◌∷◌, ◌++◌, nat_lt, refl, sym, ap, ◌∙◌}
 use Rattle.std.specs.FinMap as map
-use Rattle.np_syntax.specs.declared.value.Name.{Name}
-use Rattle.np_syntax.specs.declared.value.Value.{Value, out-Value}
+use Rattle.np_calculus.proofs.Common.{Name, Value, out-Value, Kind, NameMap, same_name, same_name-itself, Env, chan_of, eval, bind, Atom, Place, sends, apply}
+use Rattle.np_calculus.proofs.Common.{act, arrive_row, acting, offered}
 use Rattle.np_syntax.specs.declared.value.Value as value
 use Rattle.np_syntax.specs.declared.value.Value.TheVariants.{outs-Chan, outs-Site}
 use Rattle.np_syntax.specs.declared.process.ProcForm.{ProcForm}
 use Rattle.np_syntax.specs.declared.process.ProcForm.TheVariants.{outs-Out, outs-Inp, outs-Rep, outs-Migrate, outs-Print}
-use Rattle.np_syntax.specs.declared.event.Kind.{Kind}
 use Rattle.np_syntax.specs.declared.event.Kind.TheVariants as kind
-use Rattle.np_tables.specs.Names.{NameMap, same_name}
-use Rattle.np_tables.proofs.Tables.{get-put, get-none, put_here, same_name-itself, same_name-swap, cut-put_absent, cut-put_swap, put-put, put-swap}
-use Rattle.np_calculus.specs.declared.config.Atom.{Atom}
-use Rattle.np_calculus.specs.declared.config.Place.{Place}
+use Rattle.np_tables.proofs.Tables.{get-put, get-none, put_here, same_name-swap, cut-put_absent, cut-put_swap, put-put, put-swap}
 use Rattle.np_calculus.specs.declared.config.Place.TheVariants as place
-use Rattle.np_eval.specs.Eval.{Env, eval, bind, chan_of}
-use Rattle.np_calculus.specs.Reductions.{apply, sends, act, arrive_row}
-use Rattle.np_calculus.specs.Seen.{acting, offered}
 use Rattle.np_calculus.specs.Examples.{constant, number, prints, process, gives_five, prints_it, it, takes_it, keeps_taking, leaves, atom, agent_with, one, two, event, TwoPrints, Communication, Replication, Migration}
 use Rattle.np_eval.proofs.Evals.{eval-form, eval-val}
 use Rattle.np_eval.proofs.Binds.{bind-form, bind-bind}

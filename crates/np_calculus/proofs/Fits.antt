@@ -1,29 +1,18 @@
 -- What holds of the change of each event, row by row.
 use Rattle.std.proofs.Common.{◌≡◌, ℕ, Bool, true, false, cond, inl, inr, Option, None, Some, IsSome, nat_eq, [], ◌∷◌, refl, ap, sym, subst, ◌∙◌}
 use Rattle.std.proofs.lemmas.Bool.{eqb-true}
-use Rattle.np_syntax.specs.declared.value.Name.{Name}
-use Rattle.np_syntax.specs.declared.value.Value.{Value}
-use Rattle.np_syntax.specs.declared.process.Proc.{Proc}
+use Rattle.np_calculus.proofs.Common.{Name, Value, Proc, Event, Kind, Made, ◌>>◌, then, when, done, same_name, same_name-itself, chan_of, agent_of, truth_of}
+use Rattle.np_calculus.proofs.Common.{letter_of, places_of, find_place, eval, bind, layer, Atom, Place, Contents, Sight, sight, at_site, Change, same_tag}
+use Rattle.np_calculus.proofs.Common.{way, none_made, one_made, two_made, no_other, output_in, found_on, offered_in, acting_in, change, here_row, away_row}
+use Rattle.np_calculus.proofs.Common.{act, arrive_row, land_row}
 use Rattle.np_syntax.specs.declared.process.Role.TheVariants as role
-use Rattle.np_syntax.specs.declared.event.Event.{Event}
-use Rattle.np_syntax.specs.declared.event.Kind.{Kind}
 use Rattle.np_syntax.specs.declared.event.Kind.TheVariants as kind
-use Rattle.np_syntax.specs.declared.event.Made.{Made}
 use Rattle.np_syntax.specs.declared.event.Made.TheVariants as made
-use Rattle.np_syntax.specs.Options.{◌>>◌}
-use Rattle.np_tables.specs.Names.{same_name}
-use Rattle.np_syntax.proofs.Options.{then, when, done}
-use Rattle.np_tables.proofs.Tables.{same_name-itself}
-use Rattle.np_eval.specs.Forms.{layer}
-use Rattle.np_eval.specs.Eval.{eval, bind, chan_of, agent_of, truth_of, letter_of, places_of, find_place}
-use Rattle.np_calculus.specs.declared.config.Atom.{Atom}
-use Rattle.np_calculus.specs.declared.config.Place.{Place}
 use Rattle.np_calculus.specs.declared.config.Place.TheVariants as place
-use Rattle.np_calculus.specs.Changes.{Change, put, cut, still}
+use Rattle.np_calculus.specs.Changes.{put, cut, still}
 use Rattle.np_calculus.specs.FrameRule.{Comes, Fits, IsMade}
 use Rattle.np_calculus.specs.Parts.{IsMark}
-use Rattle.np_calculus.specs.Reductions.{acting_in, same_tag, way, offered_in, site_in, none_made, one_made, two_made, no_other, output_in, found_on, here_row, away_row, act, arrive_row, land_row, change}
-use Rattle.np_calculus.specs.Sight.{Contents, Sight, sight, at_site}
+use Rattle.np_calculus.specs.Reductions.{site_in}
 use Rattle.np_calculus.proofs.Rows.{parts}
 use Rattle.np_calculus.proofs.Steps.{at_site-is}
 

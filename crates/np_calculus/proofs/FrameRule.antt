@@ -2,25 +2,15 @@
 use Rattle.std.proofs.Common.{◌≡◌, ℕ, Bool, true, false, not, cond, ◌||◌, ◌⊎◌, inl, inr, List, [], ◌∷◌, Option, None, Some, IsSome, IfSome, refl, ap, sym, subst, ◌∙◌}
 use Rattle.std.specs.FinSet as set
 use mathlib.Core.Path.{fun_ext}
-use Rattle.np_syntax.specs.declared.value.Name.{Name}
-use Rattle.np_syntax.specs.declared.event.Event.{Event}
-use Rattle.np_syntax.specs.declared.event.Kind.{Kind}
+use Rattle.np_calculus.proofs.Common.{Name, Event, Kind, Made, ◌>>=◌, ◌>>◌, need, NameSet, same_name, layer, Atom, Place, Config, Contents, Sight, inside}
+use Rattle.np_calculus.proofs.Common.{sight, at_site, Change, Write, effect, acting_in, are_new, change, apply, act, arrive_row, land_row}
 use Rattle.np_syntax.specs.declared.event.Kind.TheVariants as kind
-use Rattle.np_syntax.specs.declared.event.Made.{Made}
 use Rattle.np_syntax.specs.declared.event.Made.TheVariants as made
-use Rattle.np_syntax.specs.Options.{◌>>=◌, ◌>>◌, need}
-use Rattle.np_tables.specs.Names.{NameSet, same_name}
 use Rattle.np_tables.proofs.Tables.{born_insert, born_here}
-use Rattle.np_eval.specs.Forms.{layer}
-use Rattle.np_calculus.specs.declared.config.Atom.{Atom}
-use Rattle.np_calculus.specs.declared.config.Place.{Place}
 use Rattle.np_calculus.specs.declared.config.Place.TheVariants as place
-use Rattle.np_calculus.specs.Changes.{Change, Write, with_made, with_said, effect}
-use Rattle.np_calculus.specs.Config.{Config}
+use Rattle.np_calculus.specs.Changes.{with_made, with_said}
 use Rattle.np_calculus.specs.FrameRule.{Comes, Every, Fits, FrameBack, FrameRule, IsMade, KeepsLodged, KeepsOfSite, Writes, changed, left_by}
 use Rattle.np_calculus.specs.Parts.{IsApart, IsAway, IsLodged, IsMark, IsWhole, LacksMark, beside, either}
-use Rattle.np_calculus.specs.Reductions.{acting_in, act, apply, arrive_row, land_row, change, are_new}
-use Rattle.np_calculus.specs.Sight.{Contents, Sight, inside, sight, at_site}
 use Rattle.np_syntax.proofs.Bools.{and-out}
 use Rattle.np_calculus.proofs.Fits.{comes-in, fits}
 use Rattle.np_calculus.proofs.OwnNames.{not_true}

@@ -2,32 +2,18 @@
 use Rattle.std.proofs.Common.{◌≡◌, ℕ, Bool, true, false, not, cond, List, [], ◌∷◌, ◌++◌, Some, nat_eq, refl, ap, sym, ◌∙◌}
 use Rattle.std.specs.FinMap as map
 use Rattle.std.specs.FinSet as set
-use Rattle.np_syntax.specs.declared.value.Name.{Name}
-use Rattle.np_syntax.specs.declared.value.Value.{Value}
+use Rattle.np_calculus.proofs.Common.{Name, Value, Expr, Pat, Proc, ProcForm-F, Event, Kind, ◌>>=◌, ◌>>◌, then, when, same_name, Env, chan_of, agent_of}
+use Rattle.np_calculus.proofs.Common.{truth_of, letter_of, places_of, find_place, eval, bind, layer, Atom, Packet, Place, Config, Sight, inside, sight}
+use Rattle.np_calculus.proofs.Common.{Change, effect, same_tag, way, none_made, one_made, two_made, no_other, goes, output_in, found_on, offered_in, are_new}
+use Rattle.np_calculus.proofs.Common.{after_change, change, row, here_row, away_row, act, arrive_row, land_row, acting, is_at, offered}
 use Rattle.np_syntax.specs.declared.value.Value as value
 use Rattle.np_syntax.specs.declared.types.Ty.{Ty}
-use Rattle.np_syntax.specs.declared.expression.Expr.{Expr}
-use Rattle.np_syntax.specs.declared.pattern.Pat.{Pat}
 use Rattle.np_syntax.specs.declared.process.Role.TheVariants as role
-use Rattle.np_syntax.specs.declared.process.Proc.{Proc}
-use Rattle.np_syntax.specs.declared.process.ProcForm.{ProcForm-F}
-use Rattle.np_syntax.specs.declared.event.Event.{Event}
-use Rattle.np_syntax.specs.declared.event.Kind.{Kind}
 use Rattle.np_syntax.specs.declared.event.Kind.TheVariants as kind
-use Rattle.np_syntax.specs.Options.{◌>>=◌, ◌>>◌}
-use Rattle.np_tables.specs.Names.{same_name}
-use Rattle.np_syntax.proofs.Options.{then, when}
-use Rattle.np_calculus.specs.declared.config.Atom.{Atom}
-use Rattle.np_calculus.specs.declared.config.Packet.{Packet}
-use Rattle.np_calculus.specs.declared.config.Place.{Place}
 use Rattle.np_calculus.specs.declared.config.Place.TheVariants as place
-use Rattle.np_calculus.specs.Config.{Config}
-use Rattle.np_calculus.specs.Changes.{Change, effect, still, put, cut}
-use Rattle.np_calculus.specs.Sight.{Sight, inside, sight}
-use Rattle.np_eval.specs.Eval.{Env, eval, bind, chan_of, agent_of, truth_of, letter_of, places_of, find_place}
-use Rattle.np_eval.specs.Forms.{layer}
-use Rattle.np_calculus.specs.Reductions.{way, same_tag, none_made, one_made, two_made, no_other, goes, goes_under, output_in, offered_in, found_on, after_change, are_new, change, row, act, arrive_row, land_row, here_row, away_row}
-use Rattle.np_calculus.specs.Seen.{acting, fresh, site_of, is_at, offered}
+use Rattle.np_calculus.specs.Changes.{still, put, cut}
+use Rattle.np_calculus.specs.Reductions.{goes_under}
+use Rattle.np_calculus.specs.Seen.{fresh, site_of}
 use Rattle.np_calculus.proofs.Rows.{asked, parts}
 use Rattle.np_calculus.proofs.Steps.{need-met, row-step, none-new, none-with, one-new, one-with, two-new, two-with, none-is, one-is, two-is, one-fresh, two-fresh, same-offer}
 

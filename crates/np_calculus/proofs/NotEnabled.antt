@@ -5,17 +5,9 @@ use Rattle.np_syntax.specs.declared.value.Value.TheVariants.{outs-Int}
 use Rattle.np_syntax.specs.declared.expression.ExprForm as expr
 use Rattle.np_syntax.specs.declared.pattern.PatForm as pat
 use Rattle.np_syntax.specs.declared.process.ProcForm.TheVariants.{outs-Print}
-use Rattle.np_syntax.specs.declared.event.Event.{Event}
-use Rattle.np_syntax.specs.declared.event.Kind.{Kind}
+use Rattle.np_calculus.proofs.Common.{Event, Kind, ◌>>=◌, chan_of, Layer, layer, Atom, Config, Sight, inside, sight, none_made, are_new, after_change, change}
+use Rattle.np_calculus.proofs.Common.{row, act, arrive_row, land_row, acting, offered}
 use Rattle.np_syntax.specs.declared.event.Kind.TheVariants as kind
-use Rattle.np_syntax.specs.Options.{◌>>=◌}
-use Rattle.np_calculus.specs.declared.config.Atom.{Atom}
-use Rattle.np_calculus.specs.Config.{Config}
-use Rattle.np_eval.specs.Eval.{chan_of}
-use Rattle.np_eval.specs.Forms.{Layer, layer}
-use Rattle.np_calculus.specs.Sight.{Sight, inside, sight}
-use Rattle.np_calculus.specs.Reductions.{none_made, are_new, change, row, act, after_change, arrive_row, land_row}
-use Rattle.np_calculus.specs.Seen.{acting, offered}
 use Rattle.np_calculus.specs.NotEnabled.{by_atom, asks, NotEnabled, NoValue}
 use Rattle.np_eval.proofs.Binds.{bind-form, bind-tuple}
 use Rattle.np_eval.proofs.Evals.{eval-form, eval-var}

@@ -1,21 +1,11 @@
 -- The rows of acting atoms, by the parts of their forms.
 use Rattle.std.proofs.Common.{◌≡◌, Option, None, Some, refl, ap, sym, ◌∙◌}
-use Rattle.np_syntax.specs.declared.process.ProcForm.{ProcForm-F}
-use Rattle.np_syntax.specs.declared.event.Event.{Event}
-use Rattle.np_syntax.specs.declared.event.Kind.{Kind}
+use Rattle.np_calculus.proofs.Common.{ProcForm-F, Event, Kind, ◌>>=◌, then, Layer, layer, Atom, Config, Sight, inside, sight, Change, after_change, row, act}
+use Rattle.np_calculus.proofs.Common.{acting}
 use Rattle.np_syntax.specs.declared.event.Kind.TheVariants as kind
-use Rattle.np_syntax.specs.Options.{◌>>=◌}
-use Rattle.np_syntax.proofs.Options.{then}
-use Rattle.np_eval.specs.Forms.{Layer, layer}
 use Rattle.np_eval.specs.FormParts.{as_stop, as_par, as_new, as_inp, as_rep, as_agent_form, as_migrate, as_iflocal, as_send, as_post, as_if, as_let, as_print, as_open, as_lookup}
 use Rattle.np_eval.proofs.FormsByParts as form
-use Rattle.np_calculus.specs.declared.config.Atom.{Atom}
-use Rattle.np_calculus.specs.Changes.{Change}
-use Rattle.np_calculus.specs.Config.{Config}
-use Rattle.np_calculus.specs.Reductions.{act, after_change, row}
 use Rattle.np_calculus.specs.Rows.{row_by}
-use Rattle.np_calculus.specs.Seen.{acting}
-use Rattle.np_calculus.specs.Sight.{Sight, inside, sight}
 
 -- a form of processes: its parts, how they are found, and the form that they make
 pub record Asked : Type 1 where

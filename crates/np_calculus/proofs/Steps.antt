@@ -3,25 +3,14 @@ use Rattle.std.proofs.Common.{◌≡◌, ℕ, Bool, true, false, not, ◌&&◌, 
 use Rattle.std.proofs.lemmas.Bool.{eqb-true}
 use Rattle.std.specs.FinMap as map
 use Rattle.std.specs.FinSet as set
-use Rattle.np_syntax.specs.declared.value.Name.{Name}
-use Rattle.np_syntax.specs.declared.value.Value.{Value}
-use Rattle.np_syntax.specs.declared.event.Event.{Event}
-use Rattle.np_syntax.specs.declared.event.Kind.{Kind}
-use Rattle.np_syntax.specs.declared.event.Made.{Made}
+use Rattle.np_calculus.proofs.Common.{Name, Value, Event, Kind, Made, ◌>>=◌, ◌>>◌, need, then, when, done, NameSet, same_name, same_name-is, Atom, Place}
+use Rattle.np_calculus.proofs.Common.{Config, inside, sight, at_site, Change, effect, same_tag, none_made, one_made, two_made, sends, offered_in, are_new}
+use Rattle.np_calculus.proofs.Common.{change, row, acting, is_at, offered}
 use Rattle.np_syntax.specs.declared.event.Made.TheVariants as made
-use Rattle.np_syntax.specs.Options.{◌>>=◌, ◌>>◌, need}
-use Rattle.np_tables.specs.Names.{NameSet, same_name}
 use Rattle.np_syntax.proofs.Bools.{and-out}
-use Rattle.np_syntax.proofs.Options.{then, when, done}
-use Rattle.np_tables.proofs.Tables.{same_name-is}
-use Rattle.np_calculus.specs.declared.config.Atom.{Atom}
-use Rattle.np_calculus.specs.declared.config.Place.{Place}
 use Rattle.np_calculus.specs.declared.config.Place.TheVariants as place
-use Rattle.np_calculus.specs.Changes.{Change, effect, with_made}
-use Rattle.np_calculus.specs.Sight.{inside, sight, at_site}
-use Rattle.np_calculus.specs.Config.{Config}
-use Rattle.np_calculus.specs.Reductions.{same_tag, none_made, one_made, two_made, sends, offered_in, are_new, change, row}
-use Rattle.np_calculus.specs.Seen.{acting, fresh, is_at, offered}
+use Rattle.np_calculus.specs.Changes.{with_made}
+use Rattle.np_calculus.specs.Seen.{fresh}
 
 -- ---- the names that are made
 

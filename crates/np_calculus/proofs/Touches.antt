@@ -1,23 +1,12 @@
 -- An event depends on nothing but what it touches.
 use Rattle.std.proofs.Common.{◌≡◌, ◌⊎◌, inl, inr, ℕ, Bool, true, false, cond, List, [], ◌∷◌, ◌++◌, map, Option, None, Some, refl, ap, sym, subst, ◌∙◌}
-use Rattle.np_syntax.specs.declared.value.Name.{Name}
-use Rattle.np_syntax.specs.declared.value.Value.{Value}
-use Rattle.np_syntax.specs.declared.process.ProcForm.{ProcForm-F}
-use Rattle.np_syntax.specs.declared.event.Event.{Event}
-use Rattle.np_syntax.specs.declared.event.Kind.{Kind}
+use Rattle.np_calculus.proofs.Common.{Name, Value, ProcForm-F, Event, Kind, ◌>>=◌, ◌>>◌, need, same_name, same_name-is, chan_of, agent_of, Layer, layer, Atom}
+use Rattle.np_calculus.proofs.Common.{Contents, Sight, inside, sight, at_site, Change, Write, effect, same_tag, sends, offered_in, acting_in, change, act}
+use Rattle.np_calculus.proofs.Common.{arrive_row, land_row}
 use Rattle.np_syntax.specs.declared.event.Kind.TheVariants as kind
-use Rattle.np_syntax.specs.Options.{◌>>=◌, ◌>>◌, need}
-use Rattle.np_tables.specs.Names.{same_name}
-use Rattle.np_tables.proofs.Tables.{same_name-is}
-use Rattle.np_eval.specs.Forms.{Layer, layer}
 use Rattle.np_eval.specs.FormParts.{as_iflocal}
-use Rattle.np_eval.specs.Eval.{chan_of, agent_of}
-use Rattle.np_calculus.specs.declared.config.Atom.{Atom}
-use Rattle.np_calculus.specs.Changes.{Change, Write, effect}
 use Rattle.np_calculus.specs.Footprints.{listed, asked_by, bound_for, touches, written_by, SameMark, SamePlace, AgreesOn, DependsOnTouched, Unseen}
 use Rattle.np_calculus.specs.FrameRule.{Every, left_by, changed}
-use Rattle.np_calculus.specs.Reductions.{acting_in, act, same_tag, sends, offered_in, arrive_row, land_row, change}
-use Rattle.np_calculus.specs.Sight.{Contents, Sight, inside, sight, at_site}
 use Rattle.np_calculus.proofs.Fits.{actor-seen}
 use Rattle.np_calculus.proofs.OwnNames.{not_true}
 use Rattle.np_calculus.proofs.Rows.{by}

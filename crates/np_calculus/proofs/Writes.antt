@@ -2,16 +2,11 @@
 use Rattle.std.proofs.Common.{◌≡◌, Bool, true, false, cond, inl, inr, List, [], ◌∷◌, Option, None, Some, IsSome, IfSome, refl, ap, sym, subst, ◌∙◌}
 use Rattle.std.specs.FinMap as map
 use mathlib.Core.Path.{fun_ext}
-use Rattle.np_syntax.specs.declared.value.Name.{Name}
-use Rattle.np_syntax.specs.declared.event.Event.{Event}
-use Rattle.np_tables.specs.Names.{NameMap, same_name}
-use Rattle.np_syntax.proofs.Options.{done}
-use Rattle.np_tables.proofs.Tables.{get-put, get-cut, same_name-is}
-use Rattle.np_calculus.specs.Changes.{Change, Write, rewritten, written, effect}
-use Rattle.np_calculus.specs.Config.{Config}
+use Rattle.np_calculus.proofs.Common.{Name, Event, done, NameMap, same_name, same_name-is, Config, Contents, inside, Change, Write, effect}
+use Rattle.np_tables.proofs.Tables.{get-put, get-cut}
+use Rattle.np_calculus.specs.Changes.{rewritten, written}
 use Rattle.np_calculus.specs.FrameRule.{Every, left_by, changed, Writes}
 use Rattle.np_calculus.specs.Parts.{IsMark, LacksMark, IsSplit, either}
-use Rattle.np_calculus.specs.Sight.{Contents, inside}
 
 module _ {X : Type 0} where
   get-rewritten : (t : NameMap X) (k : Name) (o : Option X) (q : Name) → map.get (rewritten t k o) q ≡ cond (same_name q k) o (map.get t q)
