@@ -14,8 +14,8 @@ use Rattle.np_syntax.specs.declared.types.Ty as ty
 use Rattle.np_syntax.specs.declared.types.Ty.TheVariants.{outs-Tuple}
 use Rattle.np_syntax.specs.declared.expression.Op.{Op}
 use Rattle.np_syntax.specs.declared.expression.Op.TheVariants as op
-use Rattle.np_syntax.specs.declared.expression.Expr.{Expr, fold_out-Expr}
-use Rattle.np_syntax.specs.declared.expression.ExprForm.{ExprForm, ExprForm-F, out-ExprForm, map-ExprForm, fold_out-ExprForm}
+use Rattle.np_syntax.specs.declared.expression.Expr.{Expr}
+use Rattle.np_syntax.specs.declared.expression.ExprForm.{ExprForm-F}
 use Rattle.np_syntax.specs.Options as may
 use Rattle.np_syntax.specs.Options.{all_some}
 use Rattle.np_tables.specs.Names.{same_name}
@@ -30,10 +30,9 @@ use Rattle.np_syntax.proofs.Bools.{and-in, and-out}
 use Rattle.np_syntax.proofs.Trees.{With, ExprHyps, expr_of, expr_ind}
 use Rattle.np_types.proofs.Subs.{sub-out, sub-trans}
 use Rattle.np_types.proofs.Below.{site_below}
-use Rattle.np_types.proofs.ValueTypes.{kind_of, kind-out, kinds-map}
+use Rattle.np_types.proofs.ValueTypes.{kind_of, kinds-map}
 use Rattle.np_types.proofs.Leasts.{least_layer, least-out}
 use Rattle.np_eval.specs.Eval.{Env, eval, eval_step, operate, operate_at, equal_at, same_truth, put_place, pack, with_place}
-use Rattle.np_eval.specs.Levels.{eval_form}
 use Rattle.np_safety.specs.Fits.{Fits}
 use Rattle.np_safety.proofs.Fitting.{Agrees, Valued}
 use Rattle.np_syntax.proofs.Results.{then, done}

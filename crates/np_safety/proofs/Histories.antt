@@ -1,5 +1,5 @@
 -- The types of channels along a run: a channel that is made keeps its type.
-use Rattle.std.proofs.Common.{◌≡◌, Bool, true, false, not, ◌||◌, Option, None, Some, List, [], ◌∷◌, ◌++◌, refl, subst, sym, ap, ◌∙◌}
+use Rattle.std.proofs.Common.{◌≡◌, Bool, true, false, not, Option, None, Some, List, [], ◌∷◌, ◌++◌, refl, subst, sym, ap, ◌∙◌}
 use Rattle.std.specs.FinMap as map
 use Rattle.std.specs.FinSet as set
 use Rattle.np_syntax.specs.declared.value.Name.{Name}
@@ -9,20 +9,18 @@ use Rattle.np_syntax.specs.declared.event.Event.{Event}
 use Rattle.np_syntax.specs.declared.event.Kind.{Kind}
 use Rattle.np_syntax.specs.declared.event.Kind.TheVariants as kind
 use Rattle.np_syntax.specs.Options.{need}
-use Rattle.np_tables.specs.Names.{NameSet, same_name}
+use Rattle.np_tables.specs.Names.{same_name}
 use Rattle.np_syntax.proofs.Options.{then, done}
-use Rattle.np_tables.proofs.Tables.{get-put, put_here, born_insert, born_here, same_name-is}
+use Rattle.np_tables.proofs.Tables.{get-put, put_here, born_here, same_name-is}
 use Rattle.np_types.specs.Sub.{as_chan}
 use Rattle.np_types.specs.Worlds.{World}
 use Rattle.np_calculus.specs.Config.{Config}
 use Rattle.np_eval.specs.Forms.{layer}
 use Rattle.np_eval.specs.FormParts.{as_new}
-use Rattle.np_syntax.specs.declared.event.Made.{Made}
-use Rattle.np_syntax.specs.declared.event.Made.TheVariants as made
-use Rattle.np_calculus.specs.Changes.{with_made}
 use Rattle.np_calculus.specs.Reductions.{one_made, row, apply, run}
 use Rattle.np_calculus.specs.Seen.{acting}
 use Rattle.np_calculus.proofs.Steps.{row-step}
+use Rattle.np_calculus.proofs.FrameRule.{still-born}
 use Rattle.np_calculus.proofs.Inversions.{new-step}
 use Rattle.np_safety.specs.Channels.{Channels, makes_at, noted, after, channels_after}
 use Rattle.np_safety.specs.Laws.{HasMade}
@@ -34,25 +32,13 @@ use Rattle.np_safety.proofs.Kept.{kept-at}
 abbrev Born : Config → Name → Type 0
 Born c q = set.contains c.born q ≡ true
 
-or_right : (a b : Bool) → b ≡ true → (a || b) ≡ true
-or_right true b h = refl
-or_right false b h = h
-
-born-put : (s : NameSet) (k q : Name) → set.contains s q ≡ true → set.contains (set.insert s k) q ≡ true
-born-put s k q h = born_insert s k q ∙ or_right (same_name q k) (set.contains s q) h
-
 -- a later configuration has the sites and the names of an earlier one
 pub record Later (c d : Config) : Type 0 where
   pub sites : d.sites ≡ c.sites
   pub born : (q : Name) → Born c q → Born d q
 
-made-keeps : (born : NameSet) (x : Made) (q : Name) → set.contains born q ≡ true → set.contains (with_made born x) q ≡ true
-made-keeps born made.Nothing q h = h
-made-keeps born (made.One m) q h = born-put born m q h
-made-keeps born (made.Two m n) q h = born-put (set.insert born m) n q (born-put born m q h)
-
 later : (c : Config) (e : Event) (d : Config) → apply c e ≡ Some d → Later c d
-later c e d h = rw (row-step c e d e.kind h).is (record { sites = refl; born = made-keeps c.born e.made })
+later c e d h = rw (row-step c e d e.kind h).is (record { sites = refl; born = still-born c.born e.made })
 
 pub sites-run : (es : List Event) (c d : Config) → run c es ≡ Some d → d.sites ≡ c.sites
 sites-run [] c d h = ap (λ (x : Config). x.sites) (done h)
@@ -124,4 +110,4 @@ kept-run (e ∷ es) w g c d f h i =
     let go : (q : Name) (k : Cap × Ty) → map.get (channels_after es (noted g made) m) q ≡ Some k → w.chan q ≡ Some k =
     λ q k is. f q k (subst (λ o. map.get (after o (channels_after es (noted g made)) g) q ≡ Some k) (sym first) is) in
     let names = named w made (λ x is. go x.0 x.1 (stays es (noted g made) m x.0 x.1 (noted-here g made x is) (made-at e.kind c e m x first is).born)) in
-    kept-run es w (noted g made) m d go rest (kept-at e.kind w c e m i first names)
+    kept-run es w (noted g made) m d go rest (kept-at w c e m i e.kind first names)

@@ -127,10 +127,7 @@ module _ (w v : World) (wider : Wider w v) where
   kind_kept (Value-F.Tuple xs) t h = maybe.then (all_some (map (kind w) (map (λ e. e.0) xs))) (λ ts. Some (ty.Tuple ts)) h λ ts are h. rw (kinds_kept xs ts are) h
   kind_kept (Value-F.Letter c x) t h = maybe.then (w.chan c) _ h λ k on h. maybe.then (kind w x.0) _ h λ s is h. rw (wider.chan c k on, x.1 s is) h
   kind_kept (Value-F.Places ps) t h = maybe.when (all_locks w ps) (Some ty.Places) h λ ok h. rw (locks ps ok) h
-  kind_kept (Value-F.Int i) t h = h
-  kind_kept (Value-F.Truth i) t h = h
-  kind_kept (Value-F.Str i) t h = h
-  kind_kept (Value-F.Agent i) t h = h
+  kind_kept _ t h = h
 
   pub same-kind : (x : Value) → SameKind x
   same-kind = value_ind SameKind (λ x y is t h. kind-out v x ∙ ap (kind_layer v) is ∙ kind_kept y t (ap (kind_layer w) (sym is) ∙ sym (kind-out w x) ∙ h))
@@ -264,10 +261,8 @@ weak_each (p ∷ ps) (s ∷ ss) (t ∷ ts) at small large inner b n h =
     let c = p.1 s t small large mid a.0 n first in
     let r = weak_each ps ss ts at c.types mid inner a.1 c.less rest in
     record { types = r.types; is = rw c.is r.is; less = r.less }
-weak_each [] (s ∷ ss) [] at small large inner b n h = absurd cc
-weak_each [] ss (t ∷ ts) at small large inner b n h = absurd cc
-weak_each (p ∷ ps) ss [] at small large inner b n h = absurd cc
-weak_each (p ∷ ps) [] (t ∷ ts) at small large inner b n h = absurd cc
+weak_each _ _ [] at small large inner b n h = absurd cc
+weak_each _ _ (t ∷ ts) at small large inner b n h = absurd cc
 
 weak_pat : (y : PatHyps WeakPat) (at : ℕ) (s t : Ty) (small large inner : Types) → sub s t ≡ true → Narrower small large
     → cover_step (cover_layer (pat_of WeakPat y)) at t large ≡ Ok inner → Covered (cover_step (cover_layer (pat_of WeakPat y)) at s small) inner
@@ -283,10 +278,8 @@ weak_pat (PatForm-F.Tuple ps) at s t small large inner b n h =
     long_map : (ps : List (With Pat WeakPat)) (ss ts : List Ty) → sub_all ss ts ≡ true → as_long (map cover (map (λ e. e.0) ps)) ts ≡ true → as_long (map cover (map (λ e. e.0) ps)) ss ≡ true
     long_map [] [] [] h k = refl
     long_map (p ∷ ps) (s ∷ ss) (t ∷ ts) h k = long_map ps ss ts (and-out _ _ h).1 k
-    long_map [] (s ∷ ss) [] h k = absurd cc
-    long_map [] ss (t ∷ ts) h k = absurd cc
-    long_map (p ∷ ps) ss [] h k = absurd cc
-    long_map (p ∷ ps) [] (t ∷ ts) h k = absurd cc
+    long_map _ _ [] h k = absurd cc
+    long_map _ _ (t ∷ ts) h k = absurd cc
 
 weak_cover : (p : Pat) → WeakPat p
 weak_cover = pat_ind WeakPat (λ p y is s t small large inner b n h.

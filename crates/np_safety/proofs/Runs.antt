@@ -16,7 +16,7 @@ use Rattle.np_safety.proofs.Widening.{fitting-wider}
 use Rattle.np_safety.proofs.Literal.{fitting-typed, typed-fitting}
 
 pub keeps-typed : KeepsTyped
-keeps-typed w c d e t h made = fitting-typed w d (kept-at e.kind w c e d (typed-fitting w c t) h made)
+keeps-typed w c d e t h made = fitting-typed w d (kept-at w c e d (typed-fitting w c t) e.kind h made)
 
 pub typed-is-well : TypedIsWell
 typed-is-well c g t = fitting-well c.sites g c refl (typed-fitting (world c.sites g) c t)
