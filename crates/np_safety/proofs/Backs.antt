@@ -1,15 +1,10 @@
 -- A process whose parts have no fault has none.
 use Rattle.std.proofs.Common.{◌≡◌, ℕ, Ok, refl, ap, ◌∙◌}
-use Rattle.np_syntax.specs.declared.expression.Expr.{Expr}
-use Rattle.np_syntax.specs.declared.pattern.Pat.{Pat}
-use Rattle.np_syntax.specs.declared.process.Proc.{Proc}
-use Rattle.np_syntax.specs.declared.process.ProcForm.{ProcForm-F}
-use Rattle.np_types.specs.Worlds.{World}
-use Rattle.np_types.specs.Least.{Types, input, least_of}
+use Rattle.np_safety.proofs.Common.{Expr, Pat, Proc, ProcForm-F, World, Types, least_of, Checking, check_step, check, Layer, layer}
+use Rattle.np_types.specs.Least.{input}
 use Rattle.np_types.proofs.Leasts.{output-parts, input-parts}
-use Rattle.np_eval.specs.Forms.{Layer, layer}
-use Rattle.np_check.specs.Faults.{Checking, is_of, is_printable, is_output, with_names, is_for_channels, check_new, check_input}
-use Rattle.np_check.specs.Faults.{check_migrate, check_send, check_post, check_let, check_places, check_step, check}
+use Rattle.np_check.specs.Faults.{is_of, is_printable, is_output, with_names, is_for_channels, check_new, check_input}
+use Rattle.np_check.specs.Faults.{check_migrate, check_send, check_post, check_let, check_places}
 use Rattle.np_safety.proofs.Forms.{GoodForm, Sending, Taking, Good, check-out, checks}
 
 module _ (w : World) (types : Types) where

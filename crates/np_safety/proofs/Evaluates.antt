@@ -3,40 +3,29 @@ use Rattle.std.proofs.Common.{◌≡◌, ℕ, ℤ, Bool, true, false, cond, Opti
 use Rattle.std.specs.Prelude.{nat_eq}
 use Rattle.std.specs.Ordering.{int_eq}
 use Rattle.std.specs.Str.{bytes_eq}
-use Rattle.np_syntax.specs.declared.value.Name.{Name}
-use Rattle.np_syntax.specs.declared.value.Value.{Value, Value-F, out-Value}
+use Rattle.np_safety.proofs.Common.{Name, Value, Value-F, out-Value, Cap, Ty, Ty-F, out-Ty, outs-Tuple, Expr, ◌>>=◌, ◌>>◌, and-in, and-out, then, done, With}
+use Rattle.np_safety.proofs.Common.{same_name, Rule, TyLayer, reads, writes, sub, sub_all, is_int, is_site, is_agent, is_places, as_chan, Check, ensure}
+use Rattle.np_safety.proofs.Common.{World, kinds, is_lock_chan, all_locks, kind, Types, least, channel, least_of, sub-trans, site_below, when, ensured}
+use Rattle.np_safety.proofs.Common.{wanted, Env, eval, Fits}
 use Rattle.np_syntax.specs.declared.value.Value as value
 use Rattle.np_syntax.specs.declared.value.Value.TheVariants as outs
-use Rattle.np_syntax.specs.declared.types.Cap.{Cap}
 use Rattle.np_syntax.specs.declared.types.Cap.TheVariants as cap
-use Rattle.np_syntax.specs.declared.types.Ty.{Ty, Ty-F, out-Ty}
 use Rattle.np_syntax.specs.declared.types.Ty as ty
-use Rattle.np_syntax.specs.declared.types.Ty.TheVariants.{outs-Tuple}
 use Rattle.np_syntax.specs.declared.expression.Op.{Op}
 use Rattle.np_syntax.specs.declared.expression.Op.TheVariants as op
-use Rattle.np_syntax.specs.declared.expression.Expr.{Expr}
 use Rattle.np_syntax.specs.declared.expression.ExprForm.{ExprForm-F}
 use Rattle.np_syntax.specs.Options as may
 use Rattle.np_syntax.specs.Options.{all_some}
-use Rattle.np_tables.specs.Names.{same_name}
-use Rattle.np_types.specs.declared.fault.Rule.{Rule}
 use Rattle.np_types.specs.declared.fault.Rule.TheVariants as rule
-use Rattle.np_types.specs.Sub.{TyLayer, reads, writes, sub, sub_all, is_int, is_site, is_agent, is_places, as_chan}
-use Rattle.np_syntax.specs.Results.{◌>>=◌, ◌>>◌, all_ok}
-use Rattle.np_types.specs.Checks.{Check, ensure}
-use Rattle.np_types.specs.Worlds.{World, kind, kinds, is_lock, is_lock_chan, all_locks}
-use Rattle.np_types.specs.Least.{Types, Least, least, least_of, least_step, least_op, basic, same_basic, number, test_of, channel, output, is_lock_type}
-use Rattle.np_syntax.proofs.Bools.{and-in, and-out}
-use Rattle.np_syntax.proofs.Trees.{With, ExprHyps, expr_of, expr_ind}
-use Rattle.np_types.proofs.Subs.{sub-out, sub-trans}
-use Rattle.np_types.proofs.Below.{site_below}
+use Rattle.np_syntax.specs.Results.{all_ok}
+use Rattle.np_types.specs.Worlds.{is_lock}
+use Rattle.np_types.specs.Least.{Least, least_step, least_op, basic, same_basic, number, test_of, output, is_lock_type}
+use Rattle.np_syntax.proofs.Trees.{ExprHyps, expr_of, expr_ind}
+use Rattle.np_types.proofs.Subs.{sub-out}
 use Rattle.np_types.proofs.ValueTypes.{kind_of, kinds-map}
 use Rattle.np_types.proofs.Leasts.{least_layer, least-out}
-use Rattle.np_eval.specs.Eval.{Env, eval, eval_step, operate, operate_at, equal_at, same_truth, put_place, pack, with_place}
-use Rattle.np_safety.specs.Fits.{Fits}
+use Rattle.np_eval.specs.Eval.{eval_step, operate, operate_at, equal_at, same_truth, put_place, pack, with_place}
 use Rattle.np_safety.proofs.Fitting.{Agrees, Valued}
-use Rattle.np_syntax.proofs.Results.{then, done}
-use Rattle.np_types.proofs.Passed.{when, ensured, wanted}
 use Rattle.np_eval.proofs.Layers.{eval_layer, eval-out}
 use Rattle.np_safety.proofs.Shapes.{fits-itself, int_value, truth_value, text_value, places_value, chan_value, site_value, agent_value}
 

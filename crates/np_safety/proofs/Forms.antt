@@ -1,27 +1,17 @@
 -- What a process without a fault is made of, form by form.
 use Rattle.std.proofs.Common.{◌≡◌, ℕ, Bool, true, Option, None, Some, is_some, Ok, refl, subst, sym, ap, ◌∙◌}
 use Rattle.std.specs.FinMap as table
-use Rattle.np_syntax.specs.declared.types.Cap.{Cap}
-use Rattle.np_syntax.specs.declared.types.Ty.{Ty, out-Ty}
+use Rattle.np_safety.proofs.Common.{Cap, Ty, out-Ty, Expr, Pat, Proc, ProcForm-F, ◌>>=◌, ◌>>◌, then, done, Rule, TyLayer, reads, writes, sub, is_bool}
+use Rattle.np_safety.proofs.Common.{is_site, is_agent, is_letter, is_places, as_chan, ensure, World, Types, least, channel, least_of, cover, when, ensured}
+use Rattle.np_safety.proofs.Common.{wanted, Checking, lock_type, check_step, check, Layer, layer}
 use Rattle.np_syntax.specs.declared.types.Ty as ty
-use Rattle.np_syntax.specs.declared.expression.Expr.{Expr}
-use Rattle.np_syntax.specs.declared.pattern.Pat.{Pat}
-use Rattle.np_syntax.specs.declared.process.Proc.{Proc, fold_out-Proc}
-use Rattle.np_syntax.specs.declared.process.ProcForm.{ProcForm, ProcForm-F, map-ProcForm, fold_out-ProcForm}
-use Rattle.np_types.specs.declared.fault.Rule.{Rule}
+use Rattle.np_syntax.specs.declared.process.Proc.{fold_out-Proc}
+use Rattle.np_syntax.specs.declared.process.ProcForm.{ProcForm, map-ProcForm, fold_out-ProcForm}
 use Rattle.np_types.specs.declared.fault.Rule.TheVariants as rule
-use Rattle.np_types.specs.Sub.{TyLayer, reads, writes, sub, is_bool, is_site, is_agent, is_letter, is_places, as_chan}
 use Rattle.np_types.specs.Widths.{narrow, printable}
-use Rattle.np_syntax.specs.Results.{◌>>=◌, ◌>>◌}
-use Rattle.np_types.specs.Checks.{ensure}
-use Rattle.np_types.specs.Worlds.{World}
-use Rattle.np_types.specs.Least.{Types, least, least_of, channel, input}
-use Rattle.np_types.specs.Covers.{cover}
-use Rattle.np_eval.specs.Forms.{Layer, layer}
-use Rattle.np_check.specs.Faults.{Checking, is_of, is_printable, is_output, with_names, is_channel, is_for_channels, check_new, check_input}
-use Rattle.np_check.specs.Faults.{check_migrate, check_send, check_post, check_let, check_places, lock_type, check_step, check, check_form}
-use Rattle.np_syntax.proofs.Results.{then, done}
-use Rattle.np_types.proofs.Passed.{when, ensured, wanted}
+use Rattle.np_types.specs.Least.{input}
+use Rattle.np_check.specs.Faults.{is_of, is_printable, is_output, with_names, is_channel, is_for_channels, check_new, check_input}
+use Rattle.np_check.specs.Faults.{check_migrate, check_send, check_post, check_let, check_places, check_form}
 
 abbrev pub checks : World → Layer → ProcForm-F (ℕ → Checking) Checking
 checks w y = map-ProcForm ProcForm Proc (ℕ → Checking) Checking (check_form w) (check w) y

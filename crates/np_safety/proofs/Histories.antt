@@ -2,27 +2,19 @@
 use Rattle.std.proofs.Common.{◌≡◌, Bool, true, false, not, Option, None, Some, List, [], ◌∷◌, ◌++◌, refl, subst, sym, ap, ◌∙◌}
 use Rattle.std.specs.FinMap as map
 use Rattle.std.specs.FinSet as set
-use Rattle.np_syntax.specs.declared.value.Name.{Name}
-use Rattle.np_syntax.specs.declared.types.Cap.{Cap}
-use Rattle.np_syntax.specs.declared.types.Ty.{Ty, out-Ty}
-use Rattle.np_syntax.specs.declared.event.Event.{Event}
+use Rattle.np_safety.proofs.Common.{Name, Cap, Ty, out-Ty, Event, same_name, same_name-is, as_chan, World, layer, Config, Channels}
 use Rattle.np_syntax.specs.declared.event.Kind.{Kind}
 use Rattle.np_syntax.specs.declared.event.Kind.TheVariants as kind
 use Rattle.np_syntax.specs.Options.{need}
-use Rattle.np_tables.specs.Names.{same_name}
 use Rattle.np_syntax.proofs.Options.{then, done}
-use Rattle.np_tables.proofs.Tables.{get-put, put_here, born_here, same_name-is}
-use Rattle.np_types.specs.Sub.{as_chan}
-use Rattle.np_types.specs.Worlds.{World}
-use Rattle.np_calculus.specs.Config.{Config}
-use Rattle.np_eval.specs.Forms.{layer}
+use Rattle.np_tables.proofs.Tables.{get-put, put_here, born_here}
 use Rattle.np_eval.specs.FormParts.{as_new}
 use Rattle.np_calculus.specs.Reductions.{one_made, row, apply, run}
 use Rattle.np_calculus.specs.Seen.{acting}
 use Rattle.np_calculus.proofs.Steps.{row-step}
 use Rattle.np_calculus.proofs.FrameRule.{still-born}
 use Rattle.np_calculus.proofs.Inversions.{new-step}
-use Rattle.np_safety.specs.Channels.{Channels, makes_at, noted, after, channels_after}
+use Rattle.np_safety.specs.Channels.{makes_at, noted, after, channels_after}
 use Rattle.np_safety.specs.Laws.{HasMade}
 use Rattle.np_safety.proofs.Fitting.{Fitting}
 use Rattle.np_safety.proofs.Kept.{kept-at}

@@ -1,41 +1,29 @@
 -- Each event keeps the types.
 use Rattle.std.proofs.Common.{◌≡◌, ℕ, Bool, true, false, cond, Option, None, Some, List, [], ◌∷◌, refl, subst, sym, ap, ◌∙◌}
 use Rattle.std.specs.FinMap as map
-use Rattle.np_syntax.specs.declared.value.Name.{Name}
-use Rattle.np_syntax.specs.declared.value.Value.{Value, out-Value}
+use Rattle.np_safety.proofs.Common.{Name, Value, Cap, Ty, Ty-F, out-Ty, Proc, Event, and-out, same_name, TyLayer, is_site, World, is_lock_chan}
+use Rattle.np_safety.proofs.Common.{all_locks, Types, lock_type, Env, Layer, layer, Atom, Config, Fits, Sent}
 use Rattle.np_syntax.specs.declared.value.Value as value
-use Rattle.np_syntax.specs.declared.types.Cap.{Cap}
 use Rattle.np_syntax.specs.declared.types.Cap.TheVariants as cap
-use Rattle.np_syntax.specs.declared.types.Ty.{Ty, Ty-F, out-Ty, roll-Ty, roll-out-Ty}
+use Rattle.np_syntax.specs.declared.types.Ty.{roll-Ty, roll-out-Ty}
 use Rattle.np_syntax.specs.declared.types.Ty as ty
 use Rattle.np_syntax.specs.declared.types.Ty.TheVariants.{outs-Site}
-use Rattle.np_syntax.specs.declared.process.Proc.{Proc}
-use Rattle.np_syntax.specs.declared.event.Event.{Event}
 use Rattle.np_syntax.specs.declared.event.Kind.{Kind}
 use Rattle.np_syntax.specs.declared.event.Kind.TheVariants as kind
-use Rattle.np_tables.specs.Names.{same_name}
-use Rattle.np_types.specs.Sub.{TyLayer, is_site}
-use Rattle.np_types.specs.Worlds.{World, is_lock, is_lock_chan, all_locks}
-use Rattle.np_types.specs.Least.{Types}
-use Rattle.np_syntax.proofs.Bools.{and-out}
+use Rattle.np_types.specs.Worlds.{is_lock}
 use Rattle.np_types.proofs.Subs.{chan-again}
-use Rattle.np_calculus.specs.declared.config.Atom.{Atom}
-use Rattle.np_calculus.specs.Config.{Config}
-use Rattle.np_eval.specs.Eval.{Env, find_place}
+use Rattle.np_eval.specs.Eval.{find_place}
 use Rattle.np_calculus.specs.Reductions.{goes, found_on, row}
 use Rattle.np_calculus.specs.Seen.{acting}
 use Rattle.np_calculus.proofs.Steps.{acting-step}
 use Rattle.np_calculus.proofs.Inversions.{TestStep, stop-step, fork-step, new-step, let-step, if-step, comm-step, rep-step, agent-step, depart-step}
 use Rattle.np_calculus.proofs.Inversions.{arrive-step, local-step, send-step, land-step, print-step, open-step, lookup-step, post-step}
-use Rattle.np_check.specs.Faults.{lock_type}
-use Rattle.np_safety.specs.Fits.{Fits, Sent}
 use Rattle.np_safety.specs.Channels.{makes_at}
 use Rattle.np_safety.specs.Laws.{HasMade}
 use Rattle.np_safety.proofs.Fitting.{Agrees, Fitting, FittingAtom, FittingAtoms}
 use Rattle.np_safety.proofs.Shapes.{fits-itself}
 use Rattle.np_safety.proofs.Evaluates.{agent-kind, chan-kind}
 use Rattle.np_safety.proofs.Matches.{agrees-put, matches}
-use Rattle.np_eval.specs.Forms.{Layer, layer}
 use Rattle.np_safety.proofs.Forms.{Good, GoodForm, good-as}
 use Rattle.np_safety.proofs.Atoms.{sent_on, letter_sent, places_locked, fits-value, takes, bound-as}
 use Rattle.np_safety.proofs.Atoms.{offered-typed, made-typed, atoms-put, atoms-cut, packets-put, packets-cut}

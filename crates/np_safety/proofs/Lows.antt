@@ -3,22 +3,14 @@ use Rattle.std.proofs.Common.{◌≡◌, ℕ, Bool, true, false, ◌||◌, ◌&&
 use Rattle.std.proofs.lemmas.Bool.{eqb-true}
 use Rattle.std.specs.FinMap as table
 use Rattle.std.specs.FinSet as set
-use Rattle.np_syntax.specs.declared.value.Name.{Name}
-use Rattle.np_syntax.specs.declared.types.Cap.{Cap}
+use Rattle.np_safety.proofs.Common.{Name, Cap, Ty, Proc, and-out, put_cases, World, check, Config, world, Typed}
 use Rattle.np_syntax.specs.declared.types.Cap.TheVariants as cap
-use Rattle.np_syntax.specs.declared.types.Ty.{Ty}
-use Rattle.np_syntax.specs.declared.process.Proc.{Proc}
 use Rattle.np_syntax.specs.declared.program.LowProgram.{LowProgram}
 use Rattle.np_tables.specs.Names.{NameSet}
-use Rattle.np_tables.proofs.Tables.{put_cases, born_here}
-use Rattle.np_types.specs.Worlds.{World}
-use Rattle.np_syntax.proofs.Bools.{and-out}
-use Rattle.np_calculus.specs.Config.{Config}
+use Rattle.np_tables.proofs.Tables.{born_here}
 use Rattle.np_calculus.specs.Starts.{own, own_numbers, own_names, with_all, start_low, main_agent, main_mark, daemon_agent, daemon_mark, first_atom}
 use Rattle.np_calculus.proofs.OwnNames.{with_all-keeps}
-use Rattle.np_check.specs.Faults.{check}
-use Rattle.np_safety.specs.Channels.{world}
-use Rattle.np_safety.specs.Typed.{Typed, AreBorn}
+use Rattle.np_safety.specs.Typed.{AreBorn}
 use Rattle.np_safety.specs.Low.{carried, channels_of, infrastructure, low_world, IsFaultless, LowStartsTyped, LowWellTyped}
 use Rattle.np_safety.proofs.Fitting.{Fitting, FittingAtom}
 use Rattle.np_safety.proofs.Atoms.{nothing-agrees}

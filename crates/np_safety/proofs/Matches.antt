@@ -3,22 +3,16 @@ use Rattle.std.proofs.Common.{◌≡◌, ℕ, Bool, true, false, cond, Option, S
 use Rattle.std.specs.FinMap as table
 use Rattle.std.specs.FinMap.{get-insert}
 use Rattle.std.specs.Cmp.{nat_cmp_total}
-use Rattle.std.specs.Ordering.{nat_cmp, eq_by_cmp}
-use Rattle.np_syntax.specs.declared.value.Value.{Value}
-use Rattle.np_syntax.specs.declared.types.Ty.{Ty}
-use Rattle.np_syntax.specs.declared.pattern.Pat.{Pat}
+use Rattle.np_safety.proofs.Common.{nat_cmp, Value, Ty, Pat, then, done, With, World, kind, Types, cover, when, Env, Fits, LeastOf}
+use Rattle.std.specs.Ordering.{eq_by_cmp}
 use Rattle.np_syntax.specs.declared.pattern.PatForm.{PatForm-F}
-use Rattle.np_types.specs.Worlds.{World, kind}
-use Rattle.np_types.specs.Least.{Types}
-use Rattle.np_types.specs.Covers.{Covering, cover, cover_each, cover_step}
-use Rattle.np_syntax.proofs.Trees.{With, PatHyps, pat_of, pat_ind}
+use Rattle.np_types.specs.Covers.{Covering, cover_each, cover_step}
+use Rattle.np_syntax.proofs.Trees.{PatHyps, pat_of, pat_ind}
 use Rattle.np_types.proofs.Covers.{cover_layer, cover-out}
-use Rattle.np_eval.specs.Eval.{Env, Binding, bind, bind_each, bind_step}
+use Rattle.np_eval.specs.Eval.{Binding, bind, bind_each, bind_step}
 use Rattle.np_eval.proofs.Layers.{bind_layer, bind-out}
-use Rattle.np_safety.specs.Fits.{Fits, LeastOf}
 use Rattle.np_safety.proofs.Fitting.{Agrees, FitAll, Known, Valued}
-use Rattle.np_syntax.proofs.Results.{then, done}
-use Rattle.np_types.proofs.Passed.{when, take}
+use Rattle.np_types.proofs.Passed.{take}
 use Rattle.np_safety.proofs.Shapes.{tuple_value}
 
 module _ {X : Type 0} where

@@ -1,44 +1,33 @@
 -- Under types of binders that are below, and with more channels and sites, a process still has no fault.
 use Rattle.std.proofs.Common.{◌≡◌, ℕ, Bool, true, false, cond, Option, None, Some, Ok, refl, subst, map, List, [], ◌∷◌, nat_le, sym, ap, ◌∙◌}
 use Rattle.std.specs.FinMap as table
-use Rattle.std.specs.Ordering.{nat_cmp, eq_by_cmp}
-use Rattle.np_syntax.specs.declared.value.Name.{Name}
-use Rattle.np_syntax.specs.declared.value.Value.{Value, Value-F}
-use Rattle.np_syntax.specs.declared.types.Cap.{Cap}
+use Rattle.np_safety.proofs.Common.{nat_cmp, Name, Value, Value-F, Cap, Ty, Ty-F, out-Ty, outs-Tuple, Expr, Pat, Proc, ProcForm-F, ◌>>=◌, ◌>>◌, and-in}
+use Rattle.np_safety.proofs.Common.{and-out, then, done, With, Rule, TyLayer, reads, writes, sub, sub_all, is_int, is_bool, is_site, is_agent, is_letter}
+use Rattle.np_safety.proofs.Common.{is_places, Check, ensure, World, is_lock_chan, all_locks, kind, Types, least, channel, least_of, cover, sub-itself}
+use Rattle.np_safety.proofs.Common.{sub-trans, site_below, when, ensured, wanted, kind-out, lock_type}
+use Rattle.std.specs.Ordering.{eq_by_cmp}
 use Rattle.np_syntax.specs.declared.types.Cap.TheVariants as cap
-use Rattle.np_syntax.specs.declared.types.Ty.{Ty, Ty-F, out-Ty}
 use Rattle.np_syntax.specs.declared.types.Ty as ty
-use Rattle.np_syntax.specs.declared.types.Ty.TheVariants.{outs-Tuple}
 use Rattle.np_syntax.specs.declared.expression.Op.{Op}
 use Rattle.np_syntax.specs.declared.expression.Op.TheVariants as op
-use Rattle.np_syntax.specs.declared.expression.Expr.{Expr}
 use Rattle.np_syntax.specs.declared.expression.ExprForm.{ExprForm-F}
-use Rattle.np_syntax.specs.declared.pattern.Pat.{Pat}
 use Rattle.np_syntax.specs.declared.pattern.PatForm.{PatForm-F}
-use Rattle.np_syntax.specs.declared.process.Proc.{Proc}
-use Rattle.np_syntax.specs.declared.process.ProcForm.{ProcForm-F}
 use Rattle.np_syntax.specs.Options as may
 use Rattle.np_syntax.specs.Options.{all_some}
 use Rattle.np_syntax.proofs.Options as maybe
-use Rattle.np_types.specs.declared.fault.Rule.{Rule}
 use Rattle.np_types.specs.declared.fault.Rule.TheVariants as rule
-use Rattle.np_types.specs.Sub.{TyLayer, sub, sub_all, sub_at, reads, writes, is_int, is_bool, is_site, is_agent, is_letter, is_places}
+use Rattle.np_types.specs.Sub.{sub_at}
 use Rattle.np_types.specs.Widths.{narrow}
-use Rattle.np_syntax.specs.Results.{◌>>=◌, ◌>>◌, all_ok}
-use Rattle.np_types.specs.Checks.{Check, ensure}
-use Rattle.np_types.specs.Worlds.{World, kind, is_lock_chan, all_locks}
-use Rattle.np_types.specs.Least.{Types, Least, least, least_of, least_step, least_op, number, basic, same_basic, channel, output, test_of, is_lock_type}
-use Rattle.np_types.specs.Covers.{Covering, cover, cover_each, cover_step, as_long}
-use Rattle.np_syntax.proofs.Bools.{and-in, and-out}
-use Rattle.np_syntax.proofs.Trees.{With, ValueHyps, value_of, value_ind, ExprHyps, expr_of, expr_ind, PatHyps, pat_of, pat_ind}
-use Rattle.np_types.proofs.Subs.{sub-out, sub-itself, sub-trans}
-use Rattle.np_types.proofs.Below.{Down, int_below, bool_below, site_below, agent_below, letter_below, places_below, chan_below, tuple_below, as_many, printable_below}
-use Rattle.np_types.proofs.ValueTypes.{kind_layer, kind-out}
+use Rattle.np_syntax.specs.Results.{all_ok}
+use Rattle.np_types.specs.Least.{Least, least_step, least_op, number, basic, same_basic, output, test_of, is_lock_type}
+use Rattle.np_types.specs.Covers.{Covering, cover_each, cover_step, as_long}
+use Rattle.np_syntax.proofs.Trees.{ValueHyps, value_of, value_ind, ExprHyps, expr_of, expr_ind, PatHyps, pat_of, pat_ind}
+use Rattle.np_types.proofs.Subs.{sub-out}
+use Rattle.np_types.proofs.Below.{Down, int_below, bool_below, agent_below, letter_below, places_below, chan_below, tuple_below, as_many, printable_below}
+use Rattle.np_types.proofs.ValueTypes.{kind_layer}
 use Rattle.np_types.proofs.Leasts.{least_layer, least-out}
 use Rattle.np_types.proofs.Covers.{cover_layer, cover-out}
-use Rattle.np_check.specs.Faults.{lock_type}
-use Rattle.np_syntax.proofs.Results.{then, done}
-use Rattle.np_types.proofs.Passed.{when, take, ensured, wanted}
+use Rattle.np_types.proofs.Passed.{take}
 use Rattle.np_safety.proofs.Evaluates.{lock_is, both_ways}
 use Rattle.np_safety.proofs.Matches.{slot_put}
 use Rattle.np_safety.proofs.Forms.{Good, GoodForm, Tested, OnChannel, Sending, Taking, good-form}

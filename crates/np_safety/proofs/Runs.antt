@@ -1,10 +1,8 @@
 -- What is typed stays typed along each run, and so is well along it.
 use Rattle.std.proofs.Common.{◌≡◌, Some, List, ◌++◌, refl, subst}
-use Rattle.np_syntax.specs.declared.event.Event.{Event}
-use Rattle.np_types.specs.Worlds.{World}
-use Rattle.np_calculus.specs.Config.{Config}
+use Rattle.np_safety.proofs.Common.{Event, World, Config, Channels, world}
 use Rattle.np_calculus.specs.Reductions.{run}
-use Rattle.np_safety.specs.Channels.{Channels, channels_after, world}
+use Rattle.np_safety.specs.Channels.{channels_after}
 use Rattle.np_safety.specs.Typed.{AreBorn}
 use Rattle.np_safety.specs.Laws.{KeepsTyped, TypedIsWell, StaysTyped}
 use Rattle.np_safety.proofs.Fitting.{Fitting}

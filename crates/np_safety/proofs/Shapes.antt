@@ -1,21 +1,16 @@
 -- The form that a value of each type has.
 use Rattle.std.proofs.Common.{◌≡◌, ℕ, ℤ, Bool, true, Some, refl, subst, List, [], ◌∷◌, sym, ap, ◌∙◌}
-use Rattle.np_syntax.specs.declared.value.Name.{Name}
-use Rattle.np_syntax.specs.declared.value.Value.{Value, Value-F, out-Value}
-use Rattle.np_syntax.specs.declared.types.Cap.{Cap}
-use Rattle.np_syntax.specs.declared.types.Ty.{Ty, Ty-F, out-Ty}
-use Rattle.np_syntax.specs.declared.types.Ty.TheVariants.{outs-Int, outs-Bool, outs-Str, outs-Site, outs-Agent, outs-Letter, outs-Places, outs-Chan, outs-Tuple}
+use Rattle.np_safety.proofs.Common.{Name, Value, Value-F, out-Value, Cap, Ty, Ty-F, out-Ty, outs-Tuple, and-out, TyLayer, reads, writes, sub_all, is_int}
+use Rattle.np_safety.proofs.Common.{is_bool, is_site, is_agent, is_letter, is_places, World, kinds, all_locks, kind, sub-itself, sub-trans, site_below}
+use Rattle.np_safety.proofs.Common.{kind-out, Fits}
+use Rattle.np_syntax.specs.declared.types.Ty.TheVariants.{outs-Int, outs-Bool, outs-Str, outs-Site, outs-Agent, outs-Letter, outs-Places, outs-Chan}
 use Rattle.np_syntax.specs.Options.{◌>>=◌}
 use Rattle.np_syntax.proofs.Options.{then, when, done}
 use Rattle.np_types.specs.Sub as sub
-use Rattle.np_types.specs.Sub.{reads, writes, TyLayer, is_int, is_bool, is_str, is_site, is_agent, is_letter, is_places, sub_all}
-use Rattle.np_types.specs.Worlds.{World, kind, kinds, all_locks}
-use Rattle.np_syntax.proofs.Bools.{and-out}
-use Rattle.np_types.proofs.Subs.{sub-itself, sub-trans}
-use Rattle.np_types.proofs.Below.{int_below, bool_below, str_below, site_below, agent_below, letter_below, places_below, chan_below, tuple_below}
-use Rattle.np_types.proofs.ValueTypes.{kind_layer, kind-out, kinds-map}
+use Rattle.np_types.specs.Sub.{is_str}
+use Rattle.np_types.proofs.Below.{int_below, bool_below, str_below, agent_below, letter_below, places_below, chan_below, tuple_below}
+use Rattle.np_types.proofs.ValueTypes.{kind_layer, kinds-map}
 use Rattle.np_eval.specs.Eval.{ValueLayer}
-use Rattle.np_safety.specs.Fits.{Fits}
 use Rattle.np_safety.proofs.Fitting.{FitAll}
 
 -- how a value and its least type agree

@@ -1,12 +1,9 @@
 -- A resolved process names no agent but main.
 use Rattle.std.proofs.Common.{◌≡◌, ℕ, List, length, map, refl}
-use Rattle.np_syntax.specs.declared.value.Name.{Name}
-use Rattle.np_syntax.specs.declared.value.Value.{Value}
+use Rattle.np_safety.proofs.Common.{Name, Value, Expr, Proc}
 use Rattle.np_syntax.specs.declared.value.Value.TheVariants.{outs-Int, outs-Truth, outs-Str, outs-Site}
 use Rattle.np_syntax.specs.declared.value.Value as value
-use Rattle.np_syntax.specs.declared.expression.Expr.{Expr}
 use Rattle.np_syntax.specs.declared.expression.ExprForm.TheVariants as exprs
-use Rattle.np_syntax.specs.declared.process.Proc.{Proc}
 use Rattle.np_syntax.specs.declared.process.ProcForm.TheVariants as forms
 use Rattle.np_syntax.specs.declared.program.Program.{Program}
 use Rattle.np_scope.specs.Sound.{IsSound, IsSoundExpr, AreSoundExprs, IsSoundProc}

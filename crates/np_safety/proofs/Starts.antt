@@ -3,19 +3,15 @@ use Rattle.std.proofs.Common.{◌≡◌, ◌<◌, ℕ, true, inl, inr, Some, Ok,
 use Rattle.std.proofs.lemmas.Bool.Decides.{nat_tests}
 use Rattle.std.specs.FinMap as map
 use Rattle.std.specs.FinMap.{get-empty}
-use Rattle.np_syntax.specs.declared.value.Name.{Name}
+use Rattle.np_safety.proofs.Common.{Name, put_cases, Check, check, Config, Channels, world, Typed}
 use Rattle.np_syntax.specs.declared.program.Program.{Program}
 use Rattle.np_tables.specs.Names.{name_cmp}
-use Rattle.np_tables.proofs.Tables.{put_cases}
-use Rattle.np_types.specs.Checks.{Check, found}
+use Rattle.np_types.specs.Checks.{found}
 use Rattle.np_types.specs.Worlds.{bare}
-use Rattle.np_calculus.specs.Config.{Config}
 use Rattle.np_calculus.specs.Starts.{start_high, main_agent, main_mark, first_atom}
-use Rattle.np_check.specs.Faults.{IsAccepted, check}
+use Rattle.np_check.specs.Faults.{IsAccepted}
 use Rattle.np_check.specs.Laws.{HasSites}
 use Rattle.np_check.proofs.Resolved.{same_check}
-use Rattle.np_safety.specs.Channels.{Channels, world}
-use Rattle.np_safety.specs.Typed.{Typed}
 use Rattle.np_safety.specs.Laws.{RunsWellTyped, StartsTyped, WellTyped}
 use Rattle.np_safety.proofs.Fitting.{Fitting}
 use Rattle.np_safety.proofs.Atoms.{nothing-agrees}
