@@ -82,14 +82,12 @@ module _ (sites : ℕ) (x : Contents) (e : Event) where
       lodged : IsSome (x.place a.agent)
       lodged = has_place (x.place a.agent) e.site (actor-seen a h).here
 
+      home : (b : Atom) → b.agent ≡ a.agent → IsSome (x.place b.agent)
+      home b same = subst (λ agent. IsSome (x.place agent)) (sym same) lodged
+
       -- the actor goes on as an atom of its agent, alone
       on : (b : Atom) → b.agent ≡ a.agent → Fit (record still { atoms = put e.actor b ∷ [] })
-      on b same = record {
-        own = record { places = tt; atoms = (inl there, tt); packets = tt };
-        settled = tt;
-        comes = tt;
-        lodged = (inl (subst (λ agent. IsSome (x.place agent)) (sym same) lodged), tt);
-      }
+      on b same = record { own = record { places = tt; atoms = (inl there, tt); packets = tt }; settled = tt; comes = tt; lodged = (inl (home b same), tt) }
 
       -- the actor is taken out
       out : (v : Option Value) → Fit (record still { atoms = cut e.actor ∷ []; said = v })
@@ -97,12 +95,8 @@ module _ (sites : ℕ) (x : Contents) (e : Event) where
 
       -- the actor goes on, and an atom of an agent that has a place stands under the mark that is made
       more : (m : Name) (n b : Atom) → IsMade e.made m → IsSome (x.place n.agent) → b.agent ≡ a.agent → Fit (record still { atoms = put m n ∷ put e.actor b ∷ [] })
-      more m n b made lies same = record {
-        own = record { places = tt; atoms = (inr made, (inl there, tt)); packets = tt };
-        settled = tt;
-        comes = tt;
-        lodged = (inl lies, (inl (subst (λ agent. IsSome (x.place agent)) (sym same) lodged), tt));
-      }
+      more m n b made lies same =
+          record { own = record { places = tt; atoms = (inr made, (inl there, tt)); packets = tt }; settled = tt; comes = tt; lodged = (inl lies, (inl (home b same), tt)) }
 
       -- both ways of a location test
       tested : (t : Bool) (met unmet : Proc) (b n : Name) (v : Value) → (t ≡ true → IsSome (x.place b)) → cond t (here_row e a met b n v) (away_row e a unmet) ≡ Some d → Fit d
@@ -120,12 +114,8 @@ module _ (sites : ℕ) (x : Contents) (e : Event) where
       fits-act kind.If is h = parts kind.If w e a h λ p form h. then (truth_of p.0 a.env) _ h λ t truth h. lone h (on _ refl)
       fits-act kind.Comm is h = parts kind.Comm w e a h λ p form h. then (chan_of p.0 a.env) _ h λ n on h. then e.other _ h λ o other h.
           then (offered_in w.atom o a.agent n) _ h λ v offer h. then (bind p.1 v a.env) _ h λ env binds h. then (none_made e.made) _ h λ m made h.
-          so h (record {
-            own = record { places = tt; atoms = (inl there, (inl (gives o a.agent n v offer), tt)); packets = tt };
-            settled = tt;
-            comes = tt;
-            lodged = (inl lodged, (tt, tt));
-          })
+          let taken = gives o a.agent n v offer in
+          so h (record { own = record { places = tt; atoms = (inl there, (inl taken, tt)); packets = tt }; settled = tt; comes = tt; lodged = (inl lodged, (tt, tt)) })
       fits-act kind.Rep is h = parts kind.Rep w e a h λ p form h. then (chan_of p.0 a.env) _ h λ n on h. then e.other _ h λ o other h.
           then (offered_in w.atom o a.agent n) _ h λ v offer h. then (bind p.1 v a.env) _ h λ env binds h. then (none_made e.made) _ h λ m made h.
           so h (record { own = record { places = tt; atoms = (inl (gives o a.agent n v offer), tt); packets = tt }; settled = tt; comes = tt; lodged = (inl lodged, tt) })

@@ -3,7 +3,7 @@ use Rattle.std.proofs.Common.{◌≡◌, ℕ, Bool, true, false, not, cond, List
 use Rattle.std.specs.FinMap as map
 use Rattle.std.specs.FinSet as set
 use Rattle.np_calculus.proofs.Common.{Name, Value, Expr, Pat, Proc, ProcForm-F, Event, Kind, ◌>>=◌, ◌>>◌, then, when, same_name, Env, chan_of, agent_of}
-use Rattle.np_calculus.proofs.Common.{truth_of, letter_of, places_of, find_place, eval, bind, layer, Atom, Packet, Place, Config, Sight, inside, sight}
+use Rattle.np_calculus.proofs.Common.{Layer, NameMap, truth_of, letter_of, places_of, find_place, eval, bind, layer, Atom, Packet, Place, Config, Sight, inside, sight}
 use Rattle.np_calculus.proofs.Common.{Change, effect, same_tag, way, none_made, one_made, two_made, no_other, goes, output_in, found_on, offered_in, are_new}
 use Rattle.np_calculus.proofs.Common.{after_change, change, row, here_row, away_row, act, arrive_row, land_row, acting, is_at, offered}
 use Rattle.np_syntax.specs.declared.value.Value as value
@@ -15,7 +15,7 @@ use Rattle.np_calculus.specs.Changes.{still, put, cut}
 use Rattle.np_calculus.specs.Reductions.{goes_under}
 use Rattle.np_calculus.specs.Seen.{fresh, site_of}
 use Rattle.np_calculus.proofs.Rows.{asked, parts}
-use Rattle.np_calculus.proofs.Steps.{need-met, row-step, none-new, none-with, one-new, one-with, two-new, two-with, none-is, one-is, two-is, one-fresh, two-fresh, same-offer}
+use Rattle.np_calculus.proofs.Steps.{need-met, row-step, none-new, none-with, one-new, one-with, two-new, two-with, made-is, one-fresh, two-fresh, same-offer}
 
 -- ---- a location test
 
@@ -38,8 +38,8 @@ TestStep false c e a met unmet b n v d = AwayStep c e a unmet d
 module _ (c : Config) (e : Event) (d : Config) (x : Change) (new : are_new c.born e.made ≡ true) (is : d ≡ effect c e x) (a : Atom) (met unmet : Proc) (b n : Name) (v : Value) where
   tested : (t : Bool) → cond t (here_row e a met b n v) (away_row e a unmet) ≡ Some x → TestStep t c e a met unmet b n v d
   unfolding here_row away_row
-  tested true h = then (one_made e.made) _ h λ m made h. record { mark = m; made = made; new = one-fresh c e d m made new; is = one-is c e d x _ m made h is }
-  tested false h = then (none_made e.made) _ h λ m made h. record { made = made; is = none-is c e d x _ made h is }
+  tested true h = then (one_made e.made) _ h λ m made h. record { mark = m; made = made; new = one-fresh c e d m made new; is = made-is c e d x _ (one-with c.born e.made m made) h is }
+  tested false h = then (none_made e.made) _ h λ m made h. record { made = made; is = made-is c e d x _ (none-with c.born e.made tt made) h is }
 
 module _ (c : Config) (e : Event) (d : Config) (a : Atom) (met unmet : Proc) (b n : Name) (v : Value) where
   -- such a test, as its record says it, is made
@@ -74,7 +74,7 @@ module _ (c : Config) (e : Event) (d : Config) where
   -- the end of a row that makes no name and takes no output
   ends : {R : Type 0} {x : Change} (y : Change) → (none_made e.made >> (no_other e.other >> Some y)) ≡ Some x → d ≡ effect c e x
       → (none_made e.made ≡ Some tt → no_other e.other ≡ Some tt → d ≡ record (effect c e y) { born = c.born } → R) → R
-  ends y h is f = then (none_made e.made) _ h λ m made h. then (no_other e.other) _ h λ l lone h. f made lone (none-is c e d _ y made h is)
+  ends y h is f = then (none_made e.made) _ h λ m made h. then (no_other e.other) _ h λ l lone h. f made lone (made-is c e d _ y (none-with c.born e.made tt made) h is)
 
   pub record StopStep : Type 0 where
     pub atom : Atom
@@ -108,7 +108,7 @@ module _ (c : Config) (e : Event) (d : Config) where
   unfolding act
   fork-step h = step kind.Fork h refl λ x new is a acts (p, q) form h.
       then (one_made e.made) _ h λ m made h. then (no_other e.other) _ h λ l lone h.
-      let now = one-is c e d x _ m made h is in
+      let now = made-is c e d x _ (one-with c.born e.made m made) h is in
       record { atom = a; acts = acts; left = p; right = q; form = form; mark = m; made = made; lone = lone; new = one-fresh c e d m made new; is = now }
 
   pub step-fork : ForkStep → row kind.Fork c e ≡ Some d
@@ -135,7 +135,7 @@ module _ (c : Config) (e : Event) (d : Config) where
   unfolding act
   new-step h = step kind.New h refl λ x new is a acts (b, t, p) form h.
       then (one_made e.made) _ h λ n made h. then (no_other e.other) _ h λ l lone h.
-      let now = one-is c e d x _ n made h is in
+      let now = made-is c e d x _ (one-with c.born e.made n made) h is in
       record { atom = a; acts = acts; binder = b; type = t; body = p; form = form; chan = n; made = made; lone = lone; new = one-fresh c e d n made new; is = now }
 
   pub record LetStep : Type 0 where
@@ -177,13 +177,14 @@ module _ (c : Config) (e : Event) (d : Config) where
   if-step h = step kind.If h refl λ x new is a acts (f, p, q) form h. then (truth_of f a.env) _ h λ t truth h. ends _ h is λ made lone is.
       record { atom = a; acts = acts; test = f; met = p; unmet = q; form = form; first = t; truth = truth; made = made; lone = lone; is = is }
 
-  pub record CommStep : Type 0 where
+  -- an input, plain or replicated, that takes an output: its form, and the atoms that it leaves
+  pub record TakeStep (input : Expr → Pat → Proc → Layer) (left : Atom → Name → NameMap Atom) : Type 0 where
     pub atom : Atom
     pub acts : acting c e ≡ Some atom
     pub from : Expr
     pub pat : Pat
     pub body : Proc
-    pub form : layer atom.proc ≡ ProcForm-F.Inp from pat body
+    pub form : layer atom.proc ≡ input from pat body
     pub chan : Name
     pub on : chan_of from atom.env ≡ Some chan
     pub mark : Name
@@ -193,7 +194,13 @@ module _ (c : Config) (e : Event) (d : Config) where
     pub env : Env
     pub binds : bind pat value atom.env ≡ Some env
     pub made : none_made e.made ≡ Some tt
-    pub is : d ≡ record c { atoms = map.remove (map.insert c.atoms e.actor (goes_under atom body env)) mark }
+    pub is : d ≡ record c { atoms = left (goes_under atom body env) mark }
+
+  abbrev pub CommStep : Type 0
+  CommStep = TakeStep ProcForm-F.Inp (λ b o. map.remove (map.insert c.atoms e.actor b) o)
+
+  abbrev pub RepStep : Type 0
+  RepStep = TakeStep ProcForm-F.Rep (λ b o. map.insert c.atoms o b)
 
   pub comm-step : row kind.Comm c e ≡ Some d → CommStep
   unfolding act
@@ -201,7 +208,7 @@ module _ (c : Config) (e : Event) (d : Config) where
       then (chan_of f a.env) _ h λ n on h. then e.other _ h λ o other h. then (offered_in w.atom o a.agent n) _ h λ v offer h. then (bind q v a.env) _ h λ env binds h.
       then (none_made e.made) _ h λ m made h.
       let sees = sym (same-offer c e a o n acts) ∙ offer in
-      let now = none-is c e d x _ made h is in
+      let now = made-is c e d x _ (none-with c.born e.made tt made) h is in
       record { atom = a; acts = acts; from = f; pat = q; body = p; form = form; chan = n; on = on; mark = o; other = other; value = v; offer = sees; env = env; binds = binds; made = made; is = now }
 
   pub step-comm : CommStep → row kind.Comm c e ≡ Some d
@@ -209,31 +216,13 @@ module _ (c : Config) (e : Event) (d : Config) where
   step-comm s =
       rw (s.acts, s.form, s.on, s.other, same-offer c e s.atom s.mark s.chan s.acts ∙ s.offer, s.binds, s.made, none-new c.born e.made tt s.made, none-with c.born e.made tt s.made) (ap Some (sym s.is))
 
-  pub record RepStep : Type 0 where
-    pub atom : Atom
-    pub acts : acting c e ≡ Some atom
-    pub from : Expr
-    pub pat : Pat
-    pub body : Proc
-    pub form : layer atom.proc ≡ ProcForm-F.Rep from pat body
-    pub chan : Name
-    pub on : chan_of from atom.env ≡ Some chan
-    pub mark : Name
-    pub other : e.other ≡ Some mark
-    pub value : Value
-    pub offer : offered c mark atom.agent chan ≡ Some value
-    pub env : Env
-    pub binds : bind pat value atom.env ≡ Some env
-    pub made : none_made e.made ≡ Some tt
-    pub is : d ≡ record c { atoms = map.insert c.atoms mark (goes_under atom body env) }
-
   pub rep-step : row kind.Rep c e ≡ Some d → RepStep
   unfolding act
   rep-step h = step kind.Rep h refl λ x new is a acts (f, q, p) form h.
       then (chan_of f a.env) _ h λ n on h. then e.other _ h λ o other h. then (offered_in w.atom o a.agent n) _ h λ v offer h. then (bind q v a.env) _ h λ env binds h.
       then (none_made e.made) _ h λ m made h.
       let sees = sym (same-offer c e a o n acts) ∙ offer in
-      let now = none-is c e d x _ made h is in
+      let now = made-is c e d x _ (none-with c.born e.made tt made) h is in
       record { atom = a; acts = acts; from = f; pat = q; body = p; form = form; chan = n; on = on; mark = o; other = other; value = v; offer = sees; env = env; binds = binds; made = made; is = now }
 
   pub step-rep : RepStep → row kind.Rep c e ≡ Some d
@@ -267,7 +256,7 @@ module _ (c : Config) (e : Event) (d : Config) where
   agent-step h = step kind.Agent h refl λ x new is a acts (b, p, q) form h.
       then (two_made e.made) _ h λ m made h. then (no_other e.other) _ h λ l lone h.
       let f = two-fresh c e d m made new in
-      let now = two-is c e d x _ m made h is in
+      let now = made-is c e d x _ (two-with c.born e.made m made) h is in
       record { atom = a; acts = acts; binder = b; body = p; rest = q; form = form; agent = m.0; mark = m.1; made = made; lone = lone; differ = f.differ; first = f.first; second = f.second; is = now }
 
   pub step-agent : AgentStep → row kind.Agent c e ≡ Some d
@@ -343,10 +332,6 @@ module _ (c : Config) (e : Event) (d : Config) where
   unfolding act
   print-step h = step kind.Print h refl λ x new is a acts f form h. then (eval f a.env) _ h λ v gives h. ends _ h is λ made lone is.
       record { atom = a; acts = acts; expr = f; form = form; value = v; gives = gives; made = made; lone = lone; is = is }
-
-  pub step-print : PrintStep → row kind.Print c e ≡ Some d
-  unfolding act
-  step-print s = rw (s.acts, s.form, s.gives, s.made, s.lone, none-new c.born e.made tt s.made, none-with c.born e.made tt s.made) (ap Some (sym s.is))
 
   pub record OpenStep : Type 0 where
     pub atom : Atom

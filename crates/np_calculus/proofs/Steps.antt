@@ -56,20 +56,10 @@ module _ (c : Config) (e : Event) (d : Config) where
   pub row-step : (k : Kind) → row k c e ≡ Some d → RowStep k
   row-step k h = then (change k c.sites (inside c) e) _ h λ x gives h. when (are_new c.born e.made) _ h λ new h. record { made = x; gives = gives; new = new; is = done h }
 
-  -- the effect of a change that makes no name, one or two
-  pub none-is : (x y : Change) → none_made e.made ≡ Some tt → Some y ≡ Some x → d ≡ effect c e x → d ≡ record (effect c e y) { born = c.born }
-  none-is x y made same is =
-      is ∙ ap (λ b. record (effect c e x) { born = b }) (none-with c.born e.made tt made) ∙ ap (λ z. record (effect c e z) { born = c.born }) (done same)
-
-  pub one-is : (x y : Change) (m : Name) → one_made e.made ≡ Some m → Some y ≡ Some x → d ≡ effect c e x → d ≡ record (effect c e y) { born = set.insert c.born m }
-  one-is x y m made same is =
-      is ∙ ap (λ b. record (effect c e x) { born = b }) (one-with c.born e.made m made) ∙ ap (λ z. record (effect c e z) { born = set.insert c.born m }) (done same)
-
-  pub two-is : (x y : Change) (m : Name × Name) → two_made e.made ≡ Some m → Some y ≡ Some x → d ≡ effect c e x
-      → d ≡ record (effect c e y) { born = set.insert (set.insert c.born m.0) m.1 }
-  two-is x y m made same is =
-      is ∙ ap (λ b. record (effect c e x) { born = b }) (two-with c.born e.made m made)
-      ∙ ap (λ z. record (effect c e z) { born = set.insert (set.insert c.born m.0) m.1 }) (done same)
+  -- the effect of a change, where these names are born afterwards
+  pub made-is : {born : NameSet} (x y : Change) → with_made c.born e.made ≡ born → Some y ≡ Some x → d ≡ effect c e x → d ≡ record (effect c e y) { born = born }
+  made-is {born = born} x y made same is =
+      is ∙ ap (λ b. record (effect c e x) { born = b }) made ∙ ap (λ z. record (effect c e z) { born = born }) (done same)
 
   pub one-fresh : (m : Name) → one_made e.made ≡ Some m → are_new c.born e.made ≡ true → fresh c m ≡ Some tt
   one-fresh m made new = ap need (sym (one-new c.born e.made m made) ∙ new)
