@@ -8,7 +8,7 @@ use Rattle.np_check.specs.Faults.{check_migrate, check_send, check_post, check_l
 use Rattle.np_safety.proofs.Forms.{GoodForm, Sending, Taking, Good, check-out, checks}
 
 module _ (w : World) (types : Types) where
-  sending-back : (c e : Expr) → Sending w types c e → is_output w c e types ≡ Ok tt
+  pub sending-back : (c e : Expr) → Sending w types c e → is_output w c e types ≡ Ok tt
   sending-back c e s = output-parts w types c e ∙ rw (s.on.is, s.on.chan, s.may_write, s.is, s.below) refl
 
   taking-back : (c : Expr) (x : Pat) (p : Proc) → Taking w types c x p → check_input w c x (check w p) types ≡ Ok tt

@@ -4,8 +4,8 @@ use Rattle.std.specs.Prelude.{nat_eq}
 use Rattle.std.specs.Ordering.{int_eq}
 use Rattle.std.specs.Str.{bytes_eq}
 use Rattle.np_safety.proofs.Common.{Name, Value, Value-F, out-Value, Cap, Ty, Ty-F, out-Ty, outs-Tuple, Expr, ◌>>=◌, ◌>>◌, and-in, and-out, then, done, With}
-use Rattle.np_safety.proofs.Common.{same_name, Rule, TyLayer, reads, writes, sub, sub_all, is_int, is_site, is_agent, is_places, as_chan, Check, ensure}
-use Rattle.np_safety.proofs.Common.{World, kinds, is_lock_chan, all_locks, kind, Types, least, channel, least_of, sub-trans, site_below, when, ensured}
+use Rattle.np_safety.proofs.Common.{same_name, TyLayer, reads, writes, sub, sub_all, is_int, is_site, is_agent, is_places, as_chan, ensure}
+use Rattle.np_safety.proofs.Common.{World, kinds, is_lock_chan, all_locks, kind, Types, least, least_of, sub-trans, site_below, when, ensured}
 use Rattle.np_safety.proofs.Common.{wanted, Env, eval, Fits}
 use Rattle.np_syntax.specs.declared.value.Value as value
 use Rattle.np_syntax.specs.declared.value.Value.TheVariants as outs
@@ -27,6 +27,7 @@ use Rattle.np_types.proofs.Leasts.{least_layer, least-out}
 use Rattle.np_eval.specs.Eval.{eval_step, operate, operate_at, equal_at, same_truth, put_place, pack, with_place}
 use Rattle.np_safety.proofs.Fitting.{Agrees, Valued}
 use Rattle.np_eval.proofs.Layers.{eval_layer, eval-out}
+use Rattle.np_safety.proofs.Forms.{sending, tested}
 use Rattle.np_safety.proofs.Shapes.{fits-itself, int_value, truth_value, text_value, places_value, chan_value, site_value, agent_value}
 
 -- ---- the least types of values
@@ -184,31 +185,16 @@ module _ (w : World) (env : Env) (types : Types) (agrees : Agrees w env types) w
       let r : t ≡ ty.Bool = done h in
       rw r (record { value = value.Truth q.0; is = rw (x.is, y.is, q.1) refl; fits = fits-itself w _ ty.Bool (truth-kind w q.0) })
 
-  record Passing (e : Expr) (test : TyLayer → Bool) : Type 0 where
-    type : Ty
-    value : Value
-    is : eval e env ≡ Some value
-    fits : Fits w value type
-    passes : test (out-Ty type) ≡ true
-
-  passing : (e : With Expr Sound) (test : TyLayer → Bool) (rule : Rule) → test_of test rule (least_of w types e.0) ≡ Ok tt → Passing e.0 test
-  passing e test rule h =
-      then (least w types e.0) (λ t. ensure (test (out-Ty t)) (least_of w types e.0).at rule) h λ t is h.
-      let v = e.1 t is in
-      record { type = t; value = v.value; is = v.is; fits = v.fits; passes = ensured _ _ _ h }
-
   sound_pack : (a b : With Expr Sound) (t : Ty) → (output (least_of w types a.0) (least_of w types b.0) >> Ok ty.Letter) ≡ Ok t
       → Valued w (may.◌>>=◌ (eval a.0 env) (λ x. may.◌>>=◌ (eval b.0 env) (λ v. pack x v))) t
   sound_pack a b t h =
       then (output (least_of w types a.0) (least_of w types b.0)) (λ _. Ok ty.Letter) h λ u sent h.
-      then (channel (least_of w types a.0)) _ sent λ k on sent. then (least w types a.0) _ on λ s first on.
-      when _ _ _ _ sent λ may sent. then (least w types b.0) _ sent λ r second sent.
-      let below : sub r k.1 ≡ true = ensured (sub r k.1) _ _ sent in
-      let x = a.1 s first in
-      let y = b.1 r second in
-      let c = chan_value w x.value s k x.fits (wanted _ _ _ on) in
-      let q = c.writing may in
-      let f = sub-trans y.fits.type r c.own.1 y.fits.below (sub-trans r k.1 c.own.1 below q.1) in
+      let s = sending w types a.0 b.0 sent in
+      let x = a.1 s.on.type s.on.is in
+      let y = b.1 s.type s.is in
+      let c = chan_value w x.value s.on.type s.carries x.fits s.on.chan in
+      let q = c.writing s.may_write in
+      let f = sub-trans y.fits.type s.type c.own.1 y.fits.below (sub-trans s.type s.carries.1 c.own.1 s.below q.1) in
       let same : t ≡ ty.Letter = done h in
       rw same (record {
         value = value.Letter c.name y.value;
@@ -216,24 +202,20 @@ module _ (w : World) (env : Env) (types : Types) (agrees : Agrees w env types) w
         fits = fits-itself w _ ty.Letter (letter-kind w c.name y.value y.fits.type c.own y.fits.is c.carries q.0 f);
       })
 
-  abbrev locks : Expr → Check (Unit {0})
-  locks l = test_of is_lock_type rule.Mismatch (least_of w types l)
-
-  abbrev agents : Expr → Check (Unit {0})
-  agents a = test_of is_agent rule.NotAgent (least_of w types a)
-
-  sound_with : (m a l : With Expr Sound) (t : Ty) → (test_of is_places rule.Mismatch (least_of w types m.0) >> (agents a.0 >> (locks l.0 >> Ok ty.Places))) ≡ Ok t
+  sound_with : (m a l : With Expr Sound) (t : Ty) → (test_of is_places rule.Mismatch (least_of w types m.0) >> (test_of is_agent rule.NotAgent (least_of w types a.0) >> (test_of is_lock_type rule.Mismatch (least_of w types l.0) >> Ok ty.Places))) ≡ Ok t
       → Valued w (may.◌>>=◌ (eval m.0 env) (λ x. may.◌>>=◌ (eval a.0 env) (λ y. may.◌>>=◌ (eval l.0 env) (λ z. with_place x y z)))) t
   sound_with m a l t h =
-      then (test_of is_places rule.Mismatch (least_of w types m.0)) (λ _. agents a.0 >> (locks l.0 >> Ok ty.Places)) h λ u first h.
-      then (agents a.0) (λ _. locks l.0 >> Ok ty.Places) h λ u second h.
-      then (locks l.0) (λ _. Ok ty.Places) h λ u third h.
-      let x = passing m is_places rule.Mismatch first in
-      let y = passing a is_agent rule.NotAgent second in
-      let z = passing l is_lock_type rule.Mismatch third in
-      let p = places_value w x.value x.type x.fits x.passes in
-      let b = agent_value w y.value y.type y.fits y.passes in
-      let n = lock_value w z.value z.type z.fits z.passes in
+      then (test_of is_places _ (least_of w types m.0)) _ h λ u first h. then (test_of is_agent _ (least_of w types a.0)) _ h λ u second h.
+      then (test_of is_lock_type _ (least_of w types l.0)) _ h λ u third h.
+      let i = tested w types is_places _ m.0 _ first in
+      let j = tested w types is_agent _ a.0 _ second in
+      let k = tested w types is_lock_type _ l.0 _ third in
+      let x = m.1 i.type i.is in
+      let y = a.1 j.type j.is in
+      let z = l.1 k.type k.is in
+      let p = places_value w x.value i.type x.fits i.passes in
+      let b = agent_value w y.value j.type y.fits j.passes in
+      let n = lock_value w z.value k.type z.fits k.passes in
       let same : t ≡ ty.Places = done h in
       rw same (record {
         value = value.Places (put_place p.0 b.0 n.0);

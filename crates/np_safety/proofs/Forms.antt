@@ -91,11 +91,10 @@ GoodForm w types (ProcForm-F.Open e) = Tested w types is_letter e
 GoodForm w types (ProcForm-F.Lookup a m x p q) = Tested w types is_agent a × Tested w types is_places m × Good w (table.insert types x lock_type) p × Good w types q
 
 module _ (w : World) (types : Types) where
-  tested : (test : TyLayer → Bool) (r : Rule) (e : Expr) → is_of w test r e types ≡ Ok tt → Tested w types test e
-  unfolding is_of
-  tested test r e h = then (least w types e) (λ t. ensure (test (out-Ty t)) e.at r) h λ t is h. record { type = t; is = is; passes = ensured _ _ _ h }
+  pub tested : (test : TyLayer → Bool) (r : Rule) (e : Expr) (at : ℕ) → (least w types e >>= λ t. ensure (test (out-Ty t)) at r) ≡ Ok tt → Tested w types test e
+  tested test r e at h = then (least w types e) _ h λ t is h. record { type = t; is = is; passes = ensured _ _ _ h }
 
-  sending : (c e : Expr) → is_output w c e types ≡ Ok tt → Sending w types c e
+  pub sending : (c e : Expr) → is_output w c e types ≡ Ok tt → Sending w types c e
   sending c e h =
       then (channel (least_of w types c)) _ h λ k on h. when _ _ _ _ h λ may h. then (least w types e) _ h λ t is h.
       then (least w types c) _ on λ s first on.
@@ -123,11 +122,11 @@ module _ (w : World) (types : Types) where
   some_chan (Some k) h = (k, refl)
 
   posting : (b c e : Expr) → check_post w b c e types ≡ Ok tt → Tested w types is_agent b × Sending w types c e
-  unfolding check_post
-  posting b c e h = then (is_of w is_agent rule.NotAgent b types) _ h λ u first h. (tested is_agent _ b first, sending c e h)
+  unfolding is_of check_post
+  posting b c e h = then (is_of w is_agent rule.NotAgent b types) _ h λ u first h. (tested is_agent _ b _ first, sending c e h)
 
   good_at : (at : ℕ) (l : Layer) → check_step w (checks w l) at types ≡ Ok tt → GoodForm w types l
-  unfolding is_printable check_new is_for_channels check_migrate check_send check_let with_names check_places
+  unfolding is_of is_printable check_new is_for_channels check_migrate check_send check_let with_names check_places
   good_at at ProcForm-F.Stop h = tt
   good_at at (ProcForm-F.Par p q) h = then (check w p types) _ h λ u first h. (first, h)
   good_at at (ProcForm-F.New x t p) h =
@@ -138,24 +137,24 @@ module _ (w : World) (types : Types) where
   good_at at (ProcForm-F.Inp c x p) h = taking c x p h
   good_at at (ProcForm-F.Rep c x p) h = taking c x p h
   good_at at (ProcForm-F.Agent b p q) h = then (check w p (table.insert types b ty.Agent)) _ h λ u first h. (first, h)
-  good_at at (ProcForm-F.Migrate e p) h = then (is_of w is_site rule.NotSite e types) _ h λ u first h. (tested is_site _ e first, h)
+  good_at at (ProcForm-F.Migrate e p) h = then (is_of w is_site rule.NotSite e types) _ h λ u first h. (tested is_site _ e _ first, h)
   good_at at (ProcForm-F.IfLocal b c e p q) h =
       then (check_post w b c e types) _ h λ u first h. then (check w p types) _ h λ u second h.
       let s = posting b c e first in
       (s.0, s.1, second, h)
   good_at at (ProcForm-F.Send b s c e) h =
       then (is_of w is_agent rule.NotAgent b types) _ h λ u first h. then (is_of w is_site rule.NotSite s types) _ h λ u second h.
-      (tested is_agent _ b first, tested is_site _ s second, sending c e h)
+      (tested is_agent _ b _ first, tested is_site _ s _ second, sending c e h)
   good_at at (ProcForm-F.Post b c e) h = posting b c e h
   good_at at (ProcForm-F.If e p q) h =
-      then (is_of w is_bool rule.NotBool e types) _ h λ u first h. then (check w p types) _ h λ u second h. (tested is_bool _ e first, second, h)
+      then (is_of w is_bool rule.NotBool e types) _ h λ u first h. then (check w p types) _ h λ u second h. (tested is_bool _ e _ first, second, h)
   good_at at (ProcForm-F.Let x e p) h =
       then (least w types e) _ h λ t is h. then (cover x t types) _ h λ inner covers h. record { type = t; is = is; inner = inner; covers = covers; body = h }
   good_at at (ProcForm-F.Print e) h = then (least w types e) _ h λ t is h. record { type = t; is = is; shows = ensured _ _ _ h }
-  good_at at (ProcForm-F.Open e) h = tested is_letter _ e h
+  good_at at (ProcForm-F.Open e) h = tested is_letter _ e _ h
   good_at at (ProcForm-F.Lookup a m x p q) h =
       then (check_places w a m types) _ h λ u places h. then (check w p (table.insert types x lock_type)) _ h λ u second h.
-      then (is_of w is_agent rule.NotAgent a types) _ places λ u first places. (tested is_agent _ a first, tested is_places _ m places, second, h)
+      then (is_of w is_agent rule.NotAgent a types) _ places λ u first places. (tested is_agent _ a _ first, tested is_places _ m _ places, second, h)
 
 pub good-form : (w : World) (types : Types) (p : Proc) → Good w types p → GoodForm w types (layer p)
 good-form w types p h = good_at w types p.at (layer p) (sym (ap (λ (f : Checking). f types) (check-out w p)) ∙ h)

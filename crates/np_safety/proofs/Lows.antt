@@ -1,22 +1,21 @@
 -- A low program without a fault is typed at its start, where the infrastructure's channels are born.
-use Rattle.std.proofs.Common.{◌≡◌, ℕ, Bool, true, false, ◌||◌, ◌&&◌, nat_eq, inl, inr, Some, Ok, List, [], ◌∷◌, length, map, refl, subst, sym, ap, ◌∙◌}
+use Rattle.std.proofs.Common.{◌≡◌, ℕ, Bool, true, false, ◌||◌, ◌&&◌, nat_eq, inl, inr, Some, List, [], ◌∷◌, length, map, refl, subst, sym, ap, ◌∙◌}
 use Rattle.std.proofs.lemmas.Bool.{eqb-true}
 use Rattle.std.specs.FinMap as table
 use Rattle.std.specs.FinSet as set
-use Rattle.np_safety.proofs.Common.{Name, Cap, Ty, Proc, and-out, put_cases, World, check, Config, world, Typed}
+use Rattle.np_safety.proofs.Common.{Name, Cap, Ty, and-out, put_cases, Config, world, Typed}
 use Rattle.np_syntax.specs.declared.types.Cap.TheVariants as cap
 use Rattle.np_syntax.specs.declared.program.LowProgram.{LowProgram}
 use Rattle.np_tables.specs.Names.{NameSet}
 use Rattle.np_tables.proofs.Tables.{born_here}
-use Rattle.np_calculus.specs.Starts.{own, own_numbers, own_names, with_all, start_low, main_agent, main_mark, daemon_agent, daemon_mark, first_atom}
+use Rattle.np_calculus.specs.Starts.{own, own_numbers, own_names, with_all, start_low}
 use Rattle.np_calculus.proofs.OwnNames.{with_all-keeps}
 use Rattle.np_safety.specs.Typed.{AreBorn}
 use Rattle.np_safety.specs.Low.{carried, channels_of, infrastructure, low_world, IsFaultless, LowStartsTyped, LowWellTyped}
-use Rattle.np_safety.proofs.Fitting.{Fitting, FittingAtom}
-use Rattle.np_safety.proofs.Atoms.{nothing-agrees}
+use Rattle.np_safety.proofs.Fitting.{Fitting}
 use Rattle.np_safety.proofs.Literal.{fitting-typed}
 use Rattle.np_safety.proofs.Runs.{stays-typed}
-use Rattle.np_safety.proofs.Starts.{nothing}
+use Rattle.np_safety.proofs.Starts.{nothing, fits-more, fits-main}
 
 -- ---- names of the program's own
 
@@ -56,24 +55,9 @@ low-born : (q : LowProgram) → AreBorn (start_low q) (infrastructure (length q.
 unfolding start_low
 low-born q n k h = are_own (length q.sites) carried refl n k h
 
-starts : (w : World) (agent : Name) (p : Proc) → check w p table.empty ≡ Ok tt → FittingAtom w (first_atom agent p)
-starts w agent p h = record { types = table.empty; agrees = nothing-agrees w; good = h }
-
 low-fitting : (q : LowProgram) → IsFaultless q → Fitting (low_world q) (start_low q)
 unfolding start_low
-low-fitting q a =
-    let n : ℕ = length q.sites in
-    let w = low_world q in
-    record {
-      atoms = λ m b is. elim (put_cases _ (daemon_mark n) (first_atom (daemon_agent n) q.daemon) m b is) [
-        | inl e ↦ rw e.1 (starts w (daemon_agent n) q.daemon a.daemon)
-        | inr old ↦ elim (put_cases table.empty (main_mark n) (first_atom (main_agent n) q.main) m b old) [
-          | inl e ↦ rw e.1 (starts w (main_agent n) q.main a.main)
-          | inr older ↦ absurd (nothing m b older)
-        ]
-      ];
-      packets = λ m p is. absurd (nothing m p is);
-    }
+low-fitting q a = fits-more (low_world q) _ _ 0 _ q.daemon (fits-main (low_world q) (length q.sites) q.at q.main a.main) a.daemon
 
 pub low-starts-typed : LowStartsTyped
 low-starts-typed q a = fitting-typed _ (start_low q) (low-fitting q a)

@@ -3,8 +3,8 @@ use Rattle.std.proofs.Common.{◌≡◌, ℕ, Bool, true, false, cond, Option, N
 use Rattle.std.specs.FinMap as table
 use Rattle.np_safety.proofs.Common.{nat_cmp, Name, Value, Value-F, Cap, Ty, Ty-F, out-Ty, outs-Tuple, Expr, Pat, Proc, ProcForm-F, ◌>>=◌, ◌>>◌, and-in}
 use Rattle.np_safety.proofs.Common.{and-out, then, done, With, Rule, TyLayer, reads, writes, sub, sub_all, is_int, is_bool, is_site, is_agent, is_letter}
-use Rattle.np_safety.proofs.Common.{is_places, Check, ensure, World, is_lock_chan, all_locks, kind, Types, least, channel, least_of, cover, sub-itself}
-use Rattle.np_safety.proofs.Common.{sub-trans, site_below, when, ensured, wanted, kind-out, lock_type}
+use Rattle.np_safety.proofs.Common.{is_places, Check, World, is_lock_chan, all_locks, kind, Types, least, least_of, cover, sub-itself}
+use Rattle.np_safety.proofs.Common.{sub-trans, site_below, when, wanted, kind-out, lock_type}
 use Rattle.std.specs.Ordering.{eq_by_cmp}
 use Rattle.np_syntax.specs.declared.types.Cap.TheVariants as cap
 use Rattle.np_syntax.specs.declared.types.Ty as ty
@@ -30,8 +30,8 @@ use Rattle.np_types.proofs.Covers.{cover_layer, cover-out}
 use Rattle.np_types.proofs.Passed.{take}
 use Rattle.np_safety.proofs.Evaluates.{lock_is, both_ways}
 use Rattle.np_safety.proofs.Matches.{slot_put}
-use Rattle.np_safety.proofs.Forms.{Good, GoodForm, Tested, OnChannel, Sending, Taking, good-form}
-use Rattle.np_safety.proofs.Backs.{good-back}
+use Rattle.np_safety.proofs.Forms.{Good, GoodForm, Tested, OnChannel, Sending, Taking, good-form, sending, tested}
+use Rattle.np_safety.proofs.Backs.{good-back, sending-back}
 use Rattle.np_safety.proofs.Processes.{ProcHyps, proc_of, proc_ind}
 
 -- a world that has all that another one has
@@ -146,11 +146,31 @@ module _ (w v : World) (wider : Wider w v) where
         let same : ts ≡ t ∷ rest = done h in
         rw same (record { types = x.type ∷ r.types; is = rw (x.is, r.is) refl; below = and-in x.below r.below })
 
-    weak_number : (e : With Expr Weak) → number (least_of w large e.0) ≡ Ok tt → number (least_of v small e.0) ≡ Ok tt
-    weak_number e h =
-        then (least w large e.0) (λ t. ensure (is_int (out-Ty t)) (least_of w large e.0).at rule.NotInt) h λ t is h.
-        let x = e.1 t is in
-        rw (x.is, int_below x.type t (ensured _ _ _ h) x.below) refl
+    lesser_tested : (test : TyLayer → Bool) → Down test → (e : With Expr Weak) → Tested w large test e.0 → Tested v small test e.0
+    lesser_tested test down e t = let x = e.1 t.type t.is in record { type = x.type; is = x.is; passes = down x.type t.type t.passes x.below }
+
+    record NewChannel (c : Expr) (k : Cap × Ty) : Type 0 where
+      own : Cap × Ty
+      on : OnChannel v small c own
+      reading : reads k.0 ≡ true → (reads own.0 ≡ true) × (sub own.1 k.1 ≡ true)
+      writing : writes k.0 ≡ true → (writes own.0 ≡ true) × (sub k.1 own.1 ≡ true)
+
+    weak_channel : (c : With Expr Weak) (k : Cap × Ty) → OnChannel w large c.0 k → NewChannel c.0 k
+    weak_channel c k on =
+        let x = c.1 on.type on.is in
+        let y = chan_below x.type on.type k on.chan x.below in
+        record { own = y.chan; on = record { type = x.type; is = x.is; chan = y.is }; reading = y.reading; writing = y.writing }
+
+    weak_sending : (c e : With Expr Weak) → Sending w large c.0 e.0 → Sending v small c.0 e.0
+    weak_sending c e s =
+        let x = weak_channel c s.carries s.on in
+        let y = e.1 s.type s.is in
+        let q = x.writing s.may_write in
+        let below = sub-trans y.type s.type x.own.1 y.below (sub-trans s.type s.carries.1 x.own.1 s.below q.1) in
+        record { carries = x.own; on = x.on; may_write = q.0; type = y.type; is = y.is; below = below }
+
+    weak_test : (e : With Expr Weak) (test : TyLayer → Bool) (r : Rule) → Down test → test_of test r (least_of w large e.0) ≡ Ok tt → test_of test r (least_of v small e.0) ≡ Ok tt
+    weak_test e test r down h = let t = lesser_tested test down e (tested w large test r e.0 _ h) in rw (t.is, t.passes) refl
 
     weak_numbers : (a b : With Expr Weak) (r t : Ty) → (number (least_of w large a.0) >> (number (least_of w large b.0) >> Ok r)) ≡ Ok t
         → Lesser (number (least_of v small a.0) >> (number (least_of v small b.0) >> Ok r)) t
@@ -158,7 +178,7 @@ module _ (w v : World) (wider : Wider w v) where
         then (number (least_of w large a.0)) (λ _. number (least_of w large b.0) >> Ok r) h λ u first h.
         then (number (least_of w large b.0)) (λ _. Ok r) h λ u second h.
         let same : t ≡ r = done h in
-        rw same (record { type = r; is = rw (weak_number a first, weak_number b second) refl; below = sub-itself r })
+        rw same (record { type = r; is = rw (weak_test a is_int rule.NotInt int_below first, weak_test b is_int rule.NotInt int_below second) refl; below = sub-itself r })
 
     weak_op : (o : Op) (a b : With Expr Weak) (t : Ty) → least_op o (least_of w large a.0) (least_of w large b.0) ≡ Ok t → Lesser (least_op o (least_of v small a.0) (least_of v small b.0)) t
     weak_op op.Add a b t h = weak_numbers a b ty.Int t h
@@ -172,33 +192,6 @@ module _ (w v : World) (wider : Wider w v) where
         let q = weak_basic (out-Ty x.type) (out-Ty s) (out-Ty y.type) (out-Ty u) ok same (sym (sub-out x.type s) ∙ x.below) (sym (sub-out y.type u) ∙ y.below) in
         let r : t ≡ ty.Bool = done h in
         rw r (record { type = ty.Bool; is = rw (x.is, q.0, y.is, q.1) refl; below = sub-itself ty.Bool })
-
-    weak_test : (e : With Expr Weak) (test : TyLayer → Bool) (r : Rule) → Down test → test_of test r (least_of w large e.0) ≡ Ok tt → test_of test r (least_of v small e.0) ≡ Ok tt
-    weak_test e test r down h =
-        then (least w large e.0) (λ t. ensure (test (out-Ty t)) (least_of w large e.0).at r) h λ t is h.
-        let x = e.1 t is in
-        rw (x.is, down x.type t (ensured _ _ _ h) x.below) refl
-
-    weak_pack : (a b : With Expr Weak) → output (least_of w large a.0) (least_of w large b.0) ≡ Ok tt → output (least_of v small a.0) (least_of v small b.0) ≡ Ok tt
-    weak_pack a b sent =
-        then (channel (least_of w large a.0)) _ sent λ k on sent. then (least w large a.0) _ on λ s first on.
-        when _ _ _ _ sent λ may sent. then (least w large b.0) _ sent λ r second sent.
-        let below : sub r k.1 ≡ true = ensured (sub r k.1) _ _ sent in
-        let x = a.1 s first in
-        let y = b.1 r second in
-        let c = chan_below x.type s k (wanted _ _ _ on) x.below in
-        let q = c.writing may in
-        let last : sub y.type c.chan.1 ≡ true = sub-trans y.type r c.chan.1 y.below (sub-trans r k.1 c.chan.1 below q.1) in
-        rw (x.is, c.is, q.0, y.is, last) refl
-
-    abbrev all_places : Expr → Check (Unit {0})
-    all_places e = test_of is_places rule.Mismatch (least_of w large e)
-
-    abbrev agents : Expr → Check (Unit {0})
-    agents e = test_of is_agent rule.NotAgent (least_of w large e)
-
-    abbrev lock_chans : Expr → Check (Unit {0})
-    lock_chans e = test_of is_lock_type rule.Mismatch (least_of w large e)
 
     weak_layer : (y : ExprHyps Weak) (at : ℕ) (t : Ty) → least_step w large (least_layer w large (expr_of Weak y)) at ≡ Ok t → Lesser (least_step v small (least_layer v small (expr_of Weak y)) at) t
     weak_layer (ExprForm-F.Val x) at t h = record { type = t; is = rw (same-kind x t (wanted _ _ _ h)) refl; below = sub-itself t }
@@ -214,11 +207,11 @@ module _ (w v : World) (wider : Wider w v) where
     weak_layer (ExprForm-F.Pack a b) at t h =
         then (output (least_of w large a.0) (least_of w large b.0)) (λ _. Ok ty.Letter) h λ u sent h.
         let same : t ≡ ty.Letter = done h in
-        rw same (record { type = ty.Letter; is = rw (weak_pack a b sent) refl; below = sub-itself ty.Letter })
+        rw same (record { type = ty.Letter; is = rw (sending-back v small a.0 b.0 (weak_sending a b (sending w large a.0 b.0 sent))) refl; below = sub-itself ty.Letter })
     weak_layer (ExprForm-F.With m a l) at t h =
-        then (all_places m.0) (λ _. agents a.0 >> (lock_chans l.0 >> Ok ty.Places)) h λ u first h.
-        then (agents a.0) (λ _. lock_chans l.0 >> Ok ty.Places) h λ u second h.
-        then (lock_chans l.0) (λ _. Ok ty.Places) h λ u third h.
+        then (test_of is_places rule.Mismatch (least_of w large m.0)) _ h λ u first h.
+        then (test_of is_agent rule.NotAgent (least_of w large a.0)) _ h λ u second h.
+        then (test_of is_lock_type rule.Mismatch (least_of w large l.0)) _ h λ u third h.
         let same : t ≡ ty.Places = done h in
         rw same (record {
           type = ty.Places;
@@ -278,43 +271,19 @@ weak_cover = pat_ind WeakPat (λ p y is s t small large inner b n h.
 -- ---- processes
 
 module _ (w v : World) (wider : Wider w v) where
-  pub weak_tested : (small large : Types) → Narrower small large → (test : TyLayer → Bool) → Down test → (e : Expr) → Tested w large test e → Tested v small test e
-  weak_tested small large n test down e t =
-      let x = weak_least w v wider small large n e t.type t.is in
-      record { type = x.type; is = x.is; passes = down x.type t.type t.passes x.below }
+  module _ (small large : Types) (n : Narrower small large) where
+    pub weak_tested : (test : TyLayer → Bool) → Down test → (e : Expr) → Tested w large test e → Tested v small test e
+    weak_tested test down e t = lesser_tested w v wider small large n test down (e, weak_least w v wider small large n e) t
 
-  record NewChannel (small : Types) (c : Expr) (k : Cap × Ty) : Type 0 where
-    own : Cap × Ty
-    on : OnChannel v small c own
-    reading : reads k.0 ≡ true → (reads own.0 ≡ true) × (sub own.1 k.1 ≡ true)
-    writing : writes k.0 ≡ true → (writes own.0 ≡ true) × (sub k.1 own.1 ≡ true)
-
-  weak_channel : (small large : Types) → Narrower small large → (c : Expr) (k : Cap × Ty) → OnChannel w large c k → NewChannel small c k
-  weak_channel small large n c k on =
-      let x = weak_least w v wider small large n c on.type on.is in
-      let y = chan_below x.type on.type k on.chan x.below in
-      record { own = y.chan; on = record { type = x.type; is = x.is; chan = y.is }; reading = y.reading; writing = y.writing }
-
-  weak_sending : (small large : Types) → Narrower small large → (c e : Expr) → Sending w large c e → Sending v small c e
-  weak_sending small large n c e s =
-      let x = weak_channel small large n c s.carries s.on in
-      let y = weak_least w v wider small large n e s.type s.is in
-      let q = x.writing s.may_write in
-      record {
-        carries = x.own;
-        on = x.on;
-        may_write = q.0;
-        type = y.type;
-        is = y.is;
-        below = sub-trans y.type s.type x.own.1 y.below (sub-trans s.type s.carries.1 x.own.1 s.below q.1);
-      }
+    sends : (c e : Expr) → Sending w large c e → Sending v small c e
+    sends c e s = weak_sending w v wider small large n (c, weak_least w v wider small large n c) (e, weak_least w v wider small large n e) s
 
   abbrev WeakProc : Proc → Type 0
   WeakProc p = (small large : Types) → Narrower small large → Good w large p → Good v small p
 
   weak_taking : (small large : Types) → Narrower small large → (c : Expr) (x : Pat) (p : With Proc WeakProc) → Taking w large c x p.0 → Taking v small c x p.0
   weak_taking small large n c x p t =
-      let k = weak_channel small large n c t.carries t.on in
+      let k = weak_channel w v wider small large n (c, weak_least w v wider small large n c) t.carries t.on in
       let q = k.reading t.may_read in
       let r = weak_cover x k.own.1 t.carries.1 small large t.inner q.1 n t.covers in
       record { carries = k.own; on = k.on; may_read = q.0; inner = r.types; covers = r.is; body = p.1 r.types t.inner r.less t.body }
@@ -324,16 +293,16 @@ module _ (w v : World) (wider : Wider w v) where
   weak_form (ProcForm-F.Par p q) small large n g = (p.1 small large n g.0, q.1 small large n g.1)
   weak_form (ProcForm-F.New x t p) small large n g =
       record { carries = g.carries; chan = g.chan; small = g.small; body = p.1 _ _ (narrower-put small large x t t (sub-itself t) n) g.body }
-  weak_form (ProcForm-F.Out c e) small large n g = weak_sending small large n c e g
+  weak_form (ProcForm-F.Out c e) small large n g = sends small large n c e g
   weak_form (ProcForm-F.Inp c x p) small large n g = weak_taking small large n c x p g
   weak_form (ProcForm-F.Rep c x p) small large n g = weak_taking small large n c x p g
   weak_form (ProcForm-F.Agent b p q) small large n g = let m = narrower-put small large b ty.Agent ty.Agent (sub-itself ty.Agent) n in (p.1 _ _ m g.0, q.1 _ _ m g.1)
   weak_form (ProcForm-F.Migrate e p) small large n g = (weak_tested small large n is_site site_below e g.0, p.1 small large n g.1)
   weak_form (ProcForm-F.IfLocal b c e p q) small large n g =
-      (weak_tested small large n is_agent agent_below b g.0, weak_sending small large n c e g.1, p.1 small large n g.2, q.1 small large n g.3)
+      (weak_tested small large n is_agent agent_below b g.0, sends small large n c e g.1, p.1 small large n g.2, q.1 small large n g.3)
   weak_form (ProcForm-F.Send b s c e) small large n g =
-      (weak_tested small large n is_agent agent_below b g.0, weak_tested small large n is_site site_below s g.1, weak_sending small large n c e g.2)
-  weak_form (ProcForm-F.Post b c e) small large n g = (weak_tested small large n is_agent agent_below b g.0, weak_sending small large n c e g.1)
+      (weak_tested small large n is_agent agent_below b g.0, weak_tested small large n is_site site_below s g.1, sends small large n c e g.2)
+  weak_form (ProcForm-F.Post b c e) small large n g = (weak_tested small large n is_agent agent_below b g.0, sends small large n c e g.1)
   weak_form (ProcForm-F.If e p q) small large n g = (weak_tested small large n is_bool bool_below e g.0, p.1 small large n g.1, q.1 small large n g.2)
   weak_form (ProcForm-F.Let x e p) small large n g =
       let y = weak_least w v wider small large n e g.type g.is in
