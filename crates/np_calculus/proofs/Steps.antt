@@ -3,7 +3,7 @@ use Rattle.std.proofs.Common.{◌≡◌, ℕ, Bool, true, false, not, ◌&&◌, 
 use Rattle.std.proofs.lemmas.Bool.{eqb-true}
 use Rattle.std.specs.FinMap as map
 use Rattle.std.specs.FinSet as set
-use Rattle.np_calculus.proofs.Common.{Name, Value, Event, Kind, Made, ◌>>=◌, ◌>>◌, need, then, when, done, NameSet, same_name, same_name-is, Atom, Place}
+use Rattle.np_calculus.proofs.Common.{Contents, Name, Value, Event, Kind, Made, ◌>>=◌, ◌>>◌, need, then, when, done, NameSet, same_name, same_name-is, Atom, Place}
 use Rattle.np_calculus.proofs.Common.{Config, inside, sight, at_site, Change, effect, same_tag, none_made, one_made, two_made, sends, offered_in, are_new}
 use Rattle.np_calculus.proofs.Common.{change, row, acting, is_at, offered}
 use Rattle.np_syntax.specs.declared.event.Made.TheVariants as made
@@ -138,11 +138,12 @@ seen false agent b R h = refused (same_name agent b.agent) (R b) h
     refused true o h = absurd (let x = h refl in cc)
     refused false o h = refl
 
--- an output in the acting atom's agent is seen
+-- an output in an agent that is at the site is seen there
+pub offer-seen : (x : Contents) (sites site : ℕ) (m agent n : Name) → at_site (x.place agent) site ≡ true → offered_in (sight sites x site).atom m agent n ≡ offered_in x.atom m agent n
+offer-seen x sites site m agent n here =
+    let value : Atom → Option Value = λ b. sends b >>= λ sent. need (same_name n sent.0) >> Some sent.1 in
+    chain (x.atom m) _ (λ b. need (same_name agent b.agent) >> value b) _ λ b there.
+    seen (at_site (x.place b.agent) site) agent b value (λ s. ap (λ q. at_site (x.place q) site) (sym (same_name-is agent b.agent s)) ∙ here)
+
 pub same-offer : (c : Config) (e : Event) (a : Atom) (m n : Name) → acting c e ≡ Some a → offered_in (sight c.sites (inside c) e.site).atom m a.agent n ≡ offered c m a.agent n
-same-offer c e a m n h =
-    let s = acting-step c e a h in
-    let here : is_at c a.agent e.site ≡ true = rw s.stands (same_site e.site) in
-    chain (map.get c.atoms m) _ (λ (b : Atom). need (same_name a.agent b.agent) >> (sends b >>= λ sent. need (same_name n sent.0) >> Some sent.1)) _ λ b there.
-    seen (is_at c b.agent e.site) a.agent b (λ b. sends b >>= λ sent. need (same_name n sent.0) >> Some sent.1)
-    (λ s. ap (λ agent. is_at c agent e.site) (sym (same_name-is a.agent b.agent s)) ∙ here)
+same-offer c e a m n h = offer-seen (inside c) c.sites e.site m a.agent n (rw (acting-step c e a h).stands (same_site e.site))

@@ -1,7 +1,7 @@
 -- An event depends on nothing but what it touches.
-use Rattle.std.proofs.Common.{◌≡◌, ◌⊎◌, inl, inr, ℕ, Bool, true, false, cond, List, [], ◌∷◌, ◌++◌, map, Option, None, Some, refl, ap, sym, subst, ◌∙◌}
-use Rattle.np_calculus.proofs.Common.{Name, Value, ProcForm-F, Event, Kind, ◌>>=◌, ◌>>◌, need, same_name, same_name-is, chan_of, agent_of, Layer, layer, Atom}
-use Rattle.np_calculus.proofs.Common.{Contents, Sight, inside, sight, at_site, Change, Write, effect, same_tag, sends, offered_in, acting_in, change, act}
+use Rattle.std.proofs.Common.{◌≡◌, ℕ, cond, List, [], ◌∷◌, ◌++◌, map, Option, None, Some, refl, ap, sym, subst, ◌∙◌}
+use Rattle.np_calculus.proofs.Common.{Name, ProcForm-F, Event, Kind, ◌>>=◌, ◌>>◌, need, same_name, same_name-is, chan_of, agent_of, Layer, layer, Atom}
+use Rattle.np_calculus.proofs.Common.{Contents, Sight, inside, sight, at_site, Change, Write, effect, same_tag, offered_in, acting_in, change, act}
 use Rattle.np_calculus.proofs.Common.{arrive_row, land_row}
 use Rattle.np_syntax.specs.declared.event.Kind.TheVariants as kind
 use Rattle.np_eval.specs.FormParts.{as_iflocal}
@@ -10,20 +10,13 @@ use Rattle.np_calculus.specs.FrameRule.{Every, left_by, changed}
 use Rattle.np_calculus.proofs.Fits.{actor-seen}
 use Rattle.np_calculus.proofs.OwnNames.{not_true}
 use Rattle.np_calculus.proofs.Rows.{by}
+use Rattle.np_calculus.proofs.Steps.{offer-seen}
 use Rattle.np_calculus.proofs.Writes.{inside-effect, every-map}
 
 -- two chains with the same first step
 step : {A B : Type 0} (o p : Option A) (f g : A → Option B) → o ≡ p → ((a : A) → o ≡ Some a → f a ≡ g a) → (o >>= f) ≡ (p >>= g)
 step None p f g e h = ap (λ o. o >>= g) e
 step (Some a) p f g e h = h a refl ∙ ap (λ o. o >>= g) e
-
--- a chain whose rest gives nothing gives nothing, whatever its first condition
-either_way : (t u : Bool) (b : Atom) (rest : Atom → Option Value) → (t ≡ u) ⊎ (rest b ≡ None) → ((need t >> Some b) >>= rest) ≡ ((need u >> Some b) >>= rest)
-either_way t u b rest (inl e) = ap (λ t. (need t >> Some b) >>= rest) e
-either_way true true b rest (inr e) = refl
-either_way true false b rest (inr e) = e
-either_way false true b rest (inr e) = sym e
-either_way false false b rest (inr e) = refl
 
 pub every-first : {A : Type 0} (P : A → Type 0) (xs ys : List A) → Every P (xs ++ ys) → Every P xs
 every-first P [] ys h = tt
@@ -60,17 +53,6 @@ module _ (n : ℕ) (x y : Contents) (e : Event) (marks : Every (SameMark x y) (e
   acting-same : acting_in v e ≡ acting_in w e
   acting-same = ap (λ o. o >>= λ a. need (same_tag a.proc.tag e.tag) >> Some a) atom-same
 
-  near : (agent : Name) → SamePlace x y agent → (t : Bool) (b : Atom) (rest : Option Value) → same_name agent b.agent ≡ t
-      → (at_site (x.place b.agent) e.site ≡ at_site (y.place b.agent) e.site) ⊎ ((need (same_name agent b.agent) >> rest) ≡ None)
-  near agent same true b rest is = inl (subst (λ q. at_site (x.place q) e.site ≡ at_site (y.place q) e.site) (same_name-is agent b.agent is) (here-same x y e.site agent same))
-  near agent same false b rest is = inr (rw is refl)
-
-  seen-same : (z : Option Atom) (rest : Atom → Option Value)
-      → ((b : Atom) → ((need (at_site (x.place b.agent) e.site) >> Some b) >>= rest) ≡ ((need (at_site (y.place b.agent) e.site) >> Some b) >>= rest))
-      → ((z >>= λ b. need (at_site (x.place b.agent) e.site) >> Some b) >>= rest) ≡ ((z >>= λ b. need (at_site (y.place b.agent) e.site) >> Some b) >>= rest)
-  seen-same None rest h = refl
-  seen-same (Some b) rest h = h b
-
   module _ (a : Atom) (is : acting_in v e ≡ Some a) where
     there : x.atom e.actor ≡ Some a
     there = (actor-seen n x e a is).there
@@ -78,10 +60,9 @@ module _ (n : ℕ) (x y : Contents) (e : Event) (marks : Every (SameMark x y) (e
     -- an output that is taken is in the actor's agent
     offered-same : (o m : Name) → e.other ≡ Some o → offered_in v.atom o a.agent m ≡ offered_in w.atom o a.agent m
     offered-same o m other =
-        let rest : Atom → Option Value = λ b. need (same_name a.agent b.agent) >> (sends b >>= λ sent. need (same_name m sent.0) >> Some sent.1) in
-        ap (λ z. (z >>= λ b. need (at_site (x.place b.agent) e.site) >> Some b) >>= rest) (other-same o other).atom
-        ∙ seen-same (y.atom o) rest λ b. either_way (at_site (x.place b.agent) e.site) (at_site (y.place b.agent) e.site) b rest
-        (near a.agent (agent-same a there) (same_name a.agent b.agent) b (sends b >>= λ sent. need (same_name m sent.0) >> Some sent.1) refl)
+        let here = (actor-seen n x e a is).here in
+        offer-seen x n e.site o a.agent m here ∙ ap (λ z. offered_in (λ q. z) o a.agent m) (other-same o other).atom
+        ∙ sym (offer-seen y n e.site o a.agent m (sym (here-same x y e.site a.agent (agent-same a there)) ∙ here))
 
     act-same : (k : Kind) (l : Layer) → layer a.proc ≡ l → act k l v e a ≡ act k l w e a
     unfolding act
