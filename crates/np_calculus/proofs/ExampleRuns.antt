@@ -48,8 +48,7 @@ without_first j k x y apart = rw (cut-put_swap (one j x) k j y (same_name-swap k
 
 pub two_prints : TwoPrints
 two_prints n s a j k apart =
-    let x = atom a (prints 1) map.empty in
-    let y = atom a (prints 2) map.empty in
+    let x = atom a (prints 1) map.empty in let y = atom a (prints 2) map.empty in
     rw (printed n s 1 a j (two j k x y) [] (first_there j k x y apart), without_first j k x y apart, printed n s 2 a k (one k y) ((s, number 1) ∷ []) (put_here {X = Atom} map.empty k y), without_only k y) refl
 
 -- the output of five, under the mark j

@@ -1,5 +1,5 @@
 -- The frame rule and its reverse, and what an event keeps.
-use Rattle.std.proofs.Common.{◌≡◌, ℕ, Bool, true, false, not, cond, ◌||◌, ◌⊎◌, inl, inr, List, [], ◌∷◌, Option, None, Some, IsSome, IfSome, refl, ap, sym, subst, ◌∙◌}
+use Rattle.std.proofs.Common.{◌≡◌, ℕ, Bool, true, false, not, ◌||◌, ◌⊎◌, inl, inr, List, Option, None, Some, IsSome, IfSome, refl, ap, sym, subst, ◌∙◌}
 use Rattle.std.specs.FinSet as set
 use mathlib.Core.Path.{fun_ext}
 use Rattle.np_calculus.proofs.Common.{Name, Event, Kind, Made, ◌>>=◌, ◌>>◌, need, NameSet, same_name, layer, Atom, Place, Config, Contents, Sight, inside}
@@ -15,7 +15,7 @@ use Rattle.np_syntax.proofs.Bools.{and-out}
 use Rattle.np_calculus.proofs.Fits.{comes-in, fits}
 use Rattle.np_calculus.proofs.OwnNames.{not_true}
 use Rattle.np_calculus.proofs.Steps.{at_site-is, row-step}
-use Rattle.np_calculus.proofs.Writes.{agent-changed, either-none, every-map, inside-effect, left-is, left-there, mark-changed, split-changed, writes-map}
+use Rattle.np_calculus.proofs.Writes.{agent-changed, either-none, every-map, inside-effect, left-by, left-is, left-there, mark-changed, split-changed, writes-map}
 
 -- ---- what a site sees
 
@@ -235,12 +235,7 @@ keeps_lodged c d e apart i h =
 -- an agent comes to no other site
 come-to : (site u : ℕ) (ws : List (Write Place)) (q : Name) (o : Option Place) → Every (λ w. (u : ℕ) → w.1 ≡ Some (place.At u) → u ≡ site) ws → (u ≡ site → ⊥)
     → (o ≡ Some (place.At u) → ⊥) → left_by ws q o ≡ Some (place.At u) → ⊥
-come-to site u [] q o h apart old is = old is
-come-to site u (w ∷ ws) q o h apart old is = come-to site u ws q (cond (same_name q w.0) w.1 o) h.1 apart (one (same_name q w.0) w.1 (h.0 u)) is
-  where
-    one : (t : Bool) (v : Option Place) → (v ≡ Some (place.At u) → u ≡ site) → cond t v o ≡ Some (place.At u) → ⊥
-    one true v f e = apart (f e)
-    one false v f e = old e
+come-to site u ws q o h apart old = left-by (λ v. v ≡ Some (place.At u) → ⊥) ws q o old (every-map _ _ (λ w comes same is. apart (comes u is)) ws h)
 
 pub keeps_of_site : KeepsOfSite
 keeps_of_site c d e apart i h = record {

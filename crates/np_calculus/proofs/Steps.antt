@@ -71,8 +71,7 @@ module _ (c : Config) (e : Event) (d : Config) where
 
   pub two-fresh : (m : Name × Name) → two_made e.made ≡ Some m → are_new c.born e.made ≡ true → TwoFresh m
   two-fresh m made new =
-      let h = and-out _ _ (sym (two-new c.born e.made m made) ∙ new) in
-      let k = and-out _ _ h.1 in
+      let h = and-out _ _ (sym (two-new c.born e.made m made) ∙ new) in let k = and-out _ _ h.1 in
       record { differ = h.0; first = ap need k.0; second = ap need k.1 }
 
 -- ---- the acting atom

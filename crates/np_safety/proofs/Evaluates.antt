@@ -83,8 +83,7 @@ lock_value : (w : World) (v : Value) (t : Ty) → Fits w v t → is_lock_type (o
 lock_value w v t f h =
     let s = lock_is (out-Ty t) h in
     let c = chan_value w v t (cap.Both, s.0) f s.1 in
-    let r = c.reading refl in
-    let q = c.writing refl in
+    let r = c.reading refl in let q = c.writing refl in
     (c.name, c.is, ap (λ o. is_lock_chan o) c.carries ∙ both_ways c.own.0 c.own.1 r.0 q.0 (site_below c.own.1 s.0 s.2 r.1))
 
 -- ---- expressions
@@ -151,24 +150,19 @@ module _ (w : World) (env : Env) (types : Types) (agrees : Agrees w env types) w
   equals : (s t : Ty) (l : TyLayer) (x y : Value) → out-Ty s ≡ l → basic l ≡ true → same_basic l (out-Ty t) ≡ true → Fits w x s → Fits w y t
       → (b : Bool) × (equal_at (out-Value x) (out-Value y) ≡ Some b)
   equals s t Ty-F.Int x y h k e f g =
-      let i = int_value w x s f (rw h refl) in
-      let j = int_value w y t g e in
+      let i = int_value w x s f (rw h refl) in let j = int_value w y t g e in
       (int_eq i.0 j.0, rw (i.1, j.1) refl)
   equals s t Ty-F.Bool x y h k e f g =
-      let i = truth_value w x s f (rw h refl) in
-      let j = truth_value w y t g e in
+      let i = truth_value w x s f (rw h refl) in let j = truth_value w y t g e in
       (same_truth i.0 j.0, rw (i.1, j.1) refl)
   equals s t Ty-F.Str x y h k e f g =
-      let i = text_value w x s f (rw h refl) in
-      let j = text_value w y t g e in
+      let i = text_value w x s f (rw h refl) in let j = text_value w y t g e in
       (bytes_eq i.0 j.0, rw (i.1, j.1) refl)
   equals s t Ty-F.Site x y h k e f g =
-      let i = site_value w x s f (rw h refl) in
-      let j = site_value w y t g e in
+      let i = site_value w x s f (rw h refl) in let j = site_value w y t g e in
       (nat_eq i.0 j.0, rw (i.1, j.1) refl)
   equals s t Ty-F.Agent x y h k e f g =
-      let i = agent_value w x s f (rw h refl) in
-      let j = agent_value w y t g e in
+      let i = agent_value w x s f (rw h refl) in let j = agent_value w y t g e in
       (same_name i.0 j.0, rw (i.1, j.1) refl)
   equals s t _ x y h k e f g = absurd cc
 
@@ -179,8 +173,7 @@ module _ (w : World) (env : Env) (types : Types) (agrees : Agrees w env types) w
   sound_op op.Less a b t h = sound_arith op.Less _ ty.Bool (λ i j. refl) (λ i j. truth-kind w _) a b t h
   sound_op op.Equal a b t h =
       then (least w types a.0) _ h λ s first h. when _ _ _ _ h λ ok h. then (least w types b.0) _ h λ u second h. when _ _ _ _ h λ same h.
-      let x = a.1 s first in
-      let y = b.1 u second in
+      let x = a.1 s first in let y = b.1 u second in
       let q = equals s u (out-Ty s) x.value y.value refl ok same x.fits y.fits in
       let r : t ≡ ty.Bool = done h in
       rw r (record { value = value.Truth q.0; is = rw (x.is, y.is, q.1) refl; fits = fits-itself w _ ty.Bool (truth-kind w q.0) })
@@ -190,8 +183,7 @@ module _ (w : World) (env : Env) (types : Types) (agrees : Agrees w env types) w
   sound_pack a b t h =
       then (output (least_of w types a.0) (least_of w types b.0)) (λ _. Ok ty.Letter) h λ u sent h.
       let s = sending w types a.0 b.0 sent in
-      let x = a.1 s.on.type s.on.is in
-      let y = b.1 s.type s.is in
+      let x = a.1 s.on.type s.on.is in let y = b.1 s.type s.is in
       let c = chan_value w x.value s.on.type s.carries x.fits s.on.chan in
       let q = c.writing s.may_write in
       let f = sub-trans y.fits.type s.type c.own.1 y.fits.below (sub-trans s.type s.carries.1 c.own.1 s.below q.1) in
@@ -207,11 +199,9 @@ module _ (w : World) (env : Env) (types : Types) (agrees : Agrees w env types) w
   sound_with m a l t h =
       then (test_of is_places _ (least_of w types m.0)) _ h λ u first h. then (test_of is_agent _ (least_of w types a.0)) _ h λ u second h.
       then (test_of is_lock_type _ (least_of w types l.0)) _ h λ u third h.
-      let i = tested w types is_places _ m.0 _ first in
-      let j = tested w types is_agent _ a.0 _ second in
+      let i = tested w types is_places _ m.0 _ first in let j = tested w types is_agent _ a.0 _ second in
       let k = tested w types is_lock_type _ l.0 _ third in
-      let x = m.1 i.type i.is in
-      let y = a.1 j.type j.is in
+      let x = m.1 i.type i.is in let y = a.1 j.type j.is in
       let z = l.1 k.type k.is in
       let p = places_value w x.value i.type x.fits i.passes in
       let b = agent_value w y.value j.type y.fits j.passes in

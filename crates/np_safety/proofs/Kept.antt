@@ -94,64 +94,54 @@ module _ (w : World) (c : Config) (e : Event) (d : Config) (i : Fitting w c) whe
   pub kept-at : (k : Kind) → row k c e ≡ Some d → HasMade w (makes_at k c e) → Fitting w d
   kept-at kind.Stop h names = let s = stop-step c e d h in rw s.is (record { atoms = atoms-cut w _ _ i.atoms; packets = i.packets })
   kept-at kind.Fork h names =
-      let s = fork-step c e d h in
-      let (a, g) = acted s.atom s.acts s.form in
+      let s = fork-step c e d h in let (a, g) = acted s.atom s.acts s.form in
       rw s.is (record {
         atoms = atoms-put w _ _ _ (atoms-put w c.atoms s.mark _ i.atoms (goes-on w s.atom s.right a g.1)) (goes-on w s.atom s.left a g.0);
         packets = i.packets;
       })
   kept-at kind.New h names =
-      let s = new-step c e d h in
-      let (a, g) = acted s.atom s.acts s.form in
+      let s = new-step c e d h in let (a, g) = acted s.atom s.acts s.form in
       let made : makes_at kind.New c e ≡ Some (s.chan, g.carries) = rw (s.acts, s.form, s.made, g.chan) refl in
       let called : w.chan s.chan ≡ Some g.carries = subst (HasMade w) made names in
       let f : Fits w (value.Chan s.chan) s.type = record { type = ty.Chan g.carries.0 g.carries.1; is = chan-kind w s.chan g.carries called; below = chan-again s.type g.carries g.chan } in
       let b = agrees-put w s.atom.env a.types s.binder (value.Chan s.chan) s.type f a.agrees in
       rw s.is (record { atoms = atoms-put w c.atoms e.actor _ i.atoms (goes-in w s.atom.agent s.body _ _ b g.body); packets = i.packets })
   kept-at kind.Let h names =
-      let s = let-step c e d h in
-      let (a, g) = acted s.atom s.acts s.form in
+      let s = let-step c e d h in let (a, g) = acted s.atom s.acts s.form in
       let f = fits-value w s.atom.env a.types a.agrees s.bound g.type s.value g.is s.gives in
       let b = matches w s.pat s.value g.type s.atom.env a.types g.inner f a.agrees g.covers in
       rw s.is (record { atoms = atoms-put w c.atoms e.actor _ i.atoms (goes-in w s.atom.agent s.body s.env g.inner (bound-as w _ s.env g.inner b s.binds) g.body); packets = i.packets })
   kept-at kind.If h names =
-      let s = if-step c e d h in
-      let (a, g) = acted s.atom s.acts s.form in
+      let s = if-step c e d h in let (a, g) = acted s.atom s.acts s.form in
       rw s.is (record { atoms = atoms-put w c.atoms e.actor _ i.atoms (goes-on w s.atom _ a (choose w a.types s.first s.met s.unmet g.1 g.2)); packets = i.packets })
   kept-at kind.Comm h names =
-      let s = comm-step c e d h in
-      let (a, g) = acted s.atom s.acts s.form in
+      let s = comm-step c e d h in let (a, g) = acted s.atom s.acts s.form in
       let b = takes w s.atom.env a.types a.agrees s.from s.pat s.body s.chan s.value g s.on (offered-typed w c s.mark s.atom.agent s.chan s.value i.atoms s.offer) in
       rw s.is (record {
         atoms = atoms-cut w _ s.mark (atoms-put w c.atoms e.actor _ i.atoms (goes-in w s.atom.agent s.body s.env g.inner (bound-as w _ s.env g.inner b s.binds) g.body));
         packets = i.packets;
       })
   kept-at kind.Rep h names =
-      let s = rep-step c e d h in
-      let (a, g) = acted s.atom s.acts s.form in
+      let s = rep-step c e d h in let (a, g) = acted s.atom s.acts s.form in
       let b = takes w s.atom.env a.types a.agrees s.from s.pat s.body s.chan s.value g s.on (offered-typed w c s.mark s.atom.agent s.chan s.value i.atoms s.offer) in
       rw s.is (record { atoms = atoms-put w c.atoms s.mark _ i.atoms (goes-in w s.atom.agent s.body s.env g.inner (bound-as w _ s.env g.inner b s.binds) g.body); packets = i.packets })
   kept-at kind.Agent h names =
-      let s = agent-step c e d h in
-      let (a, g) = acted s.atom s.acts s.form in
+      let s = agent-step c e d h in let (a, g) = acted s.atom s.acts s.form in
       let b = agrees-put w s.atom.env a.types s.binder (value.Agent s.agent) ty.Agent (fits-itself w _ ty.Agent (agent-kind w s.agent)) a.agrees in
       rw s.is (record {
         atoms = atoms-put w _ e.actor _ (atoms-put w c.atoms s.mark _ i.atoms (goes-in w s.agent s.body _ _ b g.0)) (goes-in w s.atom.agent s.rest _ _ b g.1);
         packets = i.packets;
       })
   kept-at kind.Depart h names =
-      let s = depart-step c e d h in
-      let (a, g) = acted s.atom s.acts s.form in
+      let s = depart-step c e d h in let (a, g) = acted s.atom s.acts s.form in
       rw s.is (record { atoms = atoms-put w c.atoms e.actor _ i.atoms (goes-on w s.atom s.body a g.1); packets = i.packets })
   kept-at kind.Arrive h names = let s = arrive-step c e d h in rw s.is (record { atoms = i.atoms; packets = i.packets })
   kept-at kind.Local h names =
-      let s = local-step c e d h in
-      let (a, g) = acted s.atom s.acts s.form in
+      let s = local-step c e d h in let (a, g) = acted s.atom s.acts s.form in
       let f = sent_on w s.atom.env a.types a.agrees s.on s.sent s.chan s.value g.1 s.along s.gives in
       asked _ s.atom s.agent s.chan s.value s.met s.unmet s.is f (goes-on w s.atom s.met a g.2) (goes-on w s.atom s.unmet a g.3)
   kept-at kind.Send h names =
-      let s = send-step c e d h in
-      let (a, g) = acted s.atom s.acts s.form in
+      let s = send-step c e d h in let (a, g) = acted s.atom s.acts s.form in
       let f = sent_on w s.atom.env a.types a.agrees s.on s.sent s.chan s.value g.2 s.along s.gives in
       rw s.is (record { atoms = atoms-cut w _ _ i.atoms; packets = packets-put w c.packets e.actor _ i.packets f })
   kept-at kind.Land h names =
@@ -160,18 +150,15 @@ module _ (w : World) (c : Config) (e : Event) (d : Config) (i : Fitting w c) whe
       rw s.is (record { atoms = atoms-or w _ _ c.atoms (atoms-put w c.atoms e.actor _ i.atoms made) i.atoms; packets = packets-cut w _ _ i.packets })
   kept-at kind.Print h names = let s = print-step c e d h in rw s.is (record { atoms = atoms-cut w _ _ i.atoms; packets = i.packets })
   kept-at kind.Open h names =
-      let s = open-step c e d h in
-      let (a, g) = acted s.atom s.acts s.form in
+      let s = open-step c e d h in let (a, g) = acted s.atom s.acts s.form in
       let f = letter_sent w s.atom.env a.types a.agrees s.expr s.letter g s.holds in
       rw s.is (record { atoms = atoms-put w c.atoms e.actor _ i.atoms (made-typed w s.atom.agent s.letter.0 s.letter.1 e.tag f); packets = i.packets })
   kept-at kind.Lookup h names =
-      let s = lookup-step c e d h in
-      let (a, g) = acted s.atom s.acts s.form in
+      let s = lookup-step c e d h in let (a, g) = acted s.atom s.acts s.form in
       let ok = places_locked w s.atom.env a.types a.agrees s.among s.places g.1 s.lists in
       let l = looked-typed w s.atom a s.binder s.met s.unmet (find_place s.places s.agent) (found_lock w s.places s.agent ok) g.2 g.3 in
       rw s.is (record { atoms = atoms-put w c.atoms e.actor _ i.atoms l; packets = i.packets })
   kept-at kind.Post h names =
-      let s = post-step c e d h in
-      let (a, g) = acted s.atom s.acts s.form in
+      let s = post-step c e d h in let (a, g) = acted s.atom s.acts s.form in
       let f = sent_on w s.atom.env a.types a.agrees s.on s.sent s.chan s.value g.1 s.along s.gives in
       rw s.is (record { atoms = atoms-put w c.atoms e.actor _ i.atoms (made-typed w s.agent s.chan s.value e.tag f); packets = i.packets })

@@ -79,8 +79,7 @@ basic_too _ _ h b = absurd cc
 
 weak_basic : (x y z u : TyLayer) → basic y ≡ true → same_basic y u ≡ true → sub_at x y ≡ true → sub_at z u ≡ true → (basic x ≡ true) × (same_basic x z ≡ true)
 weak_basic x y z u h k a b =
-    let e = same_layer x y h a in
-    let f = same_layer z u (basic_too y u k h) b in
+    let e = same_layer x y h a in let f = same_layer z u (basic_too y u k h) b in
     (ap basic e ∙ h, (λ i. same_basic (e i) (f i)) ∙ k)
 
 -- a type below ^Site is this type
@@ -88,8 +87,7 @@ lock_below : Down is_lock_type
 lock_below s t h b =
     let l = lock_is (out-Ty t) h in
     let n = chan_below s t (cap.Both, l.0) l.1 b in
-    let r = n.reading refl in
-    let q = n.writing refl in
+    let r = n.reading refl in let q = n.writing refl in
     ap (λ o. is_lock_chan o) n.is ∙ both_ways n.chan.0 n.chan.1 r.0 q.0 (site_below n.chan.1 l.0 l.2 r.1)
 
 module _ (w v : World) (wider : Wider w v) where
@@ -187,8 +185,7 @@ module _ (w v : World) (wider : Wider w v) where
     weak_op op.Less a b t h = weak_numbers a b ty.Bool t h
     weak_op op.Equal a b t h =
         then (least w large a.0) _ h λ s first h. when _ _ _ _ h λ ok h. then (least w large b.0) _ h λ u second h. when _ _ _ _ h λ same h.
-        let x = a.1 s first in
-        let y = b.1 u second in
+        let x = a.1 s first in let y = b.1 u second in
         let q = weak_basic (out-Ty x.type) (out-Ty s) (out-Ty y.type) (out-Ty u) ok same (sym (sub-out x.type s) ∙ x.below) (sym (sub-out y.type u) ∙ y.below) in
         let r : t ≡ ty.Bool = done h in
         rw r (record { type = ty.Bool; is = rw (x.is, q.0, y.is, q.1) refl; below = sub-itself ty.Bool })
