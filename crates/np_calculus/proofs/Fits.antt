@@ -1,5 +1,5 @@
 -- What holds of the change of each event, row by row.
-use Rattle.std.proofs.Common.{◌≡◌, ℕ, Bool, true, false, cond, inl, inr, Option, None, Some, IsSome, nat_eq, [], ◌∷◌, refl, ap, sym, subst, ◌∙◌}
+use Rattle.std.proofs.Common.{◌≡◌, ℕ, Bool, true, false, cond, inl, inr, Option, None, Some, IsSome, nat_eq, [], ◌∷◌, refl, sym, subst, ◌∙◌}
 use Rattle.std.proofs.lemmas.Bool.{eqb-true}
 use Rattle.np_calculus.proofs.Common.{Name, Value, Proc, Event, Kind, Made, ◌>>◌, then, when, done, same_name, same_name-itself, chan_of, agent_of, truth_of}
 use Rattle.np_calculus.proofs.Common.{letter_of, places_of, find_place, eval, bind, layer, Atom, Place, Contents, Sight, sight, at_site, Change, same_tag}
@@ -7,29 +7,22 @@ use Rattle.np_calculus.proofs.Common.{way, none_made, one_made, two_made, no_oth
 use Rattle.np_calculus.proofs.Common.{act, arrive_row, land_row}
 use Rattle.np_syntax.specs.declared.process.Role.TheVariants as role
 use Rattle.np_syntax.specs.declared.event.Kind.TheVariants as kind
-use Rattle.np_syntax.specs.declared.event.Made.TheVariants as made
 use Rattle.np_calculus.specs.declared.config.Place.TheVariants as place
 use Rattle.np_calculus.specs.Changes.{put, cut, still}
 use Rattle.np_calculus.specs.FrameRule.{Comes, Fits, IsMade}
 use Rattle.np_calculus.specs.Parts.{IsMark}
 use Rattle.np_calculus.specs.Reductions.{site_in}
 use Rattle.np_calculus.proofs.Rows.{parts}
-use Rattle.np_calculus.proofs.Steps.{at_site-is}
+use Rattle.np_calculus.proofs.Steps.{at_site-is, is-one, is-two}
 
 some : {X : Type 0} (o : Option X) (x : X) → o ≡ Some x → IsSome o
 some o x h = rw h refl
 
-one-is : (x : Made) (m : Name) → one_made x ≡ Some m → IsMade x m
-one-is (made.One n) m h = done h
-one-is _ m h = absurd cc
+makes-one : (x : Made) (m : Name) → one_made x ≡ Some m → IsMade x m
+makes-one x m h = rw (is-one x m h) refl
 
-two-first : (x : Made) (m : Name × Name) → two_made x ≡ Some m → IsMade x m.0
-two-first (made.Two n o) m h = inl (ap (λ (p : Name × Name). p.0) (done h))
-two-first _ m h = absurd cc
-
-two-second : (x : Made) (m : Name × Name) → two_made x ≡ Some m → IsMade x m.1
-two-second (made.Two n o) m h = inr (ap (λ (p : Name × Name). p.1) (done h))
-two-second _ m h = absurd cc
+makes-two : (x : Made) (m : Name × Name) → two_made x ≡ Some m → IsMade x m.0 × IsMade x m.1
+makes-two x m h = rw (is-two x m h) (inl refl, inr refl)
 
 -- an agent that is at a site has a place
 has_place : (o : Option Place) (site : ℕ) → at_site o site ≡ true → IsSome o
@@ -101,14 +94,14 @@ module _ (sites : ℕ) (x : Contents) (e : Event) where
       -- both ways of a location test
       tested : (t : Bool) (met unmet : Proc) (b n : Name) (v : Value) → (t ≡ true → IsSome (x.place b)) → cond t (here_row e a met b n v) (away_row e a unmet) ≡ Some d → Fit d
       unfolding here_row away_row
-      tested true met unmet b n v lies h = then (one_made e.made) _ h λ m made h. so h (more m _ _ (one-is e.made m made) (lies refl) refl)
+      tested true met unmet b n v lies h = then (one_made e.made) _ h λ m made h. so h (more m _ _ (makes-one e.made m made) (lies refl) refl)
       tested false met unmet b n v lies h = then (none_made e.made) _ h λ m made h. so h (on _ refl)
 
       fits-act : (k : Kind) → e.kind ≡ k → act k (layer a.proc) w e a ≡ Some d → Fit d
       unfolding act
       fits-act kind.Stop is h = parts kind.Stop w e a h λ p form h. lone h (out None)
       fits-act kind.Fork is h = parts kind.Fork w e a h λ p form h. then (one_made e.made) _ h λ m made h. then (no_other e.other) _ h λ l other h.
-          so h (more m _ _ (one-is e.made m made) lodged refl)
+          so h (more m _ _ (makes-one e.made m made) lodged refl)
       fits-act kind.New is h = parts kind.New w e a h λ p form h. then (one_made e.made) _ h λ m made h. then (no_other e.other) _ h λ l other h. so h (on _ refl)
       fits-act kind.Let is h = parts kind.Let w e a h λ p form h. then (eval p.1 a.env) _ h λ v gives h. then (bind p.0 v a.env) _ h λ env binds h. lone h (on _ refl)
       fits-act kind.If is h = parts kind.If w e a h λ p form h. then (truth_of p.0 a.env) _ h λ t truth h. lone h (on _ refl)
@@ -121,7 +114,7 @@ module _ (sites : ℕ) (x : Contents) (e : Event) where
           so h (record { own = record { places = tt; atoms = (inl (gives o a.agent n v offer), tt); packets = tt }; settled = tt; comes = tt; lodged = (inl lodged, tt) })
       fits-act kind.Agent is h = parts kind.Agent w e a h λ p form h. then (two_made e.made) _ h λ n made h. then (no_other e.other) _ h λ l other h.
           so h (record {
-            own = record { places = (inr (two-first e.made n made), tt); atoms = (inr (two-second e.made n made), (inl there, tt)); packets = tt };
+            own = record { places = (inr ((makes-two e.made n made).0), tt); atoms = (inr ((makes-two e.made n made).1), (inl there, tt)); packets = tt };
             settled = (refl, tt);
             comes = ((λ u at. let e : Some (place.At e.site) ≡ Some (place.At u) = at in cc), tt);
             lodged = (inl (put-place n.0 _ _), (inl (cond-place (same_name a.agent n.0) _ _ lodged), tt));

@@ -137,17 +137,11 @@ module _ (whole part : Config) (rest : Contents) (e : Event) (w : IsWhole whole 
       ∙ same-change part.sites (inside part) rest e w.split.apart (same-sight part.sites (inside part) rest e.site w.split.apart lodged away) e.kind is
 
   -- what the part or the rest has is born in the whole
-  part-agent : (q : Name) → IsSome ((inside part).place q) → set.contains whole.born q ≡ true
-  part-agent q is = w.born.agents q (subst (λ (x : Contents). IsSome (x.place q)) (sym whole-is) (either-here ((inside part).place q) (rest.place q) is))
+  agent-there : (q : Name) → IsSome ((beside (inside part) rest).place q) → set.contains whole.born q ≡ true
+  agent-there q is = w.born.agents q (subst (λ (x : Contents). IsSome (x.place q)) (sym whole-is) is)
 
-  rest-agent : (q : Name) → IsSome (rest.place q) → set.contains whole.born q ≡ true
-  rest-agent q is = w.born.agents q (subst (λ (x : Contents). IsSome (x.place q)) (sym whole-is) (either-there ((inside part).place q) (rest.place q) is))
-
-  part-mark-born : (q : Name) → IsMark (inside part) q → set.contains whole.born q ≡ true
-  part-mark-born q is = w.born.marks q (subst (λ x. IsMark x q) (sym whole-is) (mark-part (inside part) rest q is))
-
-  rest-mark-born : (q : Name) → IsMark rest q → set.contains whole.born q ≡ true
-  rest-mark-born q is = w.born.marks q (subst (λ x. IsMark x q) (sym whole-is) (mark-rest (inside part) rest q is))
+  mark-there : (q : Name) → IsMark (beside (inside part) rest) q → set.contains whole.born q ≡ true
+  mark-there q is = w.born.marks q (subst (λ x. IsMark x q) (sym whole-is) is)
 
   unborn : (q : Name) → IsMade e.made q → set.contains whole.born q ≡ true → ⊥
   unborn q is h = let b = made-unborn whole.born e.made q new is in cc
@@ -155,11 +149,11 @@ module _ (whole part : Config) (rest : Contents) (e : Event) (w : IsWhole whole 
   -- the event writes nothing that the rest has
   lacks-agent : (q : Name) → IsSome ((inside part).place q) ⊎ IsMade e.made q → rest.place q ≡ None
   lacks-agent q (inl is) = w.split.apart.agents q is
-  lacks-agent q (inr is) = none_of (rest.place q) λ h. unborn q is (rest-agent q h)
+  lacks-agent q (inr is) = none_of (rest.place q) λ h. unborn q is (agent-there q (either-there ((inside part).place q) (rest.place q) h))
 
   lacks-mark : (q : Name) → IsMark (inside part) q ⊎ IsMade e.made q → LacksMark rest q
   lacks-mark q (inl is) = w.split.apart.marks q is
-  lacks-mark q (inr is) = lacks rest q λ h. unborn q is (rest-mark-born q h)
+  lacks-mark q (inr is) = lacks rest q λ h. unborn q is (mark-there q (mark-rest (inside part) rest q h))
 
   -- and what it writes is born then
   abbrev Born : Name → Type 0
@@ -169,11 +163,11 @@ module _ (whole part : Config) (rest : Contents) (e : Event) (w : IsWhole whole 
   old-born q h = still-born whole.born e.made q h
 
   agent-born : (q : Name) → IsSome ((inside part).place q) ⊎ IsMade e.made q → Born q
-  agent-born q (inl is) = old-born q (part-agent q is)
+  agent-born q (inl is) = old-born q (agent-there q (either-here ((inside part).place q) (rest.place q) is))
   agent-born q (inr is) = made-born whole.born e.made q is
 
   mark-born : (q : Name) → IsMark (inside part) q ⊎ IsMade e.made q → Born q
-  mark-born q (inl is) = old-born q (part-mark-born q is)
+  mark-born q (inl is) = old-born q (mark-there q (mark-part (inside part) rest q is))
   mark-born q (inr is) = made-born whole.born e.made q is
 
   module _ (d : Change) (is : change e.kind part.sites (inside part) e ≡ Some d) where

@@ -11,11 +11,11 @@ use Rattle.np_syntax.specs.declared.types.Ty.{Ty}
 use Rattle.np_syntax.specs.declared.process.Role.TheVariants as role
 use Rattle.np_syntax.specs.declared.event.Kind.TheVariants as kind
 use Rattle.np_calculus.specs.declared.config.Place.TheVariants as place
-use Rattle.np_calculus.specs.Changes.{still, put, cut}
+use Rattle.np_calculus.specs.Changes.{still, put, cut, with_made}
 use Rattle.np_calculus.specs.Reductions.{goes_under}
 use Rattle.np_calculus.specs.Seen.{fresh, site_of}
 use Rattle.np_calculus.proofs.Rows.{asked, parts}
-use Rattle.np_calculus.proofs.Steps.{need-met, row-step, none-new, none-with, one-new, one-with, two-new, two-with, made-is, one-fresh, two-fresh, same-offer}
+use Rattle.np_calculus.proofs.Steps.{need-met, row-step, is-none, is-one, is-two, made-is, one-fresh, two-fresh, same-offer}
 
 -- ---- a location test
 
@@ -38,16 +38,16 @@ TestStep false c e a met unmet b n v d = AwayStep c e a unmet d
 module _ (c : Config) (e : Event) (d : Config) (x : Change) (new : are_new c.born e.made ≡ true) (is : d ≡ effect c e x) (a : Atom) (met unmet : Proc) (b n : Name) (v : Value) where
   tested : (t : Bool) → cond t (here_row e a met b n v) (away_row e a unmet) ≡ Some x → TestStep t c e a met unmet b n v d
   unfolding here_row away_row
-  tested true h = then (one_made e.made) _ h λ m made h. record { mark = m; made = made; new = one-fresh c e d m made new; is = made-is c e d x _ (one-with c.born e.made m made) h is }
-  tested false h = then (none_made e.made) _ h λ m made h. record { made = made; is = made-is c e d x _ (none-with c.born e.made tt made) h is }
+  tested true h = then (one_made e.made) _ h λ m made h. record { mark = m; made = made; new = one-fresh c e d m made new; is = made-is c e d x _ (ap (with_made c.born) (is-one e.made m made)) h is }
+  tested false h = then (none_made e.made) _ h λ m made h. record { made = made; is = made-is c e d x _ (ap (with_made c.born) (is-none e.made tt made)) h is }
 
 module _ (c : Config) (e : Event) (d : Config) (a : Atom) (met unmet : Proc) (b n : Name) (v : Value) where
   -- such a test, as its record says it, is made
   pub passes : (t : Bool) → TestStep t c e a met unmet b n v d
       → (cond t (here_row e a met b n v) (away_row e a unmet) >>= after_change c e) ≡ Some d
   unfolding here_row away_row
-  passes true s = rw (s.made, one-new c.born e.made s.mark s.made, one-with c.born e.made s.mark s.made, s.new) (ap Some (sym s.is))
-  passes false s = rw (s.made, none-new c.born e.made tt s.made, none-with c.born e.made tt s.made) (ap Some (sym s.is))
+  passes true s = rw (is-one e.made s.mark s.made, s.new) (ap Some (sym s.is))
+  passes false s = rw (is-none e.made tt s.made) (ap Some (sym s.is))
 
 -- ---- a packet that lands
 
@@ -74,7 +74,7 @@ module _ (c : Config) (e : Event) (d : Config) where
   -- the end of a row that makes no name and takes no output
   ends : {R : Type 0} {x : Change} (y : Change) → (none_made e.made >> (no_other e.other >> Some y)) ≡ Some x → d ≡ effect c e x
       → (none_made e.made ≡ Some tt → no_other e.other ≡ Some tt → d ≡ record (effect c e y) { born = c.born } → R) → R
-  ends y h is f = then (none_made e.made) _ h λ m made h. then (no_other e.other) _ h λ l lone h. f made lone (made-is c e d _ y (none-with c.born e.made tt made) h is)
+  ends y h is f = then (none_made e.made) _ h λ m made h. then (no_other e.other) _ h λ l lone h. f made lone (made-is c e d _ y (ap (with_made c.born) (is-none e.made tt made)) h is)
 
   pub record StopStep : Type 0 where
     pub atom : Atom
@@ -108,12 +108,12 @@ module _ (c : Config) (e : Event) (d : Config) where
   unfolding act
   fork-step h = step kind.Fork h refl λ x new is a acts (p, q) form h.
       then (one_made e.made) _ h λ m made h. then (no_other e.other) _ h λ l lone h.
-      let now = made-is c e d x _ (one-with c.born e.made m made) h is in
+      let now = made-is c e d x _ (ap (with_made c.born) (is-one e.made m made)) h is in
       record { atom = a; acts = acts; left = p; right = q; form = form; mark = m; made = made; lone = lone; new = one-fresh c e d m made new; is = now }
 
   pub step-fork : ForkStep → row kind.Fork c e ≡ Some d
   unfolding act
-  step-fork s = rw (s.acts, s.form, s.made, s.lone, one-new c.born e.made s.mark s.made, one-with c.born e.made s.mark s.made, s.new) (ap Some (sym s.is))
+  step-fork s = rw (s.acts, s.form, is-one e.made s.mark s.made, s.lone, s.new) (ap Some (sym s.is))
 
   pub record NewStep : Type 0 where
     pub atom : Atom
@@ -135,7 +135,7 @@ module _ (c : Config) (e : Event) (d : Config) where
   unfolding act
   new-step h = step kind.New h refl λ x new is a acts (b, t, p) form h.
       then (one_made e.made) _ h λ n made h. then (no_other e.other) _ h λ l lone h.
-      let now = made-is c e d x _ (one-with c.born e.made n made) h is in
+      let now = made-is c e d x _ (ap (with_made c.born) (is-one e.made n made)) h is in
       record { atom = a; acts = acts; binder = b; type = t; body = p; form = form; chan = n; made = made; lone = lone; new = one-fresh c e d n made new; is = now }
 
   pub record LetStep : Type 0 where
@@ -208,13 +208,13 @@ module _ (c : Config) (e : Event) (d : Config) where
       then (chan_of f a.env) _ h λ n on h. then e.other _ h λ o other h. then (offered_in w.atom o a.agent n) _ h λ v offer h. then (bind q v a.env) _ h λ env binds h.
       then (none_made e.made) _ h λ m made h.
       let sees = sym (same-offer c e a o n acts) ∙ offer in
-      let now = made-is c e d x _ (none-with c.born e.made tt made) h is in
+      let now = made-is c e d x _ (ap (with_made c.born) (is-none e.made tt made)) h is in
       record { atom = a; acts = acts; from = f; pat = q; body = p; form = form; chan = n; on = on; mark = o; other = other; value = v; offer = sees; env = env; binds = binds; made = made; is = now }
 
   pub step-comm : CommStep → row kind.Comm c e ≡ Some d
   unfolding act
   step-comm s =
-      rw (s.acts, s.form, s.on, s.other, same-offer c e s.atom s.mark s.chan s.acts ∙ s.offer, s.binds, s.made, none-new c.born e.made tt s.made, none-with c.born e.made tt s.made) (ap Some (sym s.is))
+      rw (s.acts, s.form, s.on, s.other, same-offer c e s.atom s.mark s.chan s.acts ∙ s.offer, s.binds, is-none e.made tt s.made) (ap Some (sym s.is))
 
   pub rep-step : row kind.Rep c e ≡ Some d → RepStep
   unfolding act
@@ -222,13 +222,13 @@ module _ (c : Config) (e : Event) (d : Config) where
       then (chan_of f a.env) _ h λ n on h. then e.other _ h λ o other h. then (offered_in w.atom o a.agent n) _ h λ v offer h. then (bind q v a.env) _ h λ env binds h.
       then (none_made e.made) _ h λ m made h.
       let sees = sym (same-offer c e a o n acts) ∙ offer in
-      let now = made-is c e d x _ (none-with c.born e.made tt made) h is in
+      let now = made-is c e d x _ (ap (with_made c.born) (is-none e.made tt made)) h is in
       record { atom = a; acts = acts; from = f; pat = q; body = p; form = form; chan = n; on = on; mark = o; other = other; value = v; offer = sees; env = env; binds = binds; made = made; is = now }
 
   pub step-rep : RepStep → row kind.Rep c e ≡ Some d
   unfolding act
   step-rep s =
-      rw (s.acts, s.form, s.on, s.other, same-offer c e s.atom s.mark s.chan s.acts ∙ s.offer, s.binds, s.made, none-new c.born e.made tt s.made, none-with c.born e.made tt s.made) (ap Some (sym s.is))
+      rw (s.acts, s.form, s.on, s.other, same-offer c e s.atom s.mark s.chan s.acts ∙ s.offer, s.binds, is-none e.made tt s.made) (ap Some (sym s.is))
 
   pub record AgentStep : Type 0 where
     pub atom : Atom
@@ -256,14 +256,13 @@ module _ (c : Config) (e : Event) (d : Config) where
   agent-step h = step kind.Agent h refl λ x new is a acts (b, p, q) form h.
       then (two_made e.made) _ h λ m made h. then (no_other e.other) _ h λ l lone h.
       let f = two-fresh c e d m made new in
-      let now = made-is c e d x _ (two-with c.born e.made m made) h is in
+      let now = made-is c e d x _ (ap (with_made c.born) (is-two e.made m made)) h is in
       record { atom = a; acts = acts; binder = b; body = p; rest = q; form = form; agent = m.0; mark = m.1; made = made; lone = lone; differ = f.differ; first = f.first; second = f.second; is = now }
 
   pub step-agent : AgentStep → row kind.Agent c e ≡ Some d
   unfolding act
   step-agent s =
-      let m : Name × Name = (s.agent, s.mark) in
-      rw (s.acts, s.form, s.made, s.lone, two-new c.born e.made m s.made, two-with c.born e.made m s.made, s.differ, need-met _ tt s.first, need-met _ tt s.second) (ap Some (sym s.is))
+      rw (s.acts, s.form, is-two e.made (s.agent, s.mark) s.made, s.lone, s.differ, need-met _ tt s.first, need-met _ tt s.second) (ap Some (sym s.is))
 
   pub record DepartStep : Type 0 where
     pub atom : Atom
@@ -351,7 +350,7 @@ module _ (c : Config) (e : Event) (d : Config) where
 
   pub step-open : OpenStep → row kind.Open c e ≡ Some d
   unfolding act
-  step-open s = rw (s.acts, s.form, s.holds, s.made, s.lone, none-new c.born e.made tt s.made, none-with c.born e.made tt s.made) (ap Some (sym s.is))
+  step-open s = rw (s.acts, s.form, s.holds, is-none e.made tt s.made, s.lone) (ap Some (sym s.is))
 
   pub record LookupStep : Type 0 where
     pub atom : Atom
@@ -378,7 +377,7 @@ module _ (c : Config) (e : Event) (d : Config) where
 
   pub step-lookup : LookupStep → row kind.Lookup c e ≡ Some d
   unfolding act
-  step-lookup s = rw (s.acts, s.form, s.names, s.lists, s.made, s.lone, none-new c.born e.made tt s.made, none-with c.born e.made tt s.made) (ap Some (sym s.is))
+  step-lookup s = rw (s.acts, s.form, s.names, s.lists, is-none e.made tt s.made, s.lone) (ap Some (sym s.is))
 
   pub record PostStep : Type 0 where
     pub atom : Atom

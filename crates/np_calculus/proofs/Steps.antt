@@ -1,5 +1,5 @@
 -- What a row that is met says of its change, its new names and its acting atom.
-use Rattle.std.proofs.Common.{◌≡◌, ℕ, Bool, true, false, not, ◌&&◌, Option, None, Some, nat_eq, refl, ap, sym, subst, ◌∙◌, eq-eqb}
+use Rattle.std.proofs.Common.{◌≡◌, ℕ, Bool, true, false, not, Option, None, Some, nat_eq, refl, ap, sym, subst, ◌∙◌, eq-eqb}
 use Rattle.std.proofs.lemmas.Bool.{eqb-true}
 use Rattle.std.specs.FinMap as map
 use Rattle.std.specs.FinSet as set
@@ -14,32 +14,20 @@ use Rattle.np_calculus.specs.Seen.{fresh}
 
 -- ---- the names that are made
 
-module _ (born : NameSet) where
-  pub none-new : (x : Made) (u : Unit {0}) → none_made x ≡ Some u → are_new born x ≡ true
-  none-new made.Nothing u h = refl
-  none-new _ u h = absurd cc
+pub is-none : (x : Made) (u : Unit {0}) → none_made x ≡ Some u → x ≡ made.Nothing
+is-none made.Nothing u h = refl
+is-none _ u h = absurd cc
 
-  pub none-with : (x : Made) (u : Unit {0}) → none_made x ≡ Some u → with_made born x ≡ born
-  none-with made.Nothing u h = refl
-  none-with _ u h = absurd cc
+pub is-one : (x : Made) (m : Name) → one_made x ≡ Some m → x ≡ made.One m
+is-one (made.One n) m h = ap made.One (sym (done h))
+is-one _ m h = absurd cc
 
-  pub one-new : (x : Made) (m : Name) → one_made x ≡ Some m → are_new born x ≡ not (set.contains born m)
-  one-new (made.One n) m h = ap (λ m. not (set.contains born m)) (sym (done h))
-  one-new _ m h = absurd cc
+pub is-two : (x : Made) (m : Name × Name) → two_made x ≡ Some m → x ≡ made.Two m.0 m.1
+is-two (made.Two n o) m h = ap (λ (m : Name × Name). made.Two m.0 m.1) (sym (done h))
+is-two _ m h = absurd cc
 
-  pub one-with : (x : Made) (m : Name) → one_made x ≡ Some m → with_made born x ≡ set.insert born m
-  one-with (made.One n) m h = ap (set.insert born) (sym (done h))
-  one-with _ m h = absurd cc
-
-  pub two-new : (x : Made) (m : Name × Name) → two_made x ≡ Some m
-      → are_new born x ≡ (not (same_name m.0 m.1) && (not (set.contains born m.0) && not (set.contains born m.1)))
-  two-new (made.Two n o) m h =
-      ap (λ (m : Name × Name). not (same_name m.0 m.1) && (not (set.contains born m.0) && not (set.contains born m.1))) (sym (done h))
-  two-new _ m h = absurd cc
-
-  pub two-with : (x : Made) (m : Name × Name) → two_made x ≡ Some m → with_made born x ≡ set.insert (set.insert born m.0) m.1
-  two-with (made.Two n o) m h = ap (λ (m : Name × Name). set.insert (set.insert born m.0) m.1) (sym (done h))
-  two-with _ m h = absurd cc
+pub one-new : (born : NameSet) (x : Made) (m : Name) → one_made x ≡ Some m → are_new born x ≡ not (set.contains born m)
+one-new born x m h = ap (are_new born) (is-one x m h)
 
 pub need-met : (t : Bool) (u : Unit {0}) → need t ≡ Some u → t ≡ true
 need-met true u h = refl
@@ -71,7 +59,7 @@ module _ (c : Config) (e : Event) (d : Config) where
 
   pub two-fresh : (m : Name × Name) → two_made e.made ≡ Some m → are_new c.born e.made ≡ true → TwoFresh m
   two-fresh m made new =
-      let h = and-out _ _ (sym (two-new c.born e.made m made) ∙ new) in let k = and-out _ _ h.1 in
+      let h = and-out _ _ (sym (ap (are_new c.born) (is-two e.made m made)) ∙ new) in let k = and-out _ _ h.1 in
       record { differ = h.0; first = ap need k.0; second = ap need k.1 }
 
 -- ---- the acting atom

@@ -56,15 +56,16 @@ places-kind w ps h = kind_of w (value.Places ps) _ (outs.outs-Places ps) ∙ rw 
 
 -- ---- maps of places
 
+-- what holds of two things holds of the one that a test picks
+pub either : {A : Type 0} (P : A → Type 0) (b : Bool) (x y : A) → P x → P y → P (cond b x y)
+either P true x y h k = h
+either P false x y h k = k
+
 put_locks : (w : World) (ps : List (Name × Name)) (a l : Name) → all_locks w ps ≡ true → is_lock_chan (w.chan l) ≡ true → all_locks w (put_place ps a l) ≡ true
 put_locks w [] a l h k = and-in k refl
 put_locks w (p ∷ ps) a l h k =
     let b = and-out _ _ h in
-    either (same_name p.0 a) ((a, l) ∷ ps) (p ∷ put_place ps a l) (and-in k b.1) (and-in b.0 (put_locks w ps a l b.1 k))
-  where
-    either : (t : Bool) (xs ys : List (Name × Name)) → all_locks w xs ≡ true → all_locks w ys ≡ true → all_locks w (cond t xs ys) ≡ true
-    either true xs ys x y = x
-    either false xs ys x y = y
+    either (λ qs. all_locks w qs ≡ true) (same_name p.0 a) ((a, l) ∷ ps) (p ∷ put_place ps a l) (and-in k b.1) (and-in b.0 (put_locks w ps a l b.1 k))
 
 pub both_ways : (c : Cap) (t : Ty) → reads c ≡ true → writes c ≡ true → is_site (out-Ty t) ≡ true → is_lock c t ≡ true
 both_ways cap.Both t r w h = h

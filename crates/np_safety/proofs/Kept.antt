@@ -22,7 +22,7 @@ use Rattle.np_safety.specs.Channels.{makes_at}
 use Rattle.np_safety.specs.Laws.{HasMade}
 use Rattle.np_safety.proofs.Fitting.{Agrees, Fitting, FittingAtom, FittingAtoms}
 use Rattle.np_safety.proofs.Shapes.{fits-itself}
-use Rattle.np_safety.proofs.Evaluates.{agent-kind, chan-kind}
+use Rattle.np_safety.proofs.Evaluates.{either, agent-kind, chan-kind}
 use Rattle.np_safety.proofs.Matches.{agrees-put, matches}
 use Rattle.np_safety.proofs.Forms.{Good, GoodForm, good-as}
 use Rattle.np_safety.proofs.Atoms.{sent_on, letter_sent, places_locked, fits-value, takes, bound-as}
@@ -35,14 +35,6 @@ goes-on w a p t g = record { types = t.types; agrees = t.agrees; good = g }
 -- an atom under another environment
 goes-in : (w : World) (agent : Name) (p : Proc) (env : Env) (types : Types) → Agrees w env types → Good w types p → FittingAtom w (record { agent = agent; proc = p; env = env })
 goes-in w agent p env types a g = record { types = types; agrees = a; good = g }
-
-choose : (w : World) (types : Types) (b : Bool) (p q : Proc) → Good w types p → Good w types q → Good w types (cond b p q)
-choose w types true p q g h = g
-choose w types false p q g h = h
-
-atoms-or : (w : World) (b : Bool) (s t : _) → FittingAtoms w s → FittingAtoms w t → FittingAtoms w (cond b s t)
-atoms-or w true s t h k = h
-atoms-or w false s t h k = k
 
 -- ---- maps of places
 
@@ -113,7 +105,7 @@ module _ (w : World) (c : Config) (e : Event) (d : Config) (i : Fitting w c) whe
       rw s.is (record { atoms = atoms-put w c.atoms e.actor _ i.atoms (goes-in w s.atom.agent s.body s.env g.inner (bound-as w _ s.env g.inner b s.binds) g.body); packets = i.packets })
   kept-at kind.If h names =
       let s = if-step c e d h in let (a, g) = acted s.atom s.acts s.form in
-      rw s.is (record { atoms = atoms-put w c.atoms e.actor _ i.atoms (goes-on w s.atom _ a (choose w a.types s.first s.met s.unmet g.1 g.2)); packets = i.packets })
+      rw s.is (record { atoms = atoms-put w c.atoms e.actor _ i.atoms (goes-on w s.atom _ a (either (Good w a.types) s.first s.met s.unmet g.1 g.2)); packets = i.packets })
   kept-at kind.Comm h names =
       let s = comm-step c e d h in let (a, g) = acted s.atom s.acts s.form in
       let b = takes w s.atom.env a.types a.agrees s.from s.pat s.body s.chan s.value g s.on (offered-typed w c s.mark s.atom.agent s.chan s.value i.atoms s.offer) in
@@ -147,7 +139,7 @@ module _ (w : World) (c : Config) (e : Event) (d : Config) (i : Fitting w c) whe
   kept-at kind.Land h names =
       let s = land-step c e d h in
       let made = made-typed w s.packet.agent s.packet.chan s.packet.value e.tag (i.packets e.actor s.packet s.flies) in
-      rw s.is (record { atoms = atoms-or w _ _ c.atoms (atoms-put w c.atoms e.actor _ i.atoms made) i.atoms; packets = packets-cut w _ _ i.packets })
+      rw s.is (record { atoms = either (FittingAtoms w) _ _ c.atoms (atoms-put w c.atoms e.actor _ i.atoms made) i.atoms; packets = packets-cut w _ _ i.packets })
   kept-at kind.Print h names = let s = print-step c e d h in rw s.is (record { atoms = atoms-cut w _ _ i.atoms; packets = i.packets })
   kept-at kind.Open h names =
       let s = open-step c e d h in let (a, g) = acted s.atom s.acts s.form in
