@@ -92,7 +92,7 @@ module _ (part rest : Contents) (q : Name) where
   mark-rest (inl h) = inl (either-there (part.atom q) (rest.atom q) h)
   mark-rest (inr h) = inr (either-there (part.packet q) (rest.packet q) h)
 
-not-false : (a : Bool) → not a ≡ true → a ≡ false
+pub not-false : (a : Bool) → not a ≡ true → a ≡ false
 not-false true h = absurd cc
 not-false false h = refl
 

@@ -35,16 +35,16 @@ abbrev pub TestStep : Bool → (c : Config) (e : Event) (a : Atom) (met unmet : 
 TestStep true c e a met unmet b n v d = HereStep c e a met b n v d
 TestStep false c e a met unmet b n v d = AwayStep c e a unmet d
 
-module _ (c : Config) (e : Event) (d : Config) (x : Change) (new : are_new c.born e.made ≡ true) (is : d ≡ effect c e x) (a : Atom) (met unmet : Proc) (b n : Name) (v : Value) where
-  tested : (t : Bool) → cond t (here_row e a met b n v) (away_row e a unmet) ≡ Some x → TestStep t c e a met unmet b n v d
-  unfolding here_row away_row
-  tested true h = then (one_made e.made) _ h λ m made h. record { mark = m; made = made; new = one-fresh c e d m made new; is = made-is c e d x _ (ap (with_made c.born) (is-one e.made m made)) h is }
-  tested false h = then (none_made e.made) _ h λ m made h. record { made = made; is = made-is c e d x _ (ap (with_made c.born) (is-none e.made tt made)) h is }
-
 module _ (c : Config) (e : Event) (d : Config) (a : Atom) (met unmet : Proc) (b n : Name) (v : Value) where
+  tested : (x : Change) → are_new c.born e.made ≡ true → d ≡ effect c e x → (t : Bool) → cond t (here_row e a met b n v) (away_row e a unmet) ≡ Some x
+      → TestStep t c e a met unmet b n v d
+  unfolding here_row away_row
+  tested x new is true h = then (one_made e.made) _ h λ m made h.
+      record { mark = m; made = made; new = one-fresh c e d m made new; is = made-is c e d x _ (ap (with_made c.born) (is-one e.made m made)) h is }
+  tested x new is false h = then (none_made e.made) _ h λ m made h. record { made = made; is = made-is c e d x _ (ap (with_made c.born) (is-none e.made tt made)) h is }
+
   -- such a test, as its record says it, is made
-  pub passes : (t : Bool) → TestStep t c e a met unmet b n v d
-      → (cond t (here_row e a met b n v) (away_row e a unmet) >>= after_change c e) ≡ Some d
+  pub passes : (t : Bool) → TestStep t c e a met unmet b n v d → (cond t (here_row e a met b n v) (away_row e a unmet) >>= after_change c e) ≡ Some d
   unfolding here_row away_row
   passes true s = rw (is-one e.made s.mark s.made, s.new) (ap Some (sym s.is))
   passes false s = rw (is-none e.made tt s.made) (ap Some (sym s.is))
@@ -462,5 +462,5 @@ module _ (c : Config) (e : Event) (d : Config) where
   unfolding act
   local-step h = step kind.Local h refl λ x new is a acts (f, g, q, p, r) form h.
       then (agent_of f a.env) _ h λ b names h. then (chan_of g a.env) _ h λ n along h. then (eval q a.env) _ h λ v gives h. then (no_other e.other) _ h λ l lone h.
-      let now = tested c e d x new is a p r b n v (is_at c b e.site) h in
+      let now = tested c e d a p r b n v x new is (is_at c b e.site) h in
       record { atom = a; acts = acts; receiver = f; on = g; sent = q; met = p; unmet = r; form = form; agent = b; names = names; chan = n; along = along; value = v; gives = gives; lone = lone; is = now }

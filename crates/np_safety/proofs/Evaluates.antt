@@ -69,14 +69,11 @@ put_locks w (p ∷ ps) a l h k =
 
 pub both_ways : (c : Cap) (t : Ty) → reads c ≡ true → writes c ≡ true → is_site (out-Ty t) ≡ true → is_lock c t ≡ true
 both_ways cap.Both t r w h = h
-both_ways cap.Input t r w h = absurd cc
-both_ways cap.Output t r w h = absurd cc
+both_ways _ t r w h = absurd cc
 
 -- a channel type that is ^Site
 pub lock_is : (y : TyLayer) → is_lock_chan (as_chan y) ≡ true → (t : Ty) × (as_chan y ≡ Some (cap.Both, t)) × (is_site (out-Ty t) ≡ true)
 lock_is (Ty-F.Chan cap.Both t) h = (t, refl, h)
-lock_is (Ty-F.Chan cap.Input t) h = absurd cc
-lock_is (Ty-F.Chan cap.Output t) h = absurd cc
 lock_is _ h = absurd cc
 
 -- a channel that fits ^Site has just this type

@@ -1,18 +1,17 @@
 -- The types of channels along a run: a channel that is made keeps its type.
-use Rattle.std.proofs.Common.{◌≡◌, Bool, true, false, not, Option, None, Some, List, [], ◌∷◌, ◌++◌, refl, subst, sym, ap, ◌∙◌}
+use Rattle.std.proofs.Common.{◌≡◌, Bool, true, false, Option, None, Some, List, [], ◌∷◌, ◌++◌, refl, subst, sym, ap, ◌∙◌}
 use Rattle.std.specs.FinMap as map
 use Rattle.std.specs.FinSet as set
 use Rattle.np_safety.proofs.Common.{Name, Cap, Ty, out-Ty, Event, same_name, same_name-is, as_chan, World, layer, Config, Channels}
 use Rattle.np_syntax.specs.declared.event.Kind.{Kind}
 use Rattle.np_syntax.specs.declared.event.Kind.TheVariants as kind
-use Rattle.np_syntax.specs.Options.{need}
 use Rattle.np_syntax.proofs.Options.{then, done}
 use Rattle.np_tables.proofs.Tables.{get-put, put_here, born_here}
 use Rattle.np_eval.specs.FormParts.{as_new}
 use Rattle.np_calculus.specs.Reductions.{one_made, row, apply, run}
 use Rattle.np_calculus.specs.Seen.{acting}
-use Rattle.np_calculus.proofs.Steps.{row-step}
-use Rattle.np_calculus.proofs.FrameRule.{still-born}
+use Rattle.np_calculus.proofs.Steps.{need-met, row-step}
+use Rattle.np_calculus.proofs.FrameRule.{not-false, still-born}
 use Rattle.np_calculus.proofs.Inversions.{new-step}
 use Rattle.np_safety.specs.Channels.{makes_at, noted, after, channels_after}
 use Rattle.np_safety.specs.Laws.{HasMade}
@@ -48,10 +47,6 @@ record MadeNew (c d : Config) (n : Name) : Type 0 where
   new : set.contains c.born n ≡ false
   born : Born d n
 
-needs_not : (b : Bool) → need (not b) ≡ Some tt → b ≡ false
-needs_not true h = absurd cc
-needs_not false h = refl
-
 made-at : (k : Kind) (c : Config) (e : Event) (d : Config) (x : Name × (Cap × Ty)) → row k c e ≡ Some d → makes_at k c e ≡ Some x → MadeNew c d x.0
 made-at kind.New c e d x h m =
     let s = new-step c e d h in
@@ -59,7 +54,7 @@ made-at kind.New c e d x h m =
     let same : n ≡ s.chan = done (sym s.made ∙ made) in
     let whole : x ≡ (n, k) = done m in
     let at : x.0 ≡ s.chan = ap (λ (x : Name × (Cap × Ty)). x.0) whole ∙ same in
-    rw at (record { new = needs_not _ s.new; born = subst (λ (x : Config). set.contains x.born s.chan ≡ true) (sym s.is) (born_here c.born s.chan) })
+    rw at (record { new = not-false _ (need-met _ tt s.new); born = subst (λ (x : Config). set.contains x.born s.chan ≡ true) (sym s.is) (born_here c.born s.chan) })
 made-at _ c e d x h m = absurd cc
 
 apart : (c : Config) (q n : Name) → Born c q → set.contains c.born n ≡ false → (b : Bool) → same_name q n ≡ b → b ≡ false

@@ -47,8 +47,7 @@ site-type t h = sym (roll-out-Ty t) ∙ ap roll-Ty (site_is (out-Ty t) h ∙ sym
 
 lock_both : (c : Cap) (t : Ty) → is_lock c t ≡ true → ty.Chan c t ≡ lock_type
 lock_both cap.Both t h = ap (ty.Chan cap.Both) (site-type t h)
-lock_both cap.Input t h = absurd cc
-lock_both cap.Output t h = absurd cc
+lock_both _ t h = absurd cc
 
 lock-fits : (w : World) (l : Name) (o : Option (Cap × Ty)) → w.chan l ≡ o → is_lock_chan o ≡ true → Fits w (value.Chan l) lock_type
 lock-fits w l None e h = absurd cc
@@ -87,10 +86,8 @@ module _ (w : World) (c : Config) (e : Event) (d : Config) (i : Fitting w c) whe
   kept-at kind.Stop h names = let s = stop-step c e d h in rw s.is (record { atoms = atoms-cut w _ _ i.atoms; packets = i.packets })
   kept-at kind.Fork h names =
       let s = fork-step c e d h in let (a, g) = acted s.atom s.acts s.form in
-      rw s.is (record {
-        atoms = atoms-put w _ _ _ (atoms-put w c.atoms s.mark _ i.atoms (goes-on w s.atom s.right a g.1)) (goes-on w s.atom s.left a g.0);
-        packets = i.packets;
-      })
+      let atoms = atoms-put w _ e.actor _ (atoms-put w c.atoms s.mark _ i.atoms (goes-on w s.atom s.right a g.1)) (goes-on w s.atom s.left a g.0) in
+      rw s.is (record { atoms = atoms; packets = i.packets })
   kept-at kind.New h names =
       let s = new-step c e d h in let (a, g) = acted s.atom s.acts s.form in
       let made : makes_at kind.New c e ≡ Some (s.chan, g.carries) = rw (s.acts, s.form, s.made, g.chan) refl in
@@ -109,10 +106,8 @@ module _ (w : World) (c : Config) (e : Event) (d : Config) (i : Fitting w c) whe
   kept-at kind.Comm h names =
       let s = comm-step c e d h in let (a, g) = acted s.atom s.acts s.form in
       let b = takes w s.atom.env a.types a.agrees s.from s.pat s.body s.chan s.value g s.on (offered-typed w c s.mark s.atom.agent s.chan s.value i.atoms s.offer) in
-      rw s.is (record {
-        atoms = atoms-cut w _ s.mark (atoms-put w c.atoms e.actor _ i.atoms (goes-in w s.atom.agent s.body s.env g.inner (bound-as w _ s.env g.inner b s.binds) g.body));
-        packets = i.packets;
-      })
+      let atoms = atoms-put w c.atoms e.actor _ i.atoms (goes-in w s.atom.agent s.body s.env g.inner (bound-as w _ s.env g.inner b s.binds) g.body) in
+      rw s.is (record { atoms = atoms-cut w _ s.mark atoms; packets = i.packets })
   kept-at kind.Rep h names =
       let s = rep-step c e d h in let (a, g) = acted s.atom s.acts s.form in
       let b = takes w s.atom.env a.types a.agrees s.from s.pat s.body s.chan s.value g s.on (offered-typed w c s.mark s.atom.agent s.chan s.value i.atoms s.offer) in
@@ -120,10 +115,8 @@ module _ (w : World) (c : Config) (e : Event) (d : Config) (i : Fitting w c) whe
   kept-at kind.Agent h names =
       let s = agent-step c e d h in let (a, g) = acted s.atom s.acts s.form in
       let b = agrees-put w s.atom.env a.types s.binder (value.Agent s.agent) ty.Agent (fits-itself w _ ty.Agent (agent-kind w s.agent)) a.agrees in
-      rw s.is (record {
-        atoms = atoms-put w _ e.actor _ (atoms-put w c.atoms s.mark _ i.atoms (goes-in w s.agent s.body _ _ b g.0)) (goes-in w s.atom.agent s.rest _ _ b g.1);
-        packets = i.packets;
-      })
+      let atoms = atoms-put w _ e.actor _ (atoms-put w c.atoms s.mark _ i.atoms (goes-in w s.agent s.body _ _ b g.0)) (goes-in w s.atom.agent s.rest _ _ b g.1) in
+      rw s.is (record { atoms = atoms; packets = i.packets })
   kept-at kind.Depart h names =
       let s = depart-step c e d h in let (a, g) = acted s.atom s.acts s.form in
       rw s.is (record { atoms = atoms-put w c.atoms e.actor _ i.atoms (goes-on w s.atom s.body a g.1); packets = i.packets })

@@ -1,6 +1,7 @@
 -- A low program without a fault is typed at its start, where the infrastructure's channels are born.
-use Rattle.std.proofs.Common.{◌≡◌, ℕ, Bool, true, false, ◌||◌, ◌&&◌, nat_eq, inl, inr, Some, List, [], ◌∷◌, length, map, refl, subst, sym, ap, ◌∙◌}
+use Rattle.std.proofs.Common.{◌≡◌, ℕ, Bool, true, false, ◌||◌, nat_eq, inl, inr, Some, List, [], ◌∷◌, length, map, refl, subst, sym, ap, ◌∙◌}
 use Rattle.std.proofs.lemmas.Bool.{eqb-true}
+use Rattle.std.specs.List.{list_any, list_all}
 use Rattle.std.specs.FinMap as table
 use Rattle.std.specs.FinSet as set
 use Rattle.np_safety.proofs.Common.{Name, Cap, Ty, and-out, put_cases, Config, world, Typed}
@@ -19,28 +20,20 @@ use Rattle.np_safety.proofs.Starts.{nothing, fits-more, fits-main}
 
 -- ---- names of the program's own
 
-abbrev member : ℕ → List ℕ → Bool
-member i [] = false
-member i (j ∷ js) = nat_eq i j || member i js
-
-has_own : (names : NameSet) (n : ℕ) (numbers : List ℕ) (i : ℕ) → member i numbers ≡ true → set.contains (with_all names (map (own n) numbers)) (own n i) ≡ true
+has_own : (names : NameSet) (n : ℕ) (numbers : List ℕ) (i : ℕ) → list_any (nat_eq i) numbers ≡ true → set.contains (with_all names (map (own n) numbers)) (own n i) ≡ true
 has_own names n [] i h = absurd cc
 has_own names n (j ∷ js) i h = found (nat_eq i j) refl (λ m. has_own (set.insert names (own n j)) n js i m)
   where
     after : NameSet
     after = with_all (set.insert names (own n j)) (map (own n) js)
 
-    found : (b : Bool) → nat_eq i j ≡ b → (member i js ≡ true → set.contains after (own n i) ≡ true) → set.contains after (own n i) ≡ true
+    found : (b : Bool) → nat_eq i j ≡ b → (list_any (nat_eq i) js ≡ true → set.contains after (own n i) ≡ true) → set.contains after (own n i) ≡ true
     found true e rest =
         let here = ap (λ k. set.contains (set.insert names (own n j)) (own n k)) (eqb-true i j e) ∙ born_here names (own n j) in
         with_all-keeps _ (map (own n) js) (own n i) here
-    found false e rest = rest (ap (λ b. b || member i js) (sym e) ∙ h)
+    found false e rest = rest (ap (λ b. b || list_any (nat_eq i) js) (sym e) ∙ h)
 
-abbrev members : List (ℕ × Ty) → Bool
-members [] = true
-members (e ∷ es) = member e.0 own_numbers && members es
-
-are_own : (n : ℕ) (es : List (ℕ × Ty)) → members es ≡ true → (q : Name) (k : Cap × Ty) → table.get (channels_of n es) q ≡ Some k → set.contains (own_names n) q ≡ true
+are_own : (n : ℕ) (es : List (ℕ × Ty)) → list_all (λ e. list_any (nat_eq e.0) own_numbers) es ≡ true → (q : Name) (k : Cap × Ty) → table.get (channels_of n es) q ≡ Some k → set.contains (own_names n) q ≡ true
 are_own n [] m q k h = absurd (nothing q k h)
 are_own n (e ∷ es) m q k h =
     let b = and-out _ _ m in
