@@ -192,7 +192,9 @@ module _ (w : World) (env : Env) (types : Types) (agrees : Agrees w env types) w
         fits = fits-itself w _ ty.Letter (letter-kind w c.name y.value y.fits.type c.own y.fits.is c.carries q.0 f);
       })
 
-  sound_with : (m a l : With Expr Sound) (t : Ty) → (test_of is_places rule.Mismatch (least_of w types m.0) >> (test_of is_agent rule.NotAgent (least_of w types a.0) >> (test_of is_lock_type rule.Mismatch (least_of w types l.0) >> Ok ty.Places))) ≡ Ok t
+  sound_with : (m a l : With Expr Sound) (t : Ty)
+      → (test_of is_places rule.Mismatch (least_of w types m.0) >> (test_of is_agent rule.NotAgent (least_of w types a.0)
+      >> (test_of is_lock_type rule.Mismatch (least_of w types l.0) >> Ok ty.Places))) ≡ Ok t
       → Valued w (may.◌>>=◌ (eval m.0 env) (λ x. may.◌>>=◌ (eval a.0 env) (λ y. may.◌>>=◌ (eval l.0 env) (λ z. with_place x y z)))) t
   sound_with m a l t h =
       then (test_of is_places _ (least_of w types m.0)) _ h λ u first h. then (test_of is_agent _ (least_of w types a.0)) _ h λ u second h.

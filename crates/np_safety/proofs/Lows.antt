@@ -1,10 +1,10 @@
 -- A low program without a fault is typed at its start, where the infrastructure's channels are born.
-use Rattle.std.proofs.Common.{◌≡◌, ℕ, Bool, true, false, ◌||◌, nat_eq, inl, inr, Some, List, [], ◌∷◌, length, map, refl, subst, sym, ap, ◌∙◌}
+use Rattle.std.proofs.Common.{◌≡◌, ℕ, Bool, true, false, ◌||◌, nat_eq, inl, inr, Some, List, [], ◌∷◌, length, map, refl, sym, ap, ◌∙◌}
 use Rattle.std.proofs.lemmas.Bool.{eqb-true}
 use Rattle.std.specs.List.{list_any, list_all}
 use Rattle.std.specs.FinMap as table
 use Rattle.std.specs.FinSet as set
-use Rattle.np_safety.proofs.Common.{Name, Cap, Ty, and-out, put_cases, Config, world, Typed}
+use Rattle.np_safety.proofs.Common.{Name, Cap, Ty, and-out, put_cases}
 use Rattle.np_syntax.specs.declared.types.Cap.TheVariants as cap
 use Rattle.np_syntax.specs.declared.program.LowProgram.{LowProgram}
 use Rattle.np_tables.specs.Names.{NameSet}
@@ -33,7 +33,8 @@ has_own names n (j ∷ js) i h = found (nat_eq i j) refl (λ m. has_own (set.ins
         with_all-keeps _ (map (own n) js) (own n i) here
     found false e rest = rest (ap (λ b. b || list_any (nat_eq i) js) (sym e) ∙ h)
 
-are_own : (n : ℕ) (es : List (ℕ × Ty)) → list_all (λ e. list_any (nat_eq e.0) own_numbers) es ≡ true → (q : Name) (k : Cap × Ty) → table.get (channels_of n es) q ≡ Some k → set.contains (own_names n) q ≡ true
+are_own : (n : ℕ) (es : List (ℕ × Ty)) → list_all (λ e. list_any (nat_eq e.0) own_numbers) es ≡ true
+    → (q : Name) (k : Cap × Ty) → table.get (channels_of n es) q ≡ Some k → set.contains (own_names n) q ≡ true
 are_own n [] m q k h = absurd (nothing q k h)
 are_own n (e ∷ es) m q k h =
     let b = and-out _ _ m in
@@ -55,12 +56,6 @@ low-fitting q a = fits-more (low_world q) _ _ 0 _ q.daemon (fits-main (low_world
 pub low-starts-typed : LowStartsTyped
 low-starts-typed q a = fitting-typed _ (start_low q) (low-fitting q a)
 
-low-sites : (q : LowProgram) → length q.sites ≡ (start_low q).sites
-unfolding start_low
-low-sites q = refl
-
 pub low-well-typed : LowWellTyped
-low-well-typed q a =
-    let c : Config = start_low q in
-    let g = infrastructure (length q.sites) in
-    stays-typed c g (subst (λ n. Typed (world n g) c) (low-sites q) (low-starts-typed q a)) (low-born q)
+unfolding start_low
+low-well-typed q a = stays-typed (start_low q) (infrastructure (length q.sites)) (low-starts-typed q a) (low-born q)

@@ -1,9 +1,9 @@
 -- A resolved program without a fault is typed at its start, and so along each of its runs.
-use Rattle.std.proofs.Common.{◌≡◌, ◌<◌, ℕ, true, Some, Ok, Err, [], length, nat_lt, refl, subst, sym, ◌∙◌, arith}
+use Rattle.std.proofs.Common.{◌≡◌, ◌<◌, ℕ, true, Some, Ok, Err, [], length, nat_lt, refl, sym, ◌∙◌, arith}
 use Rattle.std.proofs.lemmas.Bool.Decides.{nat_tests}
 use Rattle.std.specs.FinMap as map
 use Rattle.std.specs.FinMap.{get-empty}
-use Rattle.np_safety.proofs.Common.{Name, Proc, World, Check, check, Config, Channels, world, Typed}
+use Rattle.np_safety.proofs.Common.{Name, Proc, World, Check, check, Config, Channels, world}
 use Rattle.np_syntax.specs.declared.program.Program.{Program}
 use Rattle.np_tables.specs.Names.{name_cmp}
 use Rattle.np_types.specs.Checks.{found}
@@ -56,14 +56,9 @@ start-fitting p g a = fits-main (world (length p.sites) g) (length p.sites) p.at
 pub starts-typed : StartsTyped
 starts-typed p a = fitting-typed _ (start_high p) (start-fitting p map.empty a)
 
-start-sites : (p : Program) → length p.sites ≡ (start_high p).sites
-unfolding start_high
-start-sites p = refl
-
 pub well-typed : WellTyped
-well-typed p a =
-    let c : Config = start_high p in
-    stays-typed c map.empty (subst (λ n. Typed (world n map.empty) c) (start-sites p) (starts-typed p a)) (λ n k h. absurd (nothing n k h))
+unfolding start_high
+well-typed p a = stays-typed (start_high p) map.empty (starts-typed p a) (λ n k h. absurd (nothing n k h))
 
 pub runs-well : RunsWellTyped
 runs-well p a = record {
