@@ -89,8 +89,7 @@ becomes e a = record still { atoms = put e.actor a ∷ [] }
 
 -- the output that an event makes: its channel and value stand in it as values
 abbrev pub output : Name → Value → Tag → Proc
-output c v tag =
-    record { tag = tag; at = 0; form = form.Out (record { at = 0; form = expr.Val (value.Chan c) }) (record { at = 0; form = expr.Val v }) }
+output c v tag = record { tag = tag; at = 0; form = form.Out (record { at = 0; form = expr.Val (value.Chan c) }) (record { at = 0; form = expr.Val v }) }
 
 abbrev pub output_in : Name → Name → Value → Tag → Atom
 output_in agent c v tag = record { agent = agent; proc = output c v tag; env = map.empty }

@@ -53,12 +53,9 @@ with_agent c agent site mark p = record c { places = table.insert c.places agent
 
 -- main at its site, with its process
 unfoldable pub start_high : Program → Config
-start_high p =
-    let n : ℕ = length p.sites in
-    with_agent (names_alone n) (main_agent n) p.at (main_mark n) p.main
+start_high p = let n : ℕ = length p.sites in with_agent (names_alone n) (main_agent n) p.at (main_mark n) p.main
 
 -- main at its site and the daemon at the first one, each with its process
 unfoldable pub start_low : LowProgram → Config
 start_low q =
-    let n : ℕ = length q.sites in
-    with_agent (with_agent (names_alone n) (main_agent n) q.at (main_mark n) q.main) (daemon_agent n) 0 (daemon_mark n) q.daemon
+    let n : ℕ = length q.sites in with_agent (with_agent (names_alone n) (main_agent n) q.at (main_mark n) q.main) (daemon_agent n) 0 (daemon_mark n) q.daemon
