@@ -5,29 +5,15 @@ use Rattle.std.specs.FinMap as map
 use Rattle.std.specs.FinSet as set
 use Rattle.std.specs.FinSet.{contains-items}
 use Rattle.std.specs.List.{list_any}
-use Rattle.np_syntax.specs.declared.value.Name.{Name}
-use Rattle.np_syntax.specs.declared.value.Value.{Value}
-use Rattle.np_syntax.specs.declared.expression.Expr.{Expr}
-use Rattle.np_syntax.specs.declared.pattern.Pat.{Pat}
-use Rattle.np_syntax.specs.declared.process.ProcForm.{ProcForm-F}
-use Rattle.np_syntax.specs.declared.event.Event.{Event}
-use Rattle.np_syntax.specs.declared.event.Kind.{Kind}
+use Rattle.np_calculus.proofs.Common.{Name, Value, Expr, Pat, ProcForm-F, Event, Kind, then, done, same_name, same_name-is, same_name-itself, chan_of, eval}
+use Rattle.np_calculus.proofs.Common.{Layer, layer, Atom, Place, Config, way, sends, row, apply, acting, offered}
 use Rattle.np_syntax.specs.declared.event.Kind.TheVariants as kind
-use Rattle.np_tables.specs.Names.{same_name}
-use Rattle.np_syntax.proofs.Options.{then, done}
-use Rattle.np_tables.proofs.Tables.{same_name-is, same_name-itself}
-use Rattle.np_eval.specs.Eval.{eval, chan_of}
-use Rattle.np_eval.specs.Forms.{Layer, layer, as_out, given_on, taken_on}
+use Rattle.np_eval.specs.Forms.{as_out, given_on, taken_on}
 use Rattle.np_eval.proofs.FormsByParts.{out-form}
-use Rattle.np_calculus.specs.declared.config.Atom.{Atom}
-use Rattle.np_calculus.specs.declared.config.Place.{Place}
 use Rattle.np_calculus.specs.declared.config.Place.TheVariants as place
 use Rattle.np_calculus.specs.Acting.{ActsWhereEnabled}
 use Rattle.np_calculus.specs.Begins.{AreNew, arrival, event_at, landing, made_by}
-use Rattle.np_calculus.specs.Config.{Config}
 use Rattle.np_calculus.specs.Idle.{Can, HasMeeting, HasWork, waits}
-use Rattle.np_calculus.specs.Reductions.{apply, row, sends, way}
-use Rattle.np_calculus.specs.Seen.{acting, offered}
 use Rattle.np_calculus.specs.Well.{Has, Ready, Well}
 use Rattle.np_calculus.proofs.Enabled.{alone-begins, arrival-enabled, landing-enabled, meeting-begins}
 use Rattle.np_calculus.proofs.Inversions.{stop-step, fork-step, new-step, let-step, if-step, comm-step, rep-step, agent-step, depart-step}

@@ -2,29 +2,15 @@
 use Rattle.std.proofs.Common.{◌≡◌, ℕ, Bool, true, false, cond, Option, None, Some, refl, subst, sym, ap, ◌∙◌}
 use Rattle.std.specs.FinMap as map
 use Rattle.std.specs.FinSet as set
-use Rattle.np_syntax.specs.declared.value.Name.{Name}
-use Rattle.np_syntax.specs.declared.value.Value.{Value}
-use Rattle.np_syntax.specs.declared.expression.Expr.{Expr}
-use Rattle.np_syntax.specs.declared.pattern.Pat.{Pat}
+use Rattle.np_calculus.proofs.Common.{Name, Value, Expr, Pat, Proc, ProcForm-F, Event, Kind, Made, ◌>>=◌, same_name, same_name-is, chan_of, agent_of, eval}
+use Rattle.np_calculus.proofs.Common.{bind, Layer, layer, Atom, Packet, Config, same_tag, after_change, row, apply, here_row, away_row, act, arrive_row}
+use Rattle.np_calculus.proofs.Common.{land_row, acting, is_at, offered}
 use Rattle.np_syntax.specs.declared.process.Tag.{Tag}
-use Rattle.np_syntax.specs.declared.process.Proc.{Proc}
-use Rattle.np_syntax.specs.declared.process.ProcForm.{ProcForm-F}
-use Rattle.np_syntax.specs.declared.event.Event.{Event}
-use Rattle.np_syntax.specs.declared.event.Kind.{Kind}
 use Rattle.np_syntax.specs.declared.event.Kind.TheVariants as kind
-use Rattle.np_syntax.specs.declared.event.Made.{Made}
 use Rattle.np_syntax.specs.declared.event.Made.TheVariants as made
-use Rattle.np_syntax.specs.Options.{◌>>=◌}
-use Rattle.np_tables.specs.Names.{same_name}
-use Rattle.np_tables.proofs.Tables.{same_name-is}
-use Rattle.np_calculus.specs.declared.config.Atom.{Atom}
-use Rattle.np_calculus.specs.declared.config.Packet.{Packet}
 use Rattle.np_calculus.specs.declared.config.Place.TheVariants as place
-use Rattle.np_calculus.specs.Config.{Config}
-use Rattle.np_eval.specs.Eval.{eval, bind, chan_of, agent_of}
-use Rattle.np_eval.specs.Forms.{Layer, layer, taken_on}
-use Rattle.np_calculus.specs.Reductions.{apply, row, act, arrive_row, land_row, here_row, away_row, after_change, role_index, same_tag}
-use Rattle.np_calculus.specs.Seen.{acting, is_at, offered}
+use Rattle.np_eval.specs.Forms.{taken_on}
+use Rattle.np_calculus.specs.Reductions.{role_index}
 use Rattle.np_calculus.specs.Begins.{AreNew, arrival, begun_by, event_at, landing, made_by, made_there}
 use Rattle.np_calculus.specs.Idle.{waits}
 use Rattle.np_calculus.specs.Well.{Has, Ready}

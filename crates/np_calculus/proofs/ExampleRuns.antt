@@ -1,27 +1,19 @@
 -- What the definitions say of small runs, and of events that are not enabled.
-use Rattle.std.proofs.Common.{◌≡◌, ℕ, true, false, Option, None, Some, List, [], ◌∷◌, ◌++◌, nat_lt, refl, sym, ap, ◌∙◌}
+use Rattle.std.proofs.Common.{◌≡◌, ℕ, true, false, Option, None, Some, List, [], ◌∷◌, ◌++◌, nat_lt, refl, sym, ◌∙◌}
 use Rattle.std.specs.FinMap as map
-use Rattle.np_syntax.specs.declared.value.Name.{Name}
-use Rattle.np_syntax.specs.declared.value.Value.{Value, out-Value}
+use Rattle.np_calculus.proofs.Common.{Name, Value, Kind, NameMap, same_name, same_name-itself, Env, chan_of, eval, bind, Atom, Place, sends, apply}
+use Rattle.np_calculus.proofs.Common.{act, arrive_row, acting, offered}
 use Rattle.np_syntax.specs.declared.value.Value as value
 use Rattle.np_syntax.specs.declared.value.Value.TheVariants.{outs-Chan, outs-Site}
 use Rattle.np_syntax.specs.declared.process.ProcForm.{ProcForm}
 use Rattle.np_syntax.specs.declared.process.ProcForm.TheVariants.{outs-Out, outs-Inp, outs-Rep, outs-Migrate, outs-Print}
-use Rattle.np_syntax.specs.declared.event.Kind.{Kind}
 use Rattle.np_syntax.specs.declared.event.Kind.TheVariants as kind
-use Rattle.np_tables.specs.Names.{NameMap, same_name}
-use Rattle.np_tables.proofs.Tables.{get-put, get-none, put_here, same_name-itself, same_name-swap, cut-put_absent, cut-put_swap, put-put, put-swap}
-use Rattle.np_calculus.specs.declared.config.Atom.{Atom}
-use Rattle.np_calculus.specs.declared.config.Place.{Place}
+use Rattle.np_tables.proofs.Tables.{get-put, get-none, put_here, same_name-swap, cut-put_absent, cut-put_swap, put-put, put-swap}
 use Rattle.np_calculus.specs.declared.config.Place.TheVariants as place
-use Rattle.np_eval.specs.Eval.{Env, eval, bind, chan_of}
-use Rattle.np_calculus.specs.Reductions.{apply, sends, act, arrive_row}
-use Rattle.np_calculus.specs.Seen.{acting, offered}
 use Rattle.np_calculus.specs.Examples.{constant, number, prints, process, gives_five, prints_it, it, takes_it, keeps_taking, leaves, atom, agent_with, one, two, event, TwoPrints, Communication, Replication, Migration}
 use Rattle.np_eval.proofs.Evals.{eval-form, eval-val}
 use Rattle.np_eval.proofs.Binds.{bind-form, bind-bind}
 use Rattle.np_calculus.proofs.Steps.{same_site, same-offer, step-offered}
-use Rattle.np_calculus.proofs.Inversions.{step-print, step-comm}
 
 constant-is : (v : Value) (env : Env) → eval (constant v) env ≡ Some v
 constant-is v env = rw (eval-form (constant v) env, eval-val v env) refl
@@ -40,17 +32,9 @@ second_there j k x y = put_here (one j x) k y
 -- an atom that prints a number says it at its site, and is gone
 printed : (n s i : ℕ) (a j : Name) (atoms : NameMap Atom) (said : List (ℕ × Value)) → map.get atoms j ≡ Some (atom a (prints i) map.empty)
     → apply (record (agent_with n (place.At s) a atoms) { said = said }) (event s kind.Print j None) ≡ Some (record (agent_with n (place.At s) a (map.remove atoms j)) { said = said ++ (s, number i) ∷ [] })
-printed n s i a j atoms said there = step-print (record (agent_with n (place.At s) a atoms) { said = said }) (event s kind.Print j None) _ (record {
-  atom = atom a (prints i) map.empty;
-  acts = acts_here n s kind.Print a j (prints i) map.empty atoms None there;
-  expr = constant (number i);
-  form = outs-Print (constant (number i));
-  value = number i;
-  gives = constant-is (number i) map.empty;
-  made = refl;
-  lone = refl;
-  is = refl;
-})
+unfolding act
+printed n s i a j atoms said there =
+    rw (acts_here n s kind.Print a j (prints i) map.empty atoms None there, outs-Print (constant (number i)), constant-is (number i) map.empty) refl
 
 -- two atoms, one taken out
 without_second : (j k : Name) (x y : Atom) → same_name j k ≡ false → map.remove (two j k x y) k ≡ one j x
@@ -64,8 +48,7 @@ without_first j k x y apart = rw (cut-put_swap (one j x) k j y (same_name-swap k
 
 pub two_prints : TwoPrints
 two_prints n s a j k apart =
-    let x = atom a (prints 1) map.empty in
-    let y = atom a (prints 2) map.empty in
+    let x = atom a (prints 1) map.empty in let y = atom a (prints 2) map.empty in
     rw (printed n s 1 a j (two j k x y) [] (first_there j k x y apart), without_first j k x y apart, printed n s 2 a k (one k y) ((s, number 1) ∷ []) (put_here {X = Atom} map.empty k y), without_only k y) refl
 
 -- the output of five, under the mark j
@@ -91,24 +74,22 @@ binds_it : (x : ℕ) (v : Value) (env : Env) → bind (it x) v env ≡ Some (map
 binds_it x v env = rw (bind-form (it x) v env, bind-bind x v env) refl
 
 pub communication : Communication
-communication n s x a c j k apart = step-comm (agent_with n (place.At s) a (two j k (atom a (gives_five c) map.empty) (atom a (takes_it c x) map.empty))) (event s kind.Comm k (Some j)) _ (record {
-  atom = atom a (takes_it c x) map.empty;
-  acts = acts_here n s kind.Comm a k (takes_it c x) map.empty _ (Some j) (second_there j k _ _);
-  from = constant (value.Chan c);
-  pat = it x;
-  body = process (prints_it x);
-  form = outs-Inp (constant (value.Chan c)) (it x) (process (prints_it x));
-  chan = c;
-  on = on_chan c map.empty;
-  mark = j;
-  other = refl;
-  value = number 5;
-  offer = offered_five n s a c j k _ apart;
-  env = map.insert map.empty x (number 5);
-  binds = binds_it x (number 5) map.empty;
-  made = refl;
-  is = ap (agent_with n (place.At s) a) (sym (ap (λ m. map.remove m j) (put-put (one j _) k _ _) ∙ without_first j k _ _ apart));
-})
+unfolding act
+communication n s x a c j k apart =
+    let from = constant (value.Chan c) in
+    let y = atom a (takes_it c x) map.empty in
+    rw (
+      acts_here n s kind.Comm a k (takes_it c x) map.empty _ (Some j) (second_there j k (atom a (gives_five c) map.empty) y),
+      outs-Inp from (it x) (process (prints_it x)),
+      on_chan c map.empty,
+      same-offer (agent_with n (place.At s) a (two j k (atom a (gives_five c) map.empty) y)) (event s kind.Comm k (Some j)) y j c
+          (acts_here n s kind.Comm a k (takes_it c x) map.empty _ (Some j) (second_there j k (atom a (gives_five c) map.empty) y))
+          ∙ offered_five n s a c j k y apart,
+      binds_it x (number 5) map.empty,
+      put-put (one j (atom a (gives_five c) map.empty)) k y (atom a (prints_it x) (map.insert map.empty x (number 5))),
+      without_first j k (atom a (gives_five c) map.empty) (atom a (prints_it x) (map.insert map.empty x (number 5))) apart,
+    )
+    refl
 
 -- a write under the first of two names
 first_changed : (j k : Name) (x y z : Atom) → same_name j k ≡ false → map.insert (two j k x y) j z ≡ two j k z y

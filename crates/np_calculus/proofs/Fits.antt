@@ -1,47 +1,28 @@
 -- What holds of the change of each event, row by row.
-use Rattle.std.proofs.Common.{◌≡◌, ℕ, Bool, true, false, cond, inl, inr, Option, None, Some, IsSome, nat_eq, [], ◌∷◌, refl, ap, sym, subst, ◌∙◌}
+use Rattle.std.proofs.Common.{◌≡◌, ℕ, Bool, true, false, cond, inl, inr, Option, None, Some, IsSome, nat_eq, [], ◌∷◌, refl, sym, subst, ◌∙◌}
 use Rattle.std.proofs.lemmas.Bool.{eqb-true}
-use Rattle.np_syntax.specs.declared.value.Name.{Name}
-use Rattle.np_syntax.specs.declared.value.Value.{Value}
-use Rattle.np_syntax.specs.declared.process.Proc.{Proc}
+use Rattle.np_calculus.proofs.Common.{Name, Value, Proc, Event, Kind, Made, ◌>>◌, then, when, done, same_name, same_name-itself, chan_of, agent_of, truth_of}
+use Rattle.np_calculus.proofs.Common.{letter_of, places_of, find_place, eval, bind, layer, Atom, Place, Contents, Sight, sight, at_site, Change, same_tag}
+use Rattle.np_calculus.proofs.Common.{way, none_made, one_made, two_made, no_other, output_in, found_on, offered_in, acting_in, change, here_row, away_row}
+use Rattle.np_calculus.proofs.Common.{act, arrive_row, land_row}
 use Rattle.np_syntax.specs.declared.process.Role.TheVariants as role
-use Rattle.np_syntax.specs.declared.event.Event.{Event}
-use Rattle.np_syntax.specs.declared.event.Kind.{Kind}
 use Rattle.np_syntax.specs.declared.event.Kind.TheVariants as kind
-use Rattle.np_syntax.specs.declared.event.Made.{Made}
-use Rattle.np_syntax.specs.declared.event.Made.TheVariants as made
-use Rattle.np_syntax.specs.Options.{◌>>◌}
-use Rattle.np_tables.specs.Names.{same_name}
-use Rattle.np_syntax.proofs.Options.{then, when, done}
-use Rattle.np_tables.proofs.Tables.{same_name-itself}
-use Rattle.np_eval.specs.Forms.{layer}
-use Rattle.np_eval.specs.FormParts.{as_stop, as_par, as_new, as_inp, as_rep, as_agent_form, as_migrate, as_iflocal, as_send, as_post, as_if, as_let, as_print, as_open, as_lookup}
-use Rattle.np_eval.specs.Eval.{eval, bind, chan_of, agent_of, truth_of, letter_of, places_of, find_place}
-use Rattle.np_calculus.specs.declared.config.Atom.{Atom}
-use Rattle.np_calculus.specs.declared.config.Place.{Place}
 use Rattle.np_calculus.specs.declared.config.Place.TheVariants as place
-use Rattle.np_calculus.specs.Changes.{Change, put, cut, still}
+use Rattle.np_calculus.specs.Changes.{put, cut, still}
 use Rattle.np_calculus.specs.FrameRule.{Comes, Fits, IsMade}
 use Rattle.np_calculus.specs.Parts.{IsMark}
-use Rattle.np_calculus.specs.Reductions.{acting_in, same_tag, way, offered_in, site_in, none_made, one_made, two_made, no_other, output_in, found_on, here_row, away_row, act, arrive_row, land_row, change}
-use Rattle.np_calculus.specs.Sight.{Contents, Sight, sight, at_site}
-use Rattle.np_calculus.proofs.Rows.{stop-by, fork-by, new-by, let-by, if-by, comm-by, rep-by, agent-by, depart-by, local-by, send-by, print-by, open-by, lookup-by, post-by, never-arrives, never-lands}
-use Rattle.np_calculus.proofs.Steps.{at_site-is}
+use Rattle.np_calculus.specs.Reductions.{site_in}
+use Rattle.np_calculus.proofs.Rows.{parts}
+use Rattle.np_calculus.proofs.Steps.{at_site-is, is-one, is-two}
 
 some : {X : Type 0} (o : Option X) (x : X) → o ≡ Some x → IsSome o
 some o x h = rw h refl
 
-one-is : (x : Made) (m : Name) → one_made x ≡ Some m → IsMade x m
-one-is (made.One n) m h = done h
-one-is _ m h = absurd cc
+makes-one : (x : Made) (m : Name) → one_made x ≡ Some m → IsMade x m
+makes-one x m h = rw (is-one x m h) refl
 
-two-first : (x : Made) (m : Name × Name) → two_made x ≡ Some m → IsMade x m.0
-two-first (made.Two n o) m h = inl (ap (λ (p : Name × Name). p.0) (done h))
-two-first _ m h = absurd cc
-
-two-second : (x : Made) (m : Name × Name) → two_made x ≡ Some m → IsMade x m.1
-two-second (made.Two n o) m h = inr (ap (λ (p : Name × Name). p.1) (done h))
-two-second _ m h = absurd cc
+makes-two : (x : Made) (m : Name × Name) → two_made x ≡ Some m → IsMade x m.0 × IsMade x m.1
+makes-two x m h = rw (is-two x m h) (inl refl, inr refl)
 
 -- an agent that is at a site has a place
 has_place : (o : Option Place) (site : ℕ) → at_site o site ≡ true → IsSome o
@@ -94,14 +75,12 @@ module _ (sites : ℕ) (x : Contents) (e : Event) where
       lodged : IsSome (x.place a.agent)
       lodged = has_place (x.place a.agent) e.site (actor-seen a h).here
 
+      home : (b : Atom) → b.agent ≡ a.agent → IsSome (x.place b.agent)
+      home b same = subst (λ agent. IsSome (x.place agent)) (sym same) lodged
+
       -- the actor goes on as an atom of its agent, alone
       on : (b : Atom) → b.agent ≡ a.agent → Fit (record still { atoms = put e.actor b ∷ [] })
-      on b same = record {
-        own = record { places = tt; atoms = (inl there, tt); packets = tt };
-        settled = tt;
-        comes = tt;
-        lodged = (inl (subst (λ agent. IsSome (x.place agent)) (sym same) lodged), tt);
-      }
+      on b same = record { own = record { places = tt; atoms = (inl there, tt); packets = tt }; settled = tt; comes = tt; lodged = (inl (home b same), tt) }
 
       -- the actor is taken out
       out : (v : Option Value) → Fit (record still { atoms = cut e.actor ∷ []; said = v })
@@ -109,68 +88,57 @@ module _ (sites : ℕ) (x : Contents) (e : Event) where
 
       -- the actor goes on, and an atom of an agent that has a place stands under the mark that is made
       more : (m : Name) (n b : Atom) → IsMade e.made m → IsSome (x.place n.agent) → b.agent ≡ a.agent → Fit (record still { atoms = put m n ∷ put e.actor b ∷ [] })
-      more m n b made lies same = record {
-        own = record { places = tt; atoms = (inr made, (inl there, tt)); packets = tt };
-        settled = tt;
-        comes = tt;
-        lodged = (inl lies, (inl (subst (λ agent. IsSome (x.place agent)) (sym same) lodged), tt));
-      }
+      more m n b made lies same =
+          record { own = record { places = tt; atoms = (inr made, (inl there, tt)); packets = tt }; settled = tt; comes = tt; lodged = (inl lies, (inl (home b same), tt)) }
 
       -- both ways of a location test
       tested : (t : Bool) (met unmet : Proc) (b n : Name) (v : Value) → (t ≡ true → IsSome (x.place b)) → cond t (here_row e a met b n v) (away_row e a unmet) ≡ Some d → Fit d
       unfolding here_row away_row
-      tested true met unmet b n v lies h = then (one_made e.made) _ h λ m made h. so h (more m _ _ (one-is e.made m made) (lies refl) refl)
+      tested true met unmet b n v lies h = then (one_made e.made) _ h λ m made h. so h (more m _ _ (makes-one e.made m made) (lies refl) refl)
       tested false met unmet b n v lies h = then (none_made e.made) _ h λ m made h. so h (on _ refl)
 
       fits-act : (k : Kind) → e.kind ≡ k → act k (layer a.proc) w e a ≡ Some d → Fit d
       unfolding act
-      fits-act kind.Stop is h = then (as_stop (layer a.proc)) _ (sym (stop-by w e a (layer a.proc)) ∙ h) λ p form h. lone h (out None)
-      fits-act kind.Fork is h = then (as_par (layer a.proc)) _ (sym (fork-by w e a (layer a.proc)) ∙ h) λ p form h. then (one_made e.made) _ h λ m made h. then (no_other e.other) _ h λ l other h.
-          so h (more m _ _ (one-is e.made m made) lodged refl)
-      fits-act kind.New is h = then (as_new (layer a.proc)) _ (sym (new-by w e a (layer a.proc)) ∙ h) λ p form h. then (one_made e.made) _ h λ m made h. then (no_other e.other) _ h λ l other h. so h (on _ refl)
-      fits-act kind.Let is h = then (as_let (layer a.proc)) _ (sym (let-by w e a (layer a.proc)) ∙ h) λ p form h. then (eval p.1 a.env) _ h λ v gives h. then (bind p.0 v a.env) _ h λ env binds h. lone h (on _ refl)
-      fits-act kind.If is h = then (as_if (layer a.proc)) _ (sym (if-by w e a (layer a.proc)) ∙ h) λ p form h. then (truth_of p.0 a.env) _ h λ t truth h. lone h (on _ refl)
-      fits-act kind.Comm is h = then (as_inp (layer a.proc)) _ (sym (comm-by w e a (layer a.proc)) ∙ h) λ p form h. then (chan_of p.0 a.env) _ h λ n on h. then e.other _ h λ o other h. then (offered_in w.atom o a.agent n) _ h λ v offer h.
-          then (bind p.1 v a.env) _ h λ env binds h. then (none_made e.made) _ h λ m made h.
+      fits-act kind.Stop is h = parts kind.Stop w e a h λ p form h. lone h (out None)
+      fits-act kind.Fork is h = parts kind.Fork w e a h λ p form h. then (one_made e.made) _ h λ m made h. then (no_other e.other) _ h λ l other h.
+          so h (more m _ _ (makes-one e.made m made) lodged refl)
+      fits-act kind.New is h = parts kind.New w e a h λ p form h. then (one_made e.made) _ h λ m made h. then (no_other e.other) _ h λ l other h. so h (on _ refl)
+      fits-act kind.Let is h = parts kind.Let w e a h λ p form h. then (eval p.1 a.env) _ h λ v gives h. then (bind p.0 v a.env) _ h λ env binds h. lone h (on _ refl)
+      fits-act kind.If is h = parts kind.If w e a h λ p form h. then (truth_of p.0 a.env) _ h λ t truth h. lone h (on _ refl)
+      fits-act kind.Comm is h = parts kind.Comm w e a h λ p form h. then (chan_of p.0 a.env) _ h λ n on h. then e.other _ h λ o other h.
+          then (offered_in w.atom o a.agent n) _ h λ v offer h. then (bind p.1 v a.env) _ h λ env binds h. then (none_made e.made) _ h λ m made h.
+          let taken = gives o a.agent n v offer in
+          so h (record { own = record { places = tt; atoms = (inl there, (inl taken, tt)); packets = tt }; settled = tt; comes = tt; lodged = (inl lodged, (tt, tt)) })
+      fits-act kind.Rep is h = parts kind.Rep w e a h λ p form h. then (chan_of p.0 a.env) _ h λ n on h. then e.other _ h λ o other h.
+          then (offered_in w.atom o a.agent n) _ h λ v offer h. then (bind p.1 v a.env) _ h λ env binds h. then (none_made e.made) _ h λ m made h.
+          so h (record { own = record { places = tt; atoms = (inl (gives o a.agent n v offer), tt); packets = tt }; settled = tt; comes = tt; lodged = (inl lodged, tt) })
+      fits-act kind.Agent is h = parts kind.Agent w e a h λ p form h. then (two_made e.made) _ h λ n made h. then (no_other e.other) _ h λ l other h.
           so h (record {
-            own = record { places = tt; atoms = (inl there, (inl (gives o a.agent n v offer), tt)); packets = tt };
-            settled = tt;
-            comes = tt;
-            lodged = (inl lodged, (tt, tt));
-          })
-      fits-act kind.Rep is h = then (as_rep (layer a.proc)) _ (sym (rep-by w e a (layer a.proc)) ∙ h) λ p form h. then (chan_of p.0 a.env) _ h λ n on h. then e.other _ h λ o other h. then (offered_in w.atom o a.agent n) _ h λ v offer h.
-          then (bind p.1 v a.env) _ h λ env binds h. then (none_made e.made) _ h λ m made h.
-          so h (record {
-            own = record { places = tt; atoms = (inl (gives o a.agent n v offer), tt); packets = tt };
-            settled = tt;
-            comes = tt;
-            lodged = (inl lodged, tt);
-          })
-      fits-act kind.Agent is h = then (as_agent_form (layer a.proc)) _ (sym (agent-by w e a (layer a.proc)) ∙ h) λ p form h. then (two_made e.made) _ h λ n made h. then (no_other e.other) _ h λ l other h.
-          so h (record {
-            own = record { places = (inr (two-first e.made n made), tt); atoms = (inr (two-second e.made n made), (inl there, tt)); packets = tt };
+            own = record { places = (inr ((makes-two e.made n made).0), tt); atoms = (inr ((makes-two e.made n made).1), (inl there, tt)); packets = tt };
             settled = (refl, tt);
             comes = ((λ u at. let e : Some (place.At e.site) ≡ Some (place.At u) = at in cc), tt);
             lodged = (inl (put-place n.0 _ _), (inl (cond-place (same_name a.agent n.0) _ _ lodged), tt));
           })
-      fits-act kind.Depart is h = then (as_migrate (layer a.proc)) _ (sym (depart-by w e a (layer a.proc)) ∙ h) λ p form h. then (site_in sites p.0 a.env) _ h λ t names h. lone h (record {
+      fits-act kind.Depart is h = parts kind.Depart w e a h λ p form h. then (site_in sites p.0 a.env) _ h λ t names h. lone h (record {
         own = record { places = (inl lodged, tt); atoms = (inl there, tt); packets = tt };
         settled = (refl, tt);
         comes = ((λ u at. absurd (let e : Some (place.Way t) ≡ Some (place.At u) = at in cc)), tt);
         lodged = (inl (put-place a.agent _ _), tt);
       })
-      fits-act kind.Arrive is h = absurd (let e = sym (never-arrives w e a (layer a.proc)) ∙ h in cc)
-      fits-act kind.Local is h = then (as_iflocal (layer a.proc)) _ (sym (local-by w e a (layer a.proc)) ∙ h) λ p form h. then (agent_of p.0 a.env) _ h λ b names h. then (chan_of p.1 a.env) _ h λ n along h. then (eval p.2 a.env) _ h λ v gives h.
-          then (no_other e.other) _ h λ l other h. tested (at_site (x.place b) e.site) p.3 p.4 b n v (has_place (x.place b) e.site) h
-      fits-act kind.Send is h = then (as_send (layer a.proc)) _ (sym (send-by w e a (layer a.proc)) ∙ h) λ p form h. then (agent_of p.0 a.env) _ h λ b names h. then (site_in sites p.1 a.env) _ h λ t goes_to h. then (chan_of p.2 a.env) _ h λ n along h.
-          then (eval p.3 a.env) _ h λ v gives h.
+      fits-act kind.Arrive is h = absurd cc
+      fits-act kind.Local is h = parts kind.Local w e a h λ p form h. then (agent_of p.0 a.env) _ h λ b names h. then (chan_of p.1 a.env) _ h λ n along h.
+          then (eval p.2 a.env) _ h λ v gives h. then (no_other e.other) _ h λ l other h.
+          tested (at_site (x.place b) e.site) p.3 p.4 b n v (has_place (x.place b) e.site) h
+      fits-act kind.Send is h = parts kind.Send w e a h λ p form h. then (agent_of p.0 a.env) _ h λ b names h. then (site_in sites p.1 a.env) _ h λ t goes_to h.
+          then (chan_of p.2 a.env) _ h λ n along h. then (eval p.3 a.env) _ h λ v gives h.
           lone h (record { own = record { places = tt; atoms = (inl there, tt); packets = (inl there, tt) }; settled = tt; comes = tt; lodged = (tt, tt) })
-      fits-act kind.Land is h = absurd (let e = sym (never-lands w e a (layer a.proc)) ∙ h in cc)
-      fits-act kind.Print is h = then (as_print (layer a.proc)) _ (sym (print-by w e a (layer a.proc)) ∙ h) λ p form h. then (eval p a.env) _ h λ v gives h. lone h (out (Some v))
-      fits-act kind.Open is h = then (as_open (layer a.proc)) _ (sym (open-by w e a (layer a.proc)) ∙ h) λ p form h. then (letter_of p a.env) _ h λ v gives h. lone h (on _ refl)
-      fits-act kind.Lookup is h = then (as_lookup (layer a.proc)) _ (sym (lookup-by w e a (layer a.proc)) ∙ h) λ p form h. then (agent_of p.0 a.env) _ h λ b names h. then (places_of p.1 a.env) _ h λ ps among h.
+      fits-act kind.Land is h = absurd cc
+      fits-act kind.Print is h = parts kind.Print w e a h λ p form h. then (eval p a.env) _ h λ v gives h. lone h (out (Some v))
+      fits-act kind.Open is h = parts kind.Open w e a h λ p form h. then (letter_of p a.env) _ h λ v gives h. lone h (on _ refl)
+      fits-act kind.Lookup is h = parts kind.Lookup w e a h λ p form h. then (agent_of p.0 a.env) _ h λ b names h. then (places_of p.1 a.env) _ h λ ps among h.
           lone h (on _ (found-agent a p.2 p.3 p.4 (find_place ps b)))
-      fits-act kind.Post is h = then (as_post (layer a.proc)) _ (sym (post-by w e a (layer a.proc)) ∙ h) λ p form h. then (agent_of p.0 a.env) _ h λ b names h. then (chan_of p.1 a.env) _ h λ n along h. then (eval p.2 a.env) _ h λ v gives h.
+      fits-act kind.Post is h = parts kind.Post w e a h λ p form h. then (agent_of p.0 a.env) _ h λ b names h. then (chan_of p.1 a.env) _ h λ n along h.
+          then (eval p.2 a.env) _ h λ v gives h.
           lone h (record { own = record { places = tt; atoms = (inl there, tt); packets = tt }; settled = tt; comes = tt; lodged = (inr is, tt) })
 
     fits-arrive : arrive_row (x.place e.actor) e ≡ Some d → Fit d

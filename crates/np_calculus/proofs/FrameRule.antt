@@ -1,30 +1,21 @@
 -- The frame rule and its reverse, and what an event keeps.
-use Rattle.std.proofs.Common.{◌≡◌, ℕ, Bool, true, false, not, cond, ◌&&◌, ◌||◌, ◌⊎◌, inl, inr, List, [], ◌∷◌, Option, None, Some, IsSome, IfSome, refl, ap, sym, subst, ◌∙◌}
+use Rattle.std.proofs.Common.{◌≡◌, ℕ, Bool, true, false, not, ◌||◌, ◌⊎◌, inl, inr, List, Option, None, Some, IsSome, IfSome, refl, ap, sym, subst, ◌∙◌}
 use Rattle.std.specs.FinSet as set
 use mathlib.Core.Path.{fun_ext}
-use Rattle.np_syntax.specs.declared.value.Name.{Name}
-use Rattle.np_syntax.specs.declared.event.Event.{Event}
-use Rattle.np_syntax.specs.declared.event.Kind.{Kind}
+use Rattle.np_calculus.proofs.Common.{Name, Event, Kind, Made, ◌>>=◌, ◌>>◌, need, NameSet, same_name, layer, Atom, Place, Config, Contents, Sight, inside}
+use Rattle.np_calculus.proofs.Common.{sight, at_site, Change, Write, effect, acting_in, are_new, change, apply, act, arrive_row, land_row}
 use Rattle.np_syntax.specs.declared.event.Kind.TheVariants as kind
-use Rattle.np_syntax.specs.declared.event.Made.{Made}
 use Rattle.np_syntax.specs.declared.event.Made.TheVariants as made
-use Rattle.np_syntax.specs.Options.{◌>>=◌, ◌>>◌, need}
-use Rattle.np_tables.specs.Names.{NameSet, same_name}
 use Rattle.np_tables.proofs.Tables.{born_insert, born_here}
-use Rattle.np_eval.specs.Forms.{layer}
-use Rattle.np_calculus.specs.declared.config.Atom.{Atom}
-use Rattle.np_calculus.specs.declared.config.Place.{Place}
 use Rattle.np_calculus.specs.declared.config.Place.TheVariants as place
-use Rattle.np_calculus.specs.Changes.{Change, Write, with_made, with_said, effect}
-use Rattle.np_calculus.specs.Config.{Config}
+use Rattle.np_calculus.specs.Changes.{with_made, with_said}
 use Rattle.np_calculus.specs.FrameRule.{Comes, Every, Fits, FrameBack, FrameRule, IsMade, KeepsLodged, KeepsOfSite, Writes, changed, left_by}
 use Rattle.np_calculus.specs.Parts.{IsApart, IsAway, IsLodged, IsMark, IsWhole, LacksMark, beside, either}
-use Rattle.np_calculus.specs.Reductions.{acting_in, act, apply, arrive_row, land_row, change, are_new}
-use Rattle.np_calculus.specs.Sight.{Contents, Sight, inside, sight, at_site}
+use Rattle.np_syntax.proofs.Bools.{and-out}
 use Rattle.np_calculus.proofs.Fits.{comes-in, fits}
 use Rattle.np_calculus.proofs.OwnNames.{not_true}
 use Rattle.np_calculus.proofs.Steps.{at_site-is, row-step}
-use Rattle.np_calculus.proofs.Writes.{agent-changed, either-none, every-map, inside-effect, left-is, left-there, mark-changed, split-changed, writes-map}
+use Rattle.np_calculus.proofs.Writes.{agent-changed, either-none, every-map, inside-effect, left-by, left-is, left-there, mark-changed, split-changed, writes-map}
 
 -- ---- what a site sees
 
@@ -101,24 +92,15 @@ module _ (part rest : Contents) (q : Name) where
   mark-rest (inl h) = inl (either-there (part.atom q) (rest.atom q) h)
   mark-rest (inr h) = inr (either-there (part.packet q) (rest.packet q) h)
 
-not-first : (a b : Bool) → (not a && b) ≡ true → a ≡ false
-not-first true b h = absurd cc
-not-first false b h = refl
-
-and-second : (a b : Bool) → (a && b) ≡ true → b ≡ true
-and-second true b h = h
-and-second false b h = absurd cc
-
-not-false : (a : Bool) → not a ≡ true → a ≡ false
+pub not-false : (a : Bool) → not a ≡ true → a ≡ false
 not-false true h = absurd cc
 not-false false h = refl
 
 made-unborn : (born : NameSet) (x : Made) (q : Name) → are_new born x ≡ true → IsMade x q → set.contains born q ≡ false
 made-unborn born made.Nothing q h is = absurd is
 made-unborn born (made.One m) q h is = ap (set.contains born) is ∙ not-false (set.contains born m) h
-made-unborn born (made.Two m n) q h (inl is) = ap (set.contains born) is ∙ not-first (set.contains born m) _ (and-second (not (same_name m n)) _ h)
-made-unborn born (made.Two m n) q h (inr is) =
-    ap (set.contains born) is ∙ not-false (set.contains born n) (and-second (not (set.contains born m)) _ (and-second (not (same_name m n)) _ h))
+made-unborn born (made.Two m n) q h (inl is) = let k = and-out _ _ (and-out _ _ h).1 in ap (set.contains born) is ∙ not-false (set.contains born m) k.0
+made-unborn born (made.Two m n) q h (inr is) = let k = and-out _ _ (and-out _ _ h).1 in ap (set.contains born) is ∙ not-false (set.contains born n) k.1
 
 or-second : (a b : Bool) → b ≡ true → (a || b) ≡ true
 or-second true b h = refl
@@ -155,17 +137,11 @@ module _ (whole part : Config) (rest : Contents) (e : Event) (w : IsWhole whole 
       ∙ same-change part.sites (inside part) rest e w.split.apart (same-sight part.sites (inside part) rest e.site w.split.apart lodged away) e.kind is
 
   -- what the part or the rest has is born in the whole
-  part-agent : (q : Name) → IsSome ((inside part).place q) → set.contains whole.born q ≡ true
-  part-agent q is = w.born.agents q (subst (λ (x : Contents). IsSome (x.place q)) (sym whole-is) (either-here ((inside part).place q) (rest.place q) is))
+  agent-there : (q : Name) → IsSome ((beside (inside part) rest).place q) → set.contains whole.born q ≡ true
+  agent-there q is = w.born.agents q (subst (λ (x : Contents). IsSome (x.place q)) (sym whole-is) is)
 
-  rest-agent : (q : Name) → IsSome (rest.place q) → set.contains whole.born q ≡ true
-  rest-agent q is = w.born.agents q (subst (λ (x : Contents). IsSome (x.place q)) (sym whole-is) (either-there ((inside part).place q) (rest.place q) is))
-
-  part-mark-born : (q : Name) → IsMark (inside part) q → set.contains whole.born q ≡ true
-  part-mark-born q is = w.born.marks q (subst (λ x. IsMark x q) (sym whole-is) (mark-part (inside part) rest q is))
-
-  rest-mark-born : (q : Name) → IsMark rest q → set.contains whole.born q ≡ true
-  rest-mark-born q is = w.born.marks q (subst (λ x. IsMark x q) (sym whole-is) (mark-rest (inside part) rest q is))
+  mark-there : (q : Name) → IsMark (beside (inside part) rest) q → set.contains whole.born q ≡ true
+  mark-there q is = w.born.marks q (subst (λ x. IsMark x q) (sym whole-is) is)
 
   unborn : (q : Name) → IsMade e.made q → set.contains whole.born q ≡ true → ⊥
   unborn q is h = let b = made-unborn whole.born e.made q new is in cc
@@ -173,11 +149,11 @@ module _ (whole part : Config) (rest : Contents) (e : Event) (w : IsWhole whole 
   -- the event writes nothing that the rest has
   lacks-agent : (q : Name) → IsSome ((inside part).place q) ⊎ IsMade e.made q → rest.place q ≡ None
   lacks-agent q (inl is) = w.split.apart.agents q is
-  lacks-agent q (inr is) = none_of (rest.place q) λ h. unborn q is (rest-agent q h)
+  lacks-agent q (inr is) = none_of (rest.place q) λ h. unborn q is (agent-there q (either-there ((inside part).place q) (rest.place q) h))
 
   lacks-mark : (q : Name) → IsMark (inside part) q ⊎ IsMade e.made q → LacksMark rest q
   lacks-mark q (inl is) = w.split.apart.marks q is
-  lacks-mark q (inr is) = lacks rest q λ h. unborn q is (rest-mark-born q h)
+  lacks-mark q (inr is) = lacks rest q λ h. unborn q is (mark-there q (mark-rest (inside part) rest q h))
 
   -- and what it writes is born then
   abbrev Born : Name → Type 0
@@ -187,11 +163,11 @@ module _ (whole part : Config) (rest : Contents) (e : Event) (w : IsWhole whole 
   old-born q h = still-born whole.born e.made q h
 
   agent-born : (q : Name) → IsSome ((inside part).place q) ⊎ IsMade e.made q → Born q
-  agent-born q (inl is) = old-born q (part-agent q is)
+  agent-born q (inl is) = old-born q (agent-there q (either-here ((inside part).place q) (rest.place q) is))
   agent-born q (inr is) = made-born whole.born e.made q is
 
   mark-born : (q : Name) → IsMark (inside part) q ⊎ IsMade e.made q → Born q
-  mark-born q (inl is) = old-born q (part-mark-born q is)
+  mark-born q (inl is) = old-born q (mark-there q (mark-part (inside part) rest q is))
   mark-born q (inr is) = made-born whole.born e.made q is
 
   module _ (d : Change) (is : change e.kind part.sites (inside part) e ≡ Some d) where
@@ -253,12 +229,7 @@ keeps_lodged c d e apart i h =
 -- an agent comes to no other site
 come-to : (site u : ℕ) (ws : List (Write Place)) (q : Name) (o : Option Place) → Every (λ w. (u : ℕ) → w.1 ≡ Some (place.At u) → u ≡ site) ws → (u ≡ site → ⊥)
     → (o ≡ Some (place.At u) → ⊥) → left_by ws q o ≡ Some (place.At u) → ⊥
-come-to site u [] q o h apart old is = old is
-come-to site u (w ∷ ws) q o h apart old is = come-to site u ws q (cond (same_name q w.0) w.1 o) h.1 apart (one (same_name q w.0) w.1 (h.0 u)) is
-  where
-    one : (t : Bool) (v : Option Place) → (v ≡ Some (place.At u) → u ≡ site) → cond t v o ≡ Some (place.At u) → ⊥
-    one true v f e = apart (f e)
-    one false v f e = old e
+come-to site u ws q o h apart old = left-by (λ v. v ≡ Some (place.At u) → ⊥) ws q o old (every-map _ _ (λ w comes same is. apart (comes u is)) ws h)
 
 pub keeps_of_site : KeepsOfSite
 keeps_of_site c d e apart i h = record {

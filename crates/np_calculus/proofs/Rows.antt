@@ -1,154 +1,133 @@
 -- The rows of acting atoms, by the parts of their forms.
-use Rattle.std.proofs.Common.{◌≡◌, Option, None, Some, refl, ap}
-use Rattle.np_syntax.specs.declared.process.ProcForm.{ProcForm-F}
-use Rattle.np_syntax.specs.declared.event.Event.{Event}
+use Rattle.std.proofs.Common.{◌≡◌, Option, None, Some, refl, ap, sym, ◌∙◌}
+use Rattle.np_calculus.proofs.Common.{ProcForm-F, Event, Kind, ◌>>=◌, then, Layer, layer, Atom, Config, Sight, inside, sight, Change, after_change, row, act}
+use Rattle.np_calculus.proofs.Common.{acting}
 use Rattle.np_syntax.specs.declared.event.Kind.TheVariants as kind
-use Rattle.np_syntax.specs.Options.{◌>>=◌}
-use Rattle.np_eval.specs.Forms.{Layer, layer}
 use Rattle.np_eval.specs.FormParts.{as_stop, as_par, as_new, as_inp, as_rep, as_agent_form, as_migrate, as_iflocal, as_send, as_post, as_if, as_let, as_print, as_open, as_lookup}
-use Rattle.np_calculus.specs.declared.config.Atom.{Atom}
-use Rattle.np_calculus.specs.Changes.{Change}
-use Rattle.np_calculus.specs.Config.{Config}
-use Rattle.np_calculus.specs.Reductions.{act, after_change, row}
+use Rattle.np_eval.proofs.FormsByParts as form
 use Rattle.np_calculus.specs.Rows.{row_by}
-use Rattle.np_calculus.specs.Seen.{acting}
-use Rattle.np_calculus.specs.Sight.{Sight, inside, sight}
 
-module _ (w : Sight) (e : Event) (a : Atom) where
-  pub stop-by : (l : Layer) → act kind.Stop l w e a ≡ (as_stop l >>= λ s. act kind.Stop ProcForm-F.Stop w e a)
-  unfolding act
-  stop-by ProcForm-F.Stop = refl
-  stop-by _ = refl
+-- a form of processes: its parts, how they are found, and the form that they make
+pub record Asked : Type 1 where
+  pub Parts : Type 0
+  pub parts : Layer → Option Parts
+  pub form : Parts → Layer
 
-  pub fork-by : (l : Layer) → act kind.Fork l w e a ≡ (as_par l >>= λ (p, q). act kind.Fork (ProcForm-F.Par p q) w e a)
-  unfolding act
-  fork-by (ProcForm-F.Par p q) = refl
-  fork-by _ = refl
+-- the form that each kind asks of the acting atom; an arrival and a landing have none
+abbrev pub asked : Kind → Asked
+asked kind.Stop = record { Parts = _; parts = as_stop; form = λ u. ProcForm-F.Stop }
+asked kind.Fork = record { Parts = _; parts = as_par; form = λ (p, q). ProcForm-F.Par p q }
+asked kind.New = record { Parts = _; parts = as_new; form = λ (x, t, p). ProcForm-F.New x t p }
+asked kind.Let = record { Parts = _; parts = as_let; form = λ (x, v, p). ProcForm-F.Let x v p }
+asked kind.If = record { Parts = _; parts = as_if; form = λ (v, p, q). ProcForm-F.If v p q }
+asked kind.Comm = record { Parts = _; parts = as_inp; form = λ (c, x, p). ProcForm-F.Inp c x p }
+asked kind.Rep = record { Parts = _; parts = as_rep; form = λ (c, x, p). ProcForm-F.Rep c x p }
+asked kind.Agent = record { Parts = _; parts = as_agent_form; form = λ (b, p, q). ProcForm-F.Agent b p q }
+asked kind.Depart = record { Parts = _; parts = as_migrate; form = λ (s, p). ProcForm-F.Migrate s p }
+asked kind.Local = record { Parts = _; parts = as_iflocal; form = λ (b, c, v, p, q). ProcForm-F.IfLocal b c v p q }
+asked kind.Send = record { Parts = _; parts = as_send; form = λ (b, t, c, v). ProcForm-F.Send b t c v }
+asked kind.Print = record { Parts = _; parts = as_print; form = ProcForm-F.Print }
+asked kind.Open = record { Parts = _; parts = as_open; form = ProcForm-F.Open }
+asked kind.Lookup = record { Parts = _; parts = as_lookup; form = λ (b, m, x, p, q). ProcForm-F.Lookup b m x p q }
+asked kind.Post = record { Parts = _; parts = as_post; form = λ (b, c, v). ProcForm-F.Post b c v }
+asked _ = record { Parts = ⊥; parts = λ l. None; form = λ none. absurd none }
 
-  pub new-by : (l : Layer) → act kind.New l w e a ≡ (as_new l >>= λ (x, t, p). act kind.New (ProcForm-F.New x t p) w e a)
-  unfolding act
-  new-by (ProcForm-F.New x t p) = refl
-  new-by _ = refl
+-- a process of these parts has this form
+is-form : (k : Kind) (l : Layer) (p : (asked k).Parts) → (asked k).parts l ≡ Some p → l ≡ (asked k).form p
+is-form kind.Stop l p h = form.stop-form l p h
+is-form kind.Fork l p h = form.par-form l p h
+is-form kind.New l p h = form.new-form l p h
+is-form kind.Let l p h = form.let-form l p h
+is-form kind.If l p h = form.if-form l p h
+is-form kind.Comm l p h = form.inp-form l p h
+is-form kind.Rep l p h = form.rep-form l p h
+is-form kind.Agent l p h = form.agent-form l p h
+is-form kind.Depart l p h = form.migrate-form l p h
+is-form kind.Local l p h = form.iflocal-form l p h
+is-form kind.Send l p h = form.send-form l p h
+is-form kind.Print l p h = form.print-form l p h
+is-form kind.Open l p h = form.open-form l p h
+is-form kind.Lookup l p h = form.lookup-form l p h
+is-form kind.Post l p h = form.post-form l p h
+is-form _ l p h = absurd p
 
-  pub let-by : (l : Layer) → act kind.Let l w e a ≡ (as_let l >>= λ (x, v, p). act kind.Let (ProcForm-F.Let x v p) w e a)
-  unfolding act
-  let-by (ProcForm-F.Let x v p) = refl
-  let-by _ = refl
+-- a row is that of the form that its kind asks for
+pub by : (k : Kind) (l : Layer) (w : Sight) (e : Event) (a : Atom) → act k l w e a ≡ ((asked k).parts l >>= λ p. act k ((asked k).form p) w e a)
+unfolding act
+by kind.Stop ProcForm-F.Stop w e a = refl
+by kind.Fork (ProcForm-F.Par p q) w e a = refl
+by kind.New (ProcForm-F.New x t p) w e a = refl
+by kind.Let (ProcForm-F.Let x v p) w e a = refl
+by kind.If (ProcForm-F.If v p q) w e a = refl
+by kind.Comm (ProcForm-F.Inp c x p) w e a = refl
+by kind.Rep (ProcForm-F.Rep c x p) w e a = refl
+by kind.Agent (ProcForm-F.Agent b p q) w e a = refl
+by kind.Depart (ProcForm-F.Migrate s p) w e a = refl
+by kind.Local (ProcForm-F.IfLocal b c v p q) w e a = refl
+by kind.Send (ProcForm-F.Send b t c v) w e a = refl
+by kind.Print (ProcForm-F.Print x) w e a = refl
+by kind.Open (ProcForm-F.Open x) w e a = refl
+by kind.Lookup (ProcForm-F.Lookup b m x p q) w e a = refl
+by kind.Post (ProcForm-F.Post b c v) w e a = refl
+by _ _ w e a = refl
 
-  pub if-by : (l : Layer) → act kind.If l w e a ≡ (as_if l >>= λ (v, p, q). act kind.If (ProcForm-F.If v p q) w e a)
-  unfolding act
-  if-by (ProcForm-F.If v p q) = refl
-  if-by _ = refl
-
-  pub comm-by : (l : Layer) → act kind.Comm l w e a ≡ (as_inp l >>= λ (c, x, p). act kind.Comm (ProcForm-F.Inp c x p) w e a)
-  unfolding act
-  comm-by (ProcForm-F.Inp c x p) = refl
-  comm-by _ = refl
-
-  pub rep-by : (l : Layer) → act kind.Rep l w e a ≡ (as_rep l >>= λ (c, x, p). act kind.Rep (ProcForm-F.Rep c x p) w e a)
-  unfolding act
-  rep-by (ProcForm-F.Rep c x p) = refl
-  rep-by _ = refl
-
-  pub agent-by : (l : Layer) → act kind.Agent l w e a ≡ (as_agent_form l >>= λ (b, p, q). act kind.Agent (ProcForm-F.Agent b p q) w e a)
-  unfolding act
-  agent-by (ProcForm-F.Agent b p q) = refl
-  agent-by _ = refl
-
-  pub depart-by : (l : Layer) → act kind.Depart l w e a ≡ (as_migrate l >>= λ (s, p). act kind.Depart (ProcForm-F.Migrate s p) w e a)
-  unfolding act
-  depart-by (ProcForm-F.Migrate s p) = refl
-  depart-by _ = refl
-
-  pub local-by : (l : Layer) → act kind.Local l w e a ≡ (as_iflocal l >>= λ (b, c, v, p, q). act kind.Local (ProcForm-F.IfLocal b c v p q) w e a)
-  unfolding act
-  local-by (ProcForm-F.IfLocal b c v p q) = refl
-  local-by _ = refl
-
-  pub send-by : (l : Layer) → act kind.Send l w e a ≡ (as_send l >>= λ (b, t, c, v). act kind.Send (ProcForm-F.Send b t c v) w e a)
-  unfolding act
-  send-by (ProcForm-F.Send b t c v) = refl
-  send-by _ = refl
-
-  pub print-by : (l : Layer) → act kind.Print l w e a ≡ (as_print l >>= λ s. act kind.Print (ProcForm-F.Print s) w e a)
-  unfolding act
-  print-by (ProcForm-F.Print x) = refl
-  print-by _ = refl
-
-  pub open-by : (l : Layer) → act kind.Open l w e a ≡ (as_open l >>= λ s. act kind.Open (ProcForm-F.Open s) w e a)
-  unfolding act
-  open-by (ProcForm-F.Open x) = refl
-  open-by _ = refl
-
-  pub lookup-by : (l : Layer) → act kind.Lookup l w e a ≡ (as_lookup l >>= λ (b, m, x, p, q). act kind.Lookup (ProcForm-F.Lookup b m x p q) w e a)
-  unfolding act
-  lookup-by (ProcForm-F.Lookup b m x p q) = refl
-  lookup-by _ = refl
-
-  pub post-by : (l : Layer) → act kind.Post l w e a ≡ (as_post l >>= λ (b, c, v). act kind.Post (ProcForm-F.Post b c v) w e a)
-  unfolding act
-  post-by (ProcForm-F.Post b c v) = refl
-  post-by _ = refl
-
-  -- an arrival and a landing have no acting atom
-  pub never-arrives : (l : Layer) → act kind.Arrive l w e a ≡ None
-  unfolding act
-  never-arrives l = refl
-
-  pub never-lands : (l : Layer) → act kind.Land l w e a ≡ None
-  unfolding act
-  never-lands l = refl
+-- the parts of the acting atom's form, and the rest of a row that is met
+pub parts : {R : Type 0} (k : Kind) (w : Sight) (e : Event) (a : Atom) {x : Change} → act k (layer a.proc) w e a ≡ Some x
+    → ((p : (asked k).Parts) → layer a.proc ≡ (asked k).form p → act k ((asked k).form p) w e a ≡ Some x → R) → R
+parts k w e a h f = then ((asked k).parts (layer a.proc)) _ (sym (by k (layer a.proc) w e a) ∙ h) λ p is h. f p (is-form k (layer a.proc) p is) h
 
 module _ (c : Config) (e : Event) where
   abbrev w : Sight
   w = sight c.sites (inside c) e.site
 
-  same_steps : (o : Option Atom) (f g : Atom → Option Change) → ((a : Atom) → f a ≡ g a)
-      → ((o >>= f) >>= after_change c e) ≡ ((o >>= g) >>= after_change c e)
-  same_steps None f g h = refl
-  same_steps (Some a) f g h = ap (λ o. o >>= after_change c e) (h a)
+  chain : (o : Option Atom) (f g : Atom → Option Change) → ((a : Atom) → f a ≡ g a) → ((o >>= f) >>= after_change c e) ≡ ((o >>= g) >>= after_change c e)
+  chain None f g h = refl
+  chain (Some a) f g h = ap (λ o. o >>= after_change c e) (h a)
+
+  same_steps : (k : Kind) → ((acting c e >>= λ a. act k (layer a.proc) w e a) >>= after_change c e) ≡ row_by k (asked k).parts (asked k).form c e
+  same_steps k = chain (acting c e) _ _ λ a. by k (layer a.proc) w e a
 
   pub stop-row : row kind.Stop c e ≡ row_by kind.Stop as_stop (λ s. ProcForm-F.Stop) c e
-  stop-row = same_steps (acting c e) _ _ λ a. stop-by w e a (layer a.proc)
+  stop-row = same_steps kind.Stop
 
   pub fork-row : row kind.Fork c e ≡ row_by kind.Fork as_par (λ (p, q). ProcForm-F.Par p q) c e
-  fork-row = same_steps (acting c e) _ _ λ a. fork-by w e a (layer a.proc)
+  fork-row = same_steps kind.Fork
 
   pub new-row : row kind.New c e ≡ row_by kind.New as_new (λ (x, t, p). ProcForm-F.New x t p) c e
-  new-row = same_steps (acting c e) _ _ λ a. new-by w e a (layer a.proc)
+  new-row = same_steps kind.New
 
   pub let-row : row kind.Let c e ≡ row_by kind.Let as_let (λ (x, v, p). ProcForm-F.Let x v p) c e
-  let-row = same_steps (acting c e) _ _ λ a. let-by w e a (layer a.proc)
+  let-row = same_steps kind.Let
 
   pub if-row : row kind.If c e ≡ row_by kind.If as_if (λ (v, p, q). ProcForm-F.If v p q) c e
-  if-row = same_steps (acting c e) _ _ λ a. if-by w e a (layer a.proc)
+  if-row = same_steps kind.If
 
   pub comm-row : row kind.Comm c e ≡ row_by kind.Comm as_inp (λ (c, x, p). ProcForm-F.Inp c x p) c e
-  comm-row = same_steps (acting c e) _ _ λ a. comm-by w e a (layer a.proc)
+  comm-row = same_steps kind.Comm
 
   pub rep-row : row kind.Rep c e ≡ row_by kind.Rep as_rep (λ (c, x, p). ProcForm-F.Rep c x p) c e
-  rep-row = same_steps (acting c e) _ _ λ a. rep-by w e a (layer a.proc)
+  rep-row = same_steps kind.Rep
 
   pub agent-row : row kind.Agent c e ≡ row_by kind.Agent as_agent_form (λ (b, p, q). ProcForm-F.Agent b p q) c e
-  agent-row = same_steps (acting c e) _ _ λ a. agent-by w e a (layer a.proc)
+  agent-row = same_steps kind.Agent
 
   pub depart-row : row kind.Depart c e ≡ row_by kind.Depart as_migrate (λ (s, p). ProcForm-F.Migrate s p) c e
-  depart-row = same_steps (acting c e) _ _ λ a. depart-by w e a (layer a.proc)
+  depart-row = same_steps kind.Depart
 
   pub local-row : row kind.Local c e ≡ row_by kind.Local as_iflocal (λ (b, c, v, p, q). ProcForm-F.IfLocal b c v p q) c e
-  local-row = same_steps (acting c e) _ _ λ a. local-by w e a (layer a.proc)
+  local-row = same_steps kind.Local
 
   pub send-row : row kind.Send c e ≡ row_by kind.Send as_send (λ (b, t, c, v). ProcForm-F.Send b t c v) c e
-  send-row = same_steps (acting c e) _ _ λ a. send-by w e a (layer a.proc)
+  send-row = same_steps kind.Send
 
   pub print-row : row kind.Print c e ≡ row_by kind.Print as_print ProcForm-F.Print c e
-  print-row = same_steps (acting c e) _ _ λ a. print-by w e a (layer a.proc)
+  print-row = same_steps kind.Print
 
   pub open-row : row kind.Open c e ≡ row_by kind.Open as_open ProcForm-F.Open c e
-  open-row = same_steps (acting c e) _ _ λ a. open-by w e a (layer a.proc)
+  open-row = same_steps kind.Open
 
   pub lookup-row : row kind.Lookup c e ≡ row_by kind.Lookup as_lookup (λ (b, m, x, p, q). ProcForm-F.Lookup b m x p q) c e
-  lookup-row = same_steps (acting c e) _ _ λ a. lookup-by w e a (layer a.proc)
+  lookup-row = same_steps kind.Lookup
 
   pub post-row : row kind.Post c e ≡ row_by kind.Post as_post (λ (b, c, v). ProcForm-F.Post b c v) c e
-  post-row = same_steps (acting c e) _ _ λ a. post-by w e a (layer a.proc)
+  post-row = same_steps kind.Post

@@ -1,59 +1,33 @@
 -- What a row that is met says of its change, its new names and its acting atom.
-use Rattle.std.proofs.Common.{◌≡◌, ℕ, Bool, true, false, not, ◌&&◌, Option, None, Some, nat_eq, refl, ap, sym, subst, ◌∙◌, eq-eqb}
+use Rattle.std.proofs.Common.{◌≡◌, ℕ, Bool, true, false, not, Option, None, Some, nat_eq, refl, ap, sym, subst, ◌∙◌, eq-eqb}
 use Rattle.std.proofs.lemmas.Bool.{eqb-true}
 use Rattle.std.specs.FinMap as map
 use Rattle.std.specs.FinSet as set
-use Rattle.np_syntax.specs.declared.value.Name.{Name}
-use Rattle.np_syntax.specs.declared.value.Value.{Value}
-use Rattle.np_syntax.specs.declared.event.Event.{Event}
-use Rattle.np_syntax.specs.declared.event.Kind.{Kind}
-use Rattle.np_syntax.specs.declared.event.Made.{Made}
+use Rattle.np_calculus.proofs.Common.{Contents, Name, Value, Event, Kind, Made, ◌>>=◌, ◌>>◌, need, then, when, done, NameSet, same_name, same_name-is, Atom, Place}
+use Rattle.np_calculus.proofs.Common.{Config, inside, sight, at_site, Change, effect, same_tag, none_made, one_made, two_made, sends, offered_in, are_new}
+use Rattle.np_calculus.proofs.Common.{change, row, acting, is_at, offered}
 use Rattle.np_syntax.specs.declared.event.Made.TheVariants as made
-use Rattle.np_syntax.specs.Options.{◌>>=◌, ◌>>◌, need}
-use Rattle.np_tables.specs.Names.{NameSet, same_name}
-use Rattle.np_syntax.proofs.Options.{then, when, done}
-use Rattle.np_tables.proofs.Tables.{same_name-is}
-use Rattle.np_calculus.specs.declared.config.Atom.{Atom}
-use Rattle.np_calculus.specs.declared.config.Place.{Place}
+use Rattle.np_syntax.proofs.Bools.{and-out}
 use Rattle.np_calculus.specs.declared.config.Place.TheVariants as place
-use Rattle.np_calculus.specs.Changes.{Change, effect, with_made}
-use Rattle.np_calculus.specs.Sight.{inside, sight, at_site}
-use Rattle.np_calculus.specs.Config.{Config}
-use Rattle.np_calculus.specs.Reductions.{same_tag, none_made, one_made, two_made, sends, offered_in, are_new, change, row}
-use Rattle.np_calculus.specs.Seen.{acting, fresh, is_at, offered}
+use Rattle.np_calculus.specs.Changes.{with_made}
+use Rattle.np_calculus.specs.Seen.{fresh}
 
 -- ---- the names that are made
 
-module _ (born : NameSet) where
-  pub none-new : (x : Made) (u : Unit {0}) → none_made x ≡ Some u → are_new born x ≡ true
-  none-new made.Nothing u h = refl
-  none-new _ u h = absurd cc
+pub is-none : (x : Made) (u : Unit {0}) → none_made x ≡ Some u → x ≡ made.Nothing
+is-none made.Nothing u h = refl
+is-none _ u h = absurd cc
 
-  pub none-with : (x : Made) (u : Unit {0}) → none_made x ≡ Some u → with_made born x ≡ born
-  none-with made.Nothing u h = refl
-  none-with _ u h = absurd cc
+pub is-one : (x : Made) (m : Name) → one_made x ≡ Some m → x ≡ made.One m
+is-one (made.One n) m h = ap made.One (sym (done h))
+is-one _ m h = absurd cc
 
-  pub one-new : (x : Made) (m : Name) → one_made x ≡ Some m → are_new born x ≡ not (set.contains born m)
-  one-new (made.One n) m h = ap (λ m. not (set.contains born m)) (sym (done h))
-  one-new _ m h = absurd cc
+pub is-two : (x : Made) (m : Name × Name) → two_made x ≡ Some m → x ≡ made.Two m.0 m.1
+is-two (made.Two n o) m h = ap (λ (m : Name × Name). made.Two m.0 m.1) (sym (done h))
+is-two _ m h = absurd cc
 
-  pub one-with : (x : Made) (m : Name) → one_made x ≡ Some m → with_made born x ≡ set.insert born m
-  one-with (made.One n) m h = ap (set.insert born) (sym (done h))
-  one-with _ m h = absurd cc
-
-  pub two-new : (x : Made) (m : Name × Name) → two_made x ≡ Some m
-      → are_new born x ≡ (not (same_name m.0 m.1) && (not (set.contains born m.0) && not (set.contains born m.1)))
-  two-new (made.Two n o) m h =
-      ap (λ (m : Name × Name). not (same_name m.0 m.1) && (not (set.contains born m.0) && not (set.contains born m.1))) (sym (done h))
-  two-new _ m h = absurd cc
-
-  pub two-with : (x : Made) (m : Name × Name) → two_made x ≡ Some m → with_made born x ≡ set.insert (set.insert born m.0) m.1
-  two-with (made.Two n o) m h = ap (λ (m : Name × Name). set.insert (set.insert born m.0) m.1) (sym (done h))
-  two-with _ m h = absurd cc
-
-and_parts : (a b : Bool) → (a && b) ≡ true → (a ≡ true) × (b ≡ true)
-and_parts true b h = (refl, h)
-and_parts false b h = absurd cc
+pub one-new : (born : NameSet) (x : Made) (m : Name) → one_made x ≡ Some m → are_new born x ≡ not (set.contains born m)
+one-new born x m h = ap (are_new born) (is-one x m h)
 
 pub need-met : (t : Bool) (u : Unit {0}) → need t ≡ Some u → t ≡ true
 need-met true u h = refl
@@ -70,20 +44,10 @@ module _ (c : Config) (e : Event) (d : Config) where
   pub row-step : (k : Kind) → row k c e ≡ Some d → RowStep k
   row-step k h = then (change k c.sites (inside c) e) _ h λ x gives h. when (are_new c.born e.made) _ h λ new h. record { made = x; gives = gives; new = new; is = done h }
 
-  -- the effect of a change that makes no name, one or two
-  pub none-is : (x y : Change) → none_made e.made ≡ Some tt → Some y ≡ Some x → d ≡ effect c e x → d ≡ record (effect c e y) { born = c.born }
-  none-is x y made same is =
-      is ∙ ap (λ b. record (effect c e x) { born = b }) (none-with c.born e.made tt made) ∙ ap (λ z. record (effect c e z) { born = c.born }) (done same)
-
-  pub one-is : (x y : Change) (m : Name) → one_made e.made ≡ Some m → Some y ≡ Some x → d ≡ effect c e x → d ≡ record (effect c e y) { born = set.insert c.born m }
-  one-is x y m made same is =
-      is ∙ ap (λ b. record (effect c e x) { born = b }) (one-with c.born e.made m made) ∙ ap (λ z. record (effect c e z) { born = set.insert c.born m }) (done same)
-
-  pub two-is : (x y : Change) (m : Name × Name) → two_made e.made ≡ Some m → Some y ≡ Some x → d ≡ effect c e x
-      → d ≡ record (effect c e y) { born = set.insert (set.insert c.born m.0) m.1 }
-  two-is x y m made same is =
-      is ∙ ap (λ b. record (effect c e x) { born = b }) (two-with c.born e.made m made)
-      ∙ ap (λ z. record (effect c e z) { born = set.insert (set.insert c.born m.0) m.1 }) (done same)
+  -- the effect of a change, where these names are born afterwards
+  pub made-is : {born : NameSet} (x y : Change) → with_made c.born e.made ≡ born → Some y ≡ Some x → d ≡ effect c e x → d ≡ record (effect c e y) { born = born }
+  made-is {born = born} x y made same is =
+      is ∙ ap (λ b. record (effect c e x) { born = b }) made ∙ ap (λ z. record (effect c e z) { born = born }) (done same)
 
   pub one-fresh : (m : Name) → one_made e.made ≡ Some m → are_new c.born e.made ≡ true → fresh c m ≡ Some tt
   one-fresh m made new = ap need (sym (one-new c.born e.made m made) ∙ new)
@@ -95,8 +59,7 @@ module _ (c : Config) (e : Event) (d : Config) where
 
   pub two-fresh : (m : Name × Name) → two_made e.made ≡ Some m → are_new c.born e.made ≡ true → TwoFresh m
   two-fresh m made new =
-      let h = and_parts _ _ (sym (two-new c.born e.made m made) ∙ new) in
-      let k = and_parts _ _ h.1 in
+      let h = and-out _ _ (sym (ap (are_new c.born) (is-two e.made m made)) ∙ new) in let k = and-out _ _ h.1 in
       record { differ = h.0; first = ap need k.0; second = ap need k.1 }
 
 -- ---- the acting atom
@@ -162,11 +125,12 @@ seen false agent b R h = refused (same_name agent b.agent) (R b) h
     refused true o h = absurd (let x = h refl in cc)
     refused false o h = refl
 
--- an output in the acting atom's agent is seen
+-- an output in an agent that is at the site is seen there
+pub offer-seen : (x : Contents) (sites site : ℕ) (m agent n : Name) → at_site (x.place agent) site ≡ true → offered_in (sight sites x site).atom m agent n ≡ offered_in x.atom m agent n
+offer-seen x sites site m agent n here =
+    let value : Atom → Option Value = λ b. sends b >>= λ sent. need (same_name n sent.0) >> Some sent.1 in
+    chain (x.atom m) _ (λ b. need (same_name agent b.agent) >> value b) _ λ b there.
+    seen (at_site (x.place b.agent) site) agent b value (λ s. ap (λ q. at_site (x.place q) site) (sym (same_name-is agent b.agent s)) ∙ here)
+
 pub same-offer : (c : Config) (e : Event) (a : Atom) (m n : Name) → acting c e ≡ Some a → offered_in (sight c.sites (inside c) e.site).atom m a.agent n ≡ offered c m a.agent n
-same-offer c e a m n h =
-    let s = acting-step c e a h in
-    let here : is_at c a.agent e.site ≡ true = rw s.stands (same_site e.site) in
-    chain (map.get c.atoms m) _ (λ (b : Atom). need (same_name a.agent b.agent) >> (sends b >>= λ sent. need (same_name n sent.0) >> Some sent.1)) _ λ b there.
-    seen (is_at c b.agent e.site) a.agent b (λ b. sends b >>= λ sent. need (same_name n sent.0) >> Some sent.1)
-    (λ s. ap (λ agent. is_at c agent e.site) (sym (same_name-is a.agent b.agent s)) ∙ here)
+same-offer c e a m n h = offer-seen (inside c) c.sites e.site m a.agent n (rw (acting-step c e a h).stands (same_site e.site))

@@ -1,40 +1,22 @@
 -- An event depends on nothing but what it touches.
-use Rattle.std.proofs.Common.{◌≡◌, ◌⊎◌, inl, inr, ℕ, Bool, true, false, cond, List, [], ◌∷◌, ◌++◌, map, Option, None, Some, refl, ap, sym, subst, ◌∙◌}
-use Rattle.np_syntax.specs.declared.value.Name.{Name}
-use Rattle.np_syntax.specs.declared.value.Value.{Value}
-use Rattle.np_syntax.specs.declared.process.ProcForm.{ProcForm-F}
-use Rattle.np_syntax.specs.declared.event.Event.{Event}
-use Rattle.np_syntax.specs.declared.event.Kind.{Kind}
+use Rattle.std.proofs.Common.{◌≡◌, ℕ, cond, List, [], ◌∷◌, ◌++◌, map, Option, None, Some, refl, ap, sym, subst, ◌∙◌}
+use Rattle.np_calculus.proofs.Common.{Name, ProcForm-F, Event, Kind, ◌>>=◌, ◌>>◌, need, same_name, same_name-is, chan_of, agent_of, Layer, layer, Atom}
+use Rattle.np_calculus.proofs.Common.{Contents, Sight, inside, sight, at_site, Change, Write, effect, same_tag, offered_in, acting_in, change, act}
+use Rattle.np_calculus.proofs.Common.{arrive_row, land_row}
 use Rattle.np_syntax.specs.declared.event.Kind.TheVariants as kind
-use Rattle.np_syntax.specs.Options.{◌>>=◌, ◌>>◌, need}
-use Rattle.np_tables.specs.Names.{same_name}
-use Rattle.np_tables.proofs.Tables.{same_name-is}
-use Rattle.np_eval.specs.Forms.{Layer, layer}
 use Rattle.np_eval.specs.FormParts.{as_iflocal}
-use Rattle.np_eval.specs.Eval.{chan_of, agent_of}
-use Rattle.np_calculus.specs.declared.config.Atom.{Atom}
-use Rattle.np_calculus.specs.Changes.{Change, Write, effect}
 use Rattle.np_calculus.specs.Footprints.{listed, asked_by, bound_for, touches, written_by, SameMark, SamePlace, AgreesOn, DependsOnTouched, Unseen}
 use Rattle.np_calculus.specs.FrameRule.{Every, left_by, changed}
-use Rattle.np_calculus.specs.Reductions.{acting_in, act, same_tag, sends, offered_in, arrive_row, land_row, change}
-use Rattle.np_calculus.specs.Sight.{Contents, Sight, inside, sight, at_site}
 use Rattle.np_calculus.proofs.Fits.{actor-seen}
 use Rattle.np_calculus.proofs.OwnNames.{not_true}
-use Rattle.np_calculus.proofs.Rows.{stop-by, fork-by, new-by, let-by, if-by, agent-by, depart-by, send-by, print-by, open-by, lookup-by, post-by}
+use Rattle.np_calculus.proofs.Rows.{by}
+use Rattle.np_calculus.proofs.Steps.{offer-seen}
 use Rattle.np_calculus.proofs.Writes.{inside-effect, every-map}
 
 -- two chains with the same first step
 step : {A B : Type 0} (o p : Option A) (f g : A → Option B) → o ≡ p → ((a : A) → o ≡ Some a → f a ≡ g a) → (o >>= f) ≡ (p >>= g)
 step None p f g e h = ap (λ o. o >>= g) e
 step (Some a) p f g e h = h a refl ∙ ap (λ o. o >>= g) e
-
--- a chain whose rest gives nothing gives nothing, whatever its first condition
-either_way : (t u : Bool) (b : Atom) (rest : Atom → Option Value) → (t ≡ u) ⊎ (rest b ≡ None) → ((need t >> Some b) >>= rest) ≡ ((need u >> Some b) >>= rest)
-either_way t u b rest (inl e) = ap (λ t. (need t >> Some b) >>= rest) e
-either_way true true b rest (inr e) = refl
-either_way true false b rest (inr e) = e
-either_way false true b rest (inr e) = sym e
-either_way false false b rest (inr e) = refl
 
 pub every-first : {A : Type 0} (P : A → Type 0) (xs ys : List A) → Every P (xs ++ ys) → Every P xs
 every-first P [] ys h = tt
@@ -71,17 +53,6 @@ module _ (n : ℕ) (x y : Contents) (e : Event) (marks : Every (SameMark x y) (e
   acting-same : acting_in v e ≡ acting_in w e
   acting-same = ap (λ o. o >>= λ a. need (same_tag a.proc.tag e.tag) >> Some a) atom-same
 
-  near : (agent : Name) → SamePlace x y agent → (t : Bool) (b : Atom) (rest : Option Value) → same_name agent b.agent ≡ t
-      → (at_site (x.place b.agent) e.site ≡ at_site (y.place b.agent) e.site) ⊎ ((need (same_name agent b.agent) >> rest) ≡ None)
-  near agent same true b rest is = inl (subst (λ q. at_site (x.place q) e.site ≡ at_site (y.place q) e.site) (same_name-is agent b.agent is) (here-same x y e.site agent same))
-  near agent same false b rest is = inr (rw is refl)
-
-  seen-same : (z : Option Atom) (rest : Atom → Option Value)
-      → ((b : Atom) → ((need (at_site (x.place b.agent) e.site) >> Some b) >>= rest) ≡ ((need (at_site (y.place b.agent) e.site) >> Some b) >>= rest))
-      → ((z >>= λ b. need (at_site (x.place b.agent) e.site) >> Some b) >>= rest) ≡ ((z >>= λ b. need (at_site (y.place b.agent) e.site) >> Some b) >>= rest)
-  seen-same None rest h = refl
-  seen-same (Some b) rest h = h b
-
   module _ (a : Atom) (is : acting_in v e ≡ Some a) where
     there : x.atom e.actor ≡ Some a
     there = (actor-seen n x e a is).there
@@ -89,10 +60,9 @@ module _ (n : ℕ) (x y : Contents) (e : Event) (marks : Every (SameMark x y) (e
     -- an output that is taken is in the actor's agent
     offered-same : (o m : Name) → e.other ≡ Some o → offered_in v.atom o a.agent m ≡ offered_in w.atom o a.agent m
     offered-same o m other =
-        let rest : Atom → Option Value = λ b. need (same_name a.agent b.agent) >> (sends b >>= λ sent. need (same_name m sent.0) >> Some sent.1) in
-        ap (λ z. (z >>= λ b. need (at_site (x.place b.agent) e.site) >> Some b) >>= rest) (other-same o other).atom
-        ∙ seen-same (y.atom o) rest λ b. either_way (at_site (x.place b.agent) e.site) (at_site (y.place b.agent) e.site) b rest
-        (near a.agent (agent-same a there) (same_name a.agent b.agent) b (sends b >>= λ sent. need (same_name m sent.0) >> Some sent.1) refl)
+        let here = (actor-seen n x e a is).here in
+        offer-seen x n e.site o a.agent m here ∙ ap (λ z. offered_in (λ q. z) o a.agent m) (other-same o other).atom
+        ∙ sym (offer-seen y n e.site o a.agent m (sym (here-same x y e.site a.agent (agent-same a there)) ∙ here))
 
     act-same : (k : Kind) (l : Layer) → layer a.proc ≡ l → act k l v e a ≡ act k l w e a
     unfolding act
@@ -101,23 +71,7 @@ module _ (n : ℕ) (x y : Contents) (e : Event) (marks : Every (SameMark x y) (e
     act-same kind.Local (ProcForm-F.IfLocal agent c sent met unmet) is = step (agent_of agent a.env) (agent_of agent a.env) _ _ refl λ b names.
         let l : Every (SamePlace x y) (b ∷ []) = rw (is, names) at (asked-same a there) in
         rw (here-same x y e.site b l.0) refl
-    act-same kind.Comm _ is = refl
-    act-same kind.Rep _ is = refl
-    act-same kind.Local _ is = refl
-    act-same kind.Arrive l is = refl
-    act-same kind.Land l is = refl
-    act-same kind.Stop l is = stop-by v e a l ∙ sym (stop-by w e a l)
-    act-same kind.Fork l is = fork-by v e a l ∙ sym (fork-by w e a l)
-    act-same kind.New l is = new-by v e a l ∙ sym (new-by w e a l)
-    act-same kind.Let l is = let-by v e a l ∙ sym (let-by w e a l)
-    act-same kind.If l is = if-by v e a l ∙ sym (if-by w e a l)
-    act-same kind.Agent l is = agent-by v e a l ∙ sym (agent-by w e a l)
-    act-same kind.Depart l is = depart-by v e a l ∙ sym (depart-by w e a l)
-    act-same kind.Send l is = send-by v e a l ∙ sym (send-by w e a l)
-    act-same kind.Print l is = print-by v e a l ∙ sym (print-by w e a l)
-    act-same kind.Open l is = open-by v e a l ∙ sym (open-by w e a l)
-    act-same kind.Lookup l is = lookup-by v e a l ∙ sym (lookup-by w e a l)
-    act-same kind.Post l is = post-by v e a l ∙ sym (post-by w e a l)
+    act-same k l is = by k l v e a ∙ sym (by k l w e a)
 
 module _ (n : ℕ) (x y : Contents) (e : Event) where
   land-same : SameMark x y e.actor → Every (SamePlace x y) (bound_for (x.packet e.actor)) → land_row (x.packet e.actor) (sight n x e.site) e ≡ land_row (y.packet e.actor) (sight n y e.site) e

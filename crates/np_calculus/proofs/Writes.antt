@@ -2,16 +2,15 @@
 use Rattle.std.proofs.Common.{◌≡◌, Bool, true, false, cond, inl, inr, List, [], ◌∷◌, Option, None, Some, IsSome, IfSome, refl, ap, sym, subst, ◌∙◌}
 use Rattle.std.specs.FinMap as map
 use mathlib.Core.Path.{fun_ext}
-use Rattle.np_syntax.specs.declared.value.Name.{Name}
-use Rattle.np_syntax.specs.declared.event.Event.{Event}
-use Rattle.np_tables.specs.Names.{NameMap, same_name}
-use Rattle.np_syntax.proofs.Options.{done}
-use Rattle.np_tables.proofs.Tables.{get-put, get-cut, same_name-is}
-use Rattle.np_calculus.specs.Changes.{Change, Write, rewritten, written, effect}
-use Rattle.np_calculus.specs.Config.{Config}
+use Rattle.np_calculus.proofs.Common.{Name, Event, done, NameMap, same_name, same_name-is, Config, Contents, inside, Change, Write, effect}
+use Rattle.np_tables.proofs.Tables.{get-put, get-cut}
+use Rattle.np_calculus.specs.Changes.{rewritten, written}
 use Rattle.np_calculus.specs.FrameRule.{Every, left_by, changed, Writes}
 use Rattle.np_calculus.specs.Parts.{IsMark, LacksMark, IsSplit, either}
-use Rattle.np_calculus.specs.Sight.{Contents, inside}
+
+pub every-map : {A : Type 0} (P Q : A → Type 0) → ((x : A) → P x → Q x) → (xs : List A) → Every P xs → Every Q xs
+every-map P Q f [] h = tt
+every-map P Q f (x ∷ xs) h = (f x h.0, every-map P Q f xs h.1)
 
 module _ {X : Type 0} where
   get-rewritten : (t : NameMap X) (k : Name) (o : Option X) (q : Name) → map.get (rewritten t k o) q ≡ cond (same_name q k) o (map.get t q)
@@ -38,38 +37,31 @@ module _ {X : Type 0} where
       ap (left_by ws q) (write_beside (same_name q w.0) w.1 x (rest q) (λ t. ap rest (same_name-is q w.0 t) ∙ h.0))
       ∙ left-beside ws rest q (cond (same_name q w.0) w.1 x) h.1
 
+  -- what holds of what stood under a name, and of what is written there, holds of what is left
+  pub left-by : (R : Option X → Type 0) (ws : List (Write X)) (q : Name) (o : Option X) → R o → Every (λ w. q ≡ w.0 → R w.1) ws → R (left_by ws q o)
+  left-by R [] q o r h = r
+  left-by R (w ∷ ws) q o r h = left-by R ws q (cond (same_name q w.0) w.1 o) (pick (same_name q w.0) (λ t. h.0 (same_name-is q w.0 t))) h.1
+    where
+      pick : (t : Bool) → (t ≡ true → R w.1) → R (cond t w.1 o)
+      pick true f = f refl
+      pick false f = r
+
   -- what stands under a name was written there or stood there before
   left-some : (P : Name → Type 0) (ws : List (Write X)) (q : Name) (o : Option X) → Every (λ w. P w.0) ws → (IsSome o → P q) → IsSome (left_by ws q o) → P q
-  left-some P [] q o h old is = old is
-  left-some P (w ∷ ws) q o h old is = left-some P ws q (cond (same_name q w.0) w.1 o) h.1 (first (same_name q w.0) refl) is
-    where
-      first : (t : Bool) → same_name q w.0 ≡ t → IsSome (cond t w.1 o) → P q
-      first true same is = subst P (sym (same_name-is q w.0 same)) h.0
-      first false same is = old is
+  left-some P ws q o h old = left-by (λ v. IsSome v → P q) ws q o old (every-map _ _ (λ w p same is. subst P (sym same) p) ws h)
 
-  one_of : (P : X → Type 0) (t : Bool) (v o : Option X) → IfSome v P → ((x : X) → o ≡ Some x → P x) → (x : X) → cond t v o ≡ Some x → P x
-  one_of P true (Some y) o p old x is = subst P (sym (done is)) p
-  one_of P true None o p old x is = absurd cc
-  one_of P false v o p old x is = old x is
+  if_some : (P : X → Type 0) (v : Option X) → IfSome v P → (x : X) → v ≡ Some x → P x
+  if_some P (Some y) p x is = subst P (sym (done is)) p
+  if_some P None p x is = absurd cc
 
   -- it is what was written or what stood there
   pub left-is : (P : X → Type 0) (ws : List (Write X)) (q : Name) (o : Option X) → Every (λ w. IfSome w.1 P) ws → ((x : X) → o ≡ Some x → P x)
       → (x : X) → left_by ws q o ≡ Some x → P x
-  left-is P [] q o h old x is = old x is
-  left-is P (w ∷ ws) q o h old x is = left-is P ws q (cond (same_name q w.0) w.1 o) h.1 (one_of P (same_name q w.0) w.1 o h.0 old) x is
-
-  some_of : (t : Bool) (v o : Option X) → IsSome v → IsSome o → IsSome (cond t v o)
-  some_of true v o h is = h
-  some_of false v o h is = is
+  left-is P ws q o h old = left-by (λ v. (x : X) → v ≡ Some x → P x) ws q o old (every-map _ _ (λ w p same. if_some P w.1 p) ws h)
 
   -- where no write removes, what stood there stands there still
   pub left-there : (ws : List (Write X)) (q : Name) (o : Option X) → Every (λ w. IsSome w.1) ws → IsSome o → IsSome (left_by ws q o)
-  left-there [] q o h is = is
-  left-there (w ∷ ws) q o h is = left-there ws q (cond (same_name q w.0) w.1 o) h.1 (some_of (same_name q w.0) w.1 o h.0 is)
-
-pub every-map : {A : Type 0} (P Q : A → Type 0) → ((x : A) → P x → Q x) → (xs : List A) → Every P xs → Every Q xs
-every-map P Q f [] h = tt
-every-map P Q f (x ∷ xs) h = (f x h.0, every-map P Q f xs h.1)
+  left-there ws q o h is = left-by IsSome ws q o is (every-map _ _ (λ w p same. p) ws h)
 
 pub writes-map : (A B M N : Name → Type 0) → ((q : Name) → A q → B q) → ((q : Name) → M q → N q) → (d : Change) → Writes A M d → Writes B N d
 writes-map A B M N f g d t = record {

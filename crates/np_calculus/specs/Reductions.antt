@@ -1,5 +1,4 @@
--- The table of reductions: what an event of each kind changes, or none where its row is not met
--- (docs/LANGUAGE.md, "Reductions").
+-- The table of reductions: what an event of each kind changes, or none where its row is not met (docs/LANGUAGE.md, "Reductions").
 use Rattle.std.specs.Prelude.{ℕ, Bool, true, not, ◌&&◌, Option, None, Some, List, [], ◌∷◌, nat_eq, nat_lt, cond}
 use Rattle.std.specs.FinMap as map
 use Rattle.std.specs.FinSet as set
@@ -62,25 +61,15 @@ no_other (Some m) = None
 
 -- the change of an event that makes no name and takes no output
 abbrev pub alone : Event → Change → Option Change
-alone e d = do
-  none_made e.made
-  no_other e.other
-  Some d
+alone e d = do none_made e.made; no_other e.other; Some d
 
 -- the acting atom: its agent is at the event's site, and its process has the event's tag
 abbrev pub acting_in : Sight → Event → Option Atom
-acting_in w e = do
-  a ← w.atom e.actor
-  need (same_tag a.proc.tag e.tag)
-  Some a
+acting_in w e = do a ← w.atom e.actor; need (same_tag a.proc.tag e.tag); Some a
 
 -- the site of the program that an expression names
 abbrev pub site_in : ℕ → Expr → Env → Option ℕ
-site_in sites e env = do
-  v ← eval e env
-  s ← as_site (out-Value v)
-  need (nat_lt s sites)
-  Some s
+site_in sites e env = do v ← eval e env; s ← as_site (out-Value v); need (nat_lt s sites); Some s
 
 -- the atom goes on as another process
 abbrev pub goes : Atom → Proc → Atom
@@ -94,60 +83,43 @@ abbrev pub found_on : Atom → ℕ → Proc → Proc → Option Name → Atom
 found_on a x met unmet (Some lock) = goes_under a met (map.insert a.env x (value.Chan lock))
 found_on a x met unmet None = goes a unmet
 
+-- the actor's mark stands for this atom
+abbrev pub becomes : Event → Atom → Change
+becomes e a = record still { atoms = put e.actor a ∷ [] }
+
 -- the output that an event makes: its channel and value stand in it as values
 abbrev pub output : Name → Value → Tag → Proc
-output c v tag =
-    record { tag = tag; at = 0; form = form.Out (record { at = 0; form = expr.Val (value.Chan c) }) (record { at = 0; form = expr.Val v }) }
+output c v tag = record { tag = tag; at = 0; form = form.Out (record { at = 0; form = expr.Val (value.Chan c) }) (record { at = 0; form = expr.Val v }) }
 
 abbrev pub output_in : Name → Name → Value → Tag → Atom
 output_in agent c v tag = record { agent = agent; proc = output c v tag; env = map.empty }
 
 -- the channel and the value of an atom that is an output
 abbrev pub sends : Atom → Option (Name × Value)
-sends a = do
-  (chan, sent) ← as_out (layer a.proc)
-  n ← chan_of chan a.env
-  v ← eval sent a.env
-  Some (n, v)
+sends a = do (chan, sent) ← as_out (layer a.proc); n ← chan_of chan a.env; v ← eval sent a.env; Some (n, v)
 
 -- the value that the atom of a mark, in this agent, outputs on this channel
 abbrev pub offered_in : (Name → Option Atom) → Name → Name → Name → Option Value
-offered_in atom mark agent chan = do
-  b ← atom mark
-  need (same_name agent b.agent)
-  sent ← sends b
-  need (same_name chan sent.0)
-  Some sent.1
+offered_in atom mark agent chan = do b ← atom mark; need (same_name agent b.agent); sent ← sends b; need (same_name chan sent.0); Some sent.1
 
 -- a location test that finds its agent, in which the output is made, and one that does not
 unfoldable pub here_row : Event → Atom → Proc → Name → Name → Value → Option Change
-here_row e a met b n v = do
-  m ← one_made e.made
-  Some (record still { atoms = put m (output_in b n v e.tag) ∷ put e.actor (goes a met) ∷ [] })
+here_row e a met b n v = do m ← one_made e.made; Some (record still { atoms = put m (output_in b n v e.tag) ∷ put e.actor (goes a met) ∷ [] })
 
 unfoldable pub away_row : Event → Atom → Proc → Option Change
-away_row e a unmet = do
-  none_made e.made
-  Some (record still { atoms = put e.actor (goes a unmet) ∷ [] })
+away_row e a unmet = do none_made e.made; Some (becomes e (goes a unmet))
 
--- the rows of the kinds that have an acting atom, by its form
+-- the rows of the kinds that have an acting atom: its form, the conditions, the change
 unfoldable pub act : Kind → Layer → Sight → Event → Atom → Option Change
 act kind.Stop ProcForm-F.Stop w e a = alone e (record still { atoms = cut e.actor ∷ [] })
 act kind.Fork (ProcForm-F.Par left right) w e a = do
   m ← one_made e.made
   no_other e.other
   Some (record still { atoms = put m (goes a right) ∷ put e.actor (goes a left) ∷ [] })
-act kind.New (ProcForm-F.New x ty body) w e a = do
-  n ← one_made e.made
-  no_other e.other
-  Some (record still { atoms = put e.actor (goes_under a body (map.insert a.env x (value.Chan n))) ∷ [] })
-act kind.Let (ProcForm-F.Let pat bound body) w e a = do
-  v ← eval bound a.env
-  env ← bind pat v a.env
-  alone e (record still { atoms = put e.actor (goes_under a body env) ∷ [] })
-act kind.If (ProcForm-F.If test met unmet) w e a = do
-  t ← truth_of test a.env
-  alone e (record still { atoms = put e.actor (goes a (cond t met unmet)) ∷ [] })
+act kind.New (ProcForm-F.New x ty body) w e a =
+    do n ← one_made e.made; no_other e.other; Some (becomes e (goes_under a body (map.insert a.env x (value.Chan n))))
+act kind.Let (ProcForm-F.Let pat bound body) w e a = do v ← eval bound a.env; env ← bind pat v a.env; alone e (becomes e (goes_under a body env))
+act kind.If (ProcForm-F.If test met unmet) w e a = do t ← truth_of test a.env; alone e (becomes e (goes a (cond t met unmet)))
 act kind.Comm (ProcForm-F.Inp chan pat body) w e a = do
   n ← chan_of chan a.env
   o ← e.other
@@ -165,13 +137,13 @@ act kind.Rep (ProcForm-F.Rep chan pat body) w e a = do
 act kind.Agent (ProcForm-F.Agent x body rest) w e a = do
   (b, m) ← two_made e.made
   no_other e.other
+  let env : Env = map.insert a.env x (value.Agent b)
   Some (record still {
     places = put b (place.At e.site) ∷ [];
-    atoms = put m (record { agent = b; proc = body; env = map.insert a.env x (value.Agent b) }) ∷ put e.actor (goes_under a rest (map.insert a.env x (value.Agent b))) ∷ [];
+    atoms = put m (record { agent = b; proc = body; env = env }) ∷ put e.actor (goes_under a rest env) ∷ [];
   })
-act kind.Depart (ProcForm-F.Migrate to body) w e a = do
-  t ← site_in w.sites to a.env
-  alone e (record still { atoms = put e.actor (goes a body) ∷ []; places = put a.agent (place.Way t) ∷ [] })
+act kind.Depart (ProcForm-F.Migrate to body) w e a =
+    do t ← site_in w.sites to a.env; alone e (record (becomes e (goes a body)) { places = put a.agent (place.Way t) ∷ [] })
 act kind.Local (ProcForm-F.IfLocal agent chan sent met unmet) w e a = do
   b ← agent_of agent a.env
   n ← chan_of chan a.env
@@ -183,25 +155,13 @@ act kind.Send (ProcForm-F.Send agent to chan sent) w e a = do
   t ← site_in w.sites to a.env
   n ← chan_of chan a.env
   v ← eval sent a.env
-  alone e (record still {
-    atoms = cut e.actor ∷ [];
-    packets = put e.actor (record { to = t; agent = b; chan = n; value = v; tag = e.tag }) ∷ [];
-  })
-act kind.Print (ProcForm-F.Print x) w e a = do
-  v ← eval x a.env
-  alone e (record still { atoms = cut e.actor ∷ []; said = Some v })
-act kind.Open (ProcForm-F.Open x) w e a = do
-  (n, v) ← letter_of x a.env
-  alone e (record still { atoms = put e.actor (output_in a.agent n v e.tag) ∷ [] })
-act kind.Lookup (ProcForm-F.Lookup agent among x met unmet) w e a = do
-  b ← agent_of agent a.env
-  places ← places_of among a.env
-  alone e (record still { atoms = put e.actor (found_on a x met unmet (find_place places b)) ∷ [] })
-act kind.Post (ProcForm-F.Post agent chan sent) w e a = do
-  b ← agent_of agent a.env
-  n ← chan_of chan a.env
-  v ← eval sent a.env
-  alone e (record still { atoms = put e.actor (output_in b n v e.tag) ∷ [] })
+  alone e (record still { atoms = cut e.actor ∷ []; packets = put e.actor (record { to = t; agent = b; chan = n; value = v; tag = e.tag }) ∷ [] })
+act kind.Print (ProcForm-F.Print x) w e a = do v ← eval x a.env; alone e (record still { atoms = cut e.actor ∷ []; said = Some v })
+act kind.Open (ProcForm-F.Open x) w e a = do (n, v) ← letter_of x a.env; alone e (becomes e (output_in a.agent n v e.tag))
+act kind.Lookup (ProcForm-F.Lookup agent among x met unmet) w e a =
+    do b ← agent_of agent a.env; places ← places_of among a.env; alone e (becomes e (found_on a x met unmet (find_place places b)))
+act kind.Post (ProcForm-F.Post agent chan sent) w e a =
+    do b ← agent_of agent a.env; n ← chan_of chan a.env; v ← eval sent a.env; alone e (becomes e (output_in b n v e.tag))
 act _ _ w e a = None
 
 -- an agent that is under way to the site is at it then
@@ -219,10 +179,7 @@ land_row comes w e = do
   p ← comes
   need (nat_eq p.to e.site)
   need (same_tag p.tag e.tag)
-  alone e (record still {
-    packets = cut e.actor ∷ [];
-    atoms = cond (w.here p.agent) (put e.actor (output_in p.agent p.chan p.value e.tag) ∷ []) [];
-  })
+  alone e (record still { packets = cut e.actor ∷ []; atoms = cond (w.here p.agent) (put e.actor (output_in p.agent p.chan p.value e.tag) ∷ []) [] })
 
 -- the row of each kind
 abbrev pub change : Kind → ℕ → Contents → Event → Option Change
@@ -238,9 +195,7 @@ are_new born (made.Two m n) = not (same_name m n) && (not (set.contains born m) 
 
 -- the configuration after a change, where the names that the event makes are new
 abbrev pub after_change : Config → Event → Change → Option Config
-after_change c e d = do
-  need (are_new c.born e.made)
-  Some (effect c e d)
+after_change c e d = do need (are_new c.born e.made); Some (effect c e d)
 
 -- the configuration after an event of a kind, or none where its row is not met
 abbrev pub row : Kind → Config → Event → Option Config

@@ -1,4 +1,4 @@
--- Words of the table of reductions for a whole configuration.
+-- Words of the table of reductions for a whole configuration, for laws and code (docs/LANGUAGE.md, "Reductions").
 use Rattle.std.specs.Prelude.{ℕ, Bool, not, Option}
 use Rattle.std.specs.FinMap as map
 use Rattle.std.specs.FinSet as set

@@ -1,4 +1,4 @@
--- What the atoms of a site see of a configuration: all that their events depend on.
+-- What the atoms of a site see of a configuration: all that their events depend on (docs/LANGUAGE.md, "Reductions").
 use Rattle.std.specs.Prelude.{ℕ, Bool, false, Option, Some, nat_eq}
 use Rattle.std.specs.FinMap as map
 use Rattle.np_syntax.specs.declared.value.Name.{Name}

@@ -28,8 +28,7 @@ main_mark n = own n 11
 abbrev pub daemon_mark : ℕ → Name
 daemon_mark n = own n 12
 
--- main, daemon, register, migrating, migrated, message, deliver, ack, dack, currentloc, lock, the two marks, here,
--- cache, where and found
+-- main, daemon, register, migrating, migrated, message, deliver, ack, dack, currentloc, lock, the two marks, here, cache, where and found
 abbrev pub own_numbers : List ℕ
 own_numbers = 0 ∷ 1 ∷ 2 ∷ 3 ∷ 4 ∷ 5 ∷ 6 ∷ 7 ∷ 8 ∷ 9 ∷ 10 ∷ 11 ∷ 12 ∷ 13 ∷ 14 ∷ 15 ∷ 16 ∷ []
 
@@ -44,23 +43,23 @@ own_names n = with_all set.empty (map (own n) own_numbers)
 abbrev pub first_atom : Name → Proc → Atom
 first_atom agent p = record { agent = agent; proc = p; env = table.empty }
 
--- no agents, and no names but the program's own
-abbrev pub no_agents : ℕ → Config
-no_agents n = record { sites = n; places = table.empty; atoms = table.empty; packets = table.empty; born = own_names n; said = [] }
+-- the names of a program of n sites, and nothing else
+abbrev pub names_alone : ℕ → Config
+names_alone n = record { sites = n; places = table.empty; atoms = table.empty; packets = table.empty; born = own_names n; said = [] }
 
--- one agent more, at a site, with its atom under a mark
+-- with an atom under a mark, and its agent at a site
 abbrev pub with_atom : Config → ℕ → Name → Atom → Config
 with_atom c site mark a = record c { places = table.insert c.places a.agent (place.At site); atoms = table.insert c.atoms mark a }
 
-abbrev pub with_main : ℕ → ℕ → Proc → Config
-with_main n at p = with_atom (no_agents n) at (main_mark n) (first_atom (main_agent n) p)
+-- with an agent at a site, and its first atom
+abbrev pub with_agent : Config → Name → ℕ → Name → Proc → Config
+with_agent c agent site mark p = with_atom c site mark (first_atom agent p)
 
 -- main at its site, with its process
 unfoldable pub start_high : Program → Config
-start_high p = with_main (length p.sites) p.at p.main
+start_high p = let n : ℕ = length p.sites in with_agent (names_alone n) (main_agent n) p.at (main_mark n) p.main
 
 -- main at its site and the daemon at the first one, each with its process
 unfoldable pub start_low : LowProgram → Config
 start_low q =
-    let n : ℕ = length q.sites in
-    with_atom (with_main n q.at q.main) 0 (daemon_mark n) (first_atom (daemon_agent n) q.daemon)
+    let n : ℕ = length q.sites in with_agent (with_agent (names_alone n) (main_agent n) q.at (main_mark n) q.main) (daemon_agent n) 0 (daemon_mark n) q.daemon

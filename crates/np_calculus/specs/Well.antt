@@ -1,5 +1,4 @@
--- No value of a wrong type is met: operands have the forms that their rows need, and each pattern matches what waits
--- for it (docs/LANGUAGE.md, "Reductions").
+-- No value of a wrong type is met: operands fit their rows, and patterns match what waits for them (docs/LANGUAGE.md, "Reductions").
 use Rattle.std.specs.Prelude.{◌≡◌, Bool, true, false, Option, Some, List, ◌++◌}
 use Rattle.std.specs.List.{list_all}
 use Rattle.std.specs.FinMap as map
@@ -37,13 +36,9 @@ Matches x o env = (v : Value) × (o ≡ Some v) × Has (bind x v env)
 
 -- the operands of a process have values of the forms that its row needs
 abbrev pub Ready : Config → Env → Layer → Type 0
-Ready c env ProcForm-F.Stop = Unit {0}
-Ready c env (ProcForm-F.Par left right) = Unit {0}
-Ready c env (ProcForm-F.New x ty body) = Unit {0}
 Ready c env (ProcForm-F.Out x e) = Has (chan_of x env) × Has (eval e env)
 Ready c env (ProcForm-F.Inp x pat body) = Has (chan_of x env)
 Ready c env (ProcForm-F.Rep x pat body) = Has (chan_of x env)
-Ready c env (ProcForm-F.Agent b body rest) = Unit {0}
 Ready c env (ProcForm-F.Migrate s body) = Has (site_in c.sites s env)
 Ready c env (ProcForm-F.IfLocal b x e met unmet) = Has (agent_of b env) × Has (chan_of x env) × Has (eval e env)
 Ready c env (ProcForm-F.Send b s x e) = Has (agent_of b env) × Has (site_in c.sites s env) × Has (chan_of x env) × Has (eval e env)
@@ -53,6 +48,7 @@ Ready c env (ProcForm-F.Let pat e body) = Matches pat (eval e env) env
 Ready c env (ProcForm-F.Print e) = (v : Value) × (eval e env ≡ Some v) × (is_printable v ≡ true)
 Ready c env (ProcForm-F.Open e) = Has (letter_of e env)
 Ready c env (ProcForm-F.Lookup a m x met unmet) = Has (agent_of a env) × Has (places_of m env)
+Ready c env _ = Unit {0}
 
 pub record Well (c : Config) : Type 0 where
   pub ready : (m : Name) (a : Atom) → map.get c.atoms m ≡ Some a → Ready c a.env (layer a.proc)

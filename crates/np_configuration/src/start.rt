@@ -1,6 +1,6 @@
 ghost use Rattle.std.specs.Prelude.{◌≡◌, ◌<◌, ◌^◌, true, length, map, IfOk, OnOk};
 ghost use Rattle.std.specs.FinSet as set;
-ghost use Rattle.np_calculus.specs.Starts.{start_high, start_low, first_atom, no_agents, with_atom, with_main, own, with_all};
+ghost use Rattle.np_calculus.specs.Starts.{start_high, start_low, first_atom, main_agent, main_mark, names_alone, own, with_agent, with_all, with_atom};
 
 use super::cfg::Cfg;
 use np_agents::Places;
@@ -32,9 +32,9 @@ fn names_of(alloc: Global, sites: u32, numbers: &[u32]) -> Result<Names, Memory>
     Ok(names)
 }
 
-/// No agents, and no names but the program's own.
-fn no_agents(alloc: Global, sites: u32) -> Result<Cfg, Memory>
-    ensures { IfOk result (λ c. c ≡ no_agents sites) }
+/// The names of a program of so many sites, and nothing else.
+fn names_alone(alloc: Global, sites: u32) -> Result<Cfg, Memory>
+    ensures { IfOk result (λ c. c ≡ names_alone sites) }
 {
     let born = names_of(alloc, sites, &OWN_NUMBERS)?;
     Ok(Cfg {
@@ -77,9 +77,9 @@ impl Cfg {
 
 /// Main alone, at a site, with its process.
 fn with_main(alloc: Global, sites: u32, at: u32, main: &Proc) -> Result<Cfg, Memory>
-    ensures { IfOk result (λ c. c ≡ with_main sites at main.now) }
+    ensures { IfOk result (λ c. c ≡ with_agent (names_alone sites) (main_agent sites) at (main_mark sites) main.now) }
 {
-    let mut start = no_agents(alloc, sites)?;
+    let mut start = names_alone(alloc, sites)?;
     let agent = Name {
         site: sites,
         n: MAIN,

@@ -1,16 +1,13 @@
 -- What each form of pattern binds.
 use Rattle.std.proofs.Common.{◌≡◌, ℕ, List, [], ◌∷◌, map, length, suc, Option, None, Some, refl, ap, ◌∙◌}
 use Rattle.std.specs.FinMap as table
-use Rattle.np_syntax.specs.declared.value.Value.{Value, out-Value}
+use Rattle.np_eval.proofs.Common.{Value, out-Value, Pat, fold_out-Pat, PatForm, PatForm-F, out-PatForm, map-PatForm, fold_out-PatForm, ◌>>=◌, Env, Binding}
+use Rattle.np_eval.proofs.Common.{as_tuple, bind_step, bind, bind_all, bind_form}
 use Rattle.np_syntax.specs.declared.value.Value as value
 use Rattle.np_syntax.specs.declared.value.Value.TheVariants.{outs-Tuple as outs-tuple_value}
-use Rattle.np_syntax.specs.declared.pattern.Pat.{Pat, fold_out-Pat}
-use Rattle.np_syntax.specs.declared.pattern.PatForm.{PatForm, PatForm-F, out-PatForm, map-PatForm, fold_out-PatForm}
 use Rattle.np_syntax.specs.declared.pattern.PatForm as pat
 use Rattle.np_syntax.specs.declared.pattern.PatForm.TheVariants.{outs-Any, outs-Bind, outs-Tuple}
-use Rattle.np_syntax.specs.Options.{◌>>=◌}
-use Rattle.np_eval.specs.Eval.{Env, Binding, bind, bind_each, bind_step, as_tuple}
-use Rattle.np_eval.specs.Levels.{bind_form, bind_all}
+use Rattle.np_eval.specs.Eval.{bind_each}
 
 pub bind-form : (p : Pat) (v : Value) (env : Env) → bind p v env ≡ bind_form p.form v env
 unfolding bind bind_form

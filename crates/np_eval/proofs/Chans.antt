@@ -1,18 +1,12 @@
 -- Only a value and a variable name a channel.
 use Rattle.std.proofs.Common.{◌≡◌, ℕ, ℤ, Bool, List, Option, None, Some, refl, ap, ◌∙◌}
 use Rattle.std.specs.FinMap as table
-use Rattle.np_syntax.specs.declared.value.Name.{Name}
-use Rattle.np_syntax.specs.declared.value.Value.{Value, Value-F, out-Value}
+use Rattle.np_eval.proofs.Common.{Name, Value, Value-F, out-Value, outs-Int, outs-Truth, outs-Letter, outs-Places, Op, Expr, ExprForm, ◌>>=◌, Env, ValueLayer}
+use Rattle.np_eval.proofs.Common.{as_chan, as_agent, as_places, operate_at, equal_at, eval, eval_all, eval_form}
 use Rattle.np_syntax.specs.declared.value.Value as value
-use Rattle.np_syntax.specs.declared.value.Value.TheVariants.{outs-Int, outs-Truth, outs-Tuple, outs-Letter, outs-Places}
-use Rattle.np_syntax.specs.declared.expression.Op.{Op}
+use Rattle.np_syntax.specs.declared.value.Value.TheVariants.{outs-Tuple}
 use Rattle.np_syntax.specs.declared.expression.Op.TheVariants as op
-use Rattle.np_syntax.specs.declared.expression.Expr.{Expr}
-use Rattle.np_syntax.specs.declared.expression.ExprForm.{ExprForm}
 use Rattle.np_syntax.specs.declared.expression.ExprForm as expr
-use Rattle.np_syntax.specs.Options.{◌>>=◌}
-use Rattle.np_eval.specs.Eval.{Env, ValueLayer, eval, as_chan, as_agent, as_places, operate_at, equal_at}
-use Rattle.np_eval.specs.Levels.{eval_form, eval_all}
 use Rattle.np_eval.proofs.Evals.{eval-val, eval-var, eval-tuple, eval-bin, eval-pack, eval-with}
 
 abbrev chan_in : Option Value → Option Name

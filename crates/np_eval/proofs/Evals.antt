@@ -1,16 +1,13 @@
 -- The value of each form of expression.
 use Rattle.std.proofs.Common.{◌≡◌, ℕ, List, [], ◌∷◌, ◌++◌, map, Option, None, Some, refl, ap, ◌∙◌}
 use Rattle.std.specs.FinMap as table
-use Rattle.np_syntax.specs.declared.value.Value.{Value}
+use Rattle.np_eval.proofs.Common.{Value, Op, Expr, fold_out-Expr, ExprForm, ExprForm-F, out-ExprForm, map-ExprForm, fold_out-ExprForm, ◌>>=◌, Env, eval_step}
+use Rattle.np_eval.proofs.Common.{eval, eval_all, eval_form}
 use Rattle.np_syntax.specs.declared.value.Value as value
-use Rattle.np_syntax.specs.declared.expression.Op.{Op}
-use Rattle.np_syntax.specs.declared.expression.Expr.{Expr, fold_out-Expr}
-use Rattle.np_syntax.specs.declared.expression.ExprForm.{ExprForm, ExprForm-F, out-ExprForm, map-ExprForm, fold_out-ExprForm}
 use Rattle.np_syntax.specs.declared.expression.ExprForm as expr
 use Rattle.np_syntax.specs.declared.expression.ExprForm.TheVariants.{outs-Val, outs-Var, outs-Tuple, outs-Bin, outs-Pack, outs-With}
-use Rattle.np_syntax.specs.Options.{◌>>=◌, all_some}
-use Rattle.np_eval.specs.Eval.{Env, eval, eval_step, operate, pack, with_place}
-use Rattle.np_eval.specs.Levels.{eval_form, eval_all}
+use Rattle.np_syntax.specs.Options.{all_some}
+use Rattle.np_eval.specs.Eval.{operate, pack, with_place}
 
 pub eval-form : (e : Expr) (env : Env) → eval e env ≡ eval_form e.form env
 unfolding eval eval_form

@@ -1,16 +1,12 @@
 -- Whether a pattern matches a value depends on no environment.
 use Rattle.std.proofs.Common.{◌≡◌, ℕ, ◌+◌, ◌<◌, true, ◌&&◌, List, [], ◌∷◌, map, length, drop, get_or, Option, None, Some, refl, sym, subst, ap, ◌∙◌}
 use Rattle.std.proofs.lemmas.List.{drop_more}
-use Rattle.std.specs.Option.{is_some}
-use Rattle.np_syntax.specs.declared.value.Value.{Value, out-Value}
+use Rattle.np_eval.proofs.Common.{is_some, Value, out-Value, Pat, PatForm, PatForm-F, map-PatForm, ◌>>=◌, Env, as_tuple, bind, bind_all, bind_form}
 use Rattle.np_syntax.specs.declared.value.Value as value
-use Rattle.np_syntax.specs.declared.pattern.Pat.{Pat, ind-Pat, roll-Pat}
-use Rattle.np_syntax.specs.declared.pattern.PatForm.{PatForm, PatForm-F, roll-PatForm, map-PatForm}
+use Rattle.np_syntax.specs.declared.pattern.Pat.{ind-Pat, roll-Pat}
+use Rattle.np_syntax.specs.declared.pattern.PatForm.{roll-PatForm}
 use Rattle.np_syntax.specs.declared.pattern.PatForm as pat
 use Rattle.np_syntax.specs.declared.pattern.PatForm.TheVariants.{rolls-Any, rolls-Bind, rolls-Tuple}
-use Rattle.np_syntax.specs.Options.{◌>>=◌}
-use Rattle.np_eval.specs.Eval.{Env, bind, as_tuple}
-use Rattle.np_eval.specs.Levels.{bind_form, bind_all}
 use Rattle.np_eval.proofs.Binds.{bind-form, bind-any, bind-bind, bind-tuple, bind-tuples}
 
 -- two steps that may fail, where the second fails or not whatever the first gave

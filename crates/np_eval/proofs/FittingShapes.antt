@@ -1,19 +1,16 @@
 -- The form of the value of each form of expression depends on the forms of its operands' values alone.
 use Rattle.std.proofs.Common.{◌≡◌, ℕ, Bool, ◌&&◌, cond, List, ◌∷◌, Option, None, Some, refl, ap, ◌∙◌}
-use Rattle.std.specs.Option.{is_some, option_map}
+use Rattle.np_eval.proofs.Common.{is_some, Value, Value-F, out-Value, outs-Int, outs-Truth, outs-Letter, outs-Places, Op, Expr, ◌>>=◌, Env, ValueLayer}
+use Rattle.np_eval.proofs.Common.{as_chan, as_agent, as_places, operate_at, equal_at, eval, eval_all, eval_form}
+use Rattle.std.specs.Option.{option_map}
 use Rattle.std.specs.FinMap as table
-use Rattle.np_syntax.specs.declared.value.Value.{Value, Value-F, out-Value}
 use Rattle.np_syntax.specs.declared.value.Value as value
-use Rattle.np_syntax.specs.declared.value.Value.TheVariants.{outs-Int, outs-Truth, outs-Tuple, outs-Letter, outs-Places}
-use Rattle.np_syntax.specs.declared.expression.Op.{Op}
+use Rattle.np_syntax.specs.declared.value.Value.TheVariants.{outs-Tuple}
 use Rattle.np_syntax.specs.declared.expression.Op.TheVariants as op
-use Rattle.np_syntax.specs.declared.expression.Expr.{Expr}
 use Rattle.np_syntax.specs.declared.expression.ExprForm as expr
-use Rattle.np_syntax.specs.Options.{◌>>=◌}
 use Rattle.np_eval.specs.declared.fitting.Shape.{Shape}
 use Rattle.np_eval.specs.declared.fitting.Shape.TheVariants as shape
-use Rattle.np_eval.specs.Eval.{Env, ValueLayer, eval, as_chan, as_agent, as_places, operate_at, equal_at, put_place}
-use Rattle.np_eval.specs.Levels.{eval_form, eval_all}
+use Rattle.np_eval.specs.Eval.{put_place}
 use Rattle.np_eval.specs.Fitting.{shape_at, shape_of, equal_shape, operate_shape, pack_shape, with_shape}
 use Rattle.np_eval.proofs.Evals.{eval-form, eval-val, eval-var, eval-tuple, eval-bin, eval-pack, eval-with}
 

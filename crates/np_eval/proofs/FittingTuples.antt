@@ -1,20 +1,13 @@
 -- Which expressions a tuple of patterns fits: part by part a tuple of its own length, and no form that makes other values.
 use Rattle.std.proofs.Common.{◌≡◌, ℕ, ℤ, ◌+◌, ◌<◌, Bool, true, false, ◌&&◌, List, [], ◌∷◌, length, drop, get_or, suc, Option, None, Some, refl, sym, subst, ap, ◌∙◌}
-use Rattle.std.specs.Option.{is_some}
+use Rattle.np_eval.proofs.Common.{is_some, Value, Value-F, out-Value, outs-Int, outs-Truth, outs-Letter, outs-Places, Op, Expr, Pat, ◌>>=◌, Env, ValueLayer}
+use Rattle.np_eval.proofs.Common.{as_chan, as_agent, as_places, as_tuple, operate_at, equal_at, eval, bind, eval_all, bind_all, bind_form}
 use Rattle.std.specs.FinMap as table
-use Rattle.np_syntax.specs.declared.value.Value.{Value, Value-F, out-Value}
 use Rattle.np_syntax.specs.declared.value.Value as value
-use Rattle.np_syntax.specs.declared.value.Value.TheVariants.{outs-Int, outs-Truth, outs-Letter, outs-Places}
-use Rattle.np_syntax.specs.declared.expression.Op.{Op}
 use Rattle.np_syntax.specs.declared.expression.Op.TheVariants as op
-use Rattle.np_syntax.specs.declared.expression.Expr.{Expr}
 use Rattle.np_syntax.specs.declared.expression.ExprForm as expr
-use Rattle.np_syntax.specs.declared.pattern.Pat.{Pat}
 use Rattle.np_syntax.specs.declared.pattern.PatForm as pat
 use Rattle.np_syntax.proofs.Bools.{and-false}
-use Rattle.np_syntax.specs.Options.{◌>>=◌}
-use Rattle.np_eval.specs.Eval.{Env, ValueLayer, eval, bind, as_tuple, as_chan, as_agent, as_places, operate_at, equal_at}
-use Rattle.np_eval.specs.Levels.{eval_all, bind_form, bind_all}
 use Rattle.np_eval.specs.Fitting.{fits, fits_tuple, fits_all}
 use Rattle.np_eval.proofs.Binds.{bind-tuple, bind-tuples}
 use Rattle.np_eval.proofs.Evals.{eval-form, eval-val, eval-var, eval-tuple, eval-bin, eval-pack, eval-with}

@@ -1,8 +1,7 @@
 -- The form of a process whose parts are known.
 use Rattle.std.proofs.Common.{◌≡◌, ℕ, Some, refl, ap}
 use Rattle.np_syntax.specs.declared.types.Ty.{Ty}
-use Rattle.np_syntax.specs.declared.expression.Expr.{Expr}
-use Rattle.np_syntax.specs.declared.pattern.Pat.{Pat}
+use Rattle.np_eval.proofs.Common.{Expr, Pat}
 use Rattle.np_syntax.specs.declared.process.Proc.{Proc}
 use Rattle.np_syntax.specs.declared.process.ProcForm.{ProcForm-F}
 use Rattle.np_eval.specs.Forms.{Layer, as_out}

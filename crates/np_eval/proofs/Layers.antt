@@ -1,12 +1,7 @@
 -- Expressions and patterns, a layer at a time.
 use Rattle.std.proofs.Common.{◌≡◌, Option, ◌∙◌}
-use Rattle.np_syntax.specs.declared.value.Value.{Value}
-use Rattle.np_syntax.specs.declared.expression.Expr.{Expr, fold_out-Expr}
-use Rattle.np_syntax.specs.declared.expression.ExprForm.{ExprForm, ExprForm-F, out-ExprForm, map-ExprForm, fold_out-ExprForm}
-use Rattle.np_syntax.specs.declared.pattern.Pat.{Pat, fold_out-Pat}
-use Rattle.np_syntax.specs.declared.pattern.PatForm.{PatForm, PatForm-F, out-PatForm, map-PatForm, fold_out-PatForm}
-use Rattle.np_eval.specs.Eval.{Env, Binding, eval, eval_step, bind, bind_step}
-use Rattle.np_eval.specs.Levels.{eval_form, bind_form}
+use Rattle.np_eval.proofs.Common.{Value, Expr, fold_out-Expr, ExprForm, ExprForm-F, out-ExprForm, map-ExprForm, fold_out-ExprForm, Pat, fold_out-Pat, PatForm}
+use Rattle.np_eval.proofs.Common.{PatForm-F, out-PatForm, map-PatForm, fold_out-PatForm, Env, Binding, bind_step, eval_step, eval, bind, eval_form, bind_form}
 
 -- the values of a layer's parts
 abbrev pub eval_layer : Env → ExprForm-F ExprForm Expr → ExprForm-F (Option Value) (Option Value)

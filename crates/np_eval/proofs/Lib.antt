@@ -1,5 +1,6 @@
 pub mod Binds
 pub mod Chans
+pub mod Common
 pub mod Evals
 pub mod FittingPatterns
 pub mod FittingShapes

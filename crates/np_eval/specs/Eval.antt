@@ -91,31 +91,16 @@ abbrev pub pack : Value → Value → Option Value
 pack chan v = as_chan (out-Value chan) >>= λ c. Some (value.Letter c v)
 
 abbrev pub with_place : Value → Value → Value → Option Value
-with_place places agent lock = do
-  ps ← as_places (out-Value places)
-  a ← as_agent (out-Value agent)
-  l ← as_chan (out-Value lock)
-  Some (value.Places (put_place ps a l))
+with_place places agent lock =
+    do ps ← as_places (out-Value places); a ← as_agent (out-Value agent); l ← as_chan (out-Value lock); Some (value.Places (put_place ps a l))
 
 abbrev pub eval_step : Env → ExprForm-F (Option Value) (Option Value) → Option Value
 eval_step env (ExprForm-F.Val v) = Some v
 eval_step env (ExprForm-F.Var x) = map.get env x
-eval_step env (ExprForm-F.Tuple parts) = do
-  values ← all_some parts
-  Some (value.Tuple values)
-eval_step env (ExprForm-F.Bin o a b) = do
-  x ← a
-  y ← b
-  operate o x y
-eval_step env (ExprForm-F.Pack c e) = do
-  chan ← c
-  v ← e
-  pack chan v
-eval_step env (ExprForm-F.With m a l) = do
-  places ← m
-  agent ← a
-  lock ← l
-  with_place places agent lock
+eval_step env (ExprForm-F.Tuple parts) = do values ← all_some parts; Some (value.Tuple values)
+eval_step env (ExprForm-F.Bin o a b) = do x ← a; y ← b; operate o x y
+eval_step env (ExprForm-F.Pack c e) = do chan ← c; v ← e; pack chan v
+eval_step env (ExprForm-F.With m a l) = do places ← m; agent ← a; lock ← l; with_place places agent lock
 
 -- the value of an expression, or none where an operand has the wrong form
 unfoldable pub eval : Expr → Env → Option Value
@@ -143,16 +128,13 @@ Binding = Value → Env → Option Env
 
 abbrev pub bind_each : List Binding → List Value → Env → Option Env
 bind_each [] [] env = Some env
-bind_each [] (v ∷ vs) env = None
-bind_each (p ∷ ps) [] env = None
 bind_each (p ∷ ps) (v ∷ vs) env = p v env >>= bind_each ps vs
+bind_each _ _ env = None
 
 abbrev pub bind_step : PatForm-F Binding Binding → Binding
 bind_step PatForm-F.Any v env = Some env
 bind_step (PatForm-F.Bind x) v env = Some (map.insert env x v)
-bind_step (PatForm-F.Tuple ps) v env = do
-  vs ← as_tuple (out-Value v)
-  bind_each ps vs env
+bind_step (PatForm-F.Tuple ps) v env = do vs ← as_tuple (out-Value v); bind_each ps vs env
 
 -- the environment with what the pattern gives the value put over it, or none where it does not match
 unfoldable pub bind : Pat → Value → Env → Option Env

@@ -1,4 +1,4 @@
--- A process by its form, one level at a time.
+-- A process by its form, one level at a time (docs/LANGUAGE.md, "Grammar").
 use Rattle.std.specs.Prelude.{Option, None, Some}
 use Rattle.np_syntax.specs.declared.expression.Expr.{Expr}
 use Rattle.np_syntax.specs.declared.pattern.Pat.{Pat}

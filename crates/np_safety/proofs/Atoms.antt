@@ -2,41 +2,28 @@
 use Rattle.std.proofs.Common.{◌≡◌, true, List, inl, inr, Option, None, Some, Ok, refl, subst, sym, ap, ◌∙◌}
 use Rattle.std.specs.FinMap as table
 use Rattle.std.specs.FinMap.{get-empty}
-use Rattle.std.specs.Ordering.{nat_cmp}
-use Rattle.np_syntax.specs.declared.value.Name.{Name}
-use Rattle.np_syntax.specs.declared.value.Value.{Value, out-Value}
+use Rattle.np_safety.proofs.Common.{nat_cmp, Name, Value, Cap, Ty, Expr, Pat, Proc, put_cases, same_name-is, reads, writes, sub, is_letter}
+use Rattle.np_safety.proofs.Common.{is_places, World, all_locks, kind, Types, least, sub-trans, Checking, check_step, Env, eval, layer, Atom, Config, Fits}
+use Rattle.np_safety.proofs.Common.{Sent, LeastOf}
 use Rattle.np_syntax.specs.declared.value.Value as value
-use Rattle.np_syntax.specs.declared.types.Cap.{Cap}
-use Rattle.np_syntax.specs.declared.types.Ty.{Ty}
 use Rattle.np_syntax.specs.declared.types.Ty.TheVariants.{outs-Chan}
-use Rattle.np_syntax.specs.declared.expression.Expr.{Expr}
 use Rattle.np_syntax.specs.declared.expression.ExprForm as expr
-use Rattle.np_syntax.specs.declared.pattern.Pat.{Pat}
 use Rattle.np_syntax.specs.declared.process.Tag.{Tag}
-use Rattle.np_syntax.specs.declared.process.Proc.{Proc}
 use Rattle.np_syntax.specs.declared.process.ProcForm.TheVariants.{outs-Out}
 use Rattle.np_tables.specs.Names.{NameMap}
 use Rattle.np_syntax.proofs.Options as maybe
-use Rattle.np_tables.proofs.Tables.{put_cases, cut_cases, same_name-is}
+use Rattle.np_tables.proofs.Tables.{cut_cases}
 use Rattle.np_types.specs.declared.fault.Rule.TheVariants as rule
-use Rattle.np_types.specs.Sub.{reads, writes, sub, is_letter, is_places}
 use Rattle.np_types.specs.Checks.{want}
-use Rattle.np_types.specs.Worlds.{World, kind, all_locks}
-use Rattle.np_types.specs.Least.{Types, least}
-use Rattle.np_types.proofs.Subs.{sub-trans}
 use Rattle.np_types.proofs.Leasts.{least-form, least-val, output-parts}
-use Rattle.np_calculus.specs.declared.config.Atom.{Atom}
 use Rattle.np_calculus.specs.declared.config.Packet.{Packet}
-use Rattle.np_calculus.specs.Config.{Config}
-use Rattle.np_eval.specs.Eval.{Env, eval, bind, chan_of, letter_of, places_of, as_letter, as_places}
-use Rattle.np_eval.specs.Forms.{layer, as_out}
+use Rattle.np_eval.specs.Eval.{bind, chan_of, letter_of, places_of, as_letter, as_places}
+use Rattle.np_eval.specs.Forms.{as_out}
 use Rattle.np_calculus.specs.Reductions.{sends, output_in}
 use Rattle.np_calculus.specs.Seen.{offered}
 use Rattle.np_eval.proofs.FormsByParts.{out-form}
 use Rattle.np_calculus.specs.Reductions as made
 use Rattle.np_calculus.proofs.Steps.{offered-step}
-use Rattle.np_check.specs.Faults.{Checking, check_step}
-use Rattle.np_safety.specs.Fits.{Fits, Sent, LeastOf}
 use Rattle.np_safety.proofs.Fitting.{Agrees, FittingAtom, FittingAtoms, SentPackets}
 use Rattle.np_safety.proofs.Shapes.{chan_value, letter_value, places_value, fits-below}
 use Rattle.np_safety.proofs.Evaluates.{evaluates, chan-kind}

@@ -3,42 +3,31 @@ use Rattle.std.proofs.Common.{◌≡◌, ℕ, ℤ, Bool, true, false, cond, Opti
 use Rattle.std.specs.Prelude.{nat_eq}
 use Rattle.std.specs.Ordering.{int_eq}
 use Rattle.std.specs.Str.{bytes_eq}
-use Rattle.np_syntax.specs.declared.value.Name.{Name}
-use Rattle.np_syntax.specs.declared.value.Value.{Value, Value-F, out-Value}
+use Rattle.np_safety.proofs.Common.{Name, Value, Value-F, out-Value, Cap, Ty, Ty-F, out-Ty, outs-Tuple, Expr, ◌>>=◌, ◌>>◌, and-in, and-out, then, done, With}
+use Rattle.np_safety.proofs.Common.{same_name, TyLayer, reads, writes, sub, sub_all, is_int, is_site, is_agent, is_places, as_chan, ensure}
+use Rattle.np_safety.proofs.Common.{World, kinds, is_lock_chan, all_locks, kind, Types, least, least_of, sub-trans, site_below, when, ensured}
+use Rattle.np_safety.proofs.Common.{wanted, Env, eval, Fits}
 use Rattle.np_syntax.specs.declared.value.Value as value
 use Rattle.np_syntax.specs.declared.value.Value.TheVariants as outs
-use Rattle.np_syntax.specs.declared.types.Cap.{Cap}
 use Rattle.np_syntax.specs.declared.types.Cap.TheVariants as cap
-use Rattle.np_syntax.specs.declared.types.Ty.{Ty, Ty-F, out-Ty}
 use Rattle.np_syntax.specs.declared.types.Ty as ty
-use Rattle.np_syntax.specs.declared.types.Ty.TheVariants.{outs-Tuple}
 use Rattle.np_syntax.specs.declared.expression.Op.{Op}
 use Rattle.np_syntax.specs.declared.expression.Op.TheVariants as op
-use Rattle.np_syntax.specs.declared.expression.Expr.{Expr, fold_out-Expr}
-use Rattle.np_syntax.specs.declared.expression.ExprForm.{ExprForm, ExprForm-F, out-ExprForm, map-ExprForm, fold_out-ExprForm}
+use Rattle.np_syntax.specs.declared.expression.ExprForm.{ExprForm-F}
 use Rattle.np_syntax.specs.Options as may
 use Rattle.np_syntax.specs.Options.{all_some}
-use Rattle.np_tables.specs.Names.{same_name}
-use Rattle.np_types.specs.declared.fault.Rule.{Rule}
 use Rattle.np_types.specs.declared.fault.Rule.TheVariants as rule
-use Rattle.np_types.specs.Sub.{TyLayer, reads, writes, sub, sub_all, is_int, is_site, is_agent, is_places, as_chan}
-use Rattle.np_syntax.specs.Results.{◌>>=◌, ◌>>◌, all_ok}
-use Rattle.np_types.specs.Checks.{Check, ensure}
-use Rattle.np_types.specs.Worlds.{World, kind, kinds, is_lock, is_lock_chan, all_locks}
-use Rattle.np_types.specs.Least.{Types, Least, least, least_of, least_step, least_op, basic, same_basic, number, test_of, channel, output, is_lock_type}
-use Rattle.np_syntax.proofs.Bools.{and-in, and-out}
-use Rattle.np_syntax.proofs.Trees.{With, ExprHyps, expr_of, expr_ind}
-use Rattle.np_types.proofs.Subs.{sub-out, sub-trans}
-use Rattle.np_types.proofs.Below.{site_below}
-use Rattle.np_types.proofs.ValueTypes.{kind_of, kind-out, kinds-map}
+use Rattle.np_syntax.specs.Results.{all_ok}
+use Rattle.np_types.specs.Worlds.{is_lock}
+use Rattle.np_types.specs.Least.{Least, least_step, least_op, basic, same_basic, number, test_of, output, is_lock_type}
+use Rattle.np_syntax.proofs.Trees.{ExprHyps, expr_of, expr_ind}
+use Rattle.np_types.proofs.Subs.{sub-out}
+use Rattle.np_types.proofs.ValueTypes.{kind_of, kinds-map}
 use Rattle.np_types.proofs.Leasts.{least_layer, least-out}
-use Rattle.np_eval.specs.Eval.{Env, eval, eval_step, operate, operate_at, equal_at, same_truth, put_place, pack, with_place}
-use Rattle.np_eval.specs.Levels.{eval_form}
-use Rattle.np_safety.specs.Fits.{Fits}
+use Rattle.np_eval.specs.Eval.{eval_step, operate, operate_at, equal_at, same_truth, put_place, pack, with_place}
 use Rattle.np_safety.proofs.Fitting.{Agrees, Valued}
-use Rattle.np_syntax.proofs.Results.{then, done}
-use Rattle.np_types.proofs.Passed.{when, ensured, wanted}
 use Rattle.np_eval.proofs.Layers.{eval_layer, eval-out}
+use Rattle.np_safety.proofs.Forms.{sending, tested}
 use Rattle.np_safety.proofs.Shapes.{fits-itself, int_value, truth_value, text_value, places_value, chan_value, site_value, agent_value}
 
 -- ---- the least types of values
@@ -67,26 +56,24 @@ places-kind w ps h = kind_of w (value.Places ps) _ (outs.outs-Places ps) ∙ rw 
 
 -- ---- maps of places
 
+-- what holds of two things holds of the one that a test picks
+pub either : {A : Type 0} (P : A → Type 0) (b : Bool) (x y : A) → P x → P y → P (cond b x y)
+either P true x y h k = h
+either P false x y h k = k
+
 put_locks : (w : World) (ps : List (Name × Name)) (a l : Name) → all_locks w ps ≡ true → is_lock_chan (w.chan l) ≡ true → all_locks w (put_place ps a l) ≡ true
 put_locks w [] a l h k = and-in k refl
 put_locks w (p ∷ ps) a l h k =
     let b = and-out _ _ h in
-    either (same_name p.0 a) ((a, l) ∷ ps) (p ∷ put_place ps a l) (and-in k b.1) (and-in b.0 (put_locks w ps a l b.1 k))
-  where
-    either : (t : Bool) (xs ys : List (Name × Name)) → all_locks w xs ≡ true → all_locks w ys ≡ true → all_locks w (cond t xs ys) ≡ true
-    either true xs ys x y = x
-    either false xs ys x y = y
+    either (λ qs. all_locks w qs ≡ true) (same_name p.0 a) ((a, l) ∷ ps) (p ∷ put_place ps a l) (and-in k b.1) (and-in b.0 (put_locks w ps a l b.1 k))
 
 pub both_ways : (c : Cap) (t : Ty) → reads c ≡ true → writes c ≡ true → is_site (out-Ty t) ≡ true → is_lock c t ≡ true
 both_ways cap.Both t r w h = h
-both_ways cap.Input t r w h = absurd cc
-both_ways cap.Output t r w h = absurd cc
+both_ways _ t r w h = absurd cc
 
 -- a channel type that is ^Site
 pub lock_is : (y : TyLayer) → is_lock_chan (as_chan y) ≡ true → (t : Ty) × (as_chan y ≡ Some (cap.Both, t)) × (is_site (out-Ty t) ≡ true)
 lock_is (Ty-F.Chan cap.Both t) h = (t, refl, h)
-lock_is (Ty-F.Chan cap.Input t) h = absurd cc
-lock_is (Ty-F.Chan cap.Output t) h = absurd cc
 lock_is _ h = absurd cc
 
 -- a channel that fits ^Site has just this type
@@ -94,8 +81,7 @@ lock_value : (w : World) (v : Value) (t : Ty) → Fits w v t → is_lock_type (o
 lock_value w v t f h =
     let s = lock_is (out-Ty t) h in
     let c = chan_value w v t (cap.Both, s.0) f s.1 in
-    let r = c.reading refl in
-    let q = c.writing refl in
+    let r = c.reading refl in let q = c.writing refl in
     (c.name, c.is, ap (λ o. is_lock_chan o) c.carries ∙ both_ways c.own.0 c.own.1 r.0 q.0 (site_below c.own.1 s.0 s.2 r.1))
 
 -- ---- expressions
@@ -162,24 +148,19 @@ module _ (w : World) (env : Env) (types : Types) (agrees : Agrees w env types) w
   equals : (s t : Ty) (l : TyLayer) (x y : Value) → out-Ty s ≡ l → basic l ≡ true → same_basic l (out-Ty t) ≡ true → Fits w x s → Fits w y t
       → (b : Bool) × (equal_at (out-Value x) (out-Value y) ≡ Some b)
   equals s t Ty-F.Int x y h k e f g =
-      let i = int_value w x s f (rw h refl) in
-      let j = int_value w y t g e in
+      let i = int_value w x s f (rw h refl) in let j = int_value w y t g e in
       (int_eq i.0 j.0, rw (i.1, j.1) refl)
   equals s t Ty-F.Bool x y h k e f g =
-      let i = truth_value w x s f (rw h refl) in
-      let j = truth_value w y t g e in
+      let i = truth_value w x s f (rw h refl) in let j = truth_value w y t g e in
       (same_truth i.0 j.0, rw (i.1, j.1) refl)
   equals s t Ty-F.Str x y h k e f g =
-      let i = text_value w x s f (rw h refl) in
-      let j = text_value w y t g e in
+      let i = text_value w x s f (rw h refl) in let j = text_value w y t g e in
       (bytes_eq i.0 j.0, rw (i.1, j.1) refl)
   equals s t Ty-F.Site x y h k e f g =
-      let i = site_value w x s f (rw h refl) in
-      let j = site_value w y t g e in
+      let i = site_value w x s f (rw h refl) in let j = site_value w y t g e in
       (nat_eq i.0 j.0, rw (i.1, j.1) refl)
   equals s t Ty-F.Agent x y h k e f g =
-      let i = agent_value w x s f (rw h refl) in
-      let j = agent_value w y t g e in
+      let i = agent_value w x s f (rw h refl) in let j = agent_value w y t g e in
       (same_name i.0 j.0, rw (i.1, j.1) refl)
   equals s t _ x y h k e f g = absurd cc
 
@@ -190,37 +171,20 @@ module _ (w : World) (env : Env) (types : Types) (agrees : Agrees w env types) w
   sound_op op.Less a b t h = sound_arith op.Less _ ty.Bool (λ i j. refl) (λ i j. truth-kind w _) a b t h
   sound_op op.Equal a b t h =
       then (least w types a.0) _ h λ s first h. when _ _ _ _ h λ ok h. then (least w types b.0) _ h λ u second h. when _ _ _ _ h λ same h.
-      let x = a.1 s first in
-      let y = b.1 u second in
+      let x = a.1 s first in let y = b.1 u second in
       let q = equals s u (out-Ty s) x.value y.value refl ok same x.fits y.fits in
       let r : t ≡ ty.Bool = done h in
       rw r (record { value = value.Truth q.0; is = rw (x.is, y.is, q.1) refl; fits = fits-itself w _ ty.Bool (truth-kind w q.0) })
-
-  record Passing (e : Expr) (test : TyLayer → Bool) : Type 0 where
-    type : Ty
-    value : Value
-    is : eval e env ≡ Some value
-    fits : Fits w value type
-    passes : test (out-Ty type) ≡ true
-
-  passing : (e : With Expr Sound) (test : TyLayer → Bool) (rule : Rule) → test_of test rule (least_of w types e.0) ≡ Ok tt → Passing e.0 test
-  passing e test rule h =
-      then (least w types e.0) (λ t. ensure (test (out-Ty t)) (least_of w types e.0).at rule) h λ t is h.
-      let v = e.1 t is in
-      record { type = t; value = v.value; is = v.is; fits = v.fits; passes = ensured _ _ _ h }
 
   sound_pack : (a b : With Expr Sound) (t : Ty) → (output (least_of w types a.0) (least_of w types b.0) >> Ok ty.Letter) ≡ Ok t
       → Valued w (may.◌>>=◌ (eval a.0 env) (λ x. may.◌>>=◌ (eval b.0 env) (λ v. pack x v))) t
   sound_pack a b t h =
       then (output (least_of w types a.0) (least_of w types b.0)) (λ _. Ok ty.Letter) h λ u sent h.
-      then (channel (least_of w types a.0)) _ sent λ k on sent. then (least w types a.0) _ on λ s first on.
-      when _ _ _ _ sent λ may sent. then (least w types b.0) _ sent λ r second sent.
-      let below : sub r k.1 ≡ true = ensured (sub r k.1) _ _ sent in
-      let x = a.1 s first in
-      let y = b.1 r second in
-      let c = chan_value w x.value s k x.fits (wanted _ _ _ on) in
-      let q = c.writing may in
-      let f = sub-trans y.fits.type r c.own.1 y.fits.below (sub-trans r k.1 c.own.1 below q.1) in
+      let s = sending w types a.0 b.0 sent in
+      let x = a.1 s.on.type s.on.is in let y = b.1 s.type s.is in
+      let c = chan_value w x.value s.on.type s.carries x.fits s.on.chan in
+      let q = c.writing s.may_write in
+      let f = sub-trans y.fits.type s.type c.own.1 y.fits.below (sub-trans s.type s.carries.1 c.own.1 s.below q.1) in
       let same : t ≡ ty.Letter = done h in
       rw same (record {
         value = value.Letter c.name y.value;
@@ -228,24 +192,20 @@ module _ (w : World) (env : Env) (types : Types) (agrees : Agrees w env types) w
         fits = fits-itself w _ ty.Letter (letter-kind w c.name y.value y.fits.type c.own y.fits.is c.carries q.0 f);
       })
 
-  abbrev locks : Expr → Check (Unit {0})
-  locks l = test_of is_lock_type rule.Mismatch (least_of w types l)
-
-  abbrev agents : Expr → Check (Unit {0})
-  agents a = test_of is_agent rule.NotAgent (least_of w types a)
-
-  sound_with : (m a l : With Expr Sound) (t : Ty) → (test_of is_places rule.Mismatch (least_of w types m.0) >> (agents a.0 >> (locks l.0 >> Ok ty.Places))) ≡ Ok t
+  sound_with : (m a l : With Expr Sound) (t : Ty)
+      → (test_of is_places rule.Mismatch (least_of w types m.0) >> (test_of is_agent rule.NotAgent (least_of w types a.0)
+      >> (test_of is_lock_type rule.Mismatch (least_of w types l.0) >> Ok ty.Places))) ≡ Ok t
       → Valued w (may.◌>>=◌ (eval m.0 env) (λ x. may.◌>>=◌ (eval a.0 env) (λ y. may.◌>>=◌ (eval l.0 env) (λ z. with_place x y z)))) t
   sound_with m a l t h =
-      then (test_of is_places rule.Mismatch (least_of w types m.0)) (λ _. agents a.0 >> (locks l.0 >> Ok ty.Places)) h λ u first h.
-      then (agents a.0) (λ _. locks l.0 >> Ok ty.Places) h λ u second h.
-      then (locks l.0) (λ _. Ok ty.Places) h λ u third h.
-      let x = passing m is_places rule.Mismatch first in
-      let y = passing a is_agent rule.NotAgent second in
-      let z = passing l is_lock_type rule.Mismatch third in
-      let p = places_value w x.value x.type x.fits x.passes in
-      let b = agent_value w y.value y.type y.fits y.passes in
-      let n = lock_value w z.value z.type z.fits z.passes in
+      then (test_of is_places _ (least_of w types m.0)) _ h λ u first h. then (test_of is_agent _ (least_of w types a.0)) _ h λ u second h.
+      then (test_of is_lock_type _ (least_of w types l.0)) _ h λ u third h.
+      let i = tested w types is_places _ m.0 _ first in let j = tested w types is_agent _ a.0 _ second in
+      let k = tested w types is_lock_type _ l.0 _ third in
+      let x = m.1 i.type i.is in let y = a.1 j.type j.is in
+      let z = l.1 k.type k.is in
+      let p = places_value w x.value i.type x.fits i.passes in
+      let b = agent_value w y.value j.type y.fits j.passes in
+      let n = lock_value w z.value k.type z.fits k.passes in
       let same : t ≡ ty.Places = done h in
       rw same (record {
         value = value.Places (put_place p.0 b.0 n.0);

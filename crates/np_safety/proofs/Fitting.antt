@@ -1,18 +1,10 @@
 -- Configurations whose values fit some types, from which the least ones follow.
 use Rattle.std.proofs.Common.{◌≡◌, ℕ, Option, Some, Ok, List, [], ◌∷◌}
 use Rattle.std.specs.FinMap as table
-use Rattle.np_syntax.specs.declared.value.Name.{Name}
-use Rattle.np_syntax.specs.declared.value.Value.{Value}
-use Rattle.np_syntax.specs.declared.types.Ty.{Ty}
+use Rattle.np_safety.proofs.Common.{Name, Value, Ty, World, Types, check, Env, Atom, Config, Fits, Sent}
 use Rattle.np_tables.specs.Names.{NameMap}
-use Rattle.np_types.specs.Worlds.{World}
-use Rattle.np_types.specs.Least.{Types}
-use Rattle.np_calculus.specs.declared.config.Atom.{Atom}
 use Rattle.np_calculus.specs.declared.config.Packet.{Packet}
-use Rattle.np_calculus.specs.Config.{Config}
-use Rattle.np_eval.specs.Eval.{Env}
-use Rattle.np_check.specs.Faults.{check}
-use Rattle.np_safety.specs.Fits.{Fits, Sent, LeastTypes}
+use Rattle.np_safety.specs.Fits.{LeastTypes}
 
 -- there is a value, which fits the type
 pub record Valued (w : World) (o : Option Value) (t : Ty) : Type 0 where

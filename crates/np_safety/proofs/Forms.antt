@@ -1,27 +1,17 @@
 -- What a process without a fault is made of, form by form.
 use Rattle.std.proofs.Common.{◌≡◌, ℕ, Bool, true, Option, None, Some, is_some, Ok, refl, subst, sym, ap, ◌∙◌}
 use Rattle.std.specs.FinMap as table
-use Rattle.np_syntax.specs.declared.types.Cap.{Cap}
-use Rattle.np_syntax.specs.declared.types.Ty.{Ty, out-Ty}
+use Rattle.np_safety.proofs.Common.{Cap, Ty, out-Ty, Expr, Pat, Proc, ProcForm-F, ◌>>=◌, ◌>>◌, then, done, Rule, TyLayer, reads, writes, sub, is_bool}
+use Rattle.np_safety.proofs.Common.{is_site, is_agent, is_letter, is_places, as_chan, ensure, World, Types, least, channel, least_of, cover, when, ensured}
+use Rattle.np_safety.proofs.Common.{wanted, Checking, lock_type, check_step, check, Layer, layer}
 use Rattle.np_syntax.specs.declared.types.Ty as ty
-use Rattle.np_syntax.specs.declared.expression.Expr.{Expr}
-use Rattle.np_syntax.specs.declared.pattern.Pat.{Pat}
-use Rattle.np_syntax.specs.declared.process.Proc.{Proc, fold_out-Proc}
-use Rattle.np_syntax.specs.declared.process.ProcForm.{ProcForm, ProcForm-F, map-ProcForm, fold_out-ProcForm}
-use Rattle.np_types.specs.declared.fault.Rule.{Rule}
+use Rattle.np_syntax.specs.declared.process.Proc.{fold_out-Proc}
+use Rattle.np_syntax.specs.declared.process.ProcForm.{ProcForm, map-ProcForm, fold_out-ProcForm}
 use Rattle.np_types.specs.declared.fault.Rule.TheVariants as rule
-use Rattle.np_types.specs.Sub.{TyLayer, reads, writes, sub, is_bool, is_site, is_agent, is_letter, is_places, as_chan}
 use Rattle.np_types.specs.Widths.{narrow, printable}
-use Rattle.np_syntax.specs.Results.{◌>>=◌, ◌>>◌}
-use Rattle.np_types.specs.Checks.{ensure}
-use Rattle.np_types.specs.Worlds.{World}
-use Rattle.np_types.specs.Least.{Types, least, least_of, channel, input}
-use Rattle.np_types.specs.Covers.{cover}
-use Rattle.np_eval.specs.Forms.{Layer, layer}
-use Rattle.np_check.specs.Faults.{Checking, is_of, is_printable, is_output, with_names, is_channel, is_for_channels, check_new, check_input}
-use Rattle.np_check.specs.Faults.{check_migrate, check_send, check_post, check_let, check_places, lock_type, check_step, check, check_form}
-use Rattle.np_syntax.proofs.Results.{then, done}
-use Rattle.np_types.proofs.Passed.{when, ensured, wanted}
+use Rattle.np_types.specs.Least.{input}
+use Rattle.np_check.specs.Faults.{is_of, is_printable, is_output, with_names, is_channel, is_for_channels, check_new, check_input}
+use Rattle.np_check.specs.Faults.{check_migrate, check_send, check_post, check_let, check_places, check_form}
 
 abbrev pub checks : World → Layer → ProcForm-F (ℕ → Checking) Checking
 checks w y = map-ProcForm ProcForm Proc (ℕ → Checking) Checking (check_form w) (check w) y
@@ -101,11 +91,10 @@ GoodForm w types (ProcForm-F.Open e) = Tested w types is_letter e
 GoodForm w types (ProcForm-F.Lookup a m x p q) = Tested w types is_agent a × Tested w types is_places m × Good w (table.insert types x lock_type) p × Good w types q
 
 module _ (w : World) (types : Types) where
-  tested : (test : TyLayer → Bool) (r : Rule) (e : Expr) → is_of w test r e types ≡ Ok tt → Tested w types test e
-  unfolding is_of
-  tested test r e h = then (least w types e) (λ t. ensure (test (out-Ty t)) e.at r) h λ t is h. record { type = t; is = is; passes = ensured _ _ _ h }
+  pub tested : (test : TyLayer → Bool) (r : Rule) (e : Expr) (at : ℕ) → (least w types e >>= λ t. ensure (test (out-Ty t)) at r) ≡ Ok tt → Tested w types test e
+  tested test r e at h = then (least w types e) _ h λ t is h. record { type = t; is = is; passes = ensured _ _ _ h }
 
-  sending : (c e : Expr) → is_output w c e types ≡ Ok tt → Sending w types c e
+  pub sending : (c e : Expr) → is_output w c e types ≡ Ok tt → Sending w types c e
   sending c e h =
       then (channel (least_of w types c)) _ h λ k on h. when _ _ _ _ h λ may h. then (least w types e) _ h λ t is h.
       then (least w types c) _ on λ s first on.
@@ -132,71 +121,40 @@ module _ (w : World) (types : Types) where
   some_chan None h = absurd cc
   some_chan (Some k) h = (k, refl)
 
-  naming : (x : ℕ) (t : Ty) (p : Proc) (at : ℕ) → check_new x t (check w p) at types ≡ Ok tt → Naming w types x t p
-  unfolding check_new is_for_channels
-  naming x t p at h =
-      then (ensure (narrow t) at rule.Wide >> ensure (is_channel (out-Ty t)) at rule.NotChannel) (λ _. check w p (table.insert types x t)) h λ u first h.
-      when (narrow t) at rule.Wide (ensure (is_channel (out-Ty t)) at rule.NotChannel) first λ small first.
-      let k = some_chan (as_chan (out-Ty t)) (ensured _ _ _ first) in
-      record { carries = k.0; chan = k.1; small = small; body = h }
-
-  letting : (x : Pat) (e : Expr) (p : Proc) → check_let w x e (check w p) types ≡ Ok tt → Letting w types x e p
-  unfolding check_let with_names
-  letting x e p h =
-      then (least w types e) (λ t. cover x t types >>= λ inner. check w p inner) h λ t is h.
-      then (cover x t types) (check w p) h λ inner covers h. record { type = t; is = is; inner = inner; covers = covers; body = h }
-
-  saying : (e : Expr) → is_printable w e types ≡ Ok tt → Saying w types e
-  unfolding is_printable
-  saying e h = then (least w types e) (λ t. ensure (printable t) e.at rule.NotPrintable) h λ t is h. record { type = t; is = is; shows = ensured _ _ _ h }
-
-  migrating : (e : Expr) (p : Proc) → check_migrate w e (check w p) types ≡ Ok tt → Tested w types is_site e × Good w types p
-  unfolding check_migrate
-  migrating e p h = then (is_of w is_site rule.NotSite e types) (λ _. check w p types) h λ u first h. (tested is_site _ e first, h)
-
   posting : (b c e : Expr) → check_post w b c e types ≡ Ok tt → Tested w types is_agent b × Sending w types c e
-  unfolding check_post
-  posting b c e h = then (is_of w is_agent rule.NotAgent b types) (λ _. is_output w c e types) h λ u first h. (tested is_agent _ b first, sending c e h)
-
-  going : (b s c e : Expr) → check_send w b s c e types ≡ Ok tt → Tested w types is_agent b × Tested w types is_site s × Sending w types c e
-  unfolding check_send
-  going b s c e h =
-      then (is_of w is_agent rule.NotAgent b types) (λ _. is_of w is_site rule.NotSite s types >> is_output w c e types) h λ u first h.
-      then (is_of w is_site rule.NotSite s types) (λ _. is_output w c e types) h λ u second h. (tested is_agent _ b first, tested is_site _ s second, sending c e h)
-
-  finding : (a m : Expr) → check_places w a m types ≡ Ok tt → Tested w types is_agent a × Tested w types is_places m
-  unfolding check_places
-  finding a m h =
-      then (is_of w is_agent rule.NotAgent a types) (λ _. is_of w is_places rule.Mismatch m types) h λ u first h. (tested is_agent _ a first, tested is_places _ m h)
+  unfolding is_of check_post
+  posting b c e h = then (is_of w is_agent rule.NotAgent b types) _ h λ u first h. (tested is_agent _ b _ first, sending c e h)
 
   good_at : (at : ℕ) (l : Layer) → check_step w (checks w l) at types ≡ Ok tt → GoodForm w types l
+  unfolding is_of is_printable check_new is_for_channels check_migrate check_send check_let with_names check_places
   good_at at ProcForm-F.Stop h = tt
-  good_at at (ProcForm-F.Par p q) h = then (check w p types) (λ _. check w q types) h λ u first h. (first, h)
-  good_at at (ProcForm-F.New x t p) h = naming x t p at h
+  good_at at (ProcForm-F.Par p q) h = then (check w p types) _ h λ u first h. (first, h)
+  good_at at (ProcForm-F.New x t p) h =
+      then (ensure (narrow t) at rule.Wide >> ensure (is_channel (out-Ty t)) at rule.NotChannel) _ h λ u first h. when (narrow t) at rule.Wide _ first λ small first.
+      let k = some_chan (as_chan (out-Ty t)) (ensured _ _ _ first) in
+      record { carries = k.0; chan = k.1; small = small; body = h }
   good_at at (ProcForm-F.Out c e) h = sending c e h
   good_at at (ProcForm-F.Inp c x p) h = taking c x p h
   good_at at (ProcForm-F.Rep c x p) h = taking c x p h
-  good_at at (ProcForm-F.Agent b p q) h =
-      then (check w p (table.insert types b ty.Agent)) (λ _. check w q (table.insert types b ty.Agent)) h λ u first h. (first, h)
-  good_at at (ProcForm-F.Migrate e p) h = migrating e p h
+  good_at at (ProcForm-F.Agent b p q) h = then (check w p (table.insert types b ty.Agent)) _ h λ u first h. (first, h)
+  good_at at (ProcForm-F.Migrate e p) h = then (is_of w is_site rule.NotSite e types) _ h λ u first h. (tested is_site _ e _ first, h)
   good_at at (ProcForm-F.IfLocal b c e p q) h =
-      then (check_post w b c e types) (λ _. check w p types >> check w q types) h λ u first h.
-      then (check w p types) (λ _. check w q types) h λ u second h.
+      then (check_post w b c e types) _ h λ u first h. then (check w p types) _ h λ u second h.
       let s = posting b c e first in
       (s.0, s.1, second, h)
-  good_at at (ProcForm-F.Send b s c e) h = going b s c e h
+  good_at at (ProcForm-F.Send b s c e) h =
+      then (is_of w is_agent rule.NotAgent b types) _ h λ u first h. then (is_of w is_site rule.NotSite s types) _ h λ u second h.
+      (tested is_agent _ b _ first, tested is_site _ s _ second, sending c e h)
   good_at at (ProcForm-F.Post b c e) h = posting b c e h
   good_at at (ProcForm-F.If e p q) h =
-      then (is_of w is_bool rule.NotBool e types) (λ _. check w p types >> check w q types) h λ u first h.
-      then (check w p types) (λ _. check w q types) h λ u second h. (tested is_bool _ e first, second, h)
-  good_at at (ProcForm-F.Let x e p) h = letting x e p h
-  good_at at (ProcForm-F.Print e) h = saying e h
-  good_at at (ProcForm-F.Open e) h = tested is_letter _ e h
+      then (is_of w is_bool rule.NotBool e types) _ h λ u first h. then (check w p types) _ h λ u second h. (tested is_bool _ e _ first, second, h)
+  good_at at (ProcForm-F.Let x e p) h =
+      then (least w types e) _ h λ t is h. then (cover x t types) _ h λ inner covers h. record { type = t; is = is; inner = inner; covers = covers; body = h }
+  good_at at (ProcForm-F.Print e) h = then (least w types e) _ h λ t is h. record { type = t; is = is; shows = ensured _ _ _ h }
+  good_at at (ProcForm-F.Open e) h = tested is_letter _ e _ h
   good_at at (ProcForm-F.Lookup a m x p q) h =
-      then (check_places w a m types) (λ _. check w p (table.insert types x lock_type) >> check w q types) h λ u first h.
-      then (check w p (table.insert types x lock_type)) (λ _. check w q types) h λ u second h.
-      let s = finding a m first in
-      (s.0, s.1, second, h)
+      then (check_places w a m types) _ h λ u places h. then (check w p (table.insert types x lock_type)) _ h λ u second h.
+      then (is_of w is_agent rule.NotAgent a types) _ places λ u first places. (tested is_agent _ a _ first, tested is_places _ m _ places, second, h)
 
 pub good-form : (w : World) (types : Types) (p : Proc) → Good w types p → GoodForm w types (layer p)
 good-form w types p h = good_at w types p.at (layer p) (sym (ap (λ (f : Checking). f types) (check-out w p)) ∙ h)

@@ -1,30 +1,19 @@
 -- The types of channels along a run: a channel that is made keeps its type.
-use Rattle.std.proofs.Common.{◌≡◌, Bool, true, false, not, ◌||◌, Option, None, Some, List, [], ◌∷◌, ◌++◌, refl, subst, sym, ap, ◌∙◌}
+use Rattle.std.proofs.Common.{◌≡◌, Bool, true, false, Option, None, Some, List, [], ◌∷◌, ◌++◌, refl, subst, sym, ap, ◌∙◌}
 use Rattle.std.specs.FinMap as map
 use Rattle.std.specs.FinSet as set
-use Rattle.np_syntax.specs.declared.value.Name.{Name}
-use Rattle.np_syntax.specs.declared.types.Cap.{Cap}
-use Rattle.np_syntax.specs.declared.types.Ty.{Ty, out-Ty}
-use Rattle.np_syntax.specs.declared.event.Event.{Event}
+use Rattle.np_safety.proofs.Common.{Name, Cap, Ty, out-Ty, Event, same_name, same_name-is, as_chan, World, layer, Config, Channels}
 use Rattle.np_syntax.specs.declared.event.Kind.{Kind}
 use Rattle.np_syntax.specs.declared.event.Kind.TheVariants as kind
-use Rattle.np_syntax.specs.Options.{need}
-use Rattle.np_tables.specs.Names.{NameSet, same_name}
 use Rattle.np_syntax.proofs.Options.{then, done}
-use Rattle.np_tables.proofs.Tables.{get-put, put_here, born_insert, born_here, same_name-is}
-use Rattle.np_types.specs.Sub.{as_chan}
-use Rattle.np_types.specs.Worlds.{World}
-use Rattle.np_calculus.specs.Config.{Config}
-use Rattle.np_eval.specs.Forms.{layer}
+use Rattle.np_tables.proofs.Tables.{get-put, put_here, born_here}
 use Rattle.np_eval.specs.FormParts.{as_new}
-use Rattle.np_syntax.specs.declared.event.Made.{Made}
-use Rattle.np_syntax.specs.declared.event.Made.TheVariants as made
-use Rattle.np_calculus.specs.Changes.{with_made}
 use Rattle.np_calculus.specs.Reductions.{one_made, row, apply, run}
 use Rattle.np_calculus.specs.Seen.{acting}
-use Rattle.np_calculus.proofs.Steps.{row-step}
+use Rattle.np_calculus.proofs.Steps.{need-met, row-step}
+use Rattle.np_calculus.proofs.FrameRule.{not-false, still-born}
 use Rattle.np_calculus.proofs.Inversions.{new-step}
-use Rattle.np_safety.specs.Channels.{Channels, makes_at, noted, after, channels_after}
+use Rattle.np_safety.specs.Channels.{makes_at, noted, after, channels_after}
 use Rattle.np_safety.specs.Laws.{HasMade}
 use Rattle.np_safety.proofs.Fitting.{Fitting}
 use Rattle.np_safety.proofs.Kept.{kept-at}
@@ -34,25 +23,13 @@ use Rattle.np_safety.proofs.Kept.{kept-at}
 abbrev Born : Config → Name → Type 0
 Born c q = set.contains c.born q ≡ true
 
-or_right : (a b : Bool) → b ≡ true → (a || b) ≡ true
-or_right true b h = refl
-or_right false b h = h
-
-born-put : (s : NameSet) (k q : Name) → set.contains s q ≡ true → set.contains (set.insert s k) q ≡ true
-born-put s k q h = born_insert s k q ∙ or_right (same_name q k) (set.contains s q) h
-
 -- a later configuration has the sites and the names of an earlier one
 pub record Later (c d : Config) : Type 0 where
   pub sites : d.sites ≡ c.sites
   pub born : (q : Name) → Born c q → Born d q
 
-made-keeps : (born : NameSet) (x : Made) (q : Name) → set.contains born q ≡ true → set.contains (with_made born x) q ≡ true
-made-keeps born made.Nothing q h = h
-made-keeps born (made.One m) q h = born-put born m q h
-made-keeps born (made.Two m n) q h = born-put (set.insert born m) n q (born-put born m q h)
-
 later : (c : Config) (e : Event) (d : Config) → apply c e ≡ Some d → Later c d
-later c e d h = rw (row-step c e d e.kind h).is (record { sites = refl; born = made-keeps c.born e.made })
+later c e d h = rw (row-step c e d e.kind h).is (record { sites = refl; born = still-born c.born e.made })
 
 pub sites-run : (es : List Event) (c d : Config) → run c es ≡ Some d → d.sites ≡ c.sites
 sites-run [] c d h = ap (λ (x : Config). x.sites) (done h)
@@ -70,10 +47,6 @@ record MadeNew (c d : Config) (n : Name) : Type 0 where
   new : set.contains c.born n ≡ false
   born : Born d n
 
-needs_not : (b : Bool) → need (not b) ≡ Some tt → b ≡ false
-needs_not true h = absurd cc
-needs_not false h = refl
-
 made-at : (k : Kind) (c : Config) (e : Event) (d : Config) (x : Name × (Cap × Ty)) → row k c e ≡ Some d → makes_at k c e ≡ Some x → MadeNew c d x.0
 made-at kind.New c e d x h m =
     let s = new-step c e d h in
@@ -81,7 +54,7 @@ made-at kind.New c e d x h m =
     let same : n ≡ s.chan = done (sym s.made ∙ made) in
     let whole : x ≡ (n, k) = done m in
     let at : x.0 ≡ s.chan = ap (λ (x : Name × (Cap × Ty)). x.0) whole ∙ same in
-    rw at (record { new = needs_not _ s.new; born = subst (λ (x : Config). set.contains x.born s.chan ≡ true) (sym s.is) (born_here c.born s.chan) })
+    rw at (record { new = not-false _ (need-met _ tt s.new); born = subst (λ (x : Config). set.contains x.born s.chan ≡ true) (sym s.is) (born_here c.born s.chan) })
 made-at _ c e d x h m = absurd cc
 
 apart : (c : Config) (q n : Name) → Born c q → set.contains c.born n ≡ false → (b : Bool) → same_name q n ≡ b → b ≡ false
@@ -124,4 +97,4 @@ kept-run (e ∷ es) w g c d f h i =
     let go : (q : Name) (k : Cap × Ty) → map.get (channels_after es (noted g made) m) q ≡ Some k → w.chan q ≡ Some k =
     λ q k is. f q k (subst (λ o. map.get (after o (channels_after es (noted g made)) g) q ≡ Some k) (sym first) is) in
     let names = named w made (λ x is. go x.0 x.1 (stays es (noted g made) m x.0 x.1 (noted-here g made x is) (made-at e.kind c e m x first is).born)) in
-    kept-run es w (noted g made) m d go rest (kept-at e.kind w c e m i first names)
+    kept-run es w (noted g made) m d go rest (kept-at w c e m i e.kind first names)

@@ -1,41 +1,30 @@
--- Each event keeps the types: one lemma for each kind of event.
+-- Each event keeps the types.
 use Rattle.std.proofs.Common.{◌≡◌, ℕ, Bool, true, false, cond, Option, None, Some, List, [], ◌∷◌, refl, subst, sym, ap, ◌∙◌}
 use Rattle.std.specs.FinMap as map
-use Rattle.np_syntax.specs.declared.value.Name.{Name}
-use Rattle.np_syntax.specs.declared.value.Value.{Value, out-Value}
+use Rattle.np_safety.proofs.Common.{Name, Value, Cap, Ty, Ty-F, out-Ty, Proc, Event, and-out, same_name, TyLayer, is_site, World, is_lock_chan}
+use Rattle.np_safety.proofs.Common.{all_locks, Types, lock_type, Env, Layer, layer, Atom, Config, Fits, Sent}
 use Rattle.np_syntax.specs.declared.value.Value as value
-use Rattle.np_syntax.specs.declared.types.Cap.{Cap}
 use Rattle.np_syntax.specs.declared.types.Cap.TheVariants as cap
-use Rattle.np_syntax.specs.declared.types.Ty.{Ty, Ty-F, out-Ty, roll-Ty, roll-out-Ty}
+use Rattle.np_syntax.specs.declared.types.Ty.{roll-Ty, roll-out-Ty}
 use Rattle.np_syntax.specs.declared.types.Ty as ty
 use Rattle.np_syntax.specs.declared.types.Ty.TheVariants.{outs-Site}
-use Rattle.np_syntax.specs.declared.process.Proc.{Proc}
-use Rattle.np_syntax.specs.declared.event.Event.{Event}
 use Rattle.np_syntax.specs.declared.event.Kind.{Kind}
 use Rattle.np_syntax.specs.declared.event.Kind.TheVariants as kind
-use Rattle.np_tables.specs.Names.{same_name}
-use Rattle.np_types.specs.Sub.{TyLayer, is_site, as_chan}
-use Rattle.np_types.specs.Worlds.{World, is_lock, is_lock_chan, all_locks}
-use Rattle.np_types.specs.Least.{Types}
-use Rattle.np_syntax.proofs.Bools.{and-out}
+use Rattle.np_types.specs.Worlds.{is_lock}
 use Rattle.np_types.proofs.Subs.{chan-again}
-use Rattle.np_calculus.specs.declared.config.Atom.{Atom}
-use Rattle.np_calculus.specs.Config.{Config}
-use Rattle.np_eval.specs.Eval.{Env, find_place}
-use Rattle.np_calculus.specs.Reductions.{goes, output_in, found_on, row}
+use Rattle.np_eval.specs.Eval.{find_place}
+use Rattle.np_calculus.specs.Reductions.{goes, found_on, row}
 use Rattle.np_calculus.specs.Seen.{acting}
 use Rattle.np_calculus.proofs.Steps.{acting-step}
-use Rattle.np_calculus.proofs.Inversions.{NewStep, TestStep, stop-step, fork-step, new-step, let-step, if-step, comm-step, rep-step, agent-step, depart-step}
+use Rattle.np_calculus.proofs.Inversions.{TestStep, stop-step, fork-step, new-step, let-step, if-step, comm-step, rep-step, agent-step, depart-step}
 use Rattle.np_calculus.proofs.Inversions.{arrive-step, local-step, send-step, land-step, print-step, open-step, lookup-step, post-step}
-use Rattle.np_check.specs.Faults.{lock_type}
-use Rattle.np_safety.specs.Fits.{Fits, Sent}
 use Rattle.np_safety.specs.Channels.{makes_at}
 use Rattle.np_safety.specs.Laws.{HasMade}
 use Rattle.np_safety.proofs.Fitting.{Agrees, Fitting, FittingAtom, FittingAtoms}
 use Rattle.np_safety.proofs.Shapes.{fits-itself}
-use Rattle.np_safety.proofs.Evaluates.{agent-kind, chan-kind}
+use Rattle.np_safety.proofs.Evaluates.{either, agent-kind, chan-kind}
 use Rattle.np_safety.proofs.Matches.{agrees-put, matches}
-use Rattle.np_safety.proofs.Forms.{Good, good-as}
+use Rattle.np_safety.proofs.Forms.{Good, GoodForm, good-as}
 use Rattle.np_safety.proofs.Atoms.{sent_on, letter_sent, places_locked, fits-value, takes, bound-as}
 use Rattle.np_safety.proofs.Atoms.{offered-typed, made-typed, atoms-put, atoms-cut, packets-put, packets-cut}
 
@@ -46,154 +35,6 @@ goes-on w a p t g = record { types = t.types; agrees = t.agrees; good = g }
 -- an atom under another environment
 goes-in : (w : World) (agent : Name) (p : Proc) (env : Env) (types : Types) → Agrees w env types → Good w types p → FittingAtom w (record { agent = agent; proc = p; env = env })
 goes-in w agent p env types a g = record { types = types; agrees = a; good = g }
-
-choose : (w : World) (types : Types) (b : Bool) (p q : Proc) → Good w types p → Good w types q → Good w types (cond b p q)
-choose w types true p q g h = g
-choose w types false p q g h = h
-
-atoms-or : (w : World) (b : Bool) (s t : _) → FittingAtoms w s → FittingAtoms w t → FittingAtoms w (cond b s t)
-atoms-or w true s t h k = h
-atoms-or w false s t h k = k
-
-module _ (w : World) (c : Config) (e : Event) (d : Config) (i : Fitting w c) where
-  -- the acting atom
-  actor : (a : Atom) → acting c e ≡ Some a → FittingAtom w a
-  actor a h = i.atoms e.actor a (acting-step c e a h).there
-
-  keeps-stop : row kind.Stop c e ≡ Some d → Fitting w d
-  keeps-stop h = let s = stop-step c e d h in rw s.is (record { atoms = atoms-cut w _ _ i.atoms; packets = i.packets })
-
-  keeps-fork : row kind.Fork c e ≡ Some d → Fitting w d
-  keeps-fork h =
-      let s = fork-step c e d h in
-      let a = actor s.atom s.acts in
-      let g = good-as w a.types s.atom.proc _ s.form a.good in
-      rw s.is (record {
-        atoms = atoms-put w _ _ _ (atoms-put w c.atoms s.mark _ i.atoms (goes-on w s.atom s.right a g.1)) (goes-on w s.atom s.left a g.0);
-        packets = i.packets;
-      })
-
-  keeps-new : row kind.New c e ≡ Some d → HasMade w (makes_at kind.New c e) → Fitting w d
-  keeps-new h names =
-      let s = new-step c e d h in
-      let a = actor s.atom s.acts in
-      let g = good-as w a.types s.atom.proc _ s.form a.good in
-      let t = s.type in
-      let called : w.chan s.chan ≡ Some g.carries = subst (HasMade w) (new_made s g.carries g.chan) names in
-      let f : Fits w (value.Chan s.chan) t = record { type = ty.Chan g.carries.0 g.carries.1; is = chan-kind w s.chan g.carries called; below = chan-again t g.carries g.chan } in
-      let b = agrees-put w s.atom.env a.types s.binder (value.Chan s.chan) t f a.agrees in
-      rw s.is (record { atoms = atoms-put w c.atoms e.actor _ i.atoms (goes-in w s.atom.agent s.body _ (map.insert a.types s.binder t) b g.body); packets = i.packets })
-    where
-      new_made : (s : NewStep c e d) (k : Cap × Ty) → as_chan (out-Ty s.type) ≡ Some k → makes_at kind.New c e ≡ Some (s.chan, k)
-      new_made s k is = rw (s.acts, s.form, s.made, is) refl
-
-  keeps-let : row kind.Let c e ≡ Some d → Fitting w d
-  keeps-let h =
-      let s = let-step c e d h in
-      let a = actor s.atom s.acts in
-      let g = good-as w a.types s.atom.proc _ s.form a.good in
-      let f = fits-value w s.atom.env a.types a.agrees s.bound g.type s.value g.is s.gives in
-      let b = matches w s.pat s.value g.type s.atom.env a.types g.inner f a.agrees g.covers in
-      rw s.is (record { atoms = atoms-put w c.atoms e.actor _ i.atoms (goes-in w s.atom.agent s.body s.env g.inner (bound-as w _ s.env g.inner b s.binds) g.body); packets = i.packets })
-
-  keeps-if : row kind.If c e ≡ Some d → Fitting w d
-  keeps-if h =
-      let s = if-step c e d h in
-      let a = actor s.atom s.acts in
-      let g = good-as w a.types s.atom.proc _ s.form a.good in
-      rw s.is (record { atoms = atoms-put w c.atoms e.actor _ i.atoms (goes-on w s.atom _ a (choose w a.types s.first s.met s.unmet g.1 g.2)); packets = i.packets })
-
-  keeps-comm : row kind.Comm c e ≡ Some d → Fitting w d
-  keeps-comm h =
-      let s = comm-step c e d h in
-      let a = actor s.atom s.acts in
-      let g = good-as w a.types s.atom.proc _ s.form a.good in
-      let f = offered-typed w c s.mark s.atom.agent s.chan s.value i.atoms s.offer in
-      let b = takes w s.atom.env a.types a.agrees s.from s.pat s.body s.chan s.value g s.on f in
-      rw s.is (record {
-        atoms = atoms-cut w _ s.mark (atoms-put w c.atoms e.actor _ i.atoms (goes-in w s.atom.agent s.body s.env g.inner (bound-as w _ s.env g.inner b s.binds) g.body));
-        packets = i.packets;
-      })
-
-  keeps-rep : row kind.Rep c e ≡ Some d → Fitting w d
-  keeps-rep h =
-      let s = rep-step c e d h in
-      let a = actor s.atom s.acts in
-      let g = good-as w a.types s.atom.proc _ s.form a.good in
-      let f = offered-typed w c s.mark s.atom.agent s.chan s.value i.atoms s.offer in
-      let b = takes w s.atom.env a.types a.agrees s.from s.pat s.body s.chan s.value g s.on f in
-      rw s.is (record { atoms = atoms-put w c.atoms s.mark _ i.atoms (goes-in w s.atom.agent s.body s.env g.inner (bound-as w _ s.env g.inner b s.binds) g.body); packets = i.packets })
-
-  keeps-agent : row kind.Agent c e ≡ Some d → Fitting w d
-  keeps-agent h =
-      let s = agent-step c e d h in
-      let a = actor s.atom s.acts in
-      let g = good-as w a.types s.atom.proc _ s.form a.good in
-      let b = agrees-put w s.atom.env a.types s.binder (value.Agent s.agent) ty.Agent (fits-itself w _ ty.Agent (agent-kind w s.agent)) a.agrees in
-      rw s.is (record {
-        atoms = atoms-put w _ e.actor _ (atoms-put w c.atoms s.mark _ i.atoms (goes-in w s.agent s.body _ _ b g.0)) (goes-in w s.atom.agent s.rest _ _ b g.1);
-        packets = i.packets;
-      })
-
-  keeps-depart : row kind.Depart c e ≡ Some d → Fitting w d
-  keeps-depart h =
-      let s = depart-step c e d h in
-      let a = actor s.atom s.acts in
-      let g = good-as w a.types s.atom.proc _ s.form a.good in
-      rw s.is (record { atoms = atoms-put w c.atoms e.actor _ i.atoms (goes-on w s.atom s.body a g.1); packets = i.packets })
-
-  keeps-arrive : row kind.Arrive c e ≡ Some d → Fitting w d
-  keeps-arrive h = let s = arrive-step c e d h in rw s.is (record { atoms = i.atoms; packets = i.packets })
-
-  asked : (b : Bool) (a : Atom) (agent chan : Name) (v : Value) (p q : Proc) → TestStep b c e a p q agent chan v d
-      → Sent w chan v → FittingAtom w (goes a p) → FittingAtom w (goes a q) → Fitting w d
-  asked true a agent chan v p q s f g k =
-      let made = atoms-put w c.atoms s.mark (output_in agent chan v e.tag) i.atoms (made-typed w agent chan v e.tag f) in
-      rw s.is (record { atoms = atoms-put w (map.insert c.atoms s.mark (output_in agent chan v e.tag)) e.actor (goes a p) made g; packets = i.packets })
-  asked false a agent chan v p q s f g k = rw s.is (record { atoms = atoms-put w c.atoms e.actor (goes a q) i.atoms k; packets = i.packets })
-
-  keeps-local : row kind.Local c e ≡ Some d → Fitting w d
-  keeps-local h =
-      let s = local-step c e d h in
-      let a = actor s.atom s.acts in
-      let g = good-as w a.types s.atom.proc _ s.form a.good in
-      let f = sent_on w s.atom.env a.types a.agrees s.on s.sent s.chan s.value g.1 s.along s.gives in
-      asked _ s.atom s.agent s.chan s.value s.met s.unmet s.is f (goes-on w s.atom s.met a g.2) (goes-on w s.atom s.unmet a g.3)
-
-  keeps-send : row kind.Send c e ≡ Some d → Fitting w d
-  keeps-send h =
-      let s = send-step c e d h in
-      let a = actor s.atom s.acts in
-      let g = good-as w a.types s.atom.proc _ s.form a.good in
-      let f = sent_on w s.atom.env a.types a.agrees s.on s.sent s.chan s.value g.2 s.along s.gives in
-      rw s.is (record { atoms = atoms-cut w _ _ i.atoms; packets = packets-put w c.packets e.actor _ i.packets f })
-
-  keeps-land : row kind.Land c e ≡ Some d → Fitting w d
-  keeps-land h =
-      let s = land-step c e d h in
-      let p = s.packet in
-      let made = made-typed w p.agent p.chan p.value e.tag (i.packets e.actor p s.flies) in
-      rw s.is (record { atoms = atoms-or w _ _ c.atoms (atoms-put w c.atoms e.actor _ i.atoms made) i.atoms; packets = packets-cut w _ _ i.packets })
-
-  keeps-print : row kind.Print c e ≡ Some d → Fitting w d
-  keeps-print h = let s = print-step c e d h in rw s.is (record { atoms = atoms-cut w _ _ i.atoms; packets = i.packets })
-
-  keeps-post : row kind.Post c e ≡ Some d → Fitting w d
-  keeps-post h =
-      let s = post-step c e d h in
-      let a = actor s.atom s.acts in
-      let g = good-as w a.types s.atom.proc _ s.form a.good in
-      let f = sent_on w s.atom.env a.types a.agrees s.on s.sent s.chan s.value g.1 s.along s.gives in
-      rw s.is (record { atoms = atoms-put w c.atoms e.actor _ i.atoms (made-typed w s.agent s.chan s.value e.tag f); packets = i.packets })
-
-  -- the letter's value fits its channel
-  keeps-open : row kind.Open c e ≡ Some d → Fitting w d
-  keeps-open h =
-      let s = open-step c e d h in
-      let a = actor s.atom s.acts in
-      let g = good-as w a.types s.atom.proc _ s.form a.good in
-      let f = letter_sent w s.atom.env a.types a.agrees s.expr s.letter g s.holds in
-      rw s.is (record { atoms = atoms-put w c.atoms e.actor _ i.atoms (made-typed w s.atom.agent s.letter.0 s.letter.1 e.tag f); packets = i.packets })
 
 -- ---- maps of places
 
@@ -206,8 +47,7 @@ site-type t h = sym (roll-out-Ty t) ∙ ap roll-Ty (site_is (out-Ty t) h ∙ sym
 
 lock_both : (c : Cap) (t : Ty) → is_lock c t ≡ true → ty.Chan c t ≡ lock_type
 lock_both cap.Both t h = ap (ty.Chan cap.Both) (site-type t h)
-lock_both cap.Input t h = absurd cc
-lock_both cap.Output t h = absurd cc
+lock_both _ t h = absurd cc
 
 lock-fits : (w : World) (l : Name) (o : Option (Cap × Ty)) → w.chan l ≡ o → is_lock_chan o ≡ true → Fits w (value.Chan l) lock_type
 lock-fits w l None e h = absurd cc
@@ -228,31 +68,82 @@ looked-typed w a t x p q None ok g h = goes-on w a q t h
 looked-typed w a t x p q (Some l) ok g h =
     goes-in w a.agent p _ _ (agrees-put w a.env t.types x (value.Chan l) lock_type (lock-fits w l _ refl (ok l refl)) t.agrees) g
 
-keeps-lookup : (w : World) (c : Config) (e : Event) (d : Config) → Fitting w c → row kind.Lookup c e ≡ Some d → Fitting w d
-keeps-lookup w c e d i h =
-    let s = lookup-step c e d h in
-    let a = actor w c e d i s.atom s.acts in
-    let g = good-as w a.types s.atom.proc _ s.form a.good in
-    let ok = places_locked w s.atom.env a.types a.agrees s.among s.places g.1 s.lists in
-    let l = looked-typed w s.atom a s.binder s.met s.unmet (find_place s.places s.agent) (found_lock w s.places s.agent ok) g.2 g.3 in
-    rw s.is (record { atoms = atoms-put w c.atoms e.actor _ i.atoms l; packets = i.packets })
+-- ---- the events
 
--- each kind of event keeps the types
-pub kept-at : (k : Kind) (w : World) (c : Config) (e : Event) (d : Config) → Fitting w c → row k c e ≡ Some d → HasMade w (makes_at k c e) → Fitting w d
-kept-at kind.Stop w c e d i h n = keeps-stop w c e d i h
-kept-at kind.Fork w c e d i h n = keeps-fork w c e d i h
-kept-at kind.New w c e d i h n = keeps-new w c e d i h n
-kept-at kind.Let w c e d i h n = keeps-let w c e d i h
-kept-at kind.If w c e d i h n = keeps-if w c e d i h
-kept-at kind.Comm w c e d i h n = keeps-comm w c e d i h
-kept-at kind.Rep w c e d i h n = keeps-rep w c e d i h
-kept-at kind.Agent w c e d i h n = keeps-agent w c e d i h
-kept-at kind.Depart w c e d i h n = keeps-depart w c e d i h
-kept-at kind.Arrive w c e d i h n = keeps-arrive w c e d i h
-kept-at kind.Local w c e d i h n = keeps-local w c e d i h
-kept-at kind.Send w c e d i h n = keeps-send w c e d i h
-kept-at kind.Land w c e d i h n = keeps-land w c e d i h
-kept-at kind.Print w c e d i h n = keeps-print w c e d i h
-kept-at kind.Open w c e d i h n = keeps-open w c e d i h
-kept-at kind.Lookup w c e d i h n = keeps-lookup w c e d i h
-kept-at kind.Post w c e d i h n = keeps-post w c e d i h
+module _ (w : World) (c : Config) (e : Event) (d : Config) (i : Fitting w c) where
+  -- the acting atom, and what its form says
+  acted : {l : Layer} (a : Atom) → acting c e ≡ Some a → layer a.proc ≡ l → (t : FittingAtom w a) × GoodForm w t.types l
+  acted a acts form = let t = i.atoms e.actor a (acting-step c e a acts).there in (t, good-as w t.types a.proc _ form t.good)
+
+  asked : (b : Bool) (a : Atom) (agent chan : Name) (v : Value) (p q : Proc) → TestStep b c e a p q agent chan v d
+      → Sent w chan v → FittingAtom w (goes a p) → FittingAtom w (goes a q) → Fitting w d
+  asked true a agent chan v p q s f g k =
+      rw s.is (record { atoms = atoms-put w _ e.actor _ (atoms-put w c.atoms s.mark _ i.atoms (made-typed w agent chan v e.tag f)) g; packets = i.packets })
+  asked false a agent chan v p q s f g k = rw s.is (record { atoms = atoms-put w c.atoms e.actor _ i.atoms k; packets = i.packets })
+
+  -- each kind of event keeps the types
+  pub kept-at : (k : Kind) → row k c e ≡ Some d → HasMade w (makes_at k c e) → Fitting w d
+  kept-at kind.Stop h names = let s = stop-step c e d h in rw s.is (record { atoms = atoms-cut w _ _ i.atoms; packets = i.packets })
+  kept-at kind.Fork h names =
+      let s = fork-step c e d h in let (a, g) = acted s.atom s.acts s.form in
+      let atoms = atoms-put w _ e.actor _ (atoms-put w c.atoms s.mark _ i.atoms (goes-on w s.atom s.right a g.1)) (goes-on w s.atom s.left a g.0) in
+      rw s.is (record { atoms = atoms; packets = i.packets })
+  kept-at kind.New h names =
+      let s = new-step c e d h in let (a, g) = acted s.atom s.acts s.form in
+      let made : makes_at kind.New c e ≡ Some (s.chan, g.carries) = rw (s.acts, s.form, s.made, g.chan) refl in
+      let called : w.chan s.chan ≡ Some g.carries = subst (HasMade w) made names in
+      let f : Fits w (value.Chan s.chan) s.type = record { type = ty.Chan g.carries.0 g.carries.1; is = chan-kind w s.chan g.carries called; below = chan-again s.type g.carries g.chan } in
+      let b = agrees-put w s.atom.env a.types s.binder (value.Chan s.chan) s.type f a.agrees in
+      rw s.is (record { atoms = atoms-put w c.atoms e.actor _ i.atoms (goes-in w s.atom.agent s.body _ _ b g.body); packets = i.packets })
+  kept-at kind.Let h names =
+      let s = let-step c e d h in let (a, g) = acted s.atom s.acts s.form in
+      let f = fits-value w s.atom.env a.types a.agrees s.bound g.type s.value g.is s.gives in
+      let b = matches w s.pat s.value g.type s.atom.env a.types g.inner f a.agrees g.covers in
+      rw s.is (record { atoms = atoms-put w c.atoms e.actor _ i.atoms (goes-in w s.atom.agent s.body s.env g.inner (bound-as w _ s.env g.inner b s.binds) g.body); packets = i.packets })
+  kept-at kind.If h names =
+      let s = if-step c e d h in let (a, g) = acted s.atom s.acts s.form in
+      rw s.is (record { atoms = atoms-put w c.atoms e.actor _ i.atoms (goes-on w s.atom _ a (either (Good w a.types) s.first s.met s.unmet g.1 g.2)); packets = i.packets })
+  kept-at kind.Comm h names =
+      let s = comm-step c e d h in let (a, g) = acted s.atom s.acts s.form in
+      let b = takes w s.atom.env a.types a.agrees s.from s.pat s.body s.chan s.value g s.on (offered-typed w c s.mark s.atom.agent s.chan s.value i.atoms s.offer) in
+      let atoms = atoms-put w c.atoms e.actor _ i.atoms (goes-in w s.atom.agent s.body s.env g.inner (bound-as w _ s.env g.inner b s.binds) g.body) in
+      rw s.is (record { atoms = atoms-cut w _ s.mark atoms; packets = i.packets })
+  kept-at kind.Rep h names =
+      let s = rep-step c e d h in let (a, g) = acted s.atom s.acts s.form in
+      let b = takes w s.atom.env a.types a.agrees s.from s.pat s.body s.chan s.value g s.on (offered-typed w c s.mark s.atom.agent s.chan s.value i.atoms s.offer) in
+      rw s.is (record { atoms = atoms-put w c.atoms s.mark _ i.atoms (goes-in w s.atom.agent s.body s.env g.inner (bound-as w _ s.env g.inner b s.binds) g.body); packets = i.packets })
+  kept-at kind.Agent h names =
+      let s = agent-step c e d h in let (a, g) = acted s.atom s.acts s.form in
+      let b = agrees-put w s.atom.env a.types s.binder (value.Agent s.agent) ty.Agent (fits-itself w _ ty.Agent (agent-kind w s.agent)) a.agrees in
+      let atoms = atoms-put w _ e.actor _ (atoms-put w c.atoms s.mark _ i.atoms (goes-in w s.agent s.body _ _ b g.0)) (goes-in w s.atom.agent s.rest _ _ b g.1) in
+      rw s.is (record { atoms = atoms; packets = i.packets })
+  kept-at kind.Depart h names =
+      let s = depart-step c e d h in let (a, g) = acted s.atom s.acts s.form in
+      rw s.is (record { atoms = atoms-put w c.atoms e.actor _ i.atoms (goes-on w s.atom s.body a g.1); packets = i.packets })
+  kept-at kind.Arrive h names = let s = arrive-step c e d h in rw s.is (record { atoms = i.atoms; packets = i.packets })
+  kept-at kind.Local h names =
+      let s = local-step c e d h in let (a, g) = acted s.atom s.acts s.form in
+      let f = sent_on w s.atom.env a.types a.agrees s.on s.sent s.chan s.value g.1 s.along s.gives in
+      asked _ s.atom s.agent s.chan s.value s.met s.unmet s.is f (goes-on w s.atom s.met a g.2) (goes-on w s.atom s.unmet a g.3)
+  kept-at kind.Send h names =
+      let s = send-step c e d h in let (a, g) = acted s.atom s.acts s.form in
+      let f = sent_on w s.atom.env a.types a.agrees s.on s.sent s.chan s.value g.2 s.along s.gives in
+      rw s.is (record { atoms = atoms-cut w _ _ i.atoms; packets = packets-put w c.packets e.actor _ i.packets f })
+  kept-at kind.Land h names =
+      let s = land-step c e d h in
+      let made = made-typed w s.packet.agent s.packet.chan s.packet.value e.tag (i.packets e.actor s.packet s.flies) in
+      rw s.is (record { atoms = either (FittingAtoms w) _ _ c.atoms (atoms-put w c.atoms e.actor _ i.atoms made) i.atoms; packets = packets-cut w _ _ i.packets })
+  kept-at kind.Print h names = let s = print-step c e d h in rw s.is (record { atoms = atoms-cut w _ _ i.atoms; packets = i.packets })
+  kept-at kind.Open h names =
+      let s = open-step c e d h in let (a, g) = acted s.atom s.acts s.form in
+      let f = letter_sent w s.atom.env a.types a.agrees s.expr s.letter g s.holds in
+      rw s.is (record { atoms = atoms-put w c.atoms e.actor _ i.atoms (made-typed w s.atom.agent s.letter.0 s.letter.1 e.tag f); packets = i.packets })
+  kept-at kind.Lookup h names =
+      let s = lookup-step c e d h in let (a, g) = acted s.atom s.acts s.form in
+      let ok = places_locked w s.atom.env a.types a.agrees s.among s.places g.1 s.lists in
+      let l = looked-typed w s.atom a s.binder s.met s.unmet (find_place s.places s.agent) (found_lock w s.places s.agent ok) g.2 g.3 in
+      rw s.is (record { atoms = atoms-put w c.atoms e.actor _ i.atoms l; packets = i.packets })
+  kept-at kind.Post h names =
+      let s = post-step c e d h in let (a, g) = acted s.atom s.acts s.form in
+      let f = sent_on w s.atom.env a.types a.agrees s.on s.sent s.chan s.value g.1 s.along s.gives in
+      rw s.is (record { atoms = atoms-put w c.atoms e.actor _ i.atoms (made-typed w s.agent s.chan s.value e.tag f); packets = i.packets })

@@ -1,5 +1,6 @@
 pub mod Atoms
 pub mod Backs
+pub mod Common
 pub mod Evaluates
 pub mod Fitting
 pub mod Forms

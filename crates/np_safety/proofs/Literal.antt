@@ -1,14 +1,8 @@
 -- Where the values of a configuration fit some types, its processes have no fault under their least types either.
 use Rattle.std.proofs.Common.{◌≡◌, true, Option, None, Some, refl, subst, ◌∙◌}
-use Rattle.np_syntax.specs.declared.value.Value.{Value}
-use Rattle.np_syntax.specs.declared.types.Ty.{Ty}
+use Rattle.np_safety.proofs.Common.{Value, Ty, sub, World, kind, Atom, Config, LeastOf, Typed}
 use Rattle.np_syntax.proofs.Options.{done}
-use Rattle.np_types.specs.Sub.{sub}
-use Rattle.np_types.specs.Worlds.{World, kind}
-use Rattle.np_calculus.specs.declared.config.Atom.{Atom}
-use Rattle.np_calculus.specs.Config.{Config}
-use Rattle.np_safety.specs.Fits.{LeastOf}
-use Rattle.np_safety.specs.Typed.{Typed, TypedAtom}
+use Rattle.np_safety.specs.Typed.{TypedAtom}
 use Rattle.np_safety.proofs.Fitting.{Valued, FittingAtom, Fitting}
 use Rattle.np_safety.proofs.Shapes.{fits-itself}
 use Rattle.np_safety.proofs.Atoms.{same_answer, sends-typed}

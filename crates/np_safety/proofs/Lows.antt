@@ -1,55 +1,40 @@
 -- A low program without a fault is typed at its start, where the infrastructure's channels are born.
-use Rattle.std.proofs.Common.{◌≡◌, ℕ, Bool, true, false, ◌||◌, ◌&&◌, nat_eq, inl, inr, Some, Ok, List, [], ◌∷◌, length, map, refl, subst, sym, ap, ◌∙◌}
+use Rattle.std.proofs.Common.{◌≡◌, ℕ, Bool, true, false, ◌||◌, nat_eq, inl, inr, Some, List, [], ◌∷◌, length, map, refl, sym, ap, ◌∙◌}
 use Rattle.std.proofs.lemmas.Bool.{eqb-true}
+use Rattle.std.specs.List.{list_any, list_all}
 use Rattle.std.specs.FinMap as table
 use Rattle.std.specs.FinSet as set
-use Rattle.np_syntax.specs.declared.value.Name.{Name}
-use Rattle.np_syntax.specs.declared.types.Cap.{Cap}
+use Rattle.np_safety.proofs.Common.{Name, Cap, Ty, and-out, put_cases}
 use Rattle.np_syntax.specs.declared.types.Cap.TheVariants as cap
-use Rattle.np_syntax.specs.declared.types.Ty.{Ty}
-use Rattle.np_syntax.specs.declared.process.Proc.{Proc}
 use Rattle.np_syntax.specs.declared.program.LowProgram.{LowProgram}
 use Rattle.np_tables.specs.Names.{NameSet}
-use Rattle.np_tables.proofs.Tables.{put_cases, born_here}
-use Rattle.np_types.specs.Worlds.{World}
-use Rattle.np_syntax.proofs.Bools.{and-out}
-use Rattle.np_calculus.specs.Config.{Config}
-use Rattle.np_calculus.specs.Starts.{own, own_numbers, own_names, with_all, start_low, main_agent, main_mark, daemon_agent, daemon_mark, first_atom}
+use Rattle.np_tables.proofs.Tables.{born_here}
+use Rattle.np_calculus.specs.Starts.{own, own_numbers, own_names, with_all, start_low}
 use Rattle.np_calculus.proofs.OwnNames.{with_all-keeps}
-use Rattle.np_check.specs.Faults.{check}
-use Rattle.np_safety.specs.Channels.{world}
-use Rattle.np_safety.specs.Typed.{Typed, AreBorn}
+use Rattle.np_safety.specs.Typed.{AreBorn}
 use Rattle.np_safety.specs.Low.{carried, channels_of, infrastructure, low_world, IsFaultless, LowStartsTyped, LowWellTyped}
-use Rattle.np_safety.proofs.Fitting.{Fitting, FittingAtom}
-use Rattle.np_safety.proofs.Atoms.{nothing-agrees}
+use Rattle.np_safety.proofs.Fitting.{Fitting}
 use Rattle.np_safety.proofs.Literal.{fitting-typed}
 use Rattle.np_safety.proofs.Runs.{stays-typed}
-use Rattle.np_safety.proofs.Starts.{nothing}
+use Rattle.np_safety.proofs.Starts.{nothing, fits-more, fits-main}
 
 -- ---- names of the program's own
 
-abbrev member : ℕ → List ℕ → Bool
-member i [] = false
-member i (j ∷ js) = nat_eq i j || member i js
-
-has_own : (names : NameSet) (n : ℕ) (numbers : List ℕ) (i : ℕ) → member i numbers ≡ true → set.contains (with_all names (map (own n) numbers)) (own n i) ≡ true
+has_own : (names : NameSet) (n : ℕ) (numbers : List ℕ) (i : ℕ) → list_any (nat_eq i) numbers ≡ true → set.contains (with_all names (map (own n) numbers)) (own n i) ≡ true
 has_own names n [] i h = absurd cc
 has_own names n (j ∷ js) i h = found (nat_eq i j) refl (λ m. has_own (set.insert names (own n j)) n js i m)
   where
     after : NameSet
     after = with_all (set.insert names (own n j)) (map (own n) js)
 
-    found : (b : Bool) → nat_eq i j ≡ b → (member i js ≡ true → set.contains after (own n i) ≡ true) → set.contains after (own n i) ≡ true
+    found : (b : Bool) → nat_eq i j ≡ b → (list_any (nat_eq i) js ≡ true → set.contains after (own n i) ≡ true) → set.contains after (own n i) ≡ true
     found true e rest =
         let here = ap (λ k. set.contains (set.insert names (own n j)) (own n k)) (eqb-true i j e) ∙ born_here names (own n j) in
         with_all-keeps _ (map (own n) js) (own n i) here
-    found false e rest = rest (ap (λ b. b || member i js) (sym e) ∙ h)
+    found false e rest = rest (ap (λ b. b || list_any (nat_eq i) js) (sym e) ∙ h)
 
-abbrev members : List (ℕ × Ty) → Bool
-members [] = true
-members (e ∷ es) = member e.0 own_numbers && members es
-
-are_own : (n : ℕ) (es : List (ℕ × Ty)) → members es ≡ true → (q : Name) (k : Cap × Ty) → table.get (channels_of n es) q ≡ Some k → set.contains (own_names n) q ≡ true
+are_own : (n : ℕ) (es : List (ℕ × Ty)) → list_all (λ e. list_any (nat_eq e.0) own_numbers) es ≡ true
+    → (q : Name) (k : Cap × Ty) → table.get (channels_of n es) q ≡ Some k → set.contains (own_names n) q ≡ true
 are_own n [] m q k h = absurd (nothing q k h)
 are_own n (e ∷ es) m q k h =
     let b = and-out _ _ m in
@@ -64,34 +49,13 @@ low-born : (q : LowProgram) → AreBorn (start_low q) (infrastructure (length q.
 unfolding start_low
 low-born q n k h = are_own (length q.sites) carried refl n k h
 
-starts : (w : World) (agent : Name) (p : Proc) → check w p table.empty ≡ Ok tt → FittingAtom w (first_atom agent p)
-starts w agent p h = record { types = table.empty; agrees = nothing-agrees w; good = h }
-
 low-fitting : (q : LowProgram) → IsFaultless q → Fitting (low_world q) (start_low q)
 unfolding start_low
-low-fitting q a =
-    let n : ℕ = length q.sites in
-    let w = low_world q in
-    record {
-      atoms = λ m b is. elim (put_cases _ (daemon_mark n) (first_atom (daemon_agent n) q.daemon) m b is) [
-        | inl e ↦ rw e.1 (starts w (daemon_agent n) q.daemon a.daemon)
-        | inr old ↦ elim (put_cases table.empty (main_mark n) (first_atom (main_agent n) q.main) m b old) [
-          | inl e ↦ rw e.1 (starts w (main_agent n) q.main a.main)
-          | inr older ↦ absurd (nothing m b older)
-        ]
-      ];
-      packets = λ m p is. absurd (nothing m p is);
-    }
+low-fitting q a = fits-more (low_world q) _ _ 0 _ q.daemon (fits-main (low_world q) (length q.sites) q.at q.main a.main) a.daemon
 
 pub low-starts-typed : LowStartsTyped
 low-starts-typed q a = fitting-typed _ (start_low q) (low-fitting q a)
 
-low-sites : (q : LowProgram) → length q.sites ≡ (start_low q).sites
-unfolding start_low
-low-sites q = refl
-
 pub low-well-typed : LowWellTyped
-low-well-typed q a =
-    let c : Config = start_low q in
-    let g = infrastructure (length q.sites) in
-    stays-typed c g (subst (λ n. Typed (world n g) c) (low-sites q) (low-starts-typed q a)) (low-born q)
+unfolding start_low
+low-well-typed q a = stays-typed (start_low q) (infrastructure (length q.sites)) (low-starts-typed q a) (low-born q)

@@ -3,23 +3,16 @@ use Rattle.std.proofs.Common.{◌≡◌, ℕ, Bool, true, false, cond, Option, S
 use Rattle.std.specs.FinMap as table
 use Rattle.std.specs.FinMap.{get-insert}
 use Rattle.std.specs.Cmp.{nat_cmp_total}
-use Rattle.std.specs.Ordering.{nat_cmp, eq_by_cmp}
-use Rattle.np_syntax.specs.declared.value.Value.{Value}
-use Rattle.np_syntax.specs.declared.types.Ty.{Ty}
-use Rattle.np_syntax.specs.declared.pattern.Pat.{Pat, fold_out-Pat}
-use Rattle.np_syntax.specs.declared.pattern.PatForm.{PatForm, PatForm-F, out-PatForm, map-PatForm, fold_out-PatForm}
-use Rattle.np_types.specs.Worlds.{World, kind}
-use Rattle.np_types.specs.Least.{Types}
-use Rattle.np_types.specs.Covers.{Covering, cover, cover_each, cover_step}
-use Rattle.np_syntax.proofs.Trees.{With, PatHyps, pat_of, pat_ind}
+use Rattle.np_safety.proofs.Common.{nat_cmp, Value, Ty, Pat, then, done, With, World, kind, Types, cover, when, Env, Fits, LeastOf}
+use Rattle.std.specs.Ordering.{eq_by_cmp}
+use Rattle.np_syntax.specs.declared.pattern.PatForm.{PatForm-F}
+use Rattle.np_types.specs.Covers.{Covering, cover_each, cover_step}
+use Rattle.np_syntax.proofs.Trees.{PatHyps, pat_of, pat_ind}
 use Rattle.np_types.proofs.Covers.{cover_layer, cover-out}
-use Rattle.np_eval.specs.Eval.{Env, Binding, bind, bind_each, bind_step}
-use Rattle.np_eval.specs.Levels.{bind_form}
+use Rattle.np_eval.specs.Eval.{Binding, bind, bind_each, bind_step}
 use Rattle.np_eval.proofs.Layers.{bind_layer, bind-out}
-use Rattle.np_safety.specs.Fits.{Fits, LeastOf}
 use Rattle.np_safety.proofs.Fitting.{Agrees, FitAll, Known, Valued}
-use Rattle.np_syntax.proofs.Results.{then, done}
-use Rattle.np_types.proofs.Passed.{when, take}
+use Rattle.np_types.proofs.Passed.{take}
 use Rattle.np_safety.proofs.Shapes.{tuple_value}
 
 module _ {X : Type 0} where
@@ -66,12 +59,10 @@ module _ (w : World) where
       let b = p.1 v t env types mid f.0 a first in
       let r = match_all ps vs ts at b.env mid inner f.1 b.agrees rest in
       record { env = r.env; is = rw b.is r.is; agrees = r.agrees }
-  match_all [] [] (t ∷ ts) at env types inner f a h = absurd f
-  match_all [] (v ∷ vs) [] at env types inner f a h = absurd f
-  match_all [] (v ∷ vs) (t ∷ ts) at env types inner f a h = absurd cc
+  match_all _ (v ∷ vs) [] at env types inner f a h = absurd f
+  match_all [] _ (t ∷ ts) at env types inner f a h = absurd cc
   match_all (p ∷ ps) [] [] at env types inner f a h = absurd cc
   match_all (p ∷ ps) [] (t ∷ ts) at env types inner f a h = absurd f
-  match_all (p ∷ ps) (v ∷ vs) [] at env types inner f a h = absurd f
 
   match_layer : (y : PatHyps Matches) (at : ℕ) (v : Value) (t : Ty) (env : Env) (types inner : Types) → Fits w v t → Agrees w env types
       → cover_step (cover_layer (pat_of Matches y)) at t types ≡ Ok inner → Bound w (bind_step (bind_layer (pat_of Matches y)) v env) inner

@@ -1,48 +1,37 @@
 -- Under types of binders that are below, and with more channels and sites, a process still has no fault.
 use Rattle.std.proofs.Common.{◌≡◌, ℕ, Bool, true, false, cond, Option, None, Some, Ok, refl, subst, map, List, [], ◌∷◌, nat_le, sym, ap, ◌∙◌}
 use Rattle.std.specs.FinMap as table
-use Rattle.std.specs.Ordering.{nat_cmp, eq_by_cmp}
-use Rattle.np_syntax.specs.declared.value.Name.{Name}
-use Rattle.np_syntax.specs.declared.value.Value.{Value, Value-F}
-use Rattle.np_syntax.specs.declared.types.Cap.{Cap}
+use Rattle.np_safety.proofs.Common.{nat_cmp, Name, Value, Value-F, Cap, Ty, Ty-F, out-Ty, outs-Tuple, Expr, Pat, Proc, ProcForm-F, ◌>>=◌, ◌>>◌, and-in}
+use Rattle.np_safety.proofs.Common.{and-out, then, done, With, Rule, TyLayer, reads, writes, sub, sub_all, is_int, is_bool, is_site, is_agent, is_letter}
+use Rattle.np_safety.proofs.Common.{is_places, Check, World, is_lock_chan, all_locks, kind, Types, least, least_of, cover, sub-itself}
+use Rattle.np_safety.proofs.Common.{sub-trans, site_below, when, wanted, kind-out, lock_type}
+use Rattle.std.specs.Ordering.{eq_by_cmp}
 use Rattle.np_syntax.specs.declared.types.Cap.TheVariants as cap
-use Rattle.np_syntax.specs.declared.types.Ty.{Ty, Ty-F, out-Ty}
 use Rattle.np_syntax.specs.declared.types.Ty as ty
-use Rattle.np_syntax.specs.declared.types.Ty.TheVariants.{outs-Tuple}
 use Rattle.np_syntax.specs.declared.expression.Op.{Op}
 use Rattle.np_syntax.specs.declared.expression.Op.TheVariants as op
-use Rattle.np_syntax.specs.declared.expression.Expr.{Expr}
 use Rattle.np_syntax.specs.declared.expression.ExprForm.{ExprForm-F}
-use Rattle.np_syntax.specs.declared.pattern.Pat.{Pat}
 use Rattle.np_syntax.specs.declared.pattern.PatForm.{PatForm-F}
-use Rattle.np_syntax.specs.declared.process.Proc.{Proc}
-use Rattle.np_syntax.specs.declared.process.ProcForm.{ProcForm-F}
 use Rattle.np_syntax.specs.Options as may
 use Rattle.np_syntax.specs.Options.{all_some}
 use Rattle.np_syntax.proofs.Options as maybe
-use Rattle.np_types.specs.declared.fault.Rule.{Rule}
 use Rattle.np_types.specs.declared.fault.Rule.TheVariants as rule
-use Rattle.np_types.specs.Sub.{TyLayer, sub, sub_all, sub_at, reads, writes, is_int, is_bool, is_site, is_agent, is_letter, is_places}
+use Rattle.np_types.specs.Sub.{sub_at}
 use Rattle.np_types.specs.Widths.{narrow}
-use Rattle.np_syntax.specs.Results.{◌>>=◌, ◌>>◌, all_ok}
-use Rattle.np_types.specs.Checks.{Check, ensure}
-use Rattle.np_types.specs.Worlds.{World, kind, is_lock_chan, all_locks}
-use Rattle.np_types.specs.Least.{Types, Least, least, least_of, least_step, least_op, number, basic, same_basic, channel, output, test_of, is_lock_type}
-use Rattle.np_types.specs.Covers.{Covering, cover, cover_each, cover_step, as_long}
-use Rattle.np_syntax.proofs.Bools.{and-in, and-out}
-use Rattle.np_syntax.proofs.Trees.{With, ValueHyps, value_of, value_ind, ExprHyps, expr_of, expr_ind, PatHyps, pat_of, pat_ind}
-use Rattle.np_types.proofs.Subs.{sub-out, sub-itself, sub-trans}
-use Rattle.np_types.proofs.Below.{Down, int_below, bool_below, site_below, agent_below, letter_below, places_below, chan_below, tuple_below, as_many, printable_below}
-use Rattle.np_types.proofs.ValueTypes.{kind_layer, kind-out}
+use Rattle.np_syntax.specs.Results.{all_ok}
+use Rattle.np_types.specs.Least.{Least, least_step, least_op, number, basic, same_basic, output, test_of, is_lock_type}
+use Rattle.np_types.specs.Covers.{Covering, cover_each, cover_step, as_long}
+use Rattle.np_syntax.proofs.Trees.{ValueHyps, value_of, value_ind, ExprHyps, expr_of, expr_ind, PatHyps, pat_of, pat_ind}
+use Rattle.np_types.proofs.Subs.{sub-out}
+use Rattle.np_types.proofs.Below.{Down, int_below, bool_below, agent_below, letter_below, places_below, chan_below, tuple_below, as_many, printable_below}
+use Rattle.np_types.proofs.ValueTypes.{kind_layer}
 use Rattle.np_types.proofs.Leasts.{least_layer, least-out}
 use Rattle.np_types.proofs.Covers.{cover_layer, cover-out}
-use Rattle.np_check.specs.Faults.{lock_type}
-use Rattle.np_syntax.proofs.Results.{then, done}
-use Rattle.np_types.proofs.Passed.{when, take, ensured, wanted}
+use Rattle.np_types.proofs.Passed.{take}
 use Rattle.np_safety.proofs.Evaluates.{lock_is, both_ways}
 use Rattle.np_safety.proofs.Matches.{slot_put}
-use Rattle.np_safety.proofs.Forms.{Good, GoodForm, Tested, OnChannel, Sending, Taking, good-form}
-use Rattle.np_safety.proofs.Backs.{good-back}
+use Rattle.np_safety.proofs.Forms.{Good, GoodForm, Tested, OnChannel, Sending, Taking, good-form, sending, tested}
+use Rattle.np_safety.proofs.Backs.{good-back, sending-back}
 use Rattle.np_safety.proofs.Processes.{ProcHyps, proc_of, proc_ind}
 
 -- a world that has all that another one has
@@ -90,8 +79,7 @@ basic_too _ _ h b = absurd cc
 
 weak_basic : (x y z u : TyLayer) → basic y ≡ true → same_basic y u ≡ true → sub_at x y ≡ true → sub_at z u ≡ true → (basic x ≡ true) × (same_basic x z ≡ true)
 weak_basic x y z u h k a b =
-    let e = same_layer x y h a in
-    let f = same_layer z u (basic_too y u k h) b in
+    let e = same_layer x y h a in let f = same_layer z u (basic_too y u k h) b in
     (ap basic e ∙ h, (λ i. same_basic (e i) (f i)) ∙ k)
 
 -- a type below ^Site is this type
@@ -99,8 +87,7 @@ lock_below : Down is_lock_type
 lock_below s t h b =
     let l = lock_is (out-Ty t) h in
     let n = chan_below s t (cap.Both, l.0) l.1 b in
-    let r = n.reading refl in
-    let q = n.writing refl in
+    let r = n.reading refl in let q = n.writing refl in
     ap (λ o. is_lock_chan o) n.is ∙ both_ways n.chan.0 n.chan.1 r.0 q.0 (site_below n.chan.1 l.0 l.2 r.1)
 
 module _ (w v : World) (wider : Wider w v) where
@@ -127,10 +114,7 @@ module _ (w v : World) (wider : Wider w v) where
   kind_kept (Value-F.Tuple xs) t h = maybe.then (all_some (map (kind w) (map (λ e. e.0) xs))) (λ ts. Some (ty.Tuple ts)) h λ ts are h. rw (kinds_kept xs ts are) h
   kind_kept (Value-F.Letter c x) t h = maybe.then (w.chan c) _ h λ k on h. maybe.then (kind w x.0) _ h λ s is h. rw (wider.chan c k on, x.1 s is) h
   kind_kept (Value-F.Places ps) t h = maybe.when (all_locks w ps) (Some ty.Places) h λ ok h. rw (locks ps ok) h
-  kind_kept (Value-F.Int i) t h = h
-  kind_kept (Value-F.Truth i) t h = h
-  kind_kept (Value-F.Str i) t h = h
-  kind_kept (Value-F.Agent i) t h = h
+  kind_kept _ t h = h
 
   pub same-kind : (x : Value) → SameKind x
   same-kind = value_ind SameKind (λ x y is t h. kind-out v x ∙ ap (kind_layer v) is ∙ kind_kept y t (ap (kind_layer w) (sym is) ∙ sym (kind-out w x) ∙ h))
@@ -160,11 +144,31 @@ module _ (w v : World) (wider : Wider w v) where
         let same : ts ≡ t ∷ rest = done h in
         rw same (record { types = x.type ∷ r.types; is = rw (x.is, r.is) refl; below = and-in x.below r.below })
 
-    weak_number : (e : With Expr Weak) → number (least_of w large e.0) ≡ Ok tt → number (least_of v small e.0) ≡ Ok tt
-    weak_number e h =
-        then (least w large e.0) (λ t. ensure (is_int (out-Ty t)) (least_of w large e.0).at rule.NotInt) h λ t is h.
-        let x = e.1 t is in
-        rw (x.is, int_below x.type t (ensured _ _ _ h) x.below) refl
+    lesser_tested : (test : TyLayer → Bool) → Down test → (e : With Expr Weak) → Tested w large test e.0 → Tested v small test e.0
+    lesser_tested test down e t = let x = e.1 t.type t.is in record { type = x.type; is = x.is; passes = down x.type t.type t.passes x.below }
+
+    record NewChannel (c : Expr) (k : Cap × Ty) : Type 0 where
+      own : Cap × Ty
+      on : OnChannel v small c own
+      reading : reads k.0 ≡ true → (reads own.0 ≡ true) × (sub own.1 k.1 ≡ true)
+      writing : writes k.0 ≡ true → (writes own.0 ≡ true) × (sub k.1 own.1 ≡ true)
+
+    weak_channel : (c : With Expr Weak) (k : Cap × Ty) → OnChannel w large c.0 k → NewChannel c.0 k
+    weak_channel c k on =
+        let x = c.1 on.type on.is in
+        let y = chan_below x.type on.type k on.chan x.below in
+        record { own = y.chan; on = record { type = x.type; is = x.is; chan = y.is }; reading = y.reading; writing = y.writing }
+
+    weak_sending : (c e : With Expr Weak) → Sending w large c.0 e.0 → Sending v small c.0 e.0
+    weak_sending c e s =
+        let x = weak_channel c s.carries s.on in
+        let y = e.1 s.type s.is in
+        let q = x.writing s.may_write in
+        let below = sub-trans y.type s.type x.own.1 y.below (sub-trans s.type s.carries.1 x.own.1 s.below q.1) in
+        record { carries = x.own; on = x.on; may_write = q.0; type = y.type; is = y.is; below = below }
+
+    weak_test : (e : With Expr Weak) (test : TyLayer → Bool) (r : Rule) → Down test → test_of test r (least_of w large e.0) ≡ Ok tt → test_of test r (least_of v small e.0) ≡ Ok tt
+    weak_test e test r down h = let t = lesser_tested test down e (tested w large test r e.0 _ h) in rw (t.is, t.passes) refl
 
     weak_numbers : (a b : With Expr Weak) (r t : Ty) → (number (least_of w large a.0) >> (number (least_of w large b.0) >> Ok r)) ≡ Ok t
         → Lesser (number (least_of v small a.0) >> (number (least_of v small b.0) >> Ok r)) t
@@ -172,7 +176,7 @@ module _ (w v : World) (wider : Wider w v) where
         then (number (least_of w large a.0)) (λ _. number (least_of w large b.0) >> Ok r) h λ u first h.
         then (number (least_of w large b.0)) (λ _. Ok r) h λ u second h.
         let same : t ≡ r = done h in
-        rw same (record { type = r; is = rw (weak_number a first, weak_number b second) refl; below = sub-itself r })
+        rw same (record { type = r; is = rw (weak_test a is_int rule.NotInt int_below first, weak_test b is_int rule.NotInt int_below second) refl; below = sub-itself r })
 
     weak_op : (o : Op) (a b : With Expr Weak) (t : Ty) → least_op o (least_of w large a.0) (least_of w large b.0) ≡ Ok t → Lesser (least_op o (least_of v small a.0) (least_of v small b.0)) t
     weak_op op.Add a b t h = weak_numbers a b ty.Int t h
@@ -181,38 +185,10 @@ module _ (w v : World) (wider : Wider w v) where
     weak_op op.Less a b t h = weak_numbers a b ty.Bool t h
     weak_op op.Equal a b t h =
         then (least w large a.0) _ h λ s first h. when _ _ _ _ h λ ok h. then (least w large b.0) _ h λ u second h. when _ _ _ _ h λ same h.
-        let x = a.1 s first in
-        let y = b.1 u second in
+        let x = a.1 s first in let y = b.1 u second in
         let q = weak_basic (out-Ty x.type) (out-Ty s) (out-Ty y.type) (out-Ty u) ok same (sym (sub-out x.type s) ∙ x.below) (sym (sub-out y.type u) ∙ y.below) in
         let r : t ≡ ty.Bool = done h in
         rw r (record { type = ty.Bool; is = rw (x.is, q.0, y.is, q.1) refl; below = sub-itself ty.Bool })
-
-    weak_test : (e : With Expr Weak) (test : TyLayer → Bool) (r : Rule) → Down test → test_of test r (least_of w large e.0) ≡ Ok tt → test_of test r (least_of v small e.0) ≡ Ok tt
-    weak_test e test r down h =
-        then (least w large e.0) (λ t. ensure (test (out-Ty t)) (least_of w large e.0).at r) h λ t is h.
-        let x = e.1 t is in
-        rw (x.is, down x.type t (ensured _ _ _ h) x.below) refl
-
-    weak_pack : (a b : With Expr Weak) → output (least_of w large a.0) (least_of w large b.0) ≡ Ok tt → output (least_of v small a.0) (least_of v small b.0) ≡ Ok tt
-    weak_pack a b sent =
-        then (channel (least_of w large a.0)) _ sent λ k on sent. then (least w large a.0) _ on λ s first on.
-        when _ _ _ _ sent λ may sent. then (least w large b.0) _ sent λ r second sent.
-        let below : sub r k.1 ≡ true = ensured (sub r k.1) _ _ sent in
-        let x = a.1 s first in
-        let y = b.1 r second in
-        let c = chan_below x.type s k (wanted _ _ _ on) x.below in
-        let q = c.writing may in
-        let last : sub y.type c.chan.1 ≡ true = sub-trans y.type r c.chan.1 y.below (sub-trans r k.1 c.chan.1 below q.1) in
-        rw (x.is, c.is, q.0, y.is, last) refl
-
-    abbrev all_places : Expr → Check (Unit {0})
-    all_places e = test_of is_places rule.Mismatch (least_of w large e)
-
-    abbrev agents : Expr → Check (Unit {0})
-    agents e = test_of is_agent rule.NotAgent (least_of w large e)
-
-    abbrev lock_chans : Expr → Check (Unit {0})
-    lock_chans e = test_of is_lock_type rule.Mismatch (least_of w large e)
 
     weak_layer : (y : ExprHyps Weak) (at : ℕ) (t : Ty) → least_step w large (least_layer w large (expr_of Weak y)) at ≡ Ok t → Lesser (least_step v small (least_layer v small (expr_of Weak y)) at) t
     weak_layer (ExprForm-F.Val x) at t h = record { type = t; is = rw (same-kind x t (wanted _ _ _ h)) refl; below = sub-itself t }
@@ -228,11 +204,11 @@ module _ (w v : World) (wider : Wider w v) where
     weak_layer (ExprForm-F.Pack a b) at t h =
         then (output (least_of w large a.0) (least_of w large b.0)) (λ _. Ok ty.Letter) h λ u sent h.
         let same : t ≡ ty.Letter = done h in
-        rw same (record { type = ty.Letter; is = rw (weak_pack a b sent) refl; below = sub-itself ty.Letter })
+        rw same (record { type = ty.Letter; is = rw (sending-back v small a.0 b.0 (weak_sending a b (sending w large a.0 b.0 sent))) refl; below = sub-itself ty.Letter })
     weak_layer (ExprForm-F.With m a l) at t h =
-        then (all_places m.0) (λ _. agents a.0 >> (lock_chans l.0 >> Ok ty.Places)) h λ u first h.
-        then (agents a.0) (λ _. lock_chans l.0 >> Ok ty.Places) h λ u second h.
-        then (lock_chans l.0) (λ _. Ok ty.Places) h λ u third h.
+        then (test_of is_places rule.Mismatch (least_of w large m.0)) _ h λ u first h.
+        then (test_of is_agent rule.NotAgent (least_of w large a.0)) _ h λ u second h.
+        then (test_of is_lock_type rule.Mismatch (least_of w large l.0)) _ h λ u third h.
         let same : t ≡ ty.Places = done h in
         rw same (record {
           type = ty.Places;
@@ -264,10 +240,8 @@ weak_each (p ∷ ps) (s ∷ ss) (t ∷ ts) at small large inner b n h =
     let c = p.1 s t small large mid a.0 n first in
     let r = weak_each ps ss ts at c.types mid inner a.1 c.less rest in
     record { types = r.types; is = rw c.is r.is; less = r.less }
-weak_each [] (s ∷ ss) [] at small large inner b n h = absurd cc
-weak_each [] ss (t ∷ ts) at small large inner b n h = absurd cc
-weak_each (p ∷ ps) ss [] at small large inner b n h = absurd cc
-weak_each (p ∷ ps) [] (t ∷ ts) at small large inner b n h = absurd cc
+weak_each _ _ [] at small large inner b n h = absurd cc
+weak_each _ _ (t ∷ ts) at small large inner b n h = absurd cc
 
 weak_pat : (y : PatHyps WeakPat) (at : ℕ) (s t : Ty) (small large inner : Types) → sub s t ≡ true → Narrower small large
     → cover_step (cover_layer (pat_of WeakPat y)) at t large ≡ Ok inner → Covered (cover_step (cover_layer (pat_of WeakPat y)) at s small) inner
@@ -283,10 +257,8 @@ weak_pat (PatForm-F.Tuple ps) at s t small large inner b n h =
     long_map : (ps : List (With Pat WeakPat)) (ss ts : List Ty) → sub_all ss ts ≡ true → as_long (map cover (map (λ e. e.0) ps)) ts ≡ true → as_long (map cover (map (λ e. e.0) ps)) ss ≡ true
     long_map [] [] [] h k = refl
     long_map (p ∷ ps) (s ∷ ss) (t ∷ ts) h k = long_map ps ss ts (and-out _ _ h).1 k
-    long_map [] (s ∷ ss) [] h k = absurd cc
-    long_map [] ss (t ∷ ts) h k = absurd cc
-    long_map (p ∷ ps) ss [] h k = absurd cc
-    long_map (p ∷ ps) [] (t ∷ ts) h k = absurd cc
+    long_map _ _ [] h k = absurd cc
+    long_map _ _ (t ∷ ts) h k = absurd cc
 
 weak_cover : (p : Pat) → WeakPat p
 weak_cover = pat_ind WeakPat (λ p y is s t small large inner b n h.
@@ -296,43 +268,19 @@ weak_cover = pat_ind WeakPat (λ p y is s t small large inner b n h.
 -- ---- processes
 
 module _ (w v : World) (wider : Wider w v) where
-  pub weak_tested : (small large : Types) → Narrower small large → (test : TyLayer → Bool) → Down test → (e : Expr) → Tested w large test e → Tested v small test e
-  weak_tested small large n test down e t =
-      let x = weak_least w v wider small large n e t.type t.is in
-      record { type = x.type; is = x.is; passes = down x.type t.type t.passes x.below }
+  module _ (small large : Types) (n : Narrower small large) where
+    pub weak_tested : (test : TyLayer → Bool) → Down test → (e : Expr) → Tested w large test e → Tested v small test e
+    weak_tested test down e t = lesser_tested w v wider small large n test down (e, weak_least w v wider small large n e) t
 
-  record NewChannel (small : Types) (c : Expr) (k : Cap × Ty) : Type 0 where
-    own : Cap × Ty
-    on : OnChannel v small c own
-    reading : reads k.0 ≡ true → (reads own.0 ≡ true) × (sub own.1 k.1 ≡ true)
-    writing : writes k.0 ≡ true → (writes own.0 ≡ true) × (sub k.1 own.1 ≡ true)
-
-  weak_channel : (small large : Types) → Narrower small large → (c : Expr) (k : Cap × Ty) → OnChannel w large c k → NewChannel small c k
-  weak_channel small large n c k on =
-      let x = weak_least w v wider small large n c on.type on.is in
-      let y = chan_below x.type on.type k on.chan x.below in
-      record { own = y.chan; on = record { type = x.type; is = x.is; chan = y.is }; reading = y.reading; writing = y.writing }
-
-  weak_sending : (small large : Types) → Narrower small large → (c e : Expr) → Sending w large c e → Sending v small c e
-  weak_sending small large n c e s =
-      let x = weak_channel small large n c s.carries s.on in
-      let y = weak_least w v wider small large n e s.type s.is in
-      let q = x.writing s.may_write in
-      record {
-        carries = x.own;
-        on = x.on;
-        may_write = q.0;
-        type = y.type;
-        is = y.is;
-        below = sub-trans y.type s.type x.own.1 y.below (sub-trans s.type s.carries.1 x.own.1 s.below q.1);
-      }
+    sends : (c e : Expr) → Sending w large c e → Sending v small c e
+    sends c e s = weak_sending w v wider small large n (c, weak_least w v wider small large n c) (e, weak_least w v wider small large n e) s
 
   abbrev WeakProc : Proc → Type 0
   WeakProc p = (small large : Types) → Narrower small large → Good w large p → Good v small p
 
   weak_taking : (small large : Types) → Narrower small large → (c : Expr) (x : Pat) (p : With Proc WeakProc) → Taking w large c x p.0 → Taking v small c x p.0
   weak_taking small large n c x p t =
-      let k = weak_channel small large n c t.carries t.on in
+      let k = weak_channel w v wider small large n (c, weak_least w v wider small large n c) t.carries t.on in
       let q = k.reading t.may_read in
       let r = weak_cover x k.own.1 t.carries.1 small large t.inner q.1 n t.covers in
       record { carries = k.own; on = k.on; may_read = q.0; inner = r.types; covers = r.is; body = p.1 r.types t.inner r.less t.body }
@@ -342,16 +290,16 @@ module _ (w v : World) (wider : Wider w v) where
   weak_form (ProcForm-F.Par p q) small large n g = (p.1 small large n g.0, q.1 small large n g.1)
   weak_form (ProcForm-F.New x t p) small large n g =
       record { carries = g.carries; chan = g.chan; small = g.small; body = p.1 _ _ (narrower-put small large x t t (sub-itself t) n) g.body }
-  weak_form (ProcForm-F.Out c e) small large n g = weak_sending small large n c e g
+  weak_form (ProcForm-F.Out c e) small large n g = sends small large n c e g
   weak_form (ProcForm-F.Inp c x p) small large n g = weak_taking small large n c x p g
   weak_form (ProcForm-F.Rep c x p) small large n g = weak_taking small large n c x p g
   weak_form (ProcForm-F.Agent b p q) small large n g = let m = narrower-put small large b ty.Agent ty.Agent (sub-itself ty.Agent) n in (p.1 _ _ m g.0, q.1 _ _ m g.1)
   weak_form (ProcForm-F.Migrate e p) small large n g = (weak_tested small large n is_site site_below e g.0, p.1 small large n g.1)
   weak_form (ProcForm-F.IfLocal b c e p q) small large n g =
-      (weak_tested small large n is_agent agent_below b g.0, weak_sending small large n c e g.1, p.1 small large n g.2, q.1 small large n g.3)
+      (weak_tested small large n is_agent agent_below b g.0, sends small large n c e g.1, p.1 small large n g.2, q.1 small large n g.3)
   weak_form (ProcForm-F.Send b s c e) small large n g =
-      (weak_tested small large n is_agent agent_below b g.0, weak_tested small large n is_site site_below s g.1, weak_sending small large n c e g.2)
-  weak_form (ProcForm-F.Post b c e) small large n g = (weak_tested small large n is_agent agent_below b g.0, weak_sending small large n c e g.1)
+      (weak_tested small large n is_agent agent_below b g.0, weak_tested small large n is_site site_below s g.1, sends small large n c e g.2)
+  weak_form (ProcForm-F.Post b c e) small large n g = (weak_tested small large n is_agent agent_below b g.0, sends small large n c e g.1)
   weak_form (ProcForm-F.If e p q) small large n g = (weak_tested small large n is_bool bool_below e g.0, p.1 small large n g.1, q.1 small large n g.2)
   weak_form (ProcForm-F.Let x e p) small large n g =
       let y = weak_least w v wider small large n e g.type g.is in

@@ -1,10 +1,8 @@
 -- What is typed stays typed along each run, and so is well along it.
 use Rattle.std.proofs.Common.{◌≡◌, Some, List, ◌++◌, refl, subst}
-use Rattle.np_syntax.specs.declared.event.Event.{Event}
-use Rattle.np_types.specs.Worlds.{World}
-use Rattle.np_calculus.specs.Config.{Config}
+use Rattle.np_safety.proofs.Common.{Event, World, Config, Channels, world}
 use Rattle.np_calculus.specs.Reductions.{run}
-use Rattle.np_safety.specs.Channels.{Channels, channels_after, world}
+use Rattle.np_safety.specs.Channels.{channels_after}
 use Rattle.np_safety.specs.Typed.{AreBorn}
 use Rattle.np_safety.specs.Laws.{KeepsTyped, TypedIsWell, StaysTyped}
 use Rattle.np_safety.proofs.Fitting.{Fitting}
@@ -16,7 +14,7 @@ use Rattle.np_safety.proofs.Widening.{fitting-wider}
 use Rattle.np_safety.proofs.Literal.{fitting-typed, typed-fitting}
 
 pub keeps-typed : KeepsTyped
-keeps-typed w c d e t h made = fitting-typed w d (kept-at e.kind w c e d (typed-fitting w c t) h made)
+keeps-typed w c d e t h made = fitting-typed w d (kept-at w c e d (typed-fitting w c t) e.kind h made)
 
 pub typed-is-well : TypedIsWell
 typed-is-well c g t = fitting-well c.sites g c refl (typed-fitting (world c.sites g) c t)

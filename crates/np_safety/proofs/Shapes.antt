@@ -1,21 +1,16 @@
 -- The form that a value of each type has.
-use Rattle.std.proofs.Common.{◌≡◌, ℕ, ℤ, Bool, true, Option, Some, refl, subst, map, List, [], ◌∷◌, sym, ap, ◌∙◌}
-use Rattle.np_syntax.specs.declared.value.Name.{Name}
-use Rattle.np_syntax.specs.declared.value.Value.{Value, Value-F, out-Value, map-Value}
-use Rattle.np_syntax.specs.declared.types.Cap.{Cap}
-use Rattle.np_syntax.specs.declared.types.Ty.{Ty, Ty-F, out-Ty}
-use Rattle.np_syntax.specs.declared.types.Ty.TheVariants.{outs-Int, outs-Bool, outs-Str, outs-Site, outs-Agent, outs-Letter, outs-Places, outs-Chan, outs-Tuple}
-use Rattle.np_syntax.specs.Options.{◌>>=◌, all_some}
+use Rattle.std.proofs.Common.{◌≡◌, ℕ, ℤ, Bool, true, Some, refl, subst, List, [], ◌∷◌, sym, ap, ◌∙◌}
+use Rattle.np_safety.proofs.Common.{Name, Value, Value-F, out-Value, Cap, Ty, Ty-F, out-Ty, outs-Tuple, and-out, TyLayer, reads, writes, sub_all, is_int}
+use Rattle.np_safety.proofs.Common.{is_bool, is_site, is_agent, is_letter, is_places, World, kinds, all_locks, kind, sub-itself, sub-trans, site_below}
+use Rattle.np_safety.proofs.Common.{kind-out, Fits}
+use Rattle.np_syntax.specs.declared.types.Ty.TheVariants.{outs-Int, outs-Bool, outs-Str, outs-Site, outs-Agent, outs-Letter, outs-Places, outs-Chan}
+use Rattle.np_syntax.specs.Options.{◌>>=◌}
 use Rattle.np_syntax.proofs.Options.{then, when, done}
 use Rattle.np_types.specs.Sub as sub
-use Rattle.np_types.specs.Sub.{reads, writes, TyLayer, is_int, is_bool, is_str, is_site, is_agent, is_letter, is_places, sub_all}
-use Rattle.np_types.specs.Worlds.{World, kind, kinds, kind_step, all_locks}
-use Rattle.np_syntax.proofs.Bools.{and-out}
-use Rattle.np_types.proofs.Subs.{sub-itself, sub-trans}
-use Rattle.np_types.proofs.Below.{int_below, bool_below, str_below, site_below, agent_below, letter_below, places_below, chan_below, tuple_below}
-use Rattle.np_types.proofs.ValueTypes.{kind_layer, kind-out, kinds-map}
+use Rattle.np_types.specs.Sub.{is_str}
+use Rattle.np_types.proofs.Below.{int_below, bool_below, str_below, agent_below, letter_below, places_below, chan_below, tuple_below}
+use Rattle.np_types.proofs.ValueTypes.{kind_layer, kinds-map}
 use Rattle.np_eval.specs.Eval.{ValueLayer}
-use Rattle.np_safety.specs.Fits.{Fits}
 use Rattle.np_safety.proofs.Fitting.{FitAll}
 
 -- how a value and its least type agree
@@ -53,106 +48,90 @@ fits-below w v s t f b = record { type = f.type; is = f.is; below = sub-trans f.
 pub fits-itself : (w : World) (v : Value) (t : Ty) → kind w v ≡ Some t → Fits w v t
 fits-itself w v t h = record { type = t; is = h; below = sub-itself t }
 
-clash : (test : TyLayer → Bool) {z l : TyLayer} → z ≡ l → test z ≡ true → test l ≡ true
-clash test e h = subst (λ x. test x ≡ true) e h
+-- what a value is, by the form of its least type
+abbrev Held : World → ValueLayer → TyLayer → Type 0
+Held w y Ty-F.Int = (x : ℤ) × (y ≡ Value-F.Int x)
+Held w y Ty-F.Bool = (x : Bool) × (y ≡ Value-F.Truth x)
+Held w y Ty-F.Str = (x : List ℕ) × (y ≡ Value-F.Str x)
+Held w y Ty-F.Site = (x : ℕ) × (y ≡ Value-F.Site x) × (w.site x ≡ true)
+Held w y Ty-F.Agent = (x : Name) × (y ≡ Value-F.Agent x)
+Held w y (Ty-F.Chan c t) = (n : Name) × (y ≡ Value-F.Chan n) × (w.chan n ≡ Some (c, t))
+Held w y (Ty-F.Tuple ts) = (vs : List Value) × (y ≡ Value-F.Tuple vs) × (kinds w vs ≡ Some ts)
+Held w y Ty-F.Letter = (l : Name × Value) × (y ≡ Value-F.Letter l.0 l.1) × (k : Cap × Ty) × (w.chan l.0 ≡ Some k) × (writes k.0 ≡ true) × Fits w l.1 k.1
+Held w y Ty-F.Places = (x : List (Name × Name)) × (y ≡ Value-F.Places x) × (all_locks w x ≡ true)
 
-int_at : (w : World) (y : ValueLayer) (z : TyLayer) → Shaped w y z → is_int z ≡ true → (x : ℤ) × (y ≡ Value-F.Int x)
-int_at w (Value-F.Int b) z h k = (b, refl)
-int_at w (Value-F.Truth b) z h k = absurd (let x = clash is_int h k in cc)
-int_at w (Value-F.Str b) z h k = absurd (let x = clash is_int h k in cc)
-int_at w (Value-F.Site b) z h k = absurd (let x = clash is_int h.0 k in cc)
-int_at w (Value-F.Agent b) z h k = absurd (let x = clash is_int h k in cc)
-int_at w (Value-F.Chan b) z h k = absurd (let x = clash is_int h.2 k in cc)
-int_at w (Value-F.Tuple b) z h k = absurd (let x = clash is_int h.2 k in cc)
-int_at w (Value-F.Letter b v) z h k = absurd (let x = clash is_int h.4 k in cc)
-int_at w (Value-F.Places b) z h k = absurd (let x = clash is_int h.0 k in cc)
+held_at : (w : World) (y : ValueLayer) (z : TyLayer) → Shaped w y z → Held w y z
+held_at w (Value-F.Int x) z h = rw h (x, refl)
+held_at w (Value-F.Truth x) z h = rw h (x, refl)
+held_at w (Value-F.Str x) z h = rw h (x, refl)
+held_at w (Value-F.Site x) z h = rw h.0 (x, refl, h.1)
+held_at w (Value-F.Agent x) z h = rw h (x, refl)
+held_at w (Value-F.Chan n) z h = rw h.2 (n, refl, h.1)
+held_at w (Value-F.Tuple vs) z h = rw h.2 (vs, refl, h.1)
+held_at w (Value-F.Letter c v) z h = rw h.4 ((c, v), refl, h.0, h.1, h.2, h.3)
+held_at w (Value-F.Places x) z h = rw h.0 (x, refl, h.1)
 
-pub int_value : (w : World) (v : Value) (t : Ty) → Fits w v t → is_int (out-Ty t) ≡ true → (x : ℤ) × (out-Value v ≡ Value-F.Int x)
-int_value w v t f k = int_at w (out-Value v) (out-Ty f.type) (shaped w v f.type f.is) (int_below f.type t k f.below)
+held : (w : World) (v : Value) (t : Ty) (f : Fits w v t) → Held w (out-Value v) (out-Ty f.type)
+held w v t f = held_at w (out-Value v) (out-Ty f.type) (shaped w v f.type f.is)
 
-truth_at : (w : World) (y : ValueLayer) (z : TyLayer) → Shaped w y z → is_bool z ≡ true → (x : Bool) × (y ≡ Value-F.Truth x)
-truth_at w (Value-F.Int b) z h k = absurd (let x = clash is_bool h k in cc)
-truth_at w (Value-F.Truth b) z h k = (b, refl)
-truth_at w (Value-F.Str b) z h k = absurd (let x = clash is_bool h k in cc)
-truth_at w (Value-F.Site b) z h k = absurd (let x = clash is_bool h.0 k in cc)
-truth_at w (Value-F.Agent b) z h k = absurd (let x = clash is_bool h k in cc)
-truth_at w (Value-F.Chan b) z h k = absurd (let x = clash is_bool h.2 k in cc)
-truth_at w (Value-F.Tuple b) z h k = absurd (let x = clash is_bool h.2 k in cc)
-truth_at w (Value-F.Letter b v) z h k = absurd (let x = clash is_bool h.4 k in cc)
-truth_at w (Value-F.Places b) z h k = absurd (let x = clash is_bool h.0 k in cc)
+module _ (w : World) (y : ValueLayer) where
+  int_at : (z : TyLayer) → is_int z ≡ true → Held w y z → Held w y Ty-F.Int
+  int_at Ty-F.Int k h = h
+  int_at _ k h = absurd cc
 
-pub truth_value : (w : World) (v : Value) (t : Ty) → Fits w v t → is_bool (out-Ty t) ≡ true → (x : Bool) × (out-Value v ≡ Value-F.Truth x)
-truth_value w v t f k = truth_at w (out-Value v) (out-Ty f.type) (shaped w v f.type f.is) (bool_below f.type t k f.below)
+  bool_at : (z : TyLayer) → is_bool z ≡ true → Held w y z → Held w y Ty-F.Bool
+  bool_at Ty-F.Bool k h = h
+  bool_at _ k h = absurd cc
 
-site_at : (w : World) (y : ValueLayer) (z : TyLayer) → Shaped w y z → is_site z ≡ true → (x : ℕ) × (y ≡ Value-F.Site x) × (w.site x ≡ true)
-site_at w (Value-F.Int b) z h k = absurd (let x = clash is_site h k in cc)
-site_at w (Value-F.Truth b) z h k = absurd (let x = clash is_site h k in cc)
-site_at w (Value-F.Str b) z h k = absurd (let x = clash is_site h k in cc)
-site_at w (Value-F.Site b) z h k = (b, refl, h.1)
-site_at w (Value-F.Agent b) z h k = absurd (let x = clash is_site h k in cc)
-site_at w (Value-F.Chan b) z h k = absurd (let x = clash is_site h.2 k in cc)
-site_at w (Value-F.Tuple b) z h k = absurd (let x = clash is_site h.2 k in cc)
-site_at w (Value-F.Letter b v) z h k = absurd (let x = clash is_site h.4 k in cc)
-site_at w (Value-F.Places b) z h k = absurd (let x = clash is_site h.0 k in cc)
+  str_at : (z : TyLayer) → is_str z ≡ true → Held w y z → Held w y Ty-F.Str
+  str_at Ty-F.Str k h = h
+  str_at _ k h = absurd cc
 
-pub site_value : (w : World) (v : Value) (t : Ty) → Fits w v t → is_site (out-Ty t) ≡ true → (x : ℕ) × (out-Value v ≡ Value-F.Site x) × (w.site x ≡ true)
-site_value w v t f k = site_at w (out-Value v) (out-Ty f.type) (shaped w v f.type f.is) (site_below f.type t k f.below)
+  site_at : (z : TyLayer) → is_site z ≡ true → Held w y z → Held w y Ty-F.Site
+  site_at Ty-F.Site k h = h
+  site_at _ k h = absurd cc
 
-agent_at : (w : World) (y : ValueLayer) (z : TyLayer) → Shaped w y z → is_agent z ≡ true → (x : Name) × (y ≡ Value-F.Agent x)
-agent_at w (Value-F.Int b) z h k = absurd (let x = clash is_agent h k in cc)
-agent_at w (Value-F.Truth b) z h k = absurd (let x = clash is_agent h k in cc)
-agent_at w (Value-F.Str b) z h k = absurd (let x = clash is_agent h k in cc)
-agent_at w (Value-F.Site b) z h k = absurd (let x = clash is_agent h.0 k in cc)
-agent_at w (Value-F.Agent b) z h k = (b, refl)
-agent_at w (Value-F.Chan b) z h k = absurd (let x = clash is_agent h.2 k in cc)
-agent_at w (Value-F.Tuple b) z h k = absurd (let x = clash is_agent h.2 k in cc)
-agent_at w (Value-F.Letter b v) z h k = absurd (let x = clash is_agent h.4 k in cc)
-agent_at w (Value-F.Places b) z h k = absurd (let x = clash is_agent h.0 k in cc)
+  agent_at : (z : TyLayer) → is_agent z ≡ true → Held w y z → Held w y Ty-F.Agent
+  agent_at Ty-F.Agent k h = h
+  agent_at _ k h = absurd cc
 
-pub agent_value : (w : World) (v : Value) (t : Ty) → Fits w v t → is_agent (out-Ty t) ≡ true → (x : Name) × (out-Value v ≡ Value-F.Agent x)
-agent_value w v t f k = agent_at w (out-Value v) (out-Ty f.type) (shaped w v f.type f.is) (agent_below f.type t k f.below)
+  letter_at : (z : TyLayer) → is_letter z ≡ true → Held w y z → Held w y Ty-F.Letter
+  letter_at Ty-F.Letter k h = h
+  letter_at _ k h = absurd cc
 
-text_at : (w : World) (y : ValueLayer) (z : TyLayer) → Shaped w y z → is_str z ≡ true → (x : List ℕ) × (y ≡ Value-F.Str x)
-text_at w (Value-F.Int b) z h k = absurd (let x = clash is_str h k in cc)
-text_at w (Value-F.Truth b) z h k = absurd (let x = clash is_str h k in cc)
-text_at w (Value-F.Str b) z h k = (b, refl)
-text_at w (Value-F.Site b) z h k = absurd (let x = clash is_str h.0 k in cc)
-text_at w (Value-F.Agent b) z h k = absurd (let x = clash is_str h k in cc)
-text_at w (Value-F.Chan b) z h k = absurd (let x = clash is_str h.2 k in cc)
-text_at w (Value-F.Tuple b) z h k = absurd (let x = clash is_str h.2 k in cc)
-text_at w (Value-F.Letter b v) z h k = absurd (let x = clash is_str h.4 k in cc)
-text_at w (Value-F.Places b) z h k = absurd (let x = clash is_str h.0 k in cc)
+  places_at : (z : TyLayer) → is_places z ≡ true → Held w y z → Held w y Ty-F.Places
+  places_at Ty-F.Places k h = h
+  places_at _ k h = absurd cc
 
-pub text_value : (w : World) (v : Value) (t : Ty) → Fits w v t → is_str (out-Ty t) ≡ true → (x : List ℕ) × (out-Value v ≡ Value-F.Str x)
-text_value w v t f k = text_at w (out-Value v) (out-Ty f.type) (shaped w v f.type f.is) (str_below f.type t k f.below)
+  chan_at : (z : TyLayer) (j : Cap × Ty) → sub.as_chan z ≡ Some j → Held w y z → Held w y (Ty-F.Chan j.0 j.1)
+  chan_at (Ty-F.Chan c t) j k h = (h.0, h.1, h.2 ∙ k)
+  chan_at _ j k h = absurd cc
 
-places_at : (w : World) (y : ValueLayer) (z : TyLayer) → Shaped w y z → is_places z ≡ true → (x : List (Name × Name)) × (y ≡ Value-F.Places x) × (all_locks w x ≡ true)
-places_at w (Value-F.Int b) z h k = absurd (let x = clash is_places h k in cc)
-places_at w (Value-F.Truth b) z h k = absurd (let x = clash is_places h k in cc)
-places_at w (Value-F.Str b) z h k = absurd (let x = clash is_places h k in cc)
-places_at w (Value-F.Site b) z h k = absurd (let x = clash is_places h.0 k in cc)
-places_at w (Value-F.Agent b) z h k = absurd (let x = clash is_places h k in cc)
-places_at w (Value-F.Chan b) z h k = absurd (let x = clash is_places h.2 k in cc)
-places_at w (Value-F.Tuple b) z h k = absurd (let x = clash is_places h.2 k in cc)
-places_at w (Value-F.Letter b v) z h k = absurd (let x = clash is_places h.4 k in cc)
-places_at w (Value-F.Places b) z h k = (b, refl, h.1)
+  tuple_at : (z : TyLayer) (j : List Ty) → sub.as_tuple z ≡ Some j → Held w y z → Held w y (Ty-F.Tuple j)
+  tuple_at (Ty-F.Tuple ts) j k h = (h.0, h.1, h.2 ∙ k)
+  tuple_at _ j k h = absurd cc
 
-pub places_value : (w : World) (v : Value) (t : Ty) → Fits w v t → is_places (out-Ty t) ≡ true → (x : List (Name × Name)) × (out-Value v ≡ Value-F.Places x) × (all_locks w x ≡ true)
-places_value w v t f k = places_at w (out-Value v) (out-Ty f.type) (shaped w v f.type f.is) (places_below f.type t k f.below)
+module _ (w : World) (v : Value) (t : Ty) (f : Fits w v t) where
+  pub int_value : is_int (out-Ty t) ≡ true → Held w (out-Value v) Ty-F.Int
+  int_value k = int_at w (out-Value v) (out-Ty f.type) (int_below f.type t k f.below) (held w v t f)
 
-letter_at : (w : World) (y : ValueLayer) (z : TyLayer) → Shaped w y z → is_letter z ≡ true → (l : Name × Value) × (y ≡ Value-F.Letter l.0 l.1) × (k : Cap × Ty) × (w.chan l.0 ≡ Some k) × (writes k.0 ≡ true) × Fits w l.1 k.1
-letter_at w (Value-F.Int b) z h k = absurd (let x = clash is_letter h k in cc)
-letter_at w (Value-F.Truth b) z h k = absurd (let x = clash is_letter h k in cc)
-letter_at w (Value-F.Str b) z h k = absurd (let x = clash is_letter h k in cc)
-letter_at w (Value-F.Site b) z h k = absurd (let x = clash is_letter h.0 k in cc)
-letter_at w (Value-F.Agent b) z h k = absurd (let x = clash is_letter h k in cc)
-letter_at w (Value-F.Chan b) z h k = absurd (let x = clash is_letter h.2 k in cc)
-letter_at w (Value-F.Tuple b) z h k = absurd (let x = clash is_letter h.2 k in cc)
-letter_at w (Value-F.Letter b v) z h k = ((b, v), refl, h.0, h.1, h.2, h.3)
-letter_at w (Value-F.Places b) z h k = absurd (let x = clash is_letter h.0 k in cc)
+  pub truth_value : is_bool (out-Ty t) ≡ true → Held w (out-Value v) Ty-F.Bool
+  truth_value k = bool_at w (out-Value v) (out-Ty f.type) (bool_below f.type t k f.below) (held w v t f)
 
-pub letter_value : (w : World) (v : Value) (t : Ty) → Fits w v t → is_letter (out-Ty t) ≡ true → (l : Name × Value) × (out-Value v ≡ Value-F.Letter l.0 l.1) × (k : Cap × Ty) × (w.chan l.0 ≡ Some k) × (writes k.0 ≡ true) × Fits w l.1 k.1
-letter_value w v t f k = letter_at w (out-Value v) (out-Ty f.type) (shaped w v f.type f.is) (letter_below f.type t k f.below)
+  pub text_value : is_str (out-Ty t) ≡ true → Held w (out-Value v) Ty-F.Str
+  text_value k = str_at w (out-Value v) (out-Ty f.type) (str_below f.type t k f.below) (held w v t f)
+
+  pub site_value : is_site (out-Ty t) ≡ true → Held w (out-Value v) Ty-F.Site
+  site_value k = site_at w (out-Value v) (out-Ty f.type) (site_below f.type t k f.below) (held w v t f)
+
+  pub agent_value : is_agent (out-Ty t) ≡ true → Held w (out-Value v) Ty-F.Agent
+  agent_value k = agent_at w (out-Value v) (out-Ty f.type) (agent_below f.type t k f.below) (held w v t f)
+
+  pub letter_value : is_letter (out-Ty t) ≡ true → Held w (out-Value v) Ty-F.Letter
+  letter_value k = letter_at w (out-Value v) (out-Ty f.type) (letter_below f.type t k f.below) (held w v t f)
+
+  pub places_value : is_places (out-Ty t) ≡ true → Held w (out-Value v) Ty-F.Places
+  places_value k = places_at w (out-Value v) (out-Ty f.type) (places_below f.type t k f.below) (held w v t f)
 
 -- a channel that a type of channels fits
 pub record ChanOf (w : World) (v : Value) (k : Cap × Ty) : Type 0 where
@@ -163,33 +142,11 @@ pub record ChanOf (w : World) (v : Value) (k : Cap × Ty) : Type 0 where
   pub reading : reads k.0 ≡ true → (reads own.0 ≡ true) × (sub.sub own.1 k.1 ≡ true)
   pub writing : writes k.0 ≡ true → (writes own.0 ≡ true) × (sub.sub k.1 own.1 ≡ true)
 
-chan_at : (w : World) (y : ValueLayer) (z : TyLayer) (j : Cap × Ty) → Shaped w y z → sub.as_chan z ≡ Some j → (c : Name) × (y ≡ Value-F.Chan c) × (w.chan c ≡ Some j)
-chan_at w (Value-F.Chan c) z j h k = let e : Some h.0 ≡ Some j = sym (ap sub.as_chan h.2) ∙ k in (c, refl, h.1 ∙ e)
-chan_at w (Value-F.Int b) z j h k = absurd (let x = sym (ap sub.as_chan h) ∙ k in cc)
-chan_at w (Value-F.Truth b) z j h k = absurd (let x = sym (ap sub.as_chan h) ∙ k in cc)
-chan_at w (Value-F.Str b) z j h k = absurd (let x = sym (ap sub.as_chan h) ∙ k in cc)
-chan_at w (Value-F.Site b) z j h k = absurd (let x = sym (ap sub.as_chan h.0) ∙ k in cc)
-chan_at w (Value-F.Agent b) z j h k = absurd (let x = sym (ap sub.as_chan h) ∙ k in cc)
-chan_at w (Value-F.Tuple b) z j h k = absurd (let x = sym (ap sub.as_chan h.2) ∙ k in cc)
-chan_at w (Value-F.Letter b v) z j h k = absurd (let x = sym (ap sub.as_chan h.4) ∙ k in cc)
-chan_at w (Value-F.Places b) z j h k = absurd (let x = sym (ap sub.as_chan h.0) ∙ k in cc)
-
 pub chan_value : (w : World) (v : Value) (t : Ty) (k : Cap × Ty) → Fits w v t → sub.as_chan (out-Ty t) ≡ Some k → ChanOf w v k
 chan_value w v t k f h =
     let n = chan_below f.type t k h f.below in
-    let c = chan_at w (out-Value v) (out-Ty f.type) n.chan (shaped w v f.type f.is) n.is in
+    let c = chan_at w (out-Value v) (out-Ty f.type) n.chan n.is (held w v t f) in
     record { name = c.0; is = c.1; own = n.chan; carries = c.2; reading = n.reading; writing = n.writing }
-
-tuple_at : (w : World) (y : ValueLayer) (z : TyLayer) (j : List Ty) → Shaped w y z → sub.as_tuple z ≡ Some j → (vs : List Value) × (y ≡ Value-F.Tuple vs) × (kinds w vs ≡ Some j)
-tuple_at w (Value-F.Tuple vs) z j h k = let e : Some h.0 ≡ Some j = sym (ap sub.as_tuple h.2) ∙ k in (vs, refl, h.1 ∙ e)
-tuple_at w (Value-F.Int b) z j h k = absurd (let x = sym (ap sub.as_tuple h) ∙ k in cc)
-tuple_at w (Value-F.Truth b) z j h k = absurd (let x = sym (ap sub.as_tuple h) ∙ k in cc)
-tuple_at w (Value-F.Str b) z j h k = absurd (let x = sym (ap sub.as_tuple h) ∙ k in cc)
-tuple_at w (Value-F.Site b) z j h k = absurd (let x = sym (ap sub.as_tuple h.0) ∙ k in cc)
-tuple_at w (Value-F.Agent b) z j h k = absurd (let x = sym (ap sub.as_tuple h) ∙ k in cc)
-tuple_at w (Value-F.Chan b) z j h k = absurd (let x = sym (ap sub.as_tuple h.2) ∙ k in cc)
-tuple_at w (Value-F.Letter b v) z j h k = absurd (let x = sym (ap sub.as_tuple h.4) ∙ k in cc)
-tuple_at w (Value-F.Places b) z j h k = absurd (let x = sym (ap sub.as_tuple h.0) ∙ k in cc)
 
 pub kinds_more : (w : World) (v : Value) (vs : List Value) (ss : List Ty) → kinds w (v ∷ vs) ≡ Some ss
     → (s : Ty) × (rest : List Ty) × (kind w v ≡ Some s) × (kinds w vs ≡ Some rest) × (ss ≡ s ∷ rest)
@@ -212,5 +169,5 @@ fit_all w (v ∷ vs) ss (t ∷ ts) h b =
 pub tuple_value : (w : World) (v : Value) (t : Ty) (ts : List Ty) → Fits w v t → sub.as_tuple (out-Ty t) ≡ Some ts → (vs : List Value) × (out-Value v ≡ Value-F.Tuple vs) × FitAll w vs ts
 tuple_value w v t ts f h =
     let n = tuple_below f.type t ts h f.below in
-    let c = tuple_at w (out-Value v) (out-Ty f.type) n.0 (shaped w v f.type f.is) n.1 in
+    let c = tuple_at w (out-Value v) (out-Ty f.type) n.0 n.1 (held w v t f) in
     (c.0, c.1, fit_all w c.0 n.0 ts c.2 n.2)

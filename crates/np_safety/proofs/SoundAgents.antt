@@ -1,12 +1,9 @@
 -- A resolved process names no agent but main.
 use Rattle.std.proofs.Common.{◌≡◌, ℕ, List, length, map, refl}
-use Rattle.np_syntax.specs.declared.value.Name.{Name}
-use Rattle.np_syntax.specs.declared.value.Value.{Value}
+use Rattle.np_safety.proofs.Common.{Name, Value, Expr, Proc}
 use Rattle.np_syntax.specs.declared.value.Value.TheVariants.{outs-Int, outs-Truth, outs-Str, outs-Site}
 use Rattle.np_syntax.specs.declared.value.Value as value
-use Rattle.np_syntax.specs.declared.expression.Expr.{Expr}
 use Rattle.np_syntax.specs.declared.expression.ExprForm.TheVariants as exprs
-use Rattle.np_syntax.specs.declared.process.Proc.{Proc}
 use Rattle.np_syntax.specs.declared.process.ProcForm.TheVariants as forms
 use Rattle.np_syntax.specs.declared.program.Program.{Program}
 use Rattle.np_scope.specs.Sound.{IsSound, IsSoundExpr, AreSoundExprs, IsSoundProc}
@@ -44,42 +41,24 @@ module _ (n : ℕ) where
 
   sound-proc : {scope bound : List ℕ} {node after : ℕ} {p : Proc} → IsSoundProc n scope node p after bound → OfProc P p
   sound-proc IsSoundProc.stop = of-proc P _ _ forms.outs-Stop (nobody P)
-  sound-proc (IsSoundProc.parallel {p = p} {q = q} g h) =
-      let sp = sound-proc g in
-      let sq = sound-proc h in
-      of-proc P _ _ (forms.outs-Par p q) (both-parts P _ _ sp sq)
-  sound-proc (IsSoundProc.channel {c = c} {t = t} {p = p} k g) = let sp = sound-proc g in of-proc P _ _ (forms.outs-New c t p) sp
+  sound-proc (IsSoundProc.parallel {p = p} {q = q} g h) = of-proc P _ _ (forms.outs-Par p q) (both-parts P _ _ (sound-proc g) (sound-proc h))
+  sound-proc (IsSoundProc.channel {c = c} {t = t} {p = p} k g) = of-proc P _ _ (forms.outs-New c t p) (sound-proc g)
   sound-proc (IsSoundProc.output {c = c} {e = e} hc he) = of-proc P _ _ (forms.outs-Out c e) (both-parts P _ _ (sound-expr hc) (sound-expr he))
-  sound-proc (IsSoundProc.input {c = c} {x = x} {p = p} hc b g) =
-      let sp = sound-proc g in
-      of-proc P _ _ (forms.outs-Inp c x p) (both-parts P _ _ (sound-expr hc) sp)
-  sound-proc (IsSoundProc.replicated {c = c} {x = x} {p = p} hc b g) =
-      let sp = sound-proc g in
-      of-proc P _ _ (forms.outs-Rep c x p) (both-parts P _ _ (sound-expr hc) sp)
-  sound-proc (IsSoundProc.agent {b = b} {p = p} {q = q} g h) =
-      let sp = sound-proc g in
-      let sq = sound-proc h in
-      of-proc P _ _ (forms.outs-Agent b p q) (both-parts P _ _ sp sq)
-  sound-proc (IsSoundProc.migrate {s = s} {p = p} hs g) =
-      let sp = sound-proc g in
-      of-proc P _ _ (forms.outs-Migrate s p) (both-parts P _ _ (sound-expr hs) sp)
+  sound-proc (IsSoundProc.input {c = c} {x = x} {p = p} hc b g) = of-proc P _ _ (forms.outs-Inp c x p) (both-parts P _ _ (sound-expr hc) (sound-proc g))
+  sound-proc (IsSoundProc.replicated {c = c} {x = x} {p = p} hc b g) = of-proc P _ _ (forms.outs-Rep c x p) (both-parts P _ _ (sound-expr hc) (sound-proc g))
+  sound-proc (IsSoundProc.agent {b = b} {p = p} {q = q} g h) = of-proc P _ _ (forms.outs-Agent b p q) (both-parts P _ _ (sound-proc g) (sound-proc h))
+  sound-proc (IsSoundProc.migrate {s = s} {p = p} hs g) = of-proc P _ _ (forms.outs-Migrate s p) (both-parts P _ _ (sound-expr hs) (sound-proc g))
   sound-proc (IsSoundProc.iflocal {b = b} {c = c} {e = e} {p = p} {q = q} hb hc he g h) =
-      let sp = sound-proc g in
-      let sq = sound-proc h in
       let operands = both-parts P _ _ (both-parts P _ _ (sound-expr hb) (sound-expr hc)) (sound-expr he) in
-      of-proc P _ _ (forms.outs-IfLocal b c e p q) (both-parts P _ _ (both-parts P _ _ operands sp) sq)
+      of-proc P _ _ (forms.outs-IfLocal b c e p q) (both-parts P _ _ (both-parts P _ _ operands (sound-proc g)) (sound-proc h))
   sound-proc (IsSoundProc.send {b = b} {s = s} {c = c} {e = e} hb hs hc he) =
       let operands = both-parts P _ _ (both-parts P _ _ (sound-expr hb) (sound-expr hs)) (sound-expr hc) in
       of-proc P _ _ (forms.outs-Send b s c e) (both-parts P _ _ operands (sound-expr he))
   sound-proc (IsSoundProc.post {b = b} {c = c} {e = e} hb hc he) =
       of-proc P _ _ (forms.outs-Post b c e) (both-parts P _ _ (both-parts P _ _ (sound-expr hb) (sound-expr hc)) (sound-expr he))
   sound-proc (IsSoundProc.test {e = e} {p = p} {q = q} he g h) =
-      let sp = sound-proc g in
-      let sq = sound-proc h in
-      of-proc P _ _ (forms.outs-If e p q) (both-parts P _ _ (both-parts P _ _ (sound-expr he) sp) sq)
-  sound-proc (IsSoundProc.bind {x = x} {e = e} {p = p} b he g) =
-      let sp = sound-proc g in
-      of-proc P _ _ (forms.outs-Let x e p) (both-parts P _ _ (sound-expr he) sp)
+      of-proc P _ _ (forms.outs-If e p q) (both-parts P _ _ (both-parts P _ _ (sound-expr he) (sound-proc g)) (sound-proc h))
+  sound-proc (IsSoundProc.bind {x = x} {e = e} {p = p} b he g) = of-proc P _ _ (forms.outs-Let x e p) (both-parts P _ _ (sound-expr he) (sound-proc g))
   sound-proc (IsSoundProc.print {e = e} he) = of-proc P _ _ (forms.outs-Print e) (sound-expr he)
 
 -- main's process in a resolved program names no agent but main

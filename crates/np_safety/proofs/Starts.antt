@@ -1,25 +1,21 @@
 -- A resolved program without a fault is typed at its start, and so along each of its runs.
-use Rattle.std.proofs.Common.{◌≡◌, ◌<◌, ℕ, true, inl, inr, Some, Ok, Err, [], length, nat_lt, refl, subst, sym, ◌∙◌, arith}
+use Rattle.std.proofs.Common.{◌≡◌, ◌<◌, ℕ, true, Some, Ok, Err, [], length, nat_lt, refl, sym, ◌∙◌, arith}
 use Rattle.std.proofs.lemmas.Bool.Decides.{nat_tests}
 use Rattle.std.specs.FinMap as map
 use Rattle.std.specs.FinMap.{get-empty}
-use Rattle.np_syntax.specs.declared.value.Name.{Name}
+use Rattle.np_safety.proofs.Common.{Name, Proc, World, Check, check, Config, Channels, world}
 use Rattle.np_syntax.specs.declared.program.Program.{Program}
 use Rattle.np_tables.specs.Names.{name_cmp}
-use Rattle.np_tables.proofs.Tables.{put_cases}
-use Rattle.np_types.specs.Checks.{Check, found}
+use Rattle.np_types.specs.Checks.{found}
 use Rattle.np_types.specs.Worlds.{bare}
-use Rattle.np_calculus.specs.Config.{Config}
-use Rattle.np_calculus.specs.Starts.{start_high, main_agent, main_mark, first_atom}
+use Rattle.np_calculus.specs.Starts.{start_high, with_agent, names_alone, main_agent, main_mark}
 use Rattle.np_calculus.proofs.Housed.{high-housed, stays-lodged}
-use Rattle.np_check.specs.Faults.{IsAccepted, check}
+use Rattle.np_check.specs.Faults.{IsAccepted}
 use Rattle.np_check.specs.Laws.{HasSites}
 use Rattle.np_check.proofs.Resolved.{same_check}
-use Rattle.np_safety.specs.Channels.{Channels, world}
-use Rattle.np_safety.specs.Typed.{Typed}
 use Rattle.np_safety.specs.Laws.{RunsWellTyped, StartsTyped, WellTyped}
 use Rattle.np_safety.proofs.Fitting.{Fitting}
-use Rattle.np_safety.proofs.Atoms.{nothing-agrees}
+use Rattle.np_safety.proofs.Atoms.{nothing-agrees, atoms-put}
 use Rattle.np_safety.proofs.Literal.{fitting-typed}
 use Rattle.np_safety.proofs.Runs.{stays-typed}
 use Rattle.np_safety.proofs.SoundAgents.{own-agents}
@@ -43,30 +39,27 @@ accepted p g a =
     let n : ℕ = length p.sites in
     (λ i. same_check n (world n g) (has-sites n g) a.sound.main i map.empty) ∙ none_found (check bare p.main map.empty) a.faultless
 
+-- the first atom of one more agent fits where its process has no fault
+pub fits-more : (w : World) (c : Config) (agent : Name) (site : ℕ) (mark : Name) (p : Proc) → Fitting w c → check w p map.empty ≡ Ok tt → Fitting w (with_agent c agent site mark p)
+fits-more w c agent site mark p i h = record {
+  atoms = atoms-put w c.atoms mark _ i.atoms (record { types = map.empty; agrees = nothing-agrees w; good = h });
+  packets = i.packets;
+}
+
+-- main alone
+pub fits-main : (w : World) (n at : ℕ) (p : Proc) → check w p map.empty ≡ Ok tt → Fitting w (with_agent (names_alone n) (main_agent n) at (main_mark n) p)
+fits-main w n at p h = fits-more w (names_alone n) _ at _ p (record { atoms = λ m b is. absurd (nothing m b is); packets = λ m q is. absurd (nothing m q is) }) h
+
 start-fitting : (p : Program) (g : Channels) → IsAccepted p → Fitting (world (length p.sites) g) (start_high p)
 unfolding start_high
-start-fitting p g a =
-    let n : ℕ = length p.sites in
-    let w = world n g in
-    record {
-      atoms = λ m b is. elim (put_cases map.empty (main_mark n) (first_atom (main_agent n) p.main) m b is) [
-        | inl e ↦ rw e.1 (record { types = map.empty; agrees = nothing-agrees w; good = accepted p g a })
-        | inr old ↦ absurd (nothing m b old)
-      ];
-      packets = λ m q is. absurd (nothing m q is);
-    }
+start-fitting p g a = fits-main (world (length p.sites) g) (length p.sites) p.at p.main (accepted p g a)
 
 pub starts-typed : StartsTyped
 starts-typed p a = fitting-typed _ (start_high p) (start-fitting p map.empty a)
 
-start-sites : (p : Program) → length p.sites ≡ (start_high p).sites
-unfolding start_high
-start-sites p = refl
-
 pub well-typed : WellTyped
-well-typed p a =
-    let c : Config = start_high p in
-    stays-typed c map.empty (subst (λ n. Typed (world n map.empty) c) (start-sites p) (starts-typed p a)) (λ n k h. absurd (nothing n k h))
+unfolding start_high
+well-typed p a = stays-typed (start_high p) map.empty (starts-typed p a) (λ n k h. absurd (nothing n k h))
 
 pub runs-well : RunsWellTyped
 unfolding start_high

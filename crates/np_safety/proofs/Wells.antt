@@ -1,27 +1,18 @@
 -- A configuration whose values fit is well.
 use Rattle.std.proofs.Common.{◌≡◌, ℕ, Bool, true, Some, Ok, List, [], ◌∷◌, map, refl, subst, sym, ap, ◌∙◌}
 use Rattle.std.specs.List.{list_all}
-use Rattle.np_syntax.specs.declared.value.Value.{Value, Value-F, out-Value, map-Value, fold_out-Value}
-use Rattle.np_syntax.specs.declared.types.Cap.{Cap}
-use Rattle.np_syntax.specs.declared.types.Ty.{Ty, out-Ty, map-Ty}
-use Rattle.np_syntax.specs.declared.expression.Expr.{Expr}
-use Rattle.np_syntax.specs.declared.pattern.Pat.{Pat}
-use Rattle.np_syntax.specs.declared.process.Proc.{Proc}
-use Rattle.np_syntax.specs.declared.process.ProcForm.{ProcForm-F}
-use Rattle.np_types.specs.Sub.{TyLayer, is_site, is_agent, is_bool}
+use Rattle.np_safety.proofs.Common.{Value, Value-F, out-Value, Cap, Ty, out-Ty, Expr, Pat, Proc, ProcForm-F, and-in, and-out, With, TyLayer, is_bool, is_site}
+use Rattle.np_safety.proofs.Common.{is_agent, World, kinds, kind, Types, least, Env, eval, Layer, layer, Config, Channels, world}
+use Rattle.np_syntax.specs.declared.value.Value.{map-Value, fold_out-Value}
+use Rattle.np_syntax.specs.declared.types.Ty.{map-Ty}
 use Rattle.np_types.specs.Widths.{printable, every}
 use Rattle.np_types.specs.Widths as widths
-use Rattle.np_types.specs.Worlds.{World, kind, kinds}
-use Rattle.np_types.specs.Least.{Types, least}
-use Rattle.np_syntax.proofs.Bools.{and-in, and-out}
-use Rattle.np_syntax.proofs.Trees.{With, ValueHyps, value_of, value_ind}
+use Rattle.np_syntax.proofs.Trees.{ValueHyps, value_of, value_ind}
 use Rattle.np_types.proofs.Below.{printable-out, printable_below}
-use Rattle.np_calculus.specs.Config.{Config}
-use Rattle.np_eval.specs.Eval.{Env, eval, chan_of, agent_of, truth_of}
-use Rattle.np_eval.specs.Forms.{Layer, layer, taken_on}
+use Rattle.np_eval.specs.Eval.{chan_of, agent_of, truth_of}
+use Rattle.np_eval.specs.Forms.{taken_on}
 use Rattle.np_calculus.specs.Seen.{site_of}
 use Rattle.np_calculus.specs.Well.{Has, Ready, Well, is_printable, printable_step}
-use Rattle.np_safety.specs.Channels.{Channels, world}
 use Rattle.np_safety.proofs.Fitting.{Agrees, Fitting}
 use Rattle.np_safety.proofs.Shapes.{Shaped, shaped, kinds_more, site_value, agent_value, truth_value, letter_value, places_value}
 use Rattle.np_safety.proofs.Evaluates.{evaluates}

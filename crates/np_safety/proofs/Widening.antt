@@ -1,15 +1,6 @@
 -- What fits in a world fits in each wider one.
 use Rattle.std.proofs.Common.{Option, None, Some}
-use Rattle.np_syntax.specs.declared.value.Name.{Name}
-use Rattle.np_syntax.specs.declared.value.Value.{Value}
-use Rattle.np_syntax.specs.declared.types.Ty.{Ty}
-use Rattle.np_types.specs.Worlds.{World}
-use Rattle.np_types.specs.Least.{Types}
-use Rattle.np_types.proofs.Subs.{sub-itself}
-use Rattle.np_calculus.specs.declared.config.Atom.{Atom}
-use Rattle.np_calculus.specs.Config.{Config}
-use Rattle.np_eval.specs.Eval.{Env}
-use Rattle.np_safety.specs.Fits.{Fits, LeastOf, Sent}
+use Rattle.np_safety.proofs.Common.{Name, Value, Ty, World, Types, sub-itself, Env, Atom, Config, Fits, Sent, LeastOf}
 use Rattle.np_safety.proofs.Fitting.{Valued, Agrees, FittingAtom, Fitting}
 use Rattle.np_safety.proofs.Narrowing.{Wider, Narrower, same-kind, weaker}
 

@@ -15,32 +15,7 @@ pub returns-clause-migration : goal.returns-clause-migration
 returns-clause-migration c = example.migration
 
 pub returns-clause-not_enabled : goal.returns-clause-not_enabled
-returns-clause-not_enabled c = record {
-  no_actor = record {
-    absent = refused.absent;
-    elsewhere = refused.elsewhere;
-    travelling = refused.travelling;
-    other_tag = refused.other_tag;
-    other_form = refused.other_form;
-  };
-  print_to_stop = refused.print_to_stop;
-  no_packet = refused.no_packet;
-  not_travelling = refused.not_travelling;
-  packet_elsewhere = refused.packet_elsewhere;
-  bound_elsewhere = refused.bound_elsewhere;
-  name_made = refused.name_made;
-  none_made_there = refused.none_made_there;
-  born_already = refused.born_already;
-  one_name_twice = refused.one_name_twice;
-  output_taken = refused.output_taken;
-  no_output = refused.no_output;
-  other_channel = refused.other_channel;
-  other_agent = refused.other_agent;
-  no_match = refused.no_match;
-  no_truth = refused.no_truth;
-  no_value = refused.no_value;
-  no_site = refused.no_site;
-}
+returns-clause-not_enabled c = refused.not_enabled
 
 pub returns-clause-no_value : goal.returns-clause-no_value
-returns-clause-no_value c = record { unbound = refused.unbound; tuple_to_number = refused.tuple_to_number }
+returns-clause-no_value c = refused.no_value
