@@ -3,6 +3,7 @@
 use Rattle.std.proofs.Common.{◌≤◌, ℕ, List, [], ◌∷◌, ◌++◌, length, arith}
 use Rattle.np_syntax.specs.declared.value.Value.{Value}
 use Rattle.np_syntax.specs.declared.types.Ty.{Ty}
+use Rattle.np_syntax.specs.declared.limits.TheConstants.{MOST_NODES, MOST_BINDERS, MOST_TOKENS}
 use Rattle.np_lex.specs.declared.token.Token.{Token}
 use Rattle.np_lex.specs.declared.token.What.{What}
 use Rattle.np_lex.specs.declared.token.Key.{Key}
@@ -105,10 +106,10 @@ mutual
 pub written : {d : ℕ} {tokens : List Token} {tree : Tree} → IsProgram d tokens tree → IsWritten tree.main
 written (IsProgram.program a b e f g h i j k l m n s p) = proc-written p
 
-pub few_nodes : {d : ℕ} {tokens : List Token} {tree : Tree} → IsProgram d tokens tree → length tokens ≤ 1048577 → nodes tree.main ≤ 16777217
+pub few_nodes : {d : ℕ} {tokens : List Token} {tree : Tree} → IsProgram d tokens tree → length tokens ≤ MOST_TOKENS → nodes tree.main ≤ MOST_NODES
 few_nodes h few = let c = counted h in omega (arith, c.0, few)
 
-pub few_binders : {d : ℕ} {tokens : List Token} {tree : Tree} → IsProgram d tokens tree → length tokens ≤ 1048577 → binders tree.main ≤ 16777217
+pub few_binders : {d : ℕ} {tokens : List Token} {tree : Tree} → IsProgram d tokens tree → length tokens ≤ MOST_TOKENS → binders tree.main ≤ MOST_BINDERS
 few_binders h few = let c = counted h in omega (arith, c.1, few)
 
 -- what `resolve` asks of a tree

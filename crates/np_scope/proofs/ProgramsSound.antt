@@ -3,7 +3,7 @@ use Rattle.std.proofs.Common.{◌≡◌, ◌<◌, ◌≤◌, ℕ, ◌+◌, Bool,
 use Rattle.std.proofs.lemmas.List.{length-map}
 use Rattle.std.specs.Str.{bytes_eq}
 use Rattle.np_syntax.specs.declared.program.Program.{Program}
-use Rattle.np_syntax.specs.declared.limits.TheConstants.{MOST_SITES}
+use Rattle.np_syntax.specs.declared.limits.TheConstants.{MOST_SITES, MOST_SITES_AT_ALL, MOST_NODES, MOST_BINDERS}
 use Rattle.np_tree.specs.declared.tree.Ident.{Ident}
 use Rattle.np_tree.specs.declared.tree.Tree.{Tree}
 use Rattle.np_tree.specs.Sizes.{nodes, binders}
@@ -94,7 +94,7 @@ main-sound tree w =
     and_then (proc_of n tree.main scope first_numbers) (proc-sound n w scope [] first_numbers (agrees n scope r.0)) (λ main d.
     done (record { home = below; few = r.1; main = d }))))
 
-sound-of : (tree : Tree) → nodes tree.main ≤ 16777217 → binders tree.main ≤ 16777217 → IsWritten tree.main → All IsNumbered (resolved tree)
+sound-of : (tree : Tree) → nodes tree.main ≤ MOST_NODES → binders tree.main ≤ MOST_BINDERS → IsWritten tree.main → All IsNumbered (resolved tree)
 unfolding resolved
 sound-of tree many bound w =
     and_then (main_of tree) (main-sound tree w) (λ m d.
@@ -108,15 +108,15 @@ sound-of tree many bound w =
         below = next_below d.main.numbered;
         once = next_once d.main.numbered;
         at = subst (λ n. m.0 < n) e d.home;
-        sites = subst (λ n. n ≤ 128) e (omega (arith, a));
+        sites = subst (λ n. n ≤ MOST_SITES_AT_ALL) e (omega (arith, a));
         few_nodes = omega (arith, b, many);
         few_binders = omega (arith, c, bound);
       };
       numbered = d.main.numbered;
     }))
 
-pub numbered_where_resolved : (tree : Tree) (p : Program) → nodes tree.main ≤ 16777217 → binders tree.main ≤ 16777217 → IsWritten tree.main → resolved tree ≡ Ok p → IsNumbered p
+pub numbered_where_resolved : (tree : Tree) (p : Program) → nodes tree.main ≤ MOST_NODES → binders tree.main ≤ MOST_BINDERS → IsWritten tree.main → resolved tree ≡ Ok p → IsNumbered p
 numbered_where_resolved tree p many bound w is = (sound-of tree many bound w).each p is
 
-pub sound_where_resolved : (tree : Tree) (p : Program) → nodes tree.main ≤ 16777217 → binders tree.main ≤ 16777217 → IsWritten tree.main → resolved tree ≡ Ok p → IsSound p
+pub sound_where_resolved : (tree : Tree) (p : Program) → nodes tree.main ≤ MOST_NODES → binders tree.main ≤ MOST_BINDERS → IsWritten tree.main → resolved tree ≡ Ok p → IsSound p
 sound_where_resolved tree p many bound w is = (numbered_where_resolved tree p many bound w is).sound

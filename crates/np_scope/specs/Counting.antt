@@ -1,6 +1,7 @@
--- How far the numbers of process nodes and binders go (docs/LANGUAGE.md, "Scope"): the last node may have the number
--- 16,777,217, and the last binder 16,777,216.
+-- How far the numbers of process nodes and binders go (docs/LANGUAGE.md, "Scope"): nodes are numbered from 1, and binders
+-- from 0.
 use Rattle.std.specs.Prelude.{◌≡◌, ◌≤◌, ℕ, ◌+◌}
+use Rattle.np_syntax.specs.declared.limits.TheConstants.{MOST_NODES, MOST_BINDERS}
 use Rattle.np_tree.specs.declared.tree.RawPat.{RawPat}
 use Rattle.np_tree.specs.declared.tree.RawProc.{RawProc}
 use Rattle.np_tree.specs.declared.tree.RawProcForm.{RawProcForm}
@@ -9,8 +10,8 @@ use Rattle.np_scope.specs.declared.numbers.Numbers.{Numbers}
 
 -- so many nodes and binders have numbers from these on
 pub record Fits (next : Numbers) (many bound : ℕ) : Type 0 where
-  pub nodes : next.node + many ≤ 16777218
-  pub binders : next.binder + bound ≤ 16777217
+  pub nodes : next.node + many ≤ MOST_NODES + 1
+  pub binders : next.binder + bound ≤ MOST_BINDERS
 
 -- the numbers behind so many nodes and binders
 pub record IsBehind (next : Numbers) (many bound : ℕ) (after : Numbers) : Type 0 where

@@ -14,6 +14,7 @@ use Rattle.np_syntax.specs.declared.process.ProcForm.{ProcForm}
 use Rattle.np_syntax.specs.declared.process.ProcForm as form
 use Rattle.np_syntax.specs.declared.process.Role.TheVariants as role
 use Rattle.np_syntax.specs.declared.program.Program.{Program}
+use Rattle.np_syntax.specs.declared.limits.TheConstants.{MOST_NODES, MOST_BINDERS, MOST_SITES_AT_ALL}
 use Rattle.np_scope.specs.Resolved.{expression, main_name, pattern}
 use Rattle.np_scope.specs.Written.{IsLiteral, IsChannelType}
 
@@ -105,7 +106,7 @@ pub data IsSoundProc (n : ℕ) : List ℕ → ℕ → Proc → ℕ → List ℕ 
 
 -- ---- programs
 
--- main's site is one of at most 128 sites; there are at most 16,777,217 process nodes, numbered from 1, and as many binders, each
+-- main's site is one of the sites, which are not too many; nor are the process nodes, numbered from 1, nor the binders, each
 -- bound at one place
 pub record IsSound (p : Program) : Type 0 where
   -- the binders, in reading order
@@ -116,9 +117,9 @@ pub record IsSound (p : Program) : Type 0 where
   pub below : AllBelow p.binders bound
   pub once : NoneTwice bound
   pub at : p.at < length p.sites
-  pub sites : length p.sites ≤ 128
-  pub few_nodes : after ≤ 16777218
-  pub few_binders : p.binders ≤ 16777217
+  pub sites : length p.sites ≤ MOST_SITES_AT_ALL
+  pub few_nodes : after ≤ MOST_NODES + 1
+  pub few_binders : p.binders ≤ MOST_BINDERS
 
 -- such a program whose binders are numbered from 0, in reading order
 pub record IsNumbered (p : Program) : Type 0 where

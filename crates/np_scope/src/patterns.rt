@@ -6,7 +6,7 @@ ghost use Rattle.np_scope.specs.Resolved as spec;
 ghost use Rattle.np_scope.specs.Resolved.{bound};
 
 use super::scope::{Meaning, Scope};
-use np_syntax::{List, Memory, Pat, PatForm};
+use np_syntax::{List, MOST_BINDERS, Memory, Pat, PatForm};
 use np_tree::{RawPat, RawPatForm};
 use std::alloc::Global;
 
@@ -19,7 +19,7 @@ pub fn pat<'a>(
     next: u32,
     p: &'a RawPat,
 ) -> Result<(Pat, u32), Memory>
-    requires { next + names p.now ≤ 16777217 }
+    requires { next + names p.now ≤ MOST_BINDERS }
     ensures bound { IfOk result (λ r. spec.pat_of p.now scope.old next ≡ bound r.0 scope.new r.1) }
     ensures behind { IfOk result (λ r. r.1 ≡ next + names p.now) }
 {
@@ -35,7 +35,7 @@ fn pat_form<'a>(
     at: u32,
     form: &'a RawPatForm,
 ) -> Result<(Pat, u32), Memory>
-    requires { next + form_names form.now ≤ 16777217 }
+    requires { next + form_names form.now ≤ MOST_BINDERS }
     ensures bound { IfOk result (λ r. spec.pat_form_of form.now at scope.old next ≡ bound r.0 scope.new r.1) }
     ensures behind { IfOk result (λ r. r.1 ≡ next + form_names form.now) }
 {
@@ -65,7 +65,7 @@ fn pats<'a>(
     next: u32,
     parts: &'a [RawPat],
 ) -> Result<(List<Pat>, u32), Memory>
-    requires { next + names_all parts.now ≤ 16777217 }
+    requires { next + names_all parts.now ≤ MOST_BINDERS }
     ensures bound { IfOk result (λ r. spec.pats_of parts.now scope.old next ≡ bound r.0 scope.new r.1) }
     ensures behind { IfOk result (λ r. r.1 ≡ next + names_all parts.now) }
 {

@@ -14,7 +14,7 @@ use super::numbers::{Numbers, Placed};
 use super::resolver::Resolver;
 use super::scope::Scope;
 use super::sites::{enter_sites, home, texts};
-use np_syntax::Program;
+use np_syntax::{MOST_BINDERS, MOST_NODES, Program};
 use np_tree::Tree;
 use std::alloc::Global;
 
@@ -52,8 +52,8 @@ pub fn main_alone(alloc: Global, tree: &Tree) -> Result<(u32, Placed), ScopeFail
 /// The program of a tree, or the first place in reading order at which a name is refused.
 #[tactic(auto, using(crate::proofs::ProgramsSound::sound_where_resolved), unfolding(crate::specs::Resolved::resolved))]
 pub fn resolve(alloc: Global, tree: &Tree) -> Result<Program, ScopeFail>
-    requires nodes { nodes tree.now.main ≤ 16777217 }
-    requires binders { binders tree.now.main ≤ 16777217 }
+    requires nodes { nodes tree.now.main ≤ MOST_NODES }
+    requires binders { binders tree.now.main ≤ MOST_BINDERS }
     requires written { IsWritten tree.now.main }
     ensures found { IfOk result (λ program. resolved tree.now ≡ Ok program) }
     ensures refused { IfErr result (λ e. ¬ (e ≡ fail.Memory) → resolved tree.now ≡ Err e) }

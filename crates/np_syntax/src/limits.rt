@@ -18,6 +18,18 @@ pub const DEEPEST: u32 = 200;
 /// How many sites a program may have.
 pub const MOST_SITES: u32 = 32;
 
+/// How many sites a program may have at all, also one that is not made from a source.
+pub const MOST_SITES_AT_ALL: usize = 128;
+
+/// How many process nodes a program may have.
+pub const MOST_NODES: u32 = 16_777_217;
+
+/// How many binders a program may have.
+pub const MOST_BINDERS: u32 = 16_777_217;
+
+/// How many tokens a source may have: one for each of its bytes, and the end.
+pub const MOST_TOKENS: usize = 1_048_577;
+
 /// How many nodes a type may have where it is written, and as the type of a tuple.
 pub const WIDEST_TYPE: u32 = 1024;
 
