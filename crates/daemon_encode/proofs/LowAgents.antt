@@ -1,5 +1,6 @@
 -- The low program of a resolved program names no agents but main and the daemon, and its start can run.
 use Rattle.std.proofs.Common.{◌≡◌, ℕ, inl, inr, List, length, map, refl}
+use Rattle.np_syntax.specs.declared.value.Name.{Name}
 use Rattle.np_syntax.specs.declared.value.Value.{Value}
 use Rattle.np_syntax.specs.declared.value.Value.TheVariants as values
 use Rattle.np_syntax.specs.declared.expression.Expr.{Expr}
@@ -22,7 +23,7 @@ use Rattle.daemon_encode.proofs.LowSounds.{encodes-sound}
 use Rattle.daemon_encode.proofs.ProgramsTyped.{encodes-faultless}
 
 module _ (n : ℕ) where
-  abbrev P : _ → Type 0
+  abbrev P : Name → Type 0
   P = IsOwn n
 
   literal : {v : Value} → IsLiteral v → OfValue P v

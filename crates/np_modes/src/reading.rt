@@ -14,7 +14,7 @@ use np_check::{CheckFail, Checked, check};
 use np_lex::{Tokens, lex};
 use np_parse::parse;
 use np_scope::resolve;
-use np_syntax::{DEEPEST, LONGEST_SOURCE, Program};
+use np_syntax::{DEEPEST, LONGEST_SOURCE, MOST_TOKENS, Program};
 use np_tree::Tree;
 use std::alloc::Global;
 
@@ -22,7 +22,7 @@ use std::alloc::Global;
 pub(crate) fn tokens_of(alloc: Global, bytes: &[u8]) -> Result<Tokens, Refusal>
     requires { length bytes.now ≤ LONGEST_SOURCE }
     ensures found { IfOk result (λ tokens. Lexes 0 bytes.now tokens) }
-    ensures few { IfOk result (λ tokens. length tokens ≤ 1048577) }
+    ensures few { IfOk result (λ tokens. length tokens ≤ MOST_TOKENS) }
     ensures refused { IfErr result (λ refusal. refusal ≢ Refusal.Memory → HasNoTokens bytes.now refusal) }
 {
     match lex(alloc, bytes) {
@@ -46,7 +46,7 @@ pub(crate) fn tree_of(alloc: Global, tokens: &Tokens) -> Result<Tree, Refusal>
 
 /// The program of tokens, with its names resolved.
 fn program_of(alloc: Global, tokens: &Tokens) -> Result<Program, Refusal>
-    requires { length tokens.now ≤ 1048577 }
+    requires { length tokens.now ≤ MOST_TOKENS }
     ensures found { IfOk result (λ program. HasProgram tokens.now program) }
     ensures sound { IfOk result IsSound }
     ensures refused { IfErr result (λ refusal. refusal ≢ Refusal.Memory → HasNoTree tokens.now refusal ⊎ HasNoProgram tokens.now refusal) }
@@ -62,7 +62,7 @@ fn program_of(alloc: Global, tokens: &Tokens) -> Result<Program, Refusal>
 
 /// The checked program of tokens, or the first refusal of the grammar, of scope or of types.
 fn checked_program(alloc: Global, tokens: &Tokens) -> Result<Checked, Refusal>
-    requires { length tokens.now ≤ 1048577 }
+    requires { length tokens.now ≤ MOST_TOKENS }
     ensures found { IfOk result (λ checked. HasProgram tokens.now checked) }
     ensures faultless { IfOk result (λ checked. faults checked ≡ []) }
     ensures refused { IfErr result (λ refusal. refusal ≢ Refusal.Memory → IsNoProgram tokens.now refusal) }

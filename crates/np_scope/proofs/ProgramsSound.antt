@@ -3,7 +3,7 @@ use Rattle.std.proofs.Common.{◌≡◌, ◌<◌, ◌≤◌, ℕ, ◌+◌, Bool,
 use Rattle.std.proofs.lemmas.List.{length-map}
 use Rattle.std.specs.Str.{bytes_eq}
 use Rattle.np_syntax.specs.declared.program.Program.{Program}
-use Rattle.np_syntax.specs.declared.limits.TheConstants.{MOST_SITES, MOST_SITES_AT_ALL, MOST_NODES, MOST_BINDERS}
+use Rattle.np_syntax.specs.declared.limits.TheConstants.{MOST_SITES, MOST_NODES, MOST_BINDERS}
 use Rattle.np_tree.specs.declared.tree.Ident.{Ident}
 use Rattle.np_tree.specs.declared.tree.Tree.{Tree}
 use Rattle.np_tree.specs.Sizes.{nodes, binders}
@@ -108,7 +108,7 @@ sound-of tree many bound w =
         below = next_below d.main.numbered;
         once = next_once d.main.numbered;
         at = subst (λ n. m.0 < n) e d.home;
-        sites = subst (λ n. n ≤ MOST_SITES_AT_ALL) e (omega (arith, a));
+        sites = subst (λ n. n ≤ MOST_SITES) e (omega (arith, a));
         few_nodes = omega (arith, b, many);
         few_binders = omega (arith, c, bound);
       };

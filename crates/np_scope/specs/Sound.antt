@@ -14,7 +14,7 @@ use Rattle.np_syntax.specs.declared.process.ProcForm.{ProcForm}
 use Rattle.np_syntax.specs.declared.process.ProcForm as form
 use Rattle.np_syntax.specs.declared.process.Role.TheVariants as role
 use Rattle.np_syntax.specs.declared.program.Program.{Program}
-use Rattle.np_syntax.specs.declared.limits.TheConstants.{MOST_NODES, MOST_BINDERS, MOST_SITES_AT_ALL}
+use Rattle.np_syntax.specs.declared.limits.TheConstants.{MOST_NODES, MOST_BINDERS, MOST_SITES}
 use Rattle.np_scope.specs.Resolved.{expression, main_name, pattern}
 use Rattle.np_scope.specs.Written.{IsLiteral, IsChannelType}
 
@@ -117,7 +117,7 @@ pub record IsSound (p : Program) : Type 0 where
   pub below : AllBelow p.binders bound
   pub once : NoneTwice bound
   pub at : p.at < length p.sites
-  pub sites : length p.sites ≤ MOST_SITES_AT_ALL
+  pub sites : length p.sites ≤ MOST_SITES
   pub few_nodes : after ≤ MOST_NODES + 1
   pub few_binders : p.binders ≤ MOST_BINDERS
 

@@ -12,7 +12,7 @@ ghost use Rattle.np_serial.specs.Serial.{Advances, AreFresh, IsReached, IsSerial
 
 use super::events::event_of;
 use np_configuration::{ApplyFail, Cfg, Step, apply, start_high, start_low};
-use np_syntax::{End, Event, List, LowProgram, Memory, Name, Program};
+use np_syntax::{End, Event, List, LowProgram, MOST_SITES, Memory, Name, Program};
 use std::alloc::Global;
 
 /// A run: its events in order, the configuration that they lead to, and how it ended.
@@ -89,7 +89,7 @@ fn advance(
 
 /// A number that is no site's, and not the program's own.
 fn beyond(start: &Cfg) -> u32
-    requires { start.now.sites ≤ 128 }
+    requires { start.now.sites ≤ MOST_SITES }
     ensures { result ≡ start.now.sites + 1 }
 {
     start.sites() + 1

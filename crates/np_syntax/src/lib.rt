@@ -20,7 +20,7 @@ pub use event::{End, Event, Kind, Made};
 pub use expression::{Expr, ExprForm, Op};
 pub use limits::{
     DEEPEST, LARGEST_BUDGET, LONGEST_NAME, LONGEST_SOURCE, LONGEST_STRING, MOST_BINDERS,
-    MOST_NODES, MOST_PARTS, MOST_SITES, MOST_SITES_AT_ALL, MOST_TOKENS, USUAL_BUDGET, WIDEST_TYPE,
+    MOST_NODES, MOST_PARTS, MOST_SITES, MOST_TOKENS, USUAL_BUDGET, WIDEST_TYPE,
 };
 pub use list::{List, Text, copy_texts};
 pub use memory::Memory;

@@ -16,10 +16,7 @@ pub const MOST_PARTS: u32 = 16;
 pub const DEEPEST: u32 = 200;
 
 /// How many sites a program may have.
-pub const MOST_SITES: u32 = 32;
-
-/// How many sites a program may have at all, also one that is not made from a source.
-pub const MOST_SITES_AT_ALL: usize = 128;
+pub const MOST_SITES: u32 = 128;
 
 /// How many process nodes a program may have.
 pub const MOST_NODES: u32 = 16_777_217;
