@@ -1,5 +1,6 @@
 -- What the lines of a text say is what makes it a history, or refuses it.
-use Rattle.std.proofs.Common.{◌≡◌, ℕ, suc, ◌+◌, ◌<◌, ◌^◌, List, [], ◌∷◌, ◌++◌, map, length, decimal, refl, sym, ap, subst, ◌∙◌, None, Some, Option, Result, Ok, Err, arith, append_assoc, append-nil, length-append, add-zero, ◌⊎◌, inl, inr}
+use Rattle.std.proofs.Common.{◌≡◌, ℕ, suc, ◌+◌, ◌<◌, ◌^◌, List, [], ◌∷◌, ◌++◌, map, length, decimal, refl, sym, ap, subst, ◌∙◌, None, Some, Option}
+use Rattle.std.proofs.Common.{Result, Ok, Err, arith, append_assoc, append-nil, length-append, add-zero, ◌⊎◌, inl, inr}
 use Rattle.std.specs.Prelude.{IfOk, IfErr, Bool, true, false, cond, ◌==◌, ◌≢◌}
 use Rattle.std.specs.List.{list_all, AllByRecursion}
 use Rattle.std.proofs.Math.ListN.{length-map}
@@ -12,7 +13,7 @@ use Rattle.history_text.specs.declared.fail.HistFail.{HistFail}
 use Rattle.history_text.specs.declared.fail.HistFail.TheVariants as fail
 use Rattle.history_text.specs.declared.format.Format.{Format}
 use Rattle.history_text.specs.Spelling.{event_line, first_line, end_line}
-use Rattle.history_text.specs.Histories.{lines, Fits, IsSkipped, IsFaulty, lines_up_to, IsHistory, IsRefused, IsRefusal}
+use Rattle.history_text.specs.Histories.{lines, Fits, IsSkipped, IsFaulty, Beginning, lines_of, lines_up_to, IsHistory, IsRefused, IsRefusal}
 use Rattle.history_text.specs.Laws.{IsSomeHistory, IsSomewhereRefused, HasOneReading}
 use Rattle.history_text.specs.Histories as h
 use Rattle.history_text.specs.Reading.{is_digit, is_end, event_of, format_of, after, event_then, events_from, format_then, history_from, Reads}
@@ -95,7 +96,8 @@ module _ (format : Format) where
       ∙ ap (λ n. after (e ∷ events) (events_from format n later)) counts)
 
 -- the later lines are read behind those that are skipped
-skip : (number : ℕ) (skipped later : List (List ℕ)) → AllByRecursion IsSkipped skipped → history_from number (skipped ++ later) ≡ history_from (number + length skipped) later
+skip : (number : ℕ) (skipped later : List (List ℕ)) → AllByRecursion IsSkipped skipped
+    → history_from number (skipped ++ later) ≡ history_from (number + length skipped) later
 skip number [] later skips = ap (λ n. history_from n later) (sym (add-zero number))
 skip number (line ∷ skipped) later skips =
     let counts : number + 1 + length skipped ≡ number + suc (length skipped) = omega arith in
@@ -104,10 +106,12 @@ skip number (line ∷ skipped) later skips =
 begin : (number : ℕ) (format : Format) (later : List (List ℕ)) → history_from number (first_line format ∷ later) ≡ events_from format (number + 1) later
 begin number format later = ap (λ o. format_then o (history_from (number + 1) later) (λ f. events_from f (number + 1) later)) (format_back format)
 
-up_to_length : (skipped : List (List ℕ)) (format : Format) (events : List Event) → length (lines_up_to skipped format events) ≡ length skipped + 1 + length events
+up_to_length : (skipped : List (List ℕ)) (format : Format) (events : List Event)
+    → length (lines_up_to skipped format events) ≡ length skipped + 1 + length events
 up_to_length skipped format events = omega (arith, length-append skipped (first_line format ∷ map (event_line format) events), length-map events (event_line format))
 
-up_to : (skipped : List (List ℕ)) (format : Format) (events : List Event) (later : List (List ℕ)) → AllByRecursion IsSkipped skipped → AllByRecursion Fits events
+up_to : (skipped : List (List ℕ)) (format : Format) (events : List Event) (later : List (List ℕ)) → AllByRecursion IsSkipped skipped
+    → AllByRecursion Fits events
     → history_from 0 (lines_up_to skipped format events ++ later) ≡ after events (events_from format (length skipped + 1 + length events) later)
 up_to skipped format events later skips fits =
     let counts : 0 + length skipped ≡ length skipped = omega arith in
@@ -125,12 +129,13 @@ pub refused_reads : {text : List ℕ} {number : ℕ} → IsRefused text number �
 refused_reads {text = text} (h.no_first skips) =
     let counts : 0 + length (lines text) + 1 ≡ length (lines text) + 1 = omega arith in
     ap (history_from 0) (sym (append-nil (lines text))) ∙ skip 0 (lines text) [] skips ∙ ap Err counts
-refused_reads {text = text} (h.no_end skipped format events is skips fits) =
-    let counts : length skipped + 1 + length events + 1 ≡ length (lines text) + 1 = omega (arith, ap length is, up_to_length skipped format events) in
-    ap (history_from 0) (is ∙ sym (append-nil (lines_up_to skipped format events))) ∙ up_to skipped format events [] skips fits ∙ ap Err counts
-refused_reads {text = text} (h.faulty skipped format events line behind is skips fits fault) =
-    let counts : length skipped + 1 + length events + 1 ≡ length (lines_up_to skipped format events) + 1 = omega (arith, up_to_length skipped format events) in
-    ap (history_from 0) is ∙ up_to skipped format events (line ∷ behind) skips fits ∙ ap (after events) (at_fault format (length skipped + 1 + length events) line behind fault) ∙ ap Err counts
+refused_reads {text = text} (h.no_end b is) =
+    let counts : length b.skipped + 1 + length b.events + 1 ≡ length (lines text) + 1 = omega (arith, ap length is, up_to_length b.skipped b.format b.events) in
+    ap (history_from 0) (is ∙ sym (append-nil (lines_of b))) ∙ up_to b.skipped b.format b.events [] b.skips b.fits ∙ ap Err counts
+refused_reads {text = text} (h.faulty b line behind is fault) =
+    let counts : length b.skipped + 1 + length b.events + 1 ≡ length (lines_of b) + 1 = omega (arith, up_to_length b.skipped b.format b.events) in
+    ap (history_from 0) is ∙ up_to b.skipped b.format b.events (line ∷ behind) b.skips b.fits
+    ∙ ap (after b.events) (at_fault b.format (length b.skipped + 1 + length b.events) line behind fault) ∙ ap Err counts
 
 -- ---- from what is read to the lines
 
@@ -158,7 +163,8 @@ EventsSay format number ls (Ok events) = Ended format ls events
 EventsSay format number ls (Err line) = Stopped format number ls line
 
 module _ (format : Format) where
-  one_more : (e : Event) (line : List ℕ) (ls : List (List ℕ)) (events : List Event) → line ≡ event_line format e → (ls ≡ map (event_line format) events) ⊎ Fault format ls events
+  one_more : (e : Event) (line : List ℕ) (ls : List (List ℕ)) (events : List Event) → line ≡ event_line format e
+      → (ls ≡ map (event_line format) events) ⊎ Fault format ls events
       → (line ∷ ls ≡ map (event_line format) (e ∷ events)) ⊎ Fault format (line ∷ ls) (e ∷ events)
   one_more e line ls events same (inl is) = inl (rw (same, is) refl)
   one_more e line ls events same (inr fault) = inr (record { line = fault.line; behind = fault.behind; is = rw same (ap (λ l. event_line format e ∷ l) fault.is); faulty = fault.faulty })
@@ -210,7 +216,8 @@ history_says : (number : ℕ) (ls : List (List ℕ)) → HistorySays number ls (
 history_says number [] = inl (record { skips = tt; counts = ap (λ n. n + 1) (sym (add-zero number)) })
 history_says number (line ∷ ls) = go (format_of line) refl (history_from (number + 1) ls) (history_says (number + 1) ls)
   where
-    found : (format : Format) → format_of line ≡ Some format → (r : Result (List Event) ℕ) → EventsSay format (number + 1) ls r → HistorySays number (line ∷ ls) r
+    found : (format : Format) → format_of line ≡ Some format → (r : Result (List Event) ℕ) → EventsSay format (number + 1) ls r
+        → HistorySays number (line ∷ ls) r
     found format s (Ok events) says = record { skipped = []; format = format; rest = ls; begins = record { is = ap (λ l. l ∷ ls) (sym (format_is line format s)); skips = tt }; ended = says }
     found format s (Err n) says = inr (record {
       skipped = [];
@@ -251,25 +258,41 @@ reads_history text events e =
       record {
         skipped = says.skipped;
         behind = says.ended.behind;
-        is = says.begins.is ∙ ap (λ l. says.skipped ++ first_line says.format ∷ l) says.ended.is ∙ sym (append_assoc says.skipped (first_line says.format ∷ map (event_line says.format) events) (end_line ∷ says.ended.behind));
+        is = says.begins.is ∙ ap (λ l. says.skipped ++ first_line says.format ∷ l) says.ended.is
+            ∙ sym (append_assoc says.skipped (first_line says.format ∷ map (event_line says.format) events) (end_line ∷ says.ended.behind));
         skips = says.begins.skips;
         fits = says.ended.fits;
       },
     )
 
+-- the beginning of a text that stops
+beginning : {ls : List (List ℕ)} {line : ℕ} → Refused 0 ls line → Beginning
+beginning r = record { skipped = r.skipped; format = r.format; events = r.stopped.events; skips = r.begins.skips; fits = r.stopped.fits }
+
+module _ (text : List ℕ) (line : ℕ) (r : Refused 0 (lines text) line) where
+  refused_without_end : r.rest ≡ map (event_line r.format) r.stopped.events → IsRefused text line
+  unfolding beginning
+  refused_without_end is =
+      let all : lines text ≡ lines_of (beginning r) = r.begins.is ∙ ap (λ l. r.skipped ++ first_line r.format ∷ l) is in
+      let same : length (lines text) + 1 ≡ line = omega (arith, ap length all, up_to_length r.skipped r.format r.stopped.events, r.stopped.counts) in
+      subst (IsRefused text) same (h.no_end (beginning r) all)
+
+  refused_at_fault : Fault r.format r.rest r.stopped.events → IsRefused text line
+  unfolding beginning
+  refused_at_fault fault =
+      let all : lines text ≡ lines_of (beginning r) ++ fault.line ∷ fault.behind =
+      r.begins.is ∙ ap (λ l. r.skipped ++ first_line r.format ∷ l) fault.is
+      ∙ sym (append_assoc r.skipped (first_line r.format ∷ map (event_line r.format) r.stopped.events) (fault.line ∷ fault.behind)) in
+      let same : length (lines_of (beginning r)) + 1 ≡ line = omega (arith, up_to_length r.skipped r.format r.stopped.events, r.stopped.counts) in
+      subst (IsRefused text) same (h.faulty (beginning r) fault.line fault.behind all fault.faulty)
+
 pub reads_refused : (text : List ℕ) (line : ℕ) → history_from 0 (lines text) ≡ Err line → IsRefused text line
 reads_refused text line e = go (subst (HistorySays 0 (lines text)) e (history_says 0 (lines text)))
   where
-    stops : (r : Refused 0 (lines text) line) → (r.rest ≡ map (event_line r.format) r.stopped.events) ⊎ Fault r.format r.rest r.stopped.events → IsRefused text line
-    stops r (inl is) =
-        let all : lines text ≡ lines_up_to r.skipped r.format r.stopped.events = r.begins.is ∙ ap (λ l. r.skipped ++ first_line r.format ∷ l) is in
-        let same : length (lines text) + 1 ≡ line = omega (arith, ap length all, up_to_length r.skipped r.format r.stopped.events, r.stopped.counts) in
-        subst (IsRefused text) same (h.no_end r.skipped r.format r.stopped.events all r.begins.skips r.stopped.fits)
-    stops r (inr fault) =
-        let all : lines text ≡ lines_up_to r.skipped r.format r.stopped.events ++ fault.line ∷ fault.behind =
-        r.begins.is ∙ ap (λ l. r.skipped ++ first_line r.format ∷ l) fault.is ∙ sym (append_assoc r.skipped (first_line r.format ∷ map (event_line r.format) r.stopped.events) (fault.line ∷ fault.behind)) in
-        let same : length (lines_up_to r.skipped r.format r.stopped.events) + 1 ≡ line = omega (arith, up_to_length r.skipped r.format r.stopped.events, r.stopped.counts) in
-        subst (IsRefused text) same (h.faulty r.skipped r.format r.stopped.events fault.line fault.behind all r.begins.skips r.stopped.fits fault.faulty)
+    stops : (r : Refused 0 (lines text) line) → (r.rest ≡ map (event_line r.format) r.stopped.events) ⊎ Fault r.format r.rest r.stopped.events
+        → IsRefused text line
+    stops r (inl is) = refused_without_end text line r is
+    stops r (inr fault) = refused_at_fault text line r fault
 
     go : NoFirst 0 (lines text) line ⊎ Refused 0 (lines text) line → IsRefused text line
     go (inl none) = let same : length (lines text) + 1 ≡ line = omega (arith, none.counts) in subst (IsRefused text) same (h.no_first none.skips)
@@ -302,11 +325,13 @@ one_reading text = record {
 -- ---- what a reader answers
 
 module _ (text : List ℕ) where
-  pub read_found : (r : Result (List Event) HistFail) → Reads r (history_from 0 (lines text)) → IfOk r (λ events. (format : Format) × IsHistory text format events)
+  pub read_found : (r : Result (List Event) HistFail) → Reads r (history_from 0 (lines text))
+      → IfOk r (λ events. (format : Format) × IsHistory text format events)
   read_found (Ok events) e = reads_history text events e
   read_found (Err f) e = tt
 
-  pub read_only : (r : Result (List Event) HistFail) → Reads r (history_from 0 (lines text)) → IfOk r (λ events. (format : Format) (others : List Event) → IsHistory text format others → others ≡ events)
+  pub read_only : (r : Result (List Event) HistFail) → Reads r (history_from 0 (lines text))
+      → IfOk r (λ events. (format : Format) (others : List Event) → IsHistory text format others → others ≡ events)
   read_only (Ok events) e = λ format others found. (let same : Ok others ≡ history_from 0 (lines text) = sym (history_reads found) in cc)
   read_only (Err f) e = tt
 
@@ -315,7 +340,8 @@ module _ (text : List ℕ) where
   read_refused (Err fail.Memory) e = tt
   read_refused (Err (fail.HistSyntax line)) e = reads_refused text line e
 
-  pub read_none : (r : Result (List Event) HistFail) → Reads r (history_from 0 (lines text)) → IfErr r (λ f. f ≢ fail.Memory → (format : Format) (events : List Event) → IsHistory text format events → ⊥)
+  pub read_none : (r : Result (List Event) HistFail) → Reads r (history_from 0 (lines text))
+      → IfErr r (λ f. f ≢ fail.Memory → (format : Format) (events : List Event) → IsHistory text format events → ⊥)
   read_none (Ok events) e = tt
   read_none (Err fail.Memory) e = λ other. absurd (other refl)
   read_none (Err (fail.HistSyntax line)) e = λ other format events found. not_both found (reads_refused text line e)

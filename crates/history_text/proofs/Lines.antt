@@ -32,7 +32,8 @@ cut_at : (bytes : List ℕ) → 0 < length bytes → IsCut bytes
 cut_at [] some = absurd (omega arith)
 cut_at (byte ∷ bytes) some = front_line byte bytes
 
-pub cut_is : (bytes line rest : List ℕ) (n : ℕ) → 0 < length bytes → n ≡ prefix_len in_line bytes → line ≡ take n bytes → rest ≡ drop n bytes → lines bytes ≡ line ∷ lines (drop 1 rest)
+pub cut_is : (bytes line rest : List ℕ) (n : ℕ) → 0 < length bytes → n ≡ prefix_len in_line bytes → line ≡ take n bytes → rest ≡ drop n bytes
+    → lines bytes ≡ line ∷ lines (drop 1 rest)
 cut_is bytes line rest n some len front back = cut_at bytes some ∙ rw (front, back, len) refl
 
 pub no_rest : (rest : List ℕ) → length rest < 1 → drop 1 rest ≡ rest

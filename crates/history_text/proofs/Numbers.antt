@@ -1,5 +1,6 @@
 -- A number's text, read from the front of bytes.
-use Rattle.std.proofs.Common.{◌≡◌, ℕ, zero, suc, ◌+◌, ◌*◌, ◌-◌, ◌<◌, ◌≤◌, ◌^◌, List, [], ◌∷◌, ◌++◌, take, drop, get_or, length, decimal, refl, sym, ap, ◌∙◌, None, Some, arith}
+use Rattle.std.proofs.Common.{◌≡◌, ℕ, zero, suc, ◌+◌, ◌*◌, ◌-◌, ◌<◌, ◌≤◌, ◌^◌, List, [], ◌∷◌, ◌++◌, take, drop, get_or}
+use Rattle.std.proofs.Common.{length, decimal, refl, sym, ap, ◌∙◌, None, Some, arith}
 use Rattle.std.specs.Prelude.{Bool, true, false, ◌==◌, fold, nat_le, cond}
 use Rattle.std.specs.List.{prefix_len, list_all}
 use Rattle.std.specs.Int.{IsInRange}
@@ -54,17 +55,20 @@ seam test (byte ∷ front) rest all ends =
     let later : prefix_len test (front ++ rest) ≡ length front = seam test front rest both.1 ends in
     rw both.0 (omega arith)
 
-pub front_take : (test : ℕ → Bool) (front rest : List ℕ) → list_all test front ≡ true → Ends test rest → take (prefix_len test (front ++ rest)) (front ++ rest) ≡ front
+pub front_take : (test : ℕ → Bool) (front rest : List ℕ) → list_all test front ≡ true → Ends test rest
+    → take (prefix_len test (front ++ rest)) (front ++ rest) ≡ front
 front_take test front rest all ends = ap (λ n. take n (front ++ rest)) (seam test front rest all ends) ∙ take-append_seam front rest
 
-pub front_drop : (test : ℕ → Bool) (front rest : List ℕ) → list_all test front ≡ true → Ends test rest → drop (prefix_len test (front ++ rest)) (front ++ rest) ≡ rest
+pub front_drop : (test : ℕ → Bool) (front rest : List ℕ) → list_all test front ≡ true → Ends test rest
+    → drop (prefix_len test (front ++ rest)) (front ++ rest) ≡ rest
 front_drop test front rest all ends = ap (λ n. drop n (front ++ rest)) (seam test front rest all ends) ∙ drop-append_seam front rest
 
 pub front_all : (test : ℕ → Bool) (bytes : List ℕ) → list_all test (take (prefix_len test bytes) bytes) ≡ true
 front_all test [] = refl
 front_all test (byte ∷ bytes) = go (test byte) refl (front_all test bytes)
   where
-    go : (b : Bool) → test byte ≡ b → list_all test (take (prefix_len test bytes) bytes) ≡ true → list_all test (take (prefix_len test (byte ∷ bytes)) (byte ∷ bytes)) ≡ true
+    go : (b : Bool) → test byte ≡ b → list_all test (take (prefix_len test bytes) bytes) ≡ true
+        → list_all test (take (prefix_len test (byte ∷ bytes)) (byte ∷ bytes)) ≡ true
     go true passes later = rw (passes, one-add) (rw passes later)
     go false fails later = rw fails refl
 
@@ -106,7 +110,8 @@ text_canonical [] is = cc
 text_canonical (digit ∷ []) is = (omega arith, λ nought. refl)
 text_canonical (digit ∷ other ∷ digits) is = go (digit == 48) refl is
   where
-    go : (b : Bool) → (digit == 48) ≡ b → cond b false true ≡ true → (0 < length (digit ∷ other ∷ digits)) × (digit ≡ 48 → length (digit ∷ other ∷ digits) ≡ 1)
+    go : (b : Bool) → (digit == 48) ≡ b → cond b false true ≡ true
+        → (0 < length (digit ∷ other ∷ digits)) × (digit ≡ 48 → length (digit ∷ other ∷ digits) ≡ 1)
     go true e k = cc
     go false e k = (omega arith, λ nought. absurd (grind (arith, nat_tests)))
 

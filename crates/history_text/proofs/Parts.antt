@@ -1,5 +1,6 @@
 -- The fields of an event's line, read as they are written.
-use Rattle.std.proofs.Common.{◌≡◌, ℕ, ◌<◌, ◌^◌, List, [], ◌∷◌, ◌++◌, take, drop, length, decimal, refl, sym, ap, ◌∙◌, None, Some, Option, arith, append_assoc}
+use Rattle.std.proofs.Common.{◌≡◌, ℕ, ◌<◌, ◌^◌, List, [], ◌∷◌, ◌++◌, take, drop, length, decimal, refl, sym}
+use Rattle.std.proofs.Common.{ap, ◌∙◌, None, Some, Option, arith, append_assoc}
 use Rattle.std.specs.Prelude.{Bool, true, false, cond, ◌==◌, codes}
 use Rattle.std.specs.List.{prefix_len, list_all, find, flat_map}
 use Rattle.std.specs.Str.{bytes_eq}
@@ -25,7 +26,8 @@ use Rattle.history_text.specs.declared.format.Format.TheVariants as formats
 use Rattle.history_text.specs.declared.words.TheConstants.{KINDS, ROLES, FORMATS}
 use Rattle.history_text.specs.Spelling.{name_text, optional_text, kind_word, role_word, first_made, second_made, event_line, first_line}
 use Rattle.history_text.specs.Histories.{NameFits, OptionalFits, Fits}
-use Rattle.history_text.specs.Reading.{is_digit, in_field, kind_of, role_of, format_of, number_at, behind, name_at, optional_by, optional_at, kind_at, role_at, tag_at, made_of, made_at, ninth, ends_well, event_of}
+use Rattle.history_text.specs.Reading.{is_digit, in_field, kind_of, role_of, format_of, number_at, behind, name_at, optional_by, optional_at, kind_at, role_at}
+use Rattle.history_text.specs.Reading.{tag_at, made_of, made_at, ninth, ends_well, event_of}
 use Rattle.history_text.proofs.Numbers.{Ends, Takes, front_take, front_drop, decimal_digits, number_again, number_takes}
 use Rattle.history_text.proofs.Written.{with_ninth}
 
@@ -150,10 +152,12 @@ no_dash name rest fits =
     ap (behind 45) (append_assoc (decimal name.site ++ codes ".") (decimal name.n) rest ∙ append_assoc (decimal name.site) (codes ".") (decimal name.n ++ rest))
     ∙ digit_first (decimal name.site) (46 ∷ (decimal name.n ++ rest)) (decimal_nonempty name.site (omega arith)) (decimal_digits name.site small)
 
-optional_again : (name : Option Name) (rest : List ℕ) → OptionalFits name → Ends is_digit rest → optional_at (optional_text name ++ rest) ≡ Some (name, rest)
+optional_again : (name : Option Name) (rest : List ℕ) → OptionalFits name → Ends is_digit rest
+    → optional_at (optional_text name ++ rest) ≡ Some (name, rest)
 unfolding optional_at
 optional_again None rest fits ends = refl
-optional_again (Some name) rest fits ends = ap (λ o. optional_by o (name_text name ++ rest)) (no_dash name rest fits) ∙ next _ (name_again name rest fits ends) refl
+optional_again (Some name) rest fits ends = ap (λ o. optional_by o (name_text name ++ rest)) (no_dash name rest fits)
+    ∙ next _ (name_again name rest fits ends) refl
 
 optional_takes : (bytes : List ℕ) (x : Option Name × List ℕ) → optional_at bytes ≡ Some x → Takes bytes (optional_text x.0) x.1 × OptionalFits x.0
 unfolding optional_at
@@ -205,7 +209,8 @@ made_is (Some name) None m e = let is : m ≡ made.One name = done e in rw is (r
 made_is (Some name) (Some other) m e = let is : m ≡ made.Two name other = done e in rw is (record { first = refl; second = refl })
 made_is None (Some other) m e = cc
 
-made_again : (m : Made) (rest : List ℕ) → OptionalFits (first_made m) → OptionalFits (second_made m) → Ends is_digit rest → made_at (made_text m ++ rest) ≡ Some (m, rest)
+made_again : (m : Made) (rest : List ℕ) → OptionalFits (first_made m) → OptionalFits (second_made m) → Ends is_digit rest
+    → made_at (made_text m ++ rest) ≡ Some (m, rest)
 unfolding made_at
 made_again m rest first second ends =
     ap made_at (append_assoc (optional_text (first_made m) ++ codes " ") (optional_text (second_made m)) rest ∙ append_assoc (optional_text (first_made m)) (codes " ") (optional_text (second_made m) ++ rest))

@@ -13,7 +13,8 @@ use Rattle.np_syntax.specs.declared.event.Kind.TheVariants as kinds
 use Rattle.np_syntax.specs.declared.event.Event.{Event}
 use Rattle.history_text.specs.declared.format.Format.{Format}
 use Rattle.history_text.specs.declared.format.Format.TheVariants as formats
-use Rattle.history_text.specs.Spelling.{name_text, optional_text, kind_word, role_word, first_made, second_made, high_word, fields, event_line, first_line, end_line, text_of, lines_under, history_text}
+use Rattle.history_text.specs.Spelling.{name_text, optional_text, kind_word, role_word, first_made, second_made, high_word, fields, event_line}
+use Rattle.history_text.specs.Spelling.{first_line, end_line, text_of, lines_under, history_text}
 use Rattle.history_text.specs.Histories.{lines, NameFits, OptionalFits, Fits, IsHistory}
 use Rattle.history_text.specs.Reading.{in_line, is_digit}
 use Rattle.history_text.proofs.Numbers.{decimal_digits}
@@ -119,15 +120,18 @@ front_line : (line rest : List ℕ) → IsPlain line → lines (line ++ 10 ∷ r
 front_line [] rest plain = refl
 front_line (byte ∷ line) rest plain = go (byte == 10) refl (and-out (in_line byte) (list_all in_line line) plain).0 (front_line line rest (and-out (in_line byte) (list_all in_line line) plain).1)
   where
-    go : (b : Bool) → (byte == 10) ≡ b → in_line byte ≡ true → lines (line ++ 10 ∷ rest) ≡ line ∷ lines rest → lines (byte ∷ (line ++ 10 ∷ rest)) ≡ (byte ∷ line) ∷ lines rest
+    go : (b : Bool) → (byte == 10) ≡ b → in_line byte ≡ true → lines (line ++ 10 ∷ rest) ≡ line ∷ lines rest
+        → lines (byte ∷ (line ++ 10 ∷ rest)) ≡ (byte ∷ line) ∷ lines rest
     go true is plain later = let never : in_line byte ≡ false = rw is refl in cc
     go false is plain later = rw is (ap (onto_first byte) later)
 
 text_lines : (ls : List (List ℕ)) → AllByRecursion IsPlain ls → lines (text_of ls) ≡ ls
 text_lines [] all = refl
-text_lines (line ∷ ls) all = ap lines (append_assoc line (codes "\n") (text_of ls)) ∙ front_line line (text_of ls) all.0 ∙ ap (λ l. line ∷ l) (text_lines ls all.1)
+text_lines (line ∷ ls) all = ap lines (append_assoc line (codes "\n") (text_of ls)) ∙ front_line line (text_of ls) all.0
+    ∙ ap (λ l. line ∷ l) (text_lines ls all.1)
 
-events_plain : (format : Format) (events : List Event) → AllByRecursion Fits events → AllByRecursion IsPlain (map (event_line format) events ++ end_line ∷ [])
+events_plain : (format : Format) (events : List Event) → AllByRecursion Fits events
+    → AllByRecursion IsPlain (map (event_line format) events ++ end_line ∷ [])
 events_plain format [] fits = (refl, tt)
 events_plain format (e ∷ events) fits = (event_plain format e fits.0, events_plain format events fits.1)
 

@@ -27,5 +27,7 @@ pub with_ninth : (format : Format) (e : Event) → event_line formats.First e ++
 with_ninth formats.First e = append-nil (event_line formats.First e)
 with_ninth formats.Second e = spaced_more (decimal e.site) (behind_first e) (high_word e.kind e.tag.role)
 
-pub line_written : (o : List ℕ) (format : Format) (e : Event) → o ++ event_line formats.First e ++ ninth format e.kind e.tag.role ++ codes "\n" ≡ o ++ (event_line format e ++ codes "\n")
-line_written o format e = append_assoc (o ++ event_line formats.First e) _ _ ∙ append_assoc o _ _ ∙ ap (λ l. o ++ l) (sym (append_assoc (event_line formats.First e) _ _) ∙ ap (λ l. l ++ codes "\n") (with_ninth format e))
+pub line_written : (o : List ℕ) (format : Format) (e : Event)
+    → o ++ event_line formats.First e ++ ninth format e.kind e.tag.role ++ codes "\n" ≡ o ++ (event_line format e ++ codes "\n")
+line_written o format e = append_assoc (o ++ event_line formats.First e) _ _ ∙ append_assoc o _ _
+    ∙ ap (λ l. o ++ l) (sym (append_assoc (event_line formats.First e) _ _) ∙ ap (λ l. l ++ codes "\n") (with_ninth format e))

@@ -53,14 +53,24 @@ pub record IsHistory (text : List ℕ) (format : Format) (events : List Event) :
   pub skips : AllByRecursion IsSkipped skipped
   pub fits : AllByRecursion Fits events
 
+-- lines with which a history begins: lines that are skipped, the first line, and the lines of these events
+pub record Beginning : Type 0 where
+  pub skipped : List (List ℕ)
+  pub format : Format
+  pub events : List Event
+  pub skips : AllByRecursion IsSkipped skipped
+  pub fits : AllByRecursion Fits events
+
+abbrev pub lines_of : Beginning → List (List ℕ)
+lines_of b = lines_up_to b.skipped b.format b.events
+
 -- the text is no history from the line of this number on, counted from 1; where a line is missing, that is one more than
 -- the number of lines
 pub data IsRefused (text : List ℕ) : ℕ → Type 0 where
   no_first : AllByRecursion IsSkipped (lines text) → IsRefused text (length (lines text) + 1)
-  no_end : (skipped : List (List ℕ)) (format : Format) (events : List Event) → lines text ≡ lines_up_to skipped format events → AllByRecursion IsSkipped skipped → AllByRecursion Fits events
-      → IsRefused text (length (lines text) + 1)
-  faulty : (skipped : List (List ℕ)) (format : Format) (events : List Event) (line : List ℕ) (behind : List (List ℕ)) → lines text ≡ lines_up_to skipped format events ++ line ∷ behind
-      → AllByRecursion IsSkipped skipped → AllByRecursion Fits events → IsFaulty format line → IsRefused text (length (lines_up_to skipped format events) + 1)
+  no_end : (b : Beginning) → lines text ≡ lines_of b → IsRefused text (length (lines text) + 1)
+  faulty : (b : Beginning) (line : List ℕ) (behind : List (List ℕ)) → lines text ≡ lines_of b ++ line ∷ behind → IsFaulty b.format line
+      → IsRefused text (length (lines_of b) + 1)
 
 -- what the refusals of a reader say of the text
 abbrev pub IsRefusal : List ℕ → HistFail → Type 0

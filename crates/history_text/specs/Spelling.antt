@@ -5,6 +5,7 @@ use Rattle.np_syntax.specs.Printed.{spaced}
 use Rattle.np_syntax.specs.declared.value.Name.{Name}
 use Rattle.np_syntax.specs.declared.process.Role.{Role}
 use Rattle.np_syntax.specs.declared.process.Role.TheVariants as roles
+use Rattle.np_syntax.specs.declared.process.Tag.{Tag}
 use Rattle.np_syntax.specs.declared.event.Kind.{Kind}
 use Rattle.np_syntax.specs.declared.event.Kind.TheVariants as kinds
 use Rattle.np_syntax.specs.declared.event.Made.{Made}
@@ -67,9 +68,14 @@ high_word kinds.Land roles.Post = codes "-"
 high_word kind roles.Infra = codes "-"
 high_word kind role = codes "="
 
+abbrev pub tag_fields : Tag → List (List ℕ)
+tag_fields tag = decimal tag.node ∷ role_word tag.role ∷ []
+
+abbrev pub made_fields : Made → List (List ℕ)
+made_fields m = optional_text (first_made m) ∷ optional_text (second_made m) ∷ []
+
 abbrev pub eight_fields : Event → List (List ℕ)
-eight_fields e =
-    decimal e.site ∷ kind_word e.kind ∷ name_text e.actor ∷ optional_text e.other ∷ decimal e.tag.node ∷ role_word e.tag.role ∷ optional_text (first_made e.made) ∷ optional_text (second_made e.made) ∷ []
+eight_fields e = decimal e.site ∷ kind_word e.kind ∷ name_text e.actor ∷ optional_text e.other ∷ (tag_fields e.tag ++ made_fields e.made)
 
 abbrev pub fields : Format → Event → List (List ℕ)
 fields formats.First e = eight_fields e
