@@ -1,0 +1,4 @@
+pub mod Spelling
+pub mod Histories
+pub mod Reading
+pub mod Laws

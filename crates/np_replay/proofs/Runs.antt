@@ -1,0 +1,96 @@
+-- Runs of the first events of a list.
+use Rattle.std.proofs.Common.{◌≡◌, ℕ, suc, ◌+◌, ◌<◌, ◌≤◌, List, [], ◌∷◌, ◌++◌, take, drop, get_or, length, Option, None, Some, refl, sym, ap, ◌∙◌, arith, add-one, inl, inr, ◌⊎◌}
+use Rattle.std.proofs.lemmas.Bool.{cases_order}
+use Rattle.std.proofs.lemmas.List.{take-append-drop, take-take, take_more, take_all}
+use Rattle.np_syntax.specs.Options.{◌>>=◌}
+use Rattle.np_syntax.proofs.Options.{then}
+use Rattle.np_syntax.specs.declared.event.Event.{Event}
+use Rattle.np_calculus.specs.Config.{Config}
+use Rattle.np_calculus.specs.Reductions.{apply, run}
+use Rattle.np_replay.specs.Replays.{StopsAt, HasOneEnd}
+
+-- ---- one list behind another
+
+run-behind : (c : Config) (events later : List Event) (d : Config) → run c events ≡ Some d → run c (events ++ later) ≡ run d later
+run-behind c [] later d h = let same : c ≡ d = cc in ap (λ (x : Config). run x later) same
+run-behind c (e ∷ events) later d h =
+    then (apply c e) (λ x. run x events) h (λ x first rest. ap (λ o. o >>= λ z. run z (events ++ later)) first ∙ run-behind x events later d rest)
+
+none-behind : (c : Config) (events later : List Event) → run c events ≡ None → run c (events ++ later) ≡ None
+none-behind c [] later h = cc
+none-behind c (e ∷ events) later h = go (apply c e) refl h (λ x. none-behind x events later)
+  where
+    go : (o : Option Config) → apply c e ≡ o → (o >>= λ x. run x events) ≡ None → ((x : Config) → run x events ≡ None → run x (events ++ later) ≡ None) → run c (e ∷ (events ++ later)) ≡ None
+    go None is h rest = ap (λ o. o >>= λ z. run z (events ++ later)) is
+    go (Some x) is h rest = ap (λ o. o >>= λ z. run z (events ++ later)) is ∙ rest x h
+
+-- ---- one event more
+
+one-more : (start : Config) (events : List Event) (index : ℕ) (e : Event) (c : Config) → index < length events → run start (take index events) ≡ Some c
+    → run start (take (index + 1) events) ≡ (apply c (get_or events index e) >>= λ d. Some d)
+one-more start events index e c inside reaches =
+    ap (run start) (take_more events index e inside) ∙ run-behind start (take index events) (get_or events index e ∷ []) c reaches
+
+-- the event at this place is enabled, and leads on
+pub goes-on : (start : Config) (events : List Event) (index : ℕ) (e : Event) (c d : Config) → index < length events → run start (take index events) ≡ Some c → apply c (get_or events index e) ≡ Some d
+    → run start (take (index + 1) events) ≡ Some d
+goes-on start events index e c d inside reaches enabled = one-more start events index e c inside reaches ∙ ap (λ o. o >>= λ x. Some x) enabled
+
+-- the event at this place is not enabled
+pub stops-here : (start : Config) (events : List Event) (index : ℕ) (e : Event) (c : Config) → index < length events → run start (take index events) ≡ Some c → apply c (get_or events index e) ≡ None
+    → StopsAt start events index
+stops-here start events index e c inside reaches refused = record {
+  within = inside;
+  before = (c, reaches);
+  none = one-more start events index e c inside reaches ∙ ap (λ o. o >>= λ x. Some x) refused;
+}
+
+pub none-whole : (start : Config) (events : List Event) (index : ℕ) → StopsAt start events index → run start events ≡ None
+none-whole start events index stops =
+    ap (run start) (sym (take-append-drop (index + 1) events)) ∙ none-behind start (take (index + 1) events) (drop (index + 1) events) stops.none
+
+pub all-run : (start : Config) (events : List Event) (index : ℕ) (c : Config) → length events ≤ index → run start (take index events) ≡ Some c → run start events ≡ Some c
+all-run start events index c over reaches = ap (run start) (sym (take_all index events over)) ∙ reaches
+
+-- ---- where events stop being a run
+
+later-none : (start : Config) (events : List Event) (i j : ℕ) → i ≤ j → run start (take i events) ≡ None → run start (take j events) ≡ None
+later-none start events i j order none =
+    let front : take i events ++ drop i (take j events) ≡ take j events = ap (λ l. l ++ drop i (take j events)) (sym (take-take i j events order)) ∙ take-append-drop i (take j events) in
+    ap (run start) (sym front) ∙ none-behind start (take i events) (drop i (take j events)) none
+
+not-before : (start : Config) (events : List Event) (one other : ℕ) → StopsAt start events one → StopsAt start events other → one < other → ⊥
+not-before start events one other first second order = never second.before.1 (later-none start events (one + 1) other (omega arith) first.none)
+  where
+    never : {o : Option Config} {c : Config} → o ≡ Some c → o ≡ None → ⊥
+    never some none = cc
+
+one-index : (start : Config) (events : List Event) (one other : ℕ) → StopsAt start events one → StopsAt start events other → one ≡ other
+one-index start events one other first second = go (cases_order one other)
+  where
+    go : (one ≡ other) ⊎ ((one < other) ⊎ (other < one)) → one ≡ other
+    go (inl same) = same
+    go (inr (inl below)) = absurd (not-before start events one other first second below)
+    go (inr (inr above)) = absurd (not-before start events other one second first above)
+
+stop-of : (start : Config) (events : List Event) → run start events ≡ None → (index : ℕ) × StopsAt start events index
+stop-of start [] h = cc
+stop-of start (e ∷ events) h = go (apply start e) refl h (λ d. stop-of d events)
+  where
+    later : (d : Config) → apply start e ≡ Some d → (index : ℕ) → StopsAt d events index → StopsAt start (e ∷ events) (suc index)
+    later d is index stops = record {
+      within = omega (arith, stops.within);
+      before = (stops.before.0, ap (λ o. o >>= λ x. run x (take index events)) is ∙ stops.before.1);
+      none = rw add-one (ap (λ o. o >>= λ x. run x (take (suc index) events)) is ∙ rw add-one at stops.none);
+    }
+
+    go : (o : Option Config) → apply start e ≡ o → (o >>= λ d. run d events) ≡ None → ((d : Config) → run d events ≡ None → (index : ℕ) × StopsAt d events index) → (index : ℕ) × StopsAt start (e ∷ events) index
+    go None is h rest = (0, record { within = omega arith; before = (start, refl); none = ap (λ o. o >>= λ x. run x []) is })
+    go (Some d) is h rest = let found = rest d h in (suc found.0, later d is found.0 found.1)
+
+pub one-end : (start : Config) (events : List Event) → HasOneEnd start events
+one-end start events = record {
+  stops = stop-of start events;
+  none = none-whole start events;
+  index = one-index start events;
+}
