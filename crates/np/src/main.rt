@@ -32,7 +32,7 @@ fn main(rt: HostRuntime) -> ExitCode {
         &mut out,
         &mut err,
     );
-    ExitCode::from(answer.status)
+    ExitCode::from(answer.told().status)
 }
 
 /// The exit status where the command line cannot be read: out of memory, or a word that is not

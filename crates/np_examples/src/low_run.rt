@@ -4,7 +4,7 @@ use super::example::Example;
 use super::fail::ExampleFail;
 use super::trial::{Came, sink_of};
 use np_io::write_all;
-use np_run::{BUDGET_SPENT, DONE, Refusal, SerialRun, line, run_low, status};
+use np_run::{BUDGET_SPENT, DONE, Record, Refusal, line, run_low, status};
 use np_syntax::{End, Event, Kind, LARGEST_BUDGET, LONGEST_SOURCE, List, Memory, Text};
 use std::alloc::Global;
 
@@ -27,7 +27,7 @@ fn opens_in(events: &[Event]) -> usize {
 }
 
 /// A run that was made.
-fn ended(alloc: Global, made: SerialRun, out: Text) -> LowRun {
+fn ended(alloc: Global, made: Record, out: Text) -> LowRun {
     let status = match made.end {
         End::Rest => DONE,
         End::Spent => BUDGET_SPENT,

@@ -3,7 +3,7 @@
 use super::example::Example;
 use super::fail::ExampleFail;
 use np_io::{MemSink, MemTexts, Word};
-use np_run::{Answer, np};
+use np_run::{Told, np};
 use np_syntax::{List, Memory};
 use std::alloc::Global;
 use std::sync::Wait;
@@ -74,14 +74,6 @@ pub(crate) fn sink_of(
     Ok(sink)
 }
 
-fn events_of(answer: &Answer) -> Option<usize> {
-    match (&answer.kept, &answer.high) {
-        (Some(made), _) => Some(made.events.len()),
-        (None, Some(made)) => Some(made.events.len()),
-        (None, None) => None,
-    }
-}
-
 /// What comes of the call with these words and this source.
 pub(crate) fn came_of<R: Threads + Wait + Sync>(
     rt: &R,
@@ -97,9 +89,10 @@ pub(crate) fn came_of<R: Threads + Wait + Sync>(
     let mut out = sink_of(alloc, devices.piece, devices.out.as_slice())?;
     let mut err = sink_of(alloc, devices.piece, devices.err.as_slice())?;
     let answer = np(rt, alloc, words.as_slice(), &mut texts, &mut out, &mut err);
+    let Told { status, events } = answer.told();
     Ok(Came {
-        status: answer.status,
-        events: events_of(&answer),
+        status,
+        events,
         opens: None,
         out,
         err,

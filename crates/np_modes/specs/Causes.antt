@@ -87,6 +87,12 @@ pub record RunsLow (budget : ℕ) (bytes : List ℕ) (made : SerialRun) (text : 
 abbrev pub record_of : SerialRun → Record
 record_of made = record { events = made.events; end = made.end }
 
+-- the low program was run, and this is the record of the run
+pub record KeepsLow (budget : ℕ) (bytes : List ℕ) (kept : Record) (text : List ℕ) : Type 0 where
+  pub made : SerialRun
+  pub runs : RunsLow budget bytes made text
+  pub is_kept : kept ≡ record_of made
+
 -- the record of the run is kept, and nothing else
 pub record KeepsRun (budget : ℕ) (bytes : List ℕ) (kept : Option Record) (high : Option SerialRun) (text : List ℕ) : Type 0 where
   pub made : SerialRun

@@ -2,13 +2,13 @@ ghost use Rattle.std.specs.Prelude.{◌≡◌, ◌≢◌, ◌+◌, ◌≤◌, le
 ghost use Rattle.np_low_text.specs.LowText.{low_text};
 ghost use Rattle.daemon_encode.specs.Encoded.{encoded};
 ghost use Rattle.np_modes.specs.Words.{plan, texts_read};
-ghost use Rattle.np_modes.specs.Causes.{Reading, Stands, HasMade, KeepsRun, KeepsHigh, Shows, Checks, Lowers, Does, record_of};
+ghost use Rattle.np_modes.specs.Causes.{Reading, Stands, HasMade, KeepsRun, KeepsHigh, Shows, Checks, Lowers, Does};
 ghost use Rattle.np_modes.specs.Faults.{Faulty};
 
 use super::reading::{checked_source, tokens_of, tree_of};
 use super::record::Record;
 use super::refusal::Refusal;
-use super::runs::run_of;
+use super::runs::{record_of, run_of};
 use super::words::{Mode, planned};
 use daemon_encode::encode;
 use np_check::Checked;
@@ -167,13 +167,4 @@ fn low_text(alloc: Global, checked: Checked) -> Result<Text, Memory>
     drop(checked);
     let low = made?;
     print_low(alloc, &low)
-}
-
-/// The events of a run and how it ended. The last configuration is dropped.
-fn record_of(made: SerialRun) -> Record
-    ensures { result ≡ record_of made }
-{
-    let SerialRun { events, last, end } = made;
-    drop(last);
-    Record { events, end }
 }

@@ -4,10 +4,11 @@ ghost use Rattle.std.specs.Prelude.{◌≡◌, ◌≢◌, ◌≤◌, length, IfO
 ghost use Rattle.np_calculus.specs.Runs.{RunsWell};
 ghost use Rattle.np_calculus.specs.Starts.{start_high, start_low};
 ghost use Rattle.daemon_encode.specs.Encoded.{encoded};
-ghost use Rattle.np_modes.specs.Causes.{IsRunOf, Runs, RunsLow};
+ghost use Rattle.np_modes.specs.Causes.{IsRunOf, KeepsLow, Runs, RunsLow, record_of};
 ghost use Rattle.np_modes.specs.Faults.{Faulty};
 
 use super::reading::checked_source;
+use super::record::Record;
 use super::refusal::Refusal;
 use super::reporting::report;
 use super::words::Mode;
@@ -44,7 +45,17 @@ fn run(alloc: Global, budget: u32, checked: &Checked) -> Result<(SerialRun, Text
 
 /// Runs the low program of a source in one thread, one event after another, for at most so many events, and makes the
 /// report. It is the plain run with which other ways to run a low program can be compared.
-pub fn run_low(alloc: Global, budget: u32, bytes: &[u8]) -> Result<(SerialRun, Text), Refusal>
+pub fn run_low(alloc: Global, budget: u32, bytes: &[u8]) -> Result<(Record, Text), Refusal>
+    requires { length bytes.now ≤ LONGEST_SOURCE }
+    ensures made { IfOk result (λ made. KeepsLow budget bytes.now made.0 made.1) }
+    ensures refused { IfErr result (λ refusal. refusal ≢ Refusal.Memory → Faulty Mode.Low bytes.now refusal) }
+{
+    let (made, text) = low_run_of(alloc, budget, bytes)?;
+    Ok((record_of(made), text))
+}
+
+/// The run of the low program of a source, with the text of its report.
+fn low_run_of(alloc: Global, budget: u32, bytes: &[u8]) -> Result<(SerialRun, Text), Refusal>
     requires { length bytes.now ≤ LONGEST_SOURCE }
     ensures made { IfOk result (λ made. RunsLow budget bytes.now made.0 made.1) }
     ensures refused { IfErr result (λ refusal. refusal ≢ Refusal.Memory → Faulty Mode.Low bytes.now refusal) }
@@ -75,4 +86,13 @@ fn run_encoded(alloc: Global, budget: u32, low: &LowProgram) -> Result<(SerialRu
     let made = run_serial_low(alloc, low, budget)?;
     let text = report(alloc, &low.sites, made.last.said(), made.end)?;
     Ok((made, text))
+}
+
+/// The events of a run and how it ended. The last configuration is dropped.
+pub(crate) fn record_of(made: SerialRun) -> Record
+    ensures { result ≡ record_of made }
+{
+    let SerialRun { events, last, end } = made;
+    drop(last);
+    Record { events, end }
 }

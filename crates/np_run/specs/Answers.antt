@@ -1,5 +1,5 @@
 -- The program's answers and their causes (docs/LANGUAGE.md, "Reports and refusals"). Want of memory alone has no cause.
-use Rattle.std.specs.Prelude.{◌≡◌, ℕ, ◌+◌, ◌≤◌, ◌⊎◌, List, Option, Some, None}
+use Rattle.std.specs.Prelude.{◌≡◌, ℕ, ◌+◌, ◌≤◌, ◌⊎◌, List, length, Option, Some, None}
 use Rattle.std.specs.Io.KnownBytes.{Appends, Keeps}
 use Rattle.np_syntax.specs.declared.event.End.{End}
 use Rattle.np_syntax.specs.declared.event.End.TheVariants.{Rest, Spent}
@@ -14,6 +14,7 @@ use Rattle.np_modes.specs.declared.refusal.Refusal.{Refusal}
 use Rattle.np_modes.specs.declared.refusal.Refusal.TheVariants.{Usage, ReadFault}
 use Rattle.np_modes.specs.declared.statuses.TheConstants.{BAD_SOURCE, BAD_USAGE, BUDGET_SPENT, DONE, NO_MEMORY, READ_FAILED, WRITE_FAILED}
 use Rattle.np_run.specs.declared.answer.Answer.{Answer}
+use Rattle.np_run.specs.declared.answer.Told.{Told}
 
 -- ---- calls
 
@@ -104,3 +105,13 @@ pub record HasCauses (call : Call) (answer : Answer) : Type 0 where
   pub status : IsStatus answer.status
   -- no other text was to begin, and none twice
   pub begins : call.texts.begins ≤ call.texts.begun + texts_read (plan call.words)
+
+-- ---- what is told of an answer
+
+abbrev pub events_in : Option Record → Option SerialRun → Option ℕ
+events_in (Some made) high = Some (length made.events)
+events_in None (Some made) = Some (length made.events)
+events_in None None = None
+
+abbrev pub told_of : Answer → Told
+told_of answer = record { status = answer.status; events = events_in answer.kept answer.high }

@@ -5,7 +5,7 @@ mod answer;
 mod laws;
 mod top;
 
-pub use answer::Answer;
+pub use answer::{Answer, Told};
 pub use laws::{
     law_completes, law_counts_long, law_refuses_long, law_refuses_once, law_refuses_sources,
     law_refuses_words,
@@ -14,5 +14,4 @@ pub use np_modes::{
     BAD_SOURCE, BAD_USAGE, BUDGET_SPENT, DONE, Mode, NO_MEMORY, READ_FAILED, Record, Refusal,
     WRITE_FAILED, line, report, run_low, status,
 };
-pub use np_serial::SerialRun;
 pub use top::np;
