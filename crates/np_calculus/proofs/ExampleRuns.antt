@@ -2,15 +2,16 @@
 use Rattle.std.proofs.Common.{◌≡◌, ℕ, true, false, Option, None, Some, List, [], ◌∷◌, ◌++◌, nat_lt, refl, sym, ◌∙◌}
 use Rattle.std.specs.FinMap as map
 use Rattle.np_calculus.proofs.Common.{Name, Value, Kind, NameMap, same_name, same_name-itself, Env, chan_of, eval, bind, Atom, Place, sends, apply}
-use Rattle.np_calculus.proofs.Common.{act, arrive_row, acting, offered}
+use Rattle.np_calculus.proofs.Common.{act, arrive_row, acting, offered, found_on, find_place}
 use Rattle.np_syntax.specs.declared.value.Value as value
-use Rattle.np_syntax.specs.declared.value.Value.TheVariants.{outs-Chan, outs-Site}
+use Rattle.np_syntax.specs.declared.value.Value.TheVariants.{outs-Agent, outs-Chan, outs-Letter, outs-Places, outs-Site}
 use Rattle.np_syntax.specs.declared.process.ProcForm.{ProcForm}
-use Rattle.np_syntax.specs.declared.process.ProcForm.TheVariants.{outs-Out, outs-Inp, outs-Rep, outs-Migrate, outs-Print}
+use Rattle.np_syntax.specs.declared.process.ProcForm.TheVariants.{outs-Out, outs-Inp, outs-Rep, outs-Migrate, outs-Print, outs-Open, outs-Lookup}
 use Rattle.np_syntax.specs.declared.event.Kind.TheVariants as kind
 use Rattle.np_tables.proofs.Tables.{get-put, get-none, put_here, same_name-swap, cut-put_absent, cut-put_swap, put-put, put-swap}
 use Rattle.np_calculus.specs.declared.config.Place.TheVariants as place
-use Rattle.np_calculus.specs.Examples.{constant, number, prints, process, gives_five, prints_it, it, takes_it, keeps_taking, leaves, atom, agent_with, one, two, event, TwoPrints, Communication, Replication, Migration}
+use Rattle.np_calculus.specs.Examples.{constant, number, prints, process, gives_five, prints_it, it, takes_it, keeps_taking, leaves, opens_five, looks_up, atom, agent_with, one, two, event}
+use Rattle.np_calculus.specs.Examples.{TwoPrints, Communication, Replication, Migration, Opening, LookingUp}
 use Rattle.np_eval.proofs.Evals.{eval-form, eval-val}
 use Rattle.np_eval.proofs.Binds.{bind-form, bind-bind}
 use Rattle.np_calculus.proofs.Steps.{same_site, same-offer, step-offered}
@@ -133,3 +134,41 @@ arrived n t a atoms = rw (put_here {X = Place} map.empty a (place.Way t), same_s
 
 pub migration : Migration
 migration n s t a j f h = (departed n s t a j f h, arrived n t a _)
+
+pub opening : Opening
+unfolding act
+opening n s a c j =
+    let x = atom a (opens_five c) map.empty in
+    rw (
+      acts_here n s kind.Open a j (opens_five c) map.empty _ None (put_here {X = Atom} map.empty j x),
+      outs-Open (constant (value.Letter c (number 5))),
+      constant-is (value.Letter c (number 5)) map.empty,
+      outs-Letter c (number 5),
+      put-put {X = Atom} map.empty j x (atom a (gives_five c) map.empty),
+    )
+    refl
+
+-- the operands of a lookup have their values, and the atom goes on as this one
+looked_up : (n s x : ℕ) (a b j : Name) (places : List (Name × Name)) (f g : ProcForm) (y : Atom)
+    → found_on (atom a (looks_up b places x f g) map.empty) x (process f) (process g) (find_place places b) ≡ y
+    → apply (agent_with n (place.At s) a (one j (atom a (looks_up b places x f g) map.empty))) (event s kind.Lookup j None) ≡ Some (agent_with n (place.At s) a (one j y))
+unfolding act
+looked_up n s x a b j places f g y goes =
+    let z = atom a (looks_up b places x f g) map.empty in
+    rw (
+      acts_here n s kind.Lookup a j (looks_up b places x f g) map.empty _ None (put_here {X = Atom} map.empty j z),
+      outs-Lookup (constant (value.Agent b)) (constant (value.Places places)) x (process f) (process g),
+      constant-is (value.Agent b) map.empty,
+      outs-Agent b,
+      constant-is (value.Places places) map.empty,
+      outs-Places places,
+      goes,
+      put-put {X = Atom} map.empty j z y,
+    )
+    refl
+
+pub looking_up : LookingUp
+looking_up n s x a b l j f g = (
+  looked_up n s x a b j ((b, l) ∷ []) f g _ (rw (same_name-itself b) refl),
+  looked_up n s x a b j [] f g _ refl,
+)

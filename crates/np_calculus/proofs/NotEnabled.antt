@@ -5,13 +5,13 @@ use Rattle.np_syntax.specs.declared.value.Value.TheVariants.{outs-Int}
 use Rattle.np_syntax.specs.declared.expression.ExprForm as expr
 use Rattle.np_syntax.specs.declared.pattern.PatForm as pat
 use Rattle.np_syntax.specs.declared.process.ProcForm.TheVariants.{outs-Print}
-use Rattle.np_calculus.proofs.Common.{Event, Kind, ◌>>=◌, chan_of, Layer, layer, Atom, Config, Sight, inside, sight, none_made, are_new, after_change, change}
+use Rattle.np_calculus.proofs.Common.{Event, Kind, ◌>>=◌, chan_of, agent_of, letter_of, places_of, Layer, layer, Atom, Config, Sight, inside, sight, none_made, are_new, after_change, change}
 use Rattle.np_calculus.proofs.Common.{row, act, arrive_row, land_row, acting, offered}
 use Rattle.np_syntax.specs.declared.event.Kind.TheVariants as kind
-use Rattle.np_calculus.specs.NotEnabled.{by_atom, asks, NotEnabled, NoValue}
+use Rattle.np_calculus.specs.NotEnabled.{by_atom, asks, NotEnabled, LowNotEnabled, NoValue}
 use Rattle.np_eval.proofs.Binds.{bind-form, bind-tuple}
 use Rattle.np_eval.proofs.Evals.{eval-form, eval-var}
-use Rattle.np_eval.proofs.FormsByParts.{inp-form, let-form, if-form, print-form, migrate-form}
+use Rattle.np_eval.proofs.FormsByParts.{inp-form, let-form, if-form, print-form, migrate-form, open-form, lookup-form}
 use Rattle.np_calculus.proofs.Rows.{asked, by}
 use Rattle.np_calculus.proofs.Steps.{same-offer}
 
@@ -83,6 +83,19 @@ not_enabled = record {
   no_truth = λ c e a parts acts is says. rw (acts, if-form (layer a.proc) parts is, says) refl;
   no_value = λ c e a x acts is says. rw (acts, print-form (layer a.proc) x is, says) refl;
   no_site = λ c e a parts v t acts is says site far. rw (acts, migrate-form (layer a.proc) parts is, says, site, far) refl;
+}
+
+pub low_not_enabled : LowNotEnabled
+unfolding act
+low_not_enabled = record {
+  no_letter = λ c e a x acts is says. rw (acts, open-form (layer a.proc) x is, says) refl;
+  no_agent = λ c e a parts acts is says. rw (acts, lookup-form (layer a.proc) parts is, says) refl;
+  no_places = λ c e a parts b acts is looked says. rw (acts, lookup-form (layer a.proc) parts is, looked, says) refl;
+  open_makes = λ c e m h. unmet kind.Open c e λ a p. none_after (letter_of p a.env) _ λ l. rw h refl;
+  open_takes = λ c e o h. unmet kind.Open c e λ a p. none_after (letter_of p a.env) _ λ l. none_after (none_made e.made) _ λ m. rw h refl;
+  lookup_makes = λ c e m h. unmet kind.Lookup c e λ a p. none_after (agent_of p.0 a.env) _ λ b. none_after (places_of p.1 a.env) _ λ q. rw h refl;
+  lookup_takes = λ c e o h. unmet kind.Lookup c e λ a p.
+      none_after (agent_of p.0 a.env) _ λ b. none_after (places_of p.1 a.env) _ λ q. none_after (none_made e.made) _ λ m. rw h refl;
 }
 
 pub no_value : NoValue

@@ -1,5 +1,5 @@
 -- Small runs, and where they lead.
-use Rattle.std.specs.Prelude.{◌≡◌, ℕ, false, true, pos, Option, None, Some, [], ◌∷◌, nat_lt}
+use Rattle.std.specs.Prelude.{◌≡◌, ℕ, false, true, pos, Option, None, Some, List, [], ◌∷◌, nat_lt}
 use Rattle.std.specs.FinMap as map
 use Rattle.std.specs.FinSet as set
 use Rattle.np_syntax.specs.declared.value.Name.{Name}
@@ -63,6 +63,14 @@ keeps_taking c x = form.Rep (constant (value.Chan c)) (it x) (process (prints_it
 abbrev pub leaves : ℕ → ProcForm → ProcForm
 leaves t f = form.Migrate (constant (value.Site t)) (process f)
 
+-- opens the letter that 5 is sent on c
+abbrev pub opens_five : Name → ProcForm
+opens_five c = form.Open (constant (value.Letter c (number 5)))
+
+-- looks the agent up in a map: goes on as the one process where the map has it, and as the other where it has not
+abbrev pub looks_up : Name → List (Name × Name) → ℕ → ProcForm → ProcForm → ProcForm
+looks_up b places x f g = form.Lookup (constant (value.Agent b)) (constant (value.Places places)) x (process f) (process g)
+
 abbrev pub atom : Name → ProcForm → Env → Atom
 atom a f env = record { agent = a; proc = process f; env = env }
 
@@ -103,3 +111,16 @@ abbrev pub Migration : Type 0
 Migration = (n s t : ℕ) (a j : Name) (f : ProcForm) → nat_lt t n ≡ true →
     (apply (agent_with n (place.At s) a (one j (atom a (leaves t f) map.empty))) (event s kind.Depart j None) ≡ Some (agent_with n (place.Way t) a (one j (atom a f map.empty))))
     × (apply (agent_with n (place.Way t) a (one j (atom a f map.empty))) (event t kind.Arrive a None) ≡ Some (agent_with n (place.At t) a (one j (atom a f map.empty))))
+
+-- a letter that is opened: the output of its value on its channel stands there
+abbrev pub Opening : Type 0
+Opening = (n s : ℕ) (a c j : Name) →
+    apply (agent_with n (place.At s) a (one j (atom a (opens_five c) map.empty))) (event s kind.Open j None) ≡ Some (agent_with n (place.At s) a (one j (atom a (gives_five c) map.empty)))
+
+-- an agent that is looked up: with its lock channel l where the map has it, and without where it has not
+abbrev pub LookingUp : Type 0
+LookingUp = (n s x : ℕ) (a b l j : Name) (f g : ProcForm) →
+    (apply (agent_with n (place.At s) a (one j (atom a (looks_up b ((b, l) ∷ []) x f g) map.empty))) (event s kind.Lookup j None)
+        ≡ Some (agent_with n (place.At s) a (one j (atom a f (map.insert map.empty x (value.Chan l))))))
+    × (apply (agent_with n (place.At s) a (one j (atom a (looks_up b [] x f g) map.empty))) (event s kind.Lookup j None)
+        ≡ Some (agent_with n (place.At s) a (one j (atom a g map.empty))))

@@ -20,7 +20,7 @@ use Rattle.np_calculus.specs.declared.config.Packet.{Packet}
 use Rattle.np_calculus.specs.declared.config.Place.TheVariants as place
 use Rattle.np_tables.specs.Names.{same_name}
 use Rattle.np_calculus.specs.Config.{Config}
-use Rattle.np_eval.specs.Eval.{Env, eval, bind, as_site, chan_of, truth_of}
+use Rattle.np_eval.specs.Eval.{Env, eval, bind, as_site, agent_of, chan_of, letter_of, places_of, truth_of}
 use Rattle.np_eval.specs.Forms.{Layer, layer}
 use Rattle.np_eval.specs.FormParts.{as_stop, as_par, as_new, as_inp, as_rep, as_agent_form, as_migrate, as_iflocal, as_send, as_post, as_if, as_let, as_print, as_open, as_lookup}
 use Rattle.np_calculus.specs.Reductions.{same_tag, sends, row}
@@ -115,6 +115,23 @@ pub record NotEnabled : Type 0 where
   pub no_site : (c : Config) (e : Event) (a : Atom) (parts : Expr × Proc) (v : Value) (t : ℕ) → acting c e ≡ Some a
       → as_migrate (layer a.proc) ≡ Some parts → eval parts.0 a.env ≡ Some v → as_site (out-Value v) ≡ Some t → nat_lt t c.sites ≡ false
       → row kind.Depart c e ≡ None
+
+-- the reasons of the two rows that only the low level has, beside those of every acting atom
+pub record LowNotEnabled : Type 0 where
+  -- what is opened is no letter
+  pub no_letter : (c : Config) (e : Event) (a : Atom) (x : Expr) → acting c e ≡ Some a → as_open (layer a.proc) ≡ Some x → letter_of x a.env ≡ None
+      → row kind.Open c e ≡ None
+  -- what is looked up is no agent
+  pub no_agent : (c : Config) (e : Event) (a : Atom) (parts : Expr × Expr × ℕ × Proc × Proc) → acting c e ≡ Some a → as_lookup (layer a.proc) ≡ Some parts
+      → agent_of parts.0 a.env ≡ None → row kind.Lookup c e ≡ None
+  -- where it is looked up is no map of places
+  pub no_places : (c : Config) (e : Event) (a : Atom) (parts : Expr × Expr × ℕ × Proc × Proc) (b : Name) → acting c e ≡ Some a
+      → as_lookup (layer a.proc) ≡ Some parts → agent_of parts.0 a.env ≡ Some b → places_of parts.1 a.env ≡ None → row kind.Lookup c e ≡ None
+  -- neither makes a name, and neither takes an output
+  pub open_makes : (c : Config) (e : Event) (m : Name) → e.made ≡ made.One m → row kind.Open c e ≡ None
+  pub open_takes : (c : Config) (e : Event) (o : Name) → e.other ≡ Some o → row kind.Open c e ≡ None
+  pub lookup_makes : (c : Config) (e : Event) (m : Name) → e.made ≡ made.One m → row kind.Lookup c e ≡ None
+  pub lookup_takes : (c : Config) (e : Event) (o : Name) → e.other ≡ Some o → row kind.Lookup c e ≡ None
 
 -- what has no value, and what does not match
 pub record NoValue : Type 0 where

@@ -1,9 +1,9 @@
 ghost use Rattle.np_calculus.specs.Acting.{ActsWhereEnabled};
 ghost use Rattle.np_calculus.specs.Agents.{StaysLodged};
-ghost use Rattle.np_calculus.specs.Examples.{TwoPrints, Communication, Replication, Migration};
+ghost use Rattle.np_calculus.specs.Examples.{TwoPrints, Communication, Replication, Migration, Opening, LookingUp};
 ghost use Rattle.np_calculus.specs.Footprints.{DependsOnTouched, Unseen};
 ghost use Rattle.np_calculus.specs.FrameRule.{FrameBack, FrameRule, KeepsLodged, KeepsOfSite};
-ghost use Rattle.np_calculus.specs.NotEnabled.{NotEnabled, NoValue};
+ghost use Rattle.np_calculus.specs.NotEnabled.{LowNotEnabled, NotEnabled, NoValue};
 
 /// What the definitions say of small runs, and of events that are not enabled.
 pub fn law_examples()
@@ -11,7 +11,10 @@ pub fn law_examples()
     ensures communication { Communication }
     ensures replication { Replication }
     ensures migration { Migration }
+    ensures opening { Opening }
+    ensures looking_up { LookingUp }
     ensures not_enabled { NotEnabled }
+    ensures low_not_enabled { LowNotEnabled }
     ensures no_value { NoValue }
 {}
 

@@ -1,9 +1,8 @@
 -- An event is made by the row of its kind, also where that row is given by the parts of the acting atom's form.
 use Rattle.std.proofs.Common.{◌≡◌, Option, Result, subst, sym, ap, ◌∙◌}
-use Rattle.np_syntax.specs.declared.event.Event.{Event}
+use Rattle.np_configuration.proofs.Common.{Event, Config, row}
 use Rattle.np_syntax.specs.declared.event.Kind.{Kind}
-use Rattle.np_calculus.specs.Config.{Config}
-use Rattle.np_calculus.specs.Reductions.{apply, row}
+use Rattle.np_calculus.specs.Reductions.{apply}
 use Rattle.np_configuration.specs.declared.fail.ApplyFail.{ApplyFail}
 use Rattle.np_configuration.specs.Applied.{Applied}
 

@@ -2,19 +2,12 @@
 use Rattle.std.proofs.Common.{◌≡◌, false, Option, None, Some, refl, subst, sym, ap, ◌∙◌}
 use Rattle.std.specs.Option.{option_map}
 use Rattle.std.specs.FinMap as map
-use Rattle.np_syntax.specs.declared.value.Name.{Name}
-use Rattle.np_syntax.specs.declared.expression.Expr.{Expr}
+use Rattle.np_configuration.proofs.Common.{Name, Expr, ProcForm-F, Meeting, NameMap, mapped, get-mapped, Env, chan_of, giving, errand_at}
 use Rattle.np_syntax.specs.declared.pattern.Pat.{Pat}
-use Rattle.np_syntax.specs.declared.process.ProcForm.{ProcForm-F}
-use Rattle.np_tables.specs.declared.errand.Meeting.{Meeting}
 use Rattle.np_tables.specs.declared.errand.Errand.TheVariants as errand
-use Rattle.np_tables.specs.Names.{NameMap}
-use Rattle.np_tables.specs.Mapped.{mapped}
-use Rattle.np_tables.proofs.Mapped.{get-mapped}
-use Rattle.np_eval.specs.Eval.{Env, chan_of}
 use Rattle.np_eval.specs.Forms.{Layer, given_on, taken_on}
 use Rattle.np_calculus.specs.Idle.{waits}
-use Rattle.np_eval.specs.Errands.{giving, taking, errand_at}
+use Rattle.np_eval.specs.Errands.{taking}
 
 -- an output and an input do not act alone
 pub giving_waits : (agent : Name) (o : Option Name) → giving agent o ≡ errand.Acts → ⊥

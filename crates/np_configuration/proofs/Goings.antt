@@ -1,15 +1,9 @@
 -- Where nothing is under way, a site can act exactly where some atom goes on.
 use Rattle.std.proofs.Common.{◌≡◌, ℕ, ◌<◌, ◌⊎◌, inl, inr, get_or, List, length, None, Some, IsSome, sym, ap, subst, ◌∙◌}
 use Rattle.std.specs.FinMap as map
-use Rattle.np_syntax.specs.declared.value.Name.{Name}
-use Rattle.np_tables.specs.declared.errand.Meeting.{Meeting}
+use Rattle.np_configuration.proofs.Common.{Name, Meeting, NameMap, Covers, Atom, Place, errand_of, GivesAt, MayAct}
 use Rattle.np_tables.specs.declared.errand.Errand.TheVariants as errand
-use Rattle.np_tables.specs.Names.{NameMap}
-use Rattle.np_tables.specs.Stored.{Covers}
-use Rattle.np_calculus.specs.declared.config.Atom.{Atom}
-use Rattle.np_calculus.specs.declared.config.Place.{Place}
-use Rattle.np_configuration.specs.Errands.{errand_of}
-use Rattle.np_configuration.specs.Going.{GivesAt, AnyGives, MayAct}
+use Rattle.np_configuration.specs.Going.{AnyGives}
 
 -- what does not hold of the first so many names of a table that covers a map holds of no name of the map
 pub none_covered : {X : Type 0} (P : Name → Type 0) (m : NameMap X) (keys : List Name) → Covers m keys

@@ -2,14 +2,9 @@
 use Rattle.std.proofs.Common.{◌≡◌, Bool, true, false, ◌||◌, inl, inr, Option, None, Some, IsSome, option_map, refl, sym, subst}
 use Rattle.std.specs.FinMap as map
 use Rattle.std.specs.FinSet as set
-use Rattle.np_syntax.specs.declared.value.Name.{Name}
-use Rattle.np_tables.specs.declared.errand.Errand.{Errand}
-use Rattle.np_tables.specs.Names.{NameMap, NameSet, same_name}
-use Rattle.np_tables.proofs.Tables.{put_cases, cut_cases, born_insert, born_here, get-none}
-use Rattle.np_tables.proofs.Mapped.{get-mapped, mapped-put, mapped-cut, mapped-empty}
-use Rattle.np_calculus.specs.declared.config.Atom.{Atom}
-use Rattle.np_calculus.specs.declared.config.Packet.{Packet}
-use Rattle.np_configuration.specs.Errands.{IsKept, errand_of}
+use Rattle.np_configuration.proofs.Common.{Name, Errand, NameMap, NameSet, same_name, get-none, get-mapped, Atom, Packet, IsKept, errand_of}
+use Rattle.np_tables.proofs.Tables.{put_cases, cut_cases, born_insert, born_here}
+use Rattle.np_tables.proofs.Mapped.{mapped-put, mapped-cut, mapped-empty}
 
 some_of : {X : Type 0} (o : Option X) → IsSome o → (x : X) × (o ≡ Some x)
 some_of None h = cc

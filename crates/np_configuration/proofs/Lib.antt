@@ -1,3 +1,4 @@
+pub mod Common
 pub mod ByForm
 pub mod ErrandForms
 pub mod Goings

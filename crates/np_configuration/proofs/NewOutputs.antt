@@ -2,25 +2,16 @@
 use Rattle.std.proofs.Common.{◌≡◌, Bool, true, false, Option, Some, refl, sym, subst, ap, ◌∙◌}
 use Rattle.std.specs.FinMap as map
 use Rattle.std.specs.FinSet as set
-use Rattle.np_syntax.specs.declared.value.Name.{Name}
-use Rattle.np_syntax.specs.declared.value.Value.{Value, out-Value}
+use Rattle.np_configuration.proofs.Common.{Name, Value, Expr, ◌>>=◌, Errand, NameMap, NameSet, same_name, Atom, Packet, Env, chan_of, errand_at, giving, IsKept, errand_of, output_in}
+use Rattle.np_syntax.specs.declared.value.Value.{out-Value}
 use Rattle.np_syntax.specs.declared.value.Value as value
 use Rattle.np_syntax.specs.declared.value.Value.TheVariants.{outs-Chan}
-use Rattle.np_syntax.specs.declared.expression.Expr.{Expr}
 use Rattle.np_syntax.specs.declared.expression.ExprForm as expr
 use Rattle.np_syntax.specs.declared.process.Tag.{Tag}
 use Rattle.np_syntax.specs.declared.process.ProcForm.TheVariants.{outs-Out}
-use Rattle.np_syntax.specs.Options.{◌>>=◌}
-use Rattle.np_tables.specs.declared.errand.Errand.{Errand}
 use Rattle.np_tables.specs.declared.errand.Errand.TheVariants as errand
-use Rattle.np_tables.specs.Names.{NameMap, NameSet, same_name}
 use Rattle.np_tables.proofs.Tables.{get-put, same_name-is}
-use Rattle.np_calculus.specs.declared.config.Atom.{Atom}
-use Rattle.np_calculus.specs.declared.config.Packet.{Packet}
-use Rattle.np_eval.specs.Eval.{Env, as_chan, chan_of}
-use Rattle.np_eval.specs.Errands.{errand_at, giving}
-use Rattle.np_configuration.specs.Errands.{IsKept, errand_of}
-use Rattle.np_calculus.specs.Reductions.{output_in}
+use Rattle.np_eval.specs.Eval.{as_chan}
 use Rattle.np_eval.proofs.Evals.{eval-form, eval-val}
 use Rattle.np_configuration.proofs.Keeping.{kept-mark, kept-put, kept-more}
 

@@ -2,22 +2,11 @@
 use Rattle.std.proofs.Common.{◌≡◌, ℕ, ◌≤◌, Bool, true, false, not, List, length, Option, Some, None, is_some, refl, sym, subst, ◌∙◌, arith}
 use Rattle.std.specs.Prelude.{IsTrue, IfSome, IfNone}
 use Rattle.std.specs.FinMap as map
-use Rattle.np_syntax.specs.declared.value.Name.{Name}
-use Rattle.np_tables.specs.Names.{NameMap}
+use Rattle.np_configuration.proofs.Common.{Name, NameMap, Work, NothingReady, Covers, get-none, same_tables, Place, Config, IsKept, Idle, IsLodged, inside, NoneTravels}
 use Rattle.np_tables.specs.declared.errand.Ready.TheVariants as ready
-use Rattle.np_tables.specs.Errands.{Work, NothingReady}
-use Rattle.np_tables.specs.Stored.{Covers}
-use Rattle.np_tables.proofs.Tables.{get-none, same_tables}
-use Rattle.np_calculus.specs.declared.config.Place.{Place}
 use Rattle.np_calculus.specs.declared.config.Place.TheVariants as place
-use Rattle.np_calculus.specs.Config.{Config}
 use Rattle.np_configuration.specs.declared.step.Step.{Step}
 use Rattle.np_configuration.specs.declared.step.Step.TheVariants as step
-use Rattle.np_configuration.specs.Errands.{IsKept}
-use Rattle.np_calculus.specs.Idle.{Idle}
-use Rattle.np_calculus.specs.Parts.{IsLodged}
-use Rattle.np_calculus.specs.Sight.{inside}
-use Rattle.np_agents.specs.Placed.{NoneTravels}
 use Rattle.np_configuration.specs.Next.{IsNext}
 use Rattle.np_configuration.proofs.Keeping.{none_some}
 use Rattle.np_configuration.proofs.Rests.{quiet-idle, idle-still, idle-quiet}

@@ -1,27 +1,13 @@
 -- A configuration is idle where nothing goes on and nothing is under way, and then only.
 use Rattle.std.proofs.Common.{◌≡◌, ℕ, inl, inr, Option, None, Some, IsSome, refl, subst, sym, ap, ◌∙◌}
 use Rattle.std.specs.FinMap as map
-use Rattle.np_syntax.specs.declared.value.Name.{Name}
-use Rattle.np_tables.specs.declared.errand.Meeting.{Meeting}
+use Rattle.np_configuration.proofs.Common.{Name, Meeting, NothingReady, mapped, get-none, same_tables, Atom, Packet, Place, Config, layer, Idle, IsLodged, inside, NoneTravels, errand_at, errand_of}
 use Rattle.np_tables.specs.declared.errand.Errand.TheVariants as errand
-use Rattle.np_tables.specs.Errands.{NothingReady}
-use Rattle.np_tables.specs.Mapped.{mapped}
 use Rattle.np_tables.proofs.Mapped.{mapped_there}
-use Rattle.np_tables.proofs.Tables.{get-none, same_tables}
-use Rattle.np_calculus.specs.declared.config.Atom.{Atom}
-use Rattle.np_calculus.specs.declared.config.Packet.{Packet}
-use Rattle.np_calculus.specs.declared.config.Place.{Place}
 use Rattle.np_calculus.specs.declared.config.Place.TheVariants as place
-use Rattle.np_calculus.specs.Config.{Config}
-use Rattle.np_eval.specs.Forms.{layer}
 use Rattle.np_calculus.specs.Reductions.{way}
 use Rattle.np_configuration.specs.Going.{AnyMayAct}
-use Rattle.np_calculus.specs.Idle.{HasWork, HasMeeting, HasPacket, HasArrival, HasAgent, Idle}
-use Rattle.np_calculus.specs.Parts.{IsLodged}
-use Rattle.np_calculus.specs.Sight.{inside}
-use Rattle.np_agents.specs.Placed.{NoneTravels}
-use Rattle.np_eval.specs.Errands.{errand_at}
-use Rattle.np_configuration.specs.Errands.{errand_of}
+use Rattle.np_calculus.specs.Idle.{HasWork, HasMeeting, HasPacket, HasArrival, HasAgent}
 use Rattle.np_configuration.proofs.ErrandForms.{free-acts, acts-free, given-errand, taken-errand, gives-form, takes-form, mapped_from}
 
 module _ (c : Config) (agent : Name) where

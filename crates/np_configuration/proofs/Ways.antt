@@ -1,26 +1,15 @@
 -- How a lookup and a location test go on.
 use Rattle.std.proofs.Common.{◌≡◌, ℕ, Bool, true, false, cond, Option, None, Some, IsSome, is_some, refl, sym, ◌∙◌}
-use Rattle.np_syntax.specs.declared.value.Name.{Name}
-use Rattle.np_syntax.specs.declared.value.Value.{Value}
-use Rattle.np_syntax.specs.declared.expression.Expr.{Expr}
-use Rattle.np_syntax.specs.declared.process.Proc.{Proc}
-use Rattle.np_syntax.specs.declared.process.ProcForm.{ProcForm-F}
-use Rattle.np_syntax.specs.declared.event.Event.{Event}
+use Rattle.np_configuration.proofs.Common.{Name, Value, Expr, Proc, ProcForm-F, Event, ◌>>=◌, Errand, Atom, Config}
+use Rattle.np_configuration.proofs.Common.{goes_under, row, acting, acting-step, Env, chan_of, layer, IsLookup, found_env, way_in, local_row}
 use Rattle.np_syntax.specs.declared.event.Kind.TheVariants as kind
-use Rattle.np_syntax.specs.Options.{◌>>=◌}
-use Rattle.np_tables.specs.declared.errand.Errand.{Errand}
-use Rattle.np_calculus.specs.declared.config.Atom.{Atom}
-use Rattle.np_calculus.specs.Config.{Config}
-use Rattle.np_calculus.specs.Reductions.{after_change, goes_under, found_on, here_row, away_row, one_made, none_made, no_other, act, row}
-use Rattle.np_calculus.specs.Seen.{acting, fresh, is_at}
+use Rattle.np_calculus.specs.Reductions.{after_change, found_on, here_row, away_row, one_made, none_made, no_other, act}
+use Rattle.np_calculus.specs.Seen.{fresh, is_at}
 use Rattle.np_calculus.proofs.Inversions.{TestStep, passes}
 use Rattle.np_calculus.proofs.Rows.{local-row as local-by_form}
-use Rattle.np_calculus.proofs.Steps.{acting-step, one-new}
-use Rattle.np_eval.specs.Eval.{Env, agent_of, chan_of, eval}
-use Rattle.np_eval.specs.Forms.{layer}
-use Rattle.np_configuration.specs.Found.{IsLocal, IsLookup, found_env}
-use Rattle.np_agents.specs.Moves.{way_in}
-use Rattle.np_configuration.specs.Rows.{local_row}
+use Rattle.np_calculus.proofs.Steps.{one-new}
+use Rattle.np_eval.specs.Eval.{agent_of, eval}
+use Rattle.np_configuration.specs.Found.{IsLocal}
 
 -- what was found or not gives the process and its environment
 pub found-goes : (a : Atom) (x : ℕ) (met unmet : Proc) (o : Option Name)

@@ -4,40 +4,22 @@ use Rattle.std.proofs.lemmas.List.{append-nil}
 use Rattle.std.specs.Prelude.{◌↔◌}
 use Rattle.std.specs.FinMap as map
 use Rattle.std.specs.FinSet as set
-use Rattle.np_syntax.specs.declared.value.Name.{Name}
-use Rattle.np_syntax.specs.declared.expression.Expr.{Expr}
-use Rattle.np_syntax.specs.declared.pattern.Pat.{Pat}
+use Rattle.np_calculus.proofs.Common.{Name, Expr, Pat, ProcForm-F, Event, Kind, Made, ◌>>=◌, NameSet, same_name, then, done, same_name-is, same_name-itself, Place, Config, Env, agent_of, chan_of, Layer, layer, apply, is_at, offered}
+use Rattle.np_configuration.proofs.Common.{Errand, mapped, errand_of, Idle, NoneTravels}
 use Rattle.np_syntax.specs.declared.program.Program.{Program}
 use Rattle.np_syntax.specs.declared.program.LowProgram.{LowProgram}
-use Rattle.np_syntax.specs.declared.process.ProcForm.{ProcForm-F}
-use Rattle.np_syntax.specs.declared.event.Event.{Event}
 use Rattle.np_syntax.specs.declared.event.End.{End}
 use Rattle.np_syntax.specs.declared.event.End.TheVariants.{Rest, Spent}
-use Rattle.np_syntax.specs.declared.event.Kind.{Kind}
-use Rattle.np_syntax.specs.declared.event.Made.{Made}
 use Rattle.np_syntax.specs.declared.event.Made.TheVariants as made
-use Rattle.np_tables.specs.declared.errand.Errand.{Errand}
 use Rattle.np_tables.specs.declared.errand.Errand.TheVariants as errand
 use Rattle.np_tables.specs.declared.errand.Ready.{Ready as Going}
 use Rattle.np_tables.specs.declared.errand.Ready.TheVariants as ready
 use Rattle.np_tables.specs.Errands.{IsReady, Meet}
-use Rattle.np_tables.specs.Mapped.{mapped}
-use Rattle.np_syntax.specs.Options.{◌>>=◌}
-use Rattle.np_tables.specs.Names.{NameSet, same_name}
-use Rattle.np_syntax.proofs.Options.{then, done}
 use Rattle.np_tables.proofs.Mapped.{mapped_there}
-use Rattle.np_tables.proofs.Tables.{born_insert, same_name-is, same_name-itself}
+use Rattle.np_tables.proofs.Tables.{born_insert}
 use Rattle.np_calculus.specs.declared.config.Atom.{Atom}
-use Rattle.np_calculus.specs.declared.config.Place.{Place}
 use Rattle.np_calculus.specs.declared.config.Place.TheVariants as place
-use Rattle.np_calculus.specs.Config.{Config}
-use Rattle.np_configuration.specs.Errands.{errand_of}
-use Rattle.np_eval.specs.Eval.{Env, agent_of, chan_of}
-use Rattle.np_eval.specs.Forms.{Layer, layer}
-use Rattle.np_calculus.specs.Idle.{Idle}
-use Rattle.np_agents.specs.Placed.{NoneTravels}
-use Rattle.np_calculus.specs.Reductions.{apply, run}
-use Rattle.np_calculus.specs.Seen.{is_at, offered}
+use Rattle.np_calculus.specs.Reductions.{run}
 use Rattle.np_serial.specs.Serial.{AreFresh, IsEnabled, IsReached, IsSerialRun, Stands, actor_of, taken_by}
 use Rattle.np_calculus.specs.Begins.{AreNew, MakesAtMost, begun_by, event_at, made_by, made_there}
 use Rattle.np_calculus.specs.Runs.{RunsWell}

@@ -19,3 +19,12 @@ returns-clause-not_enabled c = refused.not_enabled
 
 pub returns-clause-no_value : goal.returns-clause-no_value
 returns-clause-no_value c = refused.no_value
+
+pub returns-clause-opening : goal.returns-clause-opening
+returns-clause-opening c = example.opening
+
+pub returns-clause-looking_up : goal.returns-clause-looking_up
+returns-clause-looking_up c = example.looking_up
+
+pub returns-clause-low_not_enabled : goal.returns-clause-low_not_enabled
+returns-clause-low_not_enabled c = refused.low_not_enabled

@@ -1,5 +1,5 @@
 use Rattle.std.proofs.Common.{arith}
-use Rattle.np_configuration.specs.Going.{GivesAt}
+use Rattle.np_configuration.proofs.Common.{GivesAt}
 use Rattle.np_configuration.proofs.Goings.{none_covered}
 use Rattle.np_configuration.proofs.going.any_gives.Goals as goal
 

@@ -1,6 +1,5 @@
 use Rattle.std.proofs.Common.{ℕ, ◌<◌, get_or}
-use Rattle.np_syntax.specs.declared.value.Name.{Name}
-use Rattle.np_configuration.specs.Going.{GivesAt}
+use Rattle.np_configuration.proofs.Common.{Name, GivesAt}
 use Rattle.np_configuration.proofs.going.any_gives.Given as goal
 
 abbrev pub invariant-loop-at : goal.invariant-loop-at

@@ -1,5 +1,5 @@
 use Rattle.std.proofs.Common.{arith}
-use Rattle.np_configuration.specs.Going.{MayAct}
+use Rattle.np_configuration.proofs.Common.{MayAct}
 use Rattle.np_configuration.proofs.Goings.{none_covered}
 use Rattle.np_configuration.proofs.going.any_may_act.Goals as goal
 

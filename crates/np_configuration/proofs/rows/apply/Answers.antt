@@ -1,5 +1,6 @@
 use Rattle.np_syntax.specs.declared.event.Kind.TheVariants as kind
-use Rattle.np_calculus.proofs.Rows.{stop-row, fork-row, new-row, let-row, if-row, comm-row, rep-row, agent-row, depart-row, local-row, send-row, print-row, open-row, lookup-row, post-row}
+use Rattle.np_configuration.proofs.Common.{fork-row, comm-row, rep-row, agent-row, open-row, lookup-row}
+use Rattle.np_calculus.proofs.Rows.{stop-row, new-row, let-row, if-row, depart-row, local-row, send-row, print-row, post-row}
 use Rattle.np_configuration.proofs.ByForm.{applied-by}
 use Rattle.np_configuration.proofs.rows.apply.Goals as goal
 

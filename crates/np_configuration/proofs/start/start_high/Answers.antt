@@ -1,6 +1,7 @@
 use Rattle.std.proofs.Common.{subst, ◌≡◌}
 use Rattle.std.specs.Prelude.{IfOk}
-use Rattle.np_calculus.specs.Starts.{start_high, main_agent, main_mark, names_alone, with_agent}
+use Rattle.np_configuration.proofs.Common.{main_mark}
+use Rattle.np_calculus.specs.Starts.{start_high, main_agent, names_alone, with_agent}
 use Rattle.np_configuration.proofs.start.start_high.Goals as goal
 
 pub returns : goal.returns

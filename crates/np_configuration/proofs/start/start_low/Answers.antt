@@ -1,6 +1,6 @@
 use Rattle.std.proofs.Common.{true, refl, subst, sym, ◌≡◌}
 use Rattle.std.specs.FinSet as set
-use Rattle.np_calculus.specs.Config.{Config}
+use Rattle.np_configuration.proofs.Common.{Config}
 use Rattle.np_calculus.specs.Starts.{start_low, daemon_mark}
 use Rattle.np_calculus.proofs.OwnNames.{daemon_mark-born}
 use Rattle.np_configuration.proofs.start.start_low.Goals as goal

@@ -1,7 +1,6 @@
 use Rattle.std.proofs.Common.{true, subst, sym, ◌≡◌}
 use Rattle.std.specs.FinSet as set
-use Rattle.np_calculus.specs.Config.{Config}
-use Rattle.np_calculus.specs.Starts.{main_mark}
+use Rattle.np_configuration.proofs.Common.{Config, main_mark}
 use Rattle.np_calculus.proofs.OwnNames.{mark-born}
 use Rattle.np_configuration.proofs.start.with_main.Goals as goal
 

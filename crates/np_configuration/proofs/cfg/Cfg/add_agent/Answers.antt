@@ -1,6 +1,6 @@
 use Rattle.std.proofs.Common.{◌≡◌, true, subst, ap, sym, ◌∙◌}
 use Rattle.std.specs.FinSet as set
-use Rattle.np_calculus.specs.Config.{Config}
+use Rattle.np_configuration.proofs.Common.{Config}
 use Rattle.np_configuration.proofs.Keeping.{kept-put}
 use Rattle.np_configuration.proofs.cfg.Cfg.add_agent.Goals as goal
 

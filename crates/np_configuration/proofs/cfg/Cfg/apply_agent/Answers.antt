@@ -1,27 +1,16 @@
 use Rattle.std.proofs.Common.{◌≡◌, ℕ, not, Some, IsSome, rules, refl, sym, ap, ◌∙◌}
 use Rattle.std.specs.FinMap as map
 use Rattle.std.specs.FinSet as set
-use Rattle.np_syntax.specs.declared.value.Name.{Name}
+use Rattle.np_configuration.proofs.Common.{Name, Proc, NameMap, NameSet, same_name, Atom, Place, Config, the_view, Env, layer, goes_under, acting, agent-row, acting-step}
 use Rattle.np_syntax.specs.declared.value.Value as value
-use Rattle.np_syntax.specs.declared.process.Proc.{Proc}
 use Rattle.np_syntax.specs.Options.{need}
-use Rattle.np_tables.specs.Names.{NameMap, NameSet, same_name}
-use Rattle.np_calculus.specs.declared.config.Atom.{Atom}
-use Rattle.np_calculus.specs.declared.config.Place.{Place}
 use Rattle.np_calculus.specs.declared.config.Place.TheVariants as place
-use Rattle.np_calculus.specs.Config.{Config}
-use Rattle.np_configuration.specs.contracts.cfg.Cfg.{the_view}
-use Rattle.np_eval.specs.Eval.{Env}
-use Rattle.np_eval.specs.Forms.{layer}
 use Rattle.np_eval.specs.FormParts.{as_agent_form}
 use Rattle.np_agents.specs.Moves.{agent_in}
-use Rattle.np_calculus.specs.Reductions.{goes_under}
-use Rattle.np_calculus.specs.Seen.{acting}
 use Rattle.np_calculus.proofs.Inversions.{step-agent}
-use Rattle.np_calculus.proofs.Rows.{agent-row}
 use Rattle.np_eval.proofs.FormsByParts.{agent-form}
 use Rattle.np_configuration.proofs.Keeping.{kept-absent, kept-born, kept-more}
-use Rattle.np_calculus.proofs.Steps.{acting-step, need-met}
+use Rattle.np_calculus.proofs.Steps.{need-met}
 use Rattle.np_configuration.proofs.cfg.Cfg.apply_agent.Goals as goal
 
 pub file_two-requires : goal.file_two-requires

@@ -1,15 +1,8 @@
 use Rattle.std.proofs.Common.{◌≡◌, Some, rules, refl, sym, ap, ◌∙◌}
 use Rattle.std.specs.FinMap as map
-use Rattle.np_tables.specs.Names.{NameMap}
-use Rattle.np_tables.specs.Errands.{Work}
-use Rattle.np_configuration.specs.contracts.cfg.Cfg.{the_view}
-use Rattle.np_calculus.specs.declared.config.Atom.{Atom}
-use Rattle.np_calculus.specs.Config.{Config}
+use Rattle.np_configuration.proofs.Common.{NameMap, Work, the_view, Atom, Config, goes_under, acting-step, comm-row}
 use Rattle.np_configuration.specs.Met.{IsComm}
-use Rattle.np_calculus.specs.Reductions.{goes_under}
 use Rattle.np_configuration.proofs.Keeping.{kept-on, kept-cut, kept-as}
-use Rattle.np_calculus.proofs.Steps.{acting-step}
-use Rattle.np_calculus.proofs.Rows.{comm-row}
 use Rattle.np_configuration.proofs.cfg.Cfg.apply_comm.Goals as goal
 
 pub enter-requires-clause-whole : goal.enter-requires-clause-whole

@@ -1,12 +1,7 @@
 use Rattle.std.proofs.Common.{◌≡◌, true, Some, rules, refl, ap, ◌∙◌}
 use Rattle.std.specs.FinMap as map
-use Rattle.np_calculus.specs.Config.{Config}
-use Rattle.np_calculus.specs.Seen.{acting}
-use Rattle.np_eval.specs.Forms.{layer}
-use Rattle.np_agents.specs.Moves.{way_at}
-use Rattle.np_calculus.specs.Reductions.{goes}
+use Rattle.np_configuration.proofs.Common.{Config, acting, layer, way_at, goes, acting-step}
 use Rattle.np_configuration.proofs.Keeping.{kept-on}
-use Rattle.np_calculus.proofs.Steps.{acting-step}
 use Rattle.np_configuration.proofs.cfg.Cfg.apply_depart.Goals as goal
 
 pub invariant_of-self-2 : goal.invariant_of-self-2

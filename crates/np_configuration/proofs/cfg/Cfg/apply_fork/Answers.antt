@@ -1,14 +1,9 @@
 use Rattle.std.proofs.Common.{◌≡◌, Some, rules, refl, sym, ap, ◌∙◌}
 use Rattle.std.specs.FinMap as map
-use Rattle.np_calculus.specs.Config.{Config}
-use Rattle.np_eval.specs.Forms.{layer}
+use Rattle.np_configuration.proofs.Common.{Config, layer, goes, acting, fork-row, acting-step}
 use Rattle.np_eval.specs.FormParts.{as_par}
-use Rattle.np_calculus.specs.Reductions.{goes}
-use Rattle.np_calculus.specs.Seen.{acting}
-use Rattle.np_calculus.proofs.Rows.{fork-row}
 use Rattle.np_eval.proofs.FormsByParts.{par-form}
 use Rattle.np_configuration.proofs.Keeping.{kept-absent, kept-more}
-use Rattle.np_calculus.proofs.Steps.{acting-step}
 use Rattle.np_calculus.proofs.Inversions.{step-fork}
 use Rattle.np_configuration.proofs.cfg.Cfg.apply_fork.Goals as goal
 

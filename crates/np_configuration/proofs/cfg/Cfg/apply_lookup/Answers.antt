@@ -1,15 +1,7 @@
 use Rattle.std.proofs.Common.{◌≡◌, Some, IsSome, rules, sym, subst, ap, ◌∙◌}
 use Rattle.std.specs.FinMap as map
-use Rattle.np_tables.specs.Names.{NameMap}
-use Rattle.np_configuration.specs.contracts.cfg.Cfg.{the_view}
-use Rattle.np_calculus.specs.declared.config.Atom.{Atom}
-use Rattle.np_calculus.specs.Config.{Config}
-use Rattle.np_configuration.specs.Found.{IsLookup}
-use Rattle.np_agents.specs.Moves.{way_in}
-use Rattle.np_calculus.specs.Reductions.{goes_under}
-use Rattle.np_calculus.proofs.Rows.{lookup-row}
+use Rattle.np_configuration.proofs.Common.{NameMap, the_view, Atom, Config, IsLookup, way_in, goes_under, lookup-row, acting-step}
 use Rattle.np_configuration.proofs.Keeping.{kept-on, kept-as}
-use Rattle.np_calculus.proofs.Steps.{acting-step}
 use Rattle.np_configuration.proofs.Ways.{looked-way}
 use Rattle.np_configuration.proofs.cfg.Cfg.apply_lookup.Goals as goal
 

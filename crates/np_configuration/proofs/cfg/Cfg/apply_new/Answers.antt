@@ -1,12 +1,7 @@
 use Rattle.std.proofs.Common.{◌≡◌, Some, rules, refl, ap, ◌∙◌}
 use Rattle.std.specs.FinMap as map
-use Rattle.np_calculus.specs.Config.{Config}
-use Rattle.np_eval.specs.Forms.{layer}
-use Rattle.np_agents.specs.Moves.{body_at}
-use Rattle.np_calculus.specs.Reductions.{goes_under}
-use Rattle.np_calculus.specs.Seen.{acting}
+use Rattle.np_configuration.proofs.Common.{Config, layer, body_at, goes_under, acting, acting-step}
 use Rattle.np_configuration.proofs.Keeping.{kept-on, kept-born}
-use Rattle.np_calculus.proofs.Steps.{acting-step}
 use Rattle.np_configuration.proofs.cfg.Cfg.apply_new.Goals as goal
 
 acts : (c : goal.After-put) → acting c.args.self.now c.args.e.now ≡ Some c.in_ok-atom.atom.now

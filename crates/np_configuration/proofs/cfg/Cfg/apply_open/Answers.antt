@@ -1,14 +1,10 @@
 use Rattle.std.proofs.Common.{◌≡◌, Some, rules, refl, sym, ap, ◌∙◌}
 use Rattle.std.specs.FinMap as map
-use Rattle.np_calculus.specs.Config.{Config}
-use Rattle.np_calculus.specs.Seen.{acting}
+use Rattle.np_configuration.proofs.Common.{Config, acting, layer, open-row, acting-step}
 use Rattle.np_configuration.proofs.Keeping.{kept-mark}
 use Rattle.np_configuration.proofs.NewOutputs.{kept-output}
-use Rattle.np_eval.specs.Forms.{layer}
 use Rattle.np_eval.proofs.FormsByParts.{open-form}
 use Rattle.np_calculus.proofs.Inversions.{step-open}
-use Rattle.np_calculus.proofs.Rows.{open-row}
-use Rattle.np_calculus.proofs.Steps.{acting-step}
 use Rattle.np_configuration.proofs.cfg.Cfg.apply_open.Goals as goal
 
 pub invariant_of-self-2 : goal.invariant_of-self-2

@@ -1,9 +1,7 @@
 use Rattle.std.proofs.Common.{◌≡◌, Some, rules, ap, ◌∙◌}
 use Rattle.std.specs.FinMap as map
-use Rattle.np_calculus.specs.Config.{Config}
-use Rattle.np_calculus.specs.Seen.{acting}
+use Rattle.np_configuration.proofs.Common.{Config, acting, acting-step}
 use Rattle.np_configuration.proofs.Keeping.{kept-on}
-use Rattle.np_calculus.proofs.Steps.{acting-step}
 use Rattle.np_configuration.proofs.cfg.Cfg.apply_post.Goals as goal
 
 pub invariant_of-self-2 : goal.invariant_of-self-2

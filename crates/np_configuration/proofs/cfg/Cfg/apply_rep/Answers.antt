@@ -1,13 +1,9 @@
 use Rattle.std.proofs.Common.{◌≡◌, true, Some, IsSome, rules, sym, subst, ap, ◌∙◌}
 use Rattle.std.specs.FinMap as map
 use Rattle.std.specs.FinSet as set
-use Rattle.np_tables.specs.Names.{NameMap}
-use Rattle.np_configuration.specs.contracts.cfg.Cfg.{the_view}
-use Rattle.np_calculus.specs.declared.config.Atom.{Atom}
-use Rattle.np_calculus.specs.Config.{Config}
+use Rattle.np_configuration.proofs.Common.{NameMap, the_view, Atom, Config, rep-row}
 use Rattle.np_configuration.specs.Met.{IsRep}
 use Rattle.np_configuration.proofs.Keeping.{kept-put}
-use Rattle.np_calculus.proofs.Rows.{rep-row}
 use Rattle.np_configuration.proofs.cfg.Cfg.apply_rep.Goals as goal
 
 served : (c : goal.After-put) → IsRep c.args.self.now c.args.e.now c.in_ok-served.served.mark c.in_ok-served.served.atom

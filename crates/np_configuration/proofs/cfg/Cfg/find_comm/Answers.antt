@@ -1,9 +1,7 @@
 use Rattle.std.proofs.Common.{◌≡◌, rules, refl, ap}
-use Rattle.np_syntax.specs.declared.process.ProcForm.{ProcForm-F}
-use Rattle.np_eval.specs.Forms.{layer}
+use Rattle.np_configuration.proofs.Common.{ProcForm-F, layer, body_at}
 use Rattle.np_eval.proofs.FormsByParts.{inp-form}
 use Rattle.np_calculus.proofs.Inversions.{step-comm}
-use Rattle.np_agents.specs.Moves.{body_at}
 use Rattle.np_configuration.proofs.cfg.Cfg.find_comm.Goals as goal
 
 pub returns : goal.returns

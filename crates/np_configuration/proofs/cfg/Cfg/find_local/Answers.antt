@@ -1,8 +1,6 @@
 use Rattle.std.proofs.Common.{◌≡◌, cond, rules, refl, ap}
-use Rattle.np_syntax.specs.declared.process.ProcForm.{ProcForm-F}
-use Rattle.np_eval.specs.Forms.{layer}
+use Rattle.np_configuration.proofs.Common.{ProcForm-F, layer, way_at}
 use Rattle.np_eval.proofs.FormsByParts.{iflocal-form}
-use Rattle.np_agents.specs.Moves.{way_at}
 use Rattle.np_configuration.proofs.Ways.{local-is}
 use Rattle.np_configuration.proofs.cfg.Cfg.find_local.Goals as goal
 

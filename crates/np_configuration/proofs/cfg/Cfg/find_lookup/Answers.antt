@@ -1,13 +1,9 @@
 use Rattle.std.proofs.Common.{◌≡◌, is_some, cond, rules, refl, sym, ap}
 use Rattle.std.specs.FinMap as map
-use Rattle.np_syntax.specs.declared.process.ProcForm.{ProcForm-F}
-use Rattle.np_calculus.specs.declared.config.Atom.{Atom}
+use Rattle.np_configuration.proofs.Common.{ProcForm-F, Atom, layer, found_env, way_at}
 use Rattle.np_eval.specs.Eval.{find_place}
-use Rattle.np_eval.specs.Forms.{layer}
 use Rattle.np_eval.proofs.FormsByParts.{lookup-form}
 use Rattle.np_calculus.proofs.Inversions.{step-lookup}
-use Rattle.np_configuration.specs.Found.{found_env}
-use Rattle.np_agents.specs.Moves.{way_at}
 use Rattle.np_configuration.proofs.Ways.{found-goes}
 use Rattle.np_configuration.proofs.cfg.Cfg.find_lookup.Goals as goal
 

@@ -1,8 +1,7 @@
 use Rattle.std.proofs.Common.{◌≡◌, Some, rules, ap}
-use Rattle.np_eval.specs.Forms.{layer}
+use Rattle.np_configuration.proofs.Common.{layer, Atom}
 use Rattle.np_eval.proofs.FormsByParts.{rep-form}
 use Rattle.std.specs.FinMap as map
-use Rattle.np_calculus.specs.declared.config.Atom.{Atom}
 use Rattle.np_calculus.specs.Seen.{offered}
 use Rattle.np_calculus.proofs.Inversions.{step-rep}
 use Rattle.np_calculus.proofs.Steps.{offered-step}

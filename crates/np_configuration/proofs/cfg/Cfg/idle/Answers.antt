@@ -1,8 +1,6 @@
 use Rattle.std.proofs.Common.{◌≡◌, refl, sym, subst, ◌∙◌}
 use Rattle.std.specs.FinMap as map
-use Rattle.np_calculus.specs.Idle.{Idle}
-use Rattle.np_agents.specs.Placed.{NoneTravels}
-use Rattle.np_configuration.specs.contracts.cfg.Cfg.{the_view}
+use Rattle.np_configuration.proofs.Common.{Idle, NoneTravels, the_view}
 use Rattle.np_configuration.proofs.Rests.{idle-still, idle-stays, stay-idle}
 use Rattle.np_configuration.proofs.RestTests.{none_travels, not_both, not_is, rests, some_travels}
 use Rattle.np_configuration.proofs.cfg.Cfg.idle.Goals as goal

@@ -1,13 +1,7 @@
 use Rattle.std.proofs.Common.{◌≡◌, None, Some, rules, refl, ap, ◌∙◌}
 use Rattle.std.specs.FinMap as map
-use Rattle.np_tables.specs.Names.{NameMap}
-use Rattle.np_configuration.specs.contracts.cfg.Cfg.{the_view}
-use Rattle.np_calculus.specs.declared.config.Atom.{Atom}
-use Rattle.np_calculus.specs.Config.{Config}
-use Rattle.np_calculus.specs.Reductions.{goes}
-use Rattle.np_configuration.specs.Rows.{local_row}
+use Rattle.np_configuration.proofs.Common.{NameMap, the_view, Atom, Config, goes, local_row, acting-step}
 use Rattle.np_configuration.proofs.Keeping.{kept-on, kept-as}
-use Rattle.np_calculus.proofs.Steps.{acting-step}
 use Rattle.np_configuration.proofs.Ways.{away-made, away-unmade}
 use Rattle.np_configuration.proofs.cfg.Cfg.local_away.Goals as goal
 

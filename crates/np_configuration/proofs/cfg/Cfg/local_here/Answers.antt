@@ -1,15 +1,9 @@
 use Rattle.std.proofs.Common.{◌≡◌, None, Some, rules, refl, ap, ◌∙◌}
 use Rattle.std.specs.FinMap as map
 use Rattle.std.specs.FinSet as set
-use Rattle.np_tables.specs.Names.{NameMap, NameSet}
-use Rattle.np_configuration.specs.contracts.cfg.Cfg.{the_view}
-use Rattle.np_calculus.specs.declared.config.Atom.{Atom}
-use Rattle.np_calculus.specs.Config.{Config}
-use Rattle.np_calculus.specs.Reductions.{goes, output_in}
-use Rattle.np_configuration.specs.Rows.{local_row}
+use Rattle.np_configuration.proofs.Common.{NameMap, NameSet, the_view, Atom, Config, goes, output_in, local_row, acting-step}
 use Rattle.np_configuration.proofs.Keeping.{kept-absent}
 use Rattle.np_configuration.proofs.NewOutputs.{kept-passes, kept-output_more}
-use Rattle.np_calculus.proofs.Steps.{acting-step}
 use Rattle.np_configuration.proofs.Ways.{here-made, here-unmade, here-taken}
 use Rattle.np_configuration.proofs.cfg.Cfg.local_here.Goals as goal
 

@@ -1,7 +1,6 @@
 use Rattle.std.proofs.Common.{◌≡◌, ◌≤◌, length, subst, arith}
 use Rattle.std.specs.FinMap as map
-use Rattle.np_calculus.specs.Idle.{Idle}
-use Rattle.np_configuration.specs.contracts.cfg.Cfg.{the_view}
+use Rattle.np_configuration.proofs.Common.{Idle, the_view}
 use Rattle.np_configuration.proofs.RestTests.{no_keys, rests}
 use Rattle.np_configuration.proofs.cfg.Cfg.next.Goals as goal
 
