@@ -1,3 +1,4 @@
 pub mod Binders
 pub mod Forms
+pub mod LowForms
 pub mod Resolved

@@ -8,5 +8,5 @@ mod processes;
 mod programs;
 
 pub use fail::CheckFail;
-pub use laws::law_resolved;
+pub use laws::{law_low_forms, law_resolved};
 pub use programs::{Checked, check};

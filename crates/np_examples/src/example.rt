@@ -42,6 +42,8 @@ pub struct Example {
     pub calls: Vec<String>,
     /// Whether the low program of each source is run as well.
     pub runs_low: bool,
+    /// Whether that run has to print the lines that a run at the high level prints, in any order.
+    pub as_high: bool,
     /// What stands under the name `a`: each is tried with each call.
     pub sources: Vec<String>,
     pub texts: Vec<NamedText>,
@@ -66,6 +68,7 @@ impl Example {
             line,
             calls: Vec::new(alloc),
             runs_low: false,
+            as_high: false,
             sources: Vec::new(alloc),
             texts: Vec::new(alloc),
             devices: Devices {

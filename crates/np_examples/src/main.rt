@@ -23,7 +23,7 @@ use std::sync::Wait;
 use std::thread::Threads;
 use std::{env, fs};
 use trial::came_of;
-use verdict::meets;
+use verdict::{meets, same_lines};
 
 /// How many calls did as they should, and how many did not.
 #[derive(Clone, Copy)]
@@ -127,7 +127,7 @@ fn try_calls<R: Print + Threads + Wait + Sync>(
 }
 
 /// Tries the run of the low program of each source.
-fn try_low_runs<R: Print>(
+fn try_low_runs<R: Print + Threads + Wait + Sync>(
     rt: &R,
     alloc: Global,
     file: &str,
@@ -144,7 +144,7 @@ fn try_low_runs<R: Print>(
 }
 
 /// Whether a run of a low program does what the example wants.
-fn try_low_run<R: Print>(
+fn try_low_run<R: Print + Threads + Wait + Sync>(
     rt: &R,
     alloc: Global,
     file: &str,
@@ -152,7 +152,11 @@ fn try_low_run<R: Print>(
     source: Option<&str>,
 ) -> Result<bool, ExampleFail> {
     let came = came_of_low(alloc, example, source)?;
-    let passed = meets(example, &came);
+    let mut passed = meets(example, &came);
+    if example.as_high {
+        let high = came_of(rt, alloc, example, "high a --budget 200000", source)?;
+        passed = passed && same_lines(alloc, came.out.bytes(), high.out.bytes())?;
+    }
     if !passed {
         tell_failure(rt, file, example, "low run", source, &came)?;
     }

@@ -52,10 +52,7 @@ fn read_line<R: Files + Alloc>(
     let (key, rest) = line.split_once(' ').unwrap_or((line, ""));
     match key {
         "words" | "main" | "source" | "text" => read_call(alloc, example, key, rest),
-        "low" if rest == "run" => {
-            example.runs_low = true;
-            Ok(())
-        }
+        "low" => read_low(example, rest, number),
         "fail" | "piece" => read_device(example, key, rest, number),
         _ => read_wanted(alloc, example, key, rest, number),
     }
@@ -77,6 +74,19 @@ fn read_call(
             let bytes = Vec::new(alloc);
             example.texts.push(NamedText { name, bytes })?
         }
+    }
+    Ok(())
+}
+
+/// That the low program is run, and how it is compared.
+fn read_low(example: &mut Example, rest: &str, number: u32) -> Result<(), ExampleFail> {
+    match rest {
+        "run" => example.runs_low = true,
+        "run as high" => {
+            example.runs_low = true;
+            example.as_high = true;
+        }
+        _ => return Err(ExampleFail::Line(number)),
     }
     Ok(())
 }

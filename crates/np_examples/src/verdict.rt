@@ -2,6 +2,7 @@
 
 use super::example::{Example, Outcome};
 use super::trial::Came;
+use std::alloc::{AllocError, Global};
 
 /// Whether the call did what the example wants.
 pub(crate) fn meets(example: &Example, came: &Came) -> bool {
@@ -66,4 +67,23 @@ fn times_in(text: &str, line: &str) -> usize {
 
 fn times_among(lines: &[String], line: &str) -> usize {
     lines.iter().filter(|found| found.as_str() == line).count()
+}
+
+/// Whether two texts have the same lines, in any order.
+pub(crate) fn same_lines(alloc: Global, one: &[u8], other: &[u8]) -> Result<bool, AllocError> {
+    let (Ok(one), Ok(other)) = (std::str::from_utf8(one), std::str::from_utf8(other)) else {
+        return Ok(false);
+    };
+    let one = sorted_lines(alloc, one)?;
+    let other = sorted_lines(alloc, other)?;
+    Ok(one == other)
+}
+
+fn sorted_lines(alloc: Global, text: &str) -> Result<Vec<String>, AllocError> {
+    let mut lines = Vec::new(alloc);
+    for line in text.lines() {
+        lines.push(String::from_str(alloc, line)?)?;
+    }
+    lines.sort()?;
+    Ok(lines)
 }
