@@ -1,7 +1,7 @@
 -- What holds of the change of each event, row by row.
 use Rattle.std.proofs.Common.{◌≡◌, ℕ, Bool, true, false, cond, inl, inr, Option, None, Some, IsSome, nat_eq, [], ◌∷◌, refl, sym, subst, ◌∙◌}
 use Rattle.std.proofs.lemmas.Bool.{eqb-true}
-use Rattle.np_calculus.proofs.Common.{Name, Value, Proc, Event, Kind, Made, ◌>>◌, then, when, done, same_name, same_name-itself, chan_of, agent_of, truth_of}
+use Rattle.np_calculus.proofs.Common.{Name, Value, Proc, Event, Kind, Made, then, when, done, same_name, same_name-itself, chan_of, agent_of, truth_of}
 use Rattle.np_calculus.proofs.Common.{letter_of, places_of, find_place, eval, bind, layer, Atom, Place, Contents, Sight, sight, at_site, Change, same_tag}
 use Rattle.np_calculus.proofs.Common.{way, none_made, one_made, two_made, no_other, output_in, found_on, offered_in, acting_in, change, here_row, away_row}
 use Rattle.np_calculus.proofs.Common.{act, arrive_row, land_row}

@@ -7,7 +7,7 @@ use Rattle.np_calculus.proofs.Common.{Name, Proc, Event, then, done, Atom, Confi
 use Rattle.np_syntax.specs.declared.program.Program.{Program}
 use Rattle.np_syntax.specs.declared.program.LowProgram.{LowProgram}
 use Rattle.np_tables.specs.Names.{name_cmp}
-use Rattle.np_tables.proofs.Tables.{get-none, put_cases, put_there, kept}
+use Rattle.np_tables.proofs.Tables.{get-none, put_there, kept}
 use Rattle.np_calculus.specs.declared.config.Place.TheVariants as place
 use Rattle.np_calculus.specs.Agents.{Each, HasPlace, Housed, OfAtom, StaysLodged, proc_agents}
 use Rattle.np_calculus.specs.Starts.{start_high, start_low, main_agent, daemon_agent, main_mark, daemon_mark, first_atom}
