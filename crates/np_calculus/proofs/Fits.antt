@@ -15,7 +15,7 @@ use Rattle.np_calculus.specs.Reductions.{site_in}
 use Rattle.np_calculus.proofs.Rows.{parts, so, lone, taking}
 use Rattle.np_calculus.proofs.Steps.{at_site-is, is-one, is-two}
 
-some : {X : Type 0} (o : Option X) (x : X) → o ≡ Some x → IsSome o
+pub some : {X : Type 0} (o : Option X) (x : X) → o ≡ Some x → IsSome o
 some o x h = rw h refl
 
 pub makes-one : (x : Made) (m : Name) → one_made x ≡ Some m → IsMade x m

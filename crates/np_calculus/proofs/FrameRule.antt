@@ -26,6 +26,10 @@ pub none_of : {X : Type 0} (o : Option X) → (IsSome o → ⊥) → o ≡ None
 none_of None h = refl
 none_of (Some x) h = absurd (h refl)
 
+pub none-some : {X : Type 0} (o : Option X) → o ≡ None → IsSome o → ⊥
+none-some None e h = cc
+none-some (Some x) e h = cc
+
 module _ (part rest : Contents) (site : ℕ) (apart : IsApart part rest) (away : IsAway rest site) where
   away-at : (o : Option Place) → (o ≡ Some (place.At site) → ⊥) → at_site o site ≡ false
   away-at o h = not_true (at_site o site) λ t. h (at_site-is o site t)
