@@ -1,12 +1,12 @@
 -- In a configuration that is well, a site can act exactly where some event of that site is enabled.
-use Rattle.std.proofs.Common.{◌≡◌, ℕ, ◌+◌, ◌≤◌, true, false, inl, inr, List, [], ◌∷◌, None, Some, refl, sym, ap, subst, ◌∙◌, arith}
+use Rattle.std.proofs.Common.{◌≡◌, ℕ, ◌+◌, ◌≤◌, Bool, true, false, inl, inr, List, [], ◌∷◌, None, Some, nat_eq, refl, sym, ap, subst, ◌∙◌, arith}
 use Rattle.std.proofs.lemmas.Bool.{eqb-true}
 use Rattle.std.specs.FinMap as map
 use Rattle.std.specs.FinSet as set
 use Rattle.std.specs.FinSet.{contains-items}
 use Rattle.std.specs.List.{list_any}
-use Rattle.np_calculus.proofs.Common.{Name, Value, Expr, Pat, ProcForm-F, Event, Kind, then, done, same_name, same_name-is, same_name-itself, chan_of, eval}
-use Rattle.np_calculus.proofs.Common.{Layer, layer, Atom, Place, Config, way, sends, row, apply, acting, offered}
+use Rattle.np_calculus.proofs.Common.{Name, Value, Expr, Pat, ProcForm-F, Event, Kind, then, when, done, same_name, same_name-is, same_name-itself, chan_of, eval}
+use Rattle.np_calculus.proofs.Common.{Layer, layer, Atom, Place, Config, Sight, inside, sight, Change, way, sends, change, apply, act, arrive_row, land_row, acting, offered}
 use Rattle.np_syntax.specs.declared.event.Kind.TheVariants as kind
 use Rattle.np_eval.specs.Forms.{as_out, given_on, taken_on}
 use Rattle.np_eval.proofs.FormsByParts.{out-form}
@@ -16,10 +16,9 @@ use Rattle.np_calculus.specs.Begins.{AreNew, arrival, event_at, landing, made_by
 use Rattle.np_calculus.specs.Idle.{Can, HasMeeting, HasWork, waits}
 use Rattle.np_calculus.specs.Well.{Has, Ready, Well}
 use Rattle.np_calculus.proofs.Enabled.{alone-begins, arrival-enabled, landing-enabled, meeting-begins}
-use Rattle.np_calculus.proofs.Inversions.{stop-step, fork-step, new-step, let-step, if-step, comm-step, rep-step, agent-step, depart-step}
-use Rattle.np_calculus.proofs.Inversions.{arrive-step, local-step, send-step, land-step, print-step, open-step, lookup-step, post-step}
 use Rattle.np_calculus.proofs.OwnNames.{not_true}
-use Rattle.np_calculus.proofs.Steps.{acting-step, offered-step, step-offered}
+use Rattle.np_calculus.proofs.Rows.{taking}
+use Rattle.np_calculus.proofs.Steps.{acting-step, offered-step, row-step, same-offer, step-offered}
 
 -- ---- two names that are not born: names are infinitely many, and those that are born are listed
 
@@ -111,7 +110,7 @@ sends-given b sent h =
     let is : sent.0 ≡ m = ap (λ (s : Name × Value). s.0) (done h) in
     record { from = p.0; form = ap given_on (out-form (layer b.proc) p form); on = on ∙ ap Some (sym is) }
 
-module _ (c : Config) (e : Event) (d : Config) where
+module _ (c : Config) (e : Event) where
   free-can : (a : Atom) → acting c e ≡ Some a → waits (layer a.proc) ≡ false → Can c e.site
   free-can a acts free =
       let s = acting-step c e a acts in
@@ -142,27 +141,30 @@ module _ (c : Config) (e : Event) (d : Config) where
       } in
       inr (inr (record { agent = a.agent; stands = s.stands; works = inr meets }))
 
-  acts-can : (k : Kind) → row k c e ≡ Some d → Can c e.site
-  acts-can kind.Stop h = let s = stop-step c e d h in free-can s.atom s.acts (ap waits s.form)
-  acts-can kind.Fork h = let s = fork-step c e d h in free-can s.atom s.acts (ap waits s.form)
-  acts-can kind.New h = let s = new-step c e d h in free-can s.atom s.acts (ap waits s.form)
-  acts-can kind.Let h = let s = let-step c e d h in free-can s.atom s.acts (ap waits s.form)
-  acts-can kind.If h = let s = if-step c e d h in free-can s.atom s.acts (ap waits s.form)
-  acts-can kind.Comm h = let s = comm-step c e d h in taking-can s.atom s.acts (s.from, s.pat) (ap taken_on s.form) s.chan s.on s.mark s.value s.offer
-  acts-can kind.Rep h = let s = rep-step c e d h in taking-can s.atom s.acts (s.from, s.pat) (ap taken_on s.form) s.chan s.on s.mark s.value s.offer
-  acts-can kind.Agent h = let s = agent-step c e d h in free-can s.atom s.acts (ap waits s.form)
-  acts-can kind.Depart h = let s = depart-step c e d h in free-can s.atom s.acts (ap waits s.form)
-  acts-can kind.Arrive h =
-      let s = arrive-step c e d h in
-      let is : s.site ≡ e.site = eqb-true s.site e.site s.here in
-      inr (inl (record { agent = e.actor; comes = s.there ∙ ap Some (way-is s.before s.site s.comes ∙ ap place.Way is) }))
-  acts-can kind.Local h = let s = local-step c e d h in free-can s.atom s.acts (ap waits s.form)
-  acts-can kind.Send h = let s = send-step c e d h in free-can s.atom s.acts (ap waits s.form)
-  acts-can kind.Land h = let s = land-step c e d h in inl (record { mark = e.actor; packet = s.packet; flies = s.flies; to = eqb-true s.packet.to e.site s.here })
-  acts-can kind.Print h = let s = print-step c e d h in free-can s.atom s.acts (ap waits s.form)
-  acts-can kind.Open h = let s = open-step c e d h in free-can s.atom s.acts (ap waits s.form)
-  acts-can kind.Lookup h = let s = lookup-step c e d h in free-can s.atom s.acts (ap waits s.form)
-  acts-can kind.Post h = let s = post-step c e d h in free-can s.atom s.acts (ap waits s.form)
+  abbrev w : Sight
+  w = sight c.sites (inside c) e.site
+
+  -- what waits and acts takes an output: an output itself has no row
+  taking-row : (a : Atom) → acting c e ≡ Some a → (l : Layer) (k : Kind) → layer a.proc ≡ l → waits l ≡ true → (x : Change) → act k l w e a ≡ Some x → Can c e.site
+  unfolding act
+  taking-row a acts (ProcForm-F.Inp b p q) kind.Comm is t x h =
+      taking w e a b p _ h λ n o v env on offer binds h. taking-can a acts (b, p) (ap taken_on is) n on o v (sym (same-offer c e a o n acts) ∙ offer)
+  taking-row a acts (ProcForm-F.Rep b p q) kind.Rep is t x h =
+      taking w e a b p _ h λ n o v env on offer binds h. taking-can a acts (b, p) (ap taken_on is) n on o v (sym (same-offer c e a o n acts) ∙ offer)
+  taking-row a acts (ProcForm-F.Out b v) kind.Stop is t x h = absurd cc
+  taking-row a acts _ _ is t x h = absurd cc
+
+  acting-can : (k : Kind) (x : Change) (a : Atom) → acting c e ≡ Some a → act k (layer a.proc) w e a ≡ Some x → (t : Bool) → waits (layer a.proc) ≡ t → Can c e.site
+  acting-can k x a acts h true is = taking-row a acts (layer a.proc) k refl is x h
+  acting-can k x a acts h false is = free-can a acts is
+
+  row-can : (k : Kind) (x : Change) → change k c.sites (inside c) e ≡ Some x → Can c e.site
+  unfolding arrive_row land_row
+  row-can kind.Arrive x h = then (map.get c.places e.actor) _ h λ p there h. then (way p) _ h λ s comes h. when (nat_eq s e.site) _ h λ here h.
+      inr (inl (record { agent = e.actor; comes = there ∙ ap Some (way-is p s comes ∙ ap place.Way (eqb-true s e.site here)) }))
+  row-can kind.Land x h = then (map.get c.packets e.actor) _ h λ p flies h. when (nat_eq p.to e.site) _ h λ to h.
+      inl (record { mark = e.actor; packet = p; flies = flies; to = eqb-true p.to e.site to })
+  row-can k x h = then (acting c e) _ h λ a acts h. acting-can k x a acts h (waits (layer a.proc)) refl
 
 pub acts_where_enabled : ActsWhereEnabled
-acts_where_enabled c w site = (can-acts c w site, λ (e, of, has). subst (Can c) of (acts-can c e has.0 e.kind has.1))
+acts_where_enabled c w site = (can-acts c w site, λ (e, of, has). subst (Can c) of (let s = row-step c e has.0 e.kind has.1 in row-can c e e.kind s.made s.gives))

@@ -1,12 +1,9 @@
 -- The agents of the parts of a process.
 use Rattle.std.proofs.Common.{◌≡◌, inl, inr, [], ◌∷◌, ◌++◌, subst, sym, ap, ◌∙◌}
-use Rattle.np_syntax.specs.declared.value.Name.{Name}
-use Rattle.np_syntax.specs.declared.expression.Expr.{Expr}
-use Rattle.np_syntax.specs.declared.process.Proc.{Proc, fold_out-Proc}
+use Rattle.np_calculus.proofs.Common.{Name, Expr, Proc, Layer, layer}
+use Rattle.np_syntax.specs.declared.process.Proc.{fold_out-Proc}
 use Rattle.np_syntax.specs.declared.process.ProcForm.{ProcForm, map-ProcForm, fold-ProcForm, fold_out-ProcForm}
-use Rattle.np_syntax.proofs.Options.{done}
 use Rattle.np_calculus.specs.Agents.{Agents, Each, IsIn, expr_agents, proc_agents, proc_step}
-use Rattle.np_eval.specs.Forms.{Layer, layer}
 
 abbrev forms : ProcForm → Agents
 forms = fold-ProcForm Agents Agents proc_step (λ p. p.form)
@@ -39,6 +36,9 @@ module _ (P : Name → Type 0) where
 
   pub last-part : (xs ys : Agents) → Each P (xs ++ ys) → Each P ys
   last-part xs ys h = record { each = last_in xs ys h.each }
+
+  pub halves : {xs ys : Agents} → Each P (xs ++ ys) → Each P xs × Each P ys
+  halves h = (first-part _ _ h, last-part _ _ h)
 
   pub both-parts : (xs ys : Agents) → Each P xs → Each P ys → Each P (xs ++ ys)
   both-parts xs ys h k = record { each = both_in xs ys h.each k.each }

@@ -4,26 +4,21 @@ use Rattle.std.specs.FinMap as table
 use Rattle.std.specs.FinMap.{get-insert}
 use Rattle.std.specs.Cmp.{nat_cmp_total}
 use Rattle.std.specs.Ordering.{nat_cmp, eq_by_cmp}
-use Rattle.np_syntax.specs.declared.value.Name.{Name}
-use Rattle.np_syntax.specs.declared.value.Value.{Value, Value-F, out-Value, map-Value, fold_out-Value}
+use Rattle.np_calculus.proofs.Common.{Name, Value, out-Value, Expr, Pat, then, done, Env, agent_of, letter_of, eval, bind}
+use Rattle.np_syntax.specs.declared.value.Value.{Value-F, map-Value, fold_out-Value}
 use Rattle.np_syntax.specs.declared.value.Value as value
 use Rattle.np_syntax.specs.declared.value.Value.TheVariants as outs
 use Rattle.np_syntax.specs.declared.expression.Op.{Op}
 use Rattle.np_syntax.specs.declared.expression.Op.TheVariants as op
-use Rattle.np_syntax.specs.declared.expression.Expr.{Expr, fold_out-Expr}
+use Rattle.np_syntax.specs.declared.expression.Expr.{fold_out-Expr}
 use Rattle.np_syntax.specs.declared.expression.ExprForm.{ExprForm, ExprForm-F, out-ExprForm, map-ExprForm, fold-ExprForm, fold_out-ExprForm}
 use Rattle.np_syntax.specs.declared.expression.ExprForm as expr
 use Rattle.np_syntax.specs.declared.expression.ExprForm.TheVariants.{outs-Val}
-use Rattle.np_syntax.specs.declared.pattern.Pat.{Pat, fold_out-Pat}
-use Rattle.np_syntax.specs.declared.pattern.PatForm.{PatForm, PatForm-F, out-PatForm, map-PatForm, fold_out-PatForm}
+use Rattle.np_syntax.specs.declared.pattern.PatForm.{PatForm-F}
 use Rattle.np_syntax.specs.Options.{all_some}
-use Rattle.np_syntax.proofs.Options.{then, done}
+use Rattle.np_eval.specs.Eval.{ValueLayer, Binding, as_agent, as_chan, as_places, as_tuple, as_letter, put_place, with_place}
+use Rattle.np_eval.specs.Eval.{eval_step, operate_at, equal_at, bind_each, bind_step}
 use Rattle.np_calculus.specs.Agents.{Agents, Each, joined, value_step, value_agents, expr_step, expr_agents}
-use Rattle.np_eval.specs.Eval.{Env, ValueLayer, Binding, as_agent, as_chan, as_places, as_tuple, as_letter, put_place, with_place}
-use Rattle.np_eval.specs.Eval.{eval, eval_step, operate_at, equal_at}
-use Rattle.np_eval.specs.Levels.{eval_form}
-use Rattle.np_eval.specs.Eval.{agent_of, letter_of, bind, bind_each, bind_step}
-use Rattle.np_eval.specs.Levels.{bind_form}
 use Rattle.np_syntax.proofs.Trees.{With, ExprHyps, expr_of, expr_ind, PatHyps, pat_of, pat_ind}
 use Rattle.np_eval.proofs.Layers.{eval_layer, eval-out, bind_layer, bind-out}
 use Rattle.np_calculus.proofs.AgentForms.{OfExpr, nobody, first-part, last-part, both-parts}
@@ -106,31 +101,13 @@ module _ (P : Name → Type 0) where
 
   -- ---- operations
 
-  operate-equal : (l m : ValueLayer) (v : Value) → operate_at op.Equal l m ≡ Some v → OfValue v
-  operate-equal l m v h = then (equal_at l m) _ h λ b same h. subst OfValue (sym (done h)) (truth-fits b)
-
-  operate-add : (l m : ValueLayer) (v : Value) → operate_at op.Add l m ≡ Some v → OfValue v
-  operate-add (Value-F.Int x) (Value-F.Int y) v h = subst OfValue (sym (done h)) (int-fits _)
-  operate-add _ _ v h = absurd cc
-
-  operate-sub : (l m : ValueLayer) (v : Value) → operate_at op.Sub l m ≡ Some v → OfValue v
-  operate-sub (Value-F.Int x) (Value-F.Int y) v h = subst OfValue (sym (done h)) (int-fits _)
-  operate-sub _ _ v h = absurd cc
-
-  operate-mul : (l m : ValueLayer) (v : Value) → operate_at op.Mul l m ≡ Some v → OfValue v
-  operate-mul (Value-F.Int x) (Value-F.Int y) v h = subst OfValue (sym (done h)) (int-fits _)
-  operate-mul _ _ v h = absurd cc
-
-  operate-less : (l m : ValueLayer) (v : Value) → operate_at op.Less l m ≡ Some v → OfValue v
-  operate-less (Value-F.Int x) (Value-F.Int y) v h = subst OfValue (sym (done h)) (truth-fits _)
-  operate-less _ _ v h = absurd cc
-
   operate-fits : (o : Op) (l m : ValueLayer) (v : Value) → operate_at o l m ≡ Some v → OfValue v
-  operate-fits op.Add = operate-add
-  operate-fits op.Sub = operate-sub
-  operate-fits op.Mul = operate-mul
-  operate-fits op.Less = operate-less
-  operate-fits op.Equal = operate-equal
+  operate-fits op.Equal l m v h = then (equal_at l m) _ h λ b same h. subst OfValue (sym (done h)) (truth-fits b)
+  operate-fits op.Less (Value-F.Int x) (Value-F.Int y) v h = subst OfValue (sym (done h)) (truth-fits _)
+  operate-fits op.Add (Value-F.Int x) (Value-F.Int y) v h = subst OfValue (sym (done h)) (int-fits _)
+  operate-fits op.Sub (Value-F.Int x) (Value-F.Int y) v h = subst OfValue (sym (done h)) (int-fits _)
+  operate-fits op.Mul (Value-F.Int x) (Value-F.Int y) v h = subst OfValue (sym (done h)) (int-fits _)
+  operate-fits _ _ _ v h = absurd cc
 
   with-fits : (x y z v : Value) → with_place x y z ≡ Some v → OfValue v
   with-fits x y z v h =
@@ -194,10 +171,9 @@ module _ (P : Name → Type 0) where
   bind-parts : (ps : List (With Pat BindsKept)) (vs : List Value) (env inner : Env) → bind_each (map bind (map (λ p. p.0) ps)) vs env ≡ Some inner
       → Each P (joined (map value_agents vs)) → OfEnv env → OfEnv inner
   bind-parts [] [] env inner h i k = subst OfEnv (sym (done h)) k
-  bind-parts [] (v ∷ vs) env inner h i k = absurd cc
-  bind-parts (p ∷ ps) [] env inner h i k = absurd cc
   bind-parts (p ∷ ps) (v ∷ vs) env inner h i k =
       then (bind p.0 v env) _ h λ next is h. bind-parts ps vs next inner h (last-part P _ _ i) (p.1 v env next is (first-part P _ _ i) k)
+  bind-parts _ _ env inner h i k = absurd cc
 
   bind-kept : (y : PatHyps BindsKept) (v : Value) (env inner : Env) → bind_step (bind_layer (pat_of BindsKept y)) v env ≡ Some inner
       → OfValue v → OfEnv env → OfEnv inner

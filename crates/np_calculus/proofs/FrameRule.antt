@@ -26,6 +26,10 @@ pub none_of : {X : Type 0} (o : Option X) → (IsSome o → ⊥) → o ≡ None
 none_of None h = refl
 none_of (Some x) h = absurd (h refl)
 
+pub none-some : {X : Type 0} (o : Option X) → o ≡ None → IsSome o → ⊥
+none-some None e h = cc
+none-some (Some x) e h = cc
+
 module _ (part rest : Contents) (site : ℕ) (apart : IsApart part rest) (away : IsAway rest site) where
   away-at : (o : Option Place) → (o ≡ Some (place.At site) → ⊥) → at_site o site ≡ false
   away-at o h = not_true (at_site o site) λ t. h (at_site-is o site t)
@@ -96,7 +100,7 @@ pub not-false : (a : Bool) → not a ≡ true → a ≡ false
 not-false true h = absurd cc
 not-false false h = refl
 
-made-unborn : (born : NameSet) (x : Made) (q : Name) → are_new born x ≡ true → IsMade x q → set.contains born q ≡ false
+pub made-unborn : (born : NameSet) (x : Made) (q : Name) → are_new born x ≡ true → IsMade x q → set.contains born q ≡ false
 made-unborn born made.Nothing q h is = absurd is
 made-unborn born (made.One m) q h is = ap (set.contains born) is ∙ not-false (set.contains born m) h
 made-unborn born (made.Two m n) q h (inl is) = let k = and-out _ _ (and-out _ _ h).1 in ap (set.contains born) is ∙ not-false (set.contains born m) k.0
@@ -118,7 +122,7 @@ still-born born made.Nothing q h = h
 still-born born (made.One m) q h = born-stays born m q h
 still-born born (made.Two m n) q h = born-stays (set.insert born m) n q (born-stays born m q h)
 
-made-born : (born : NameSet) (x : Made) (q : Name) → IsMade x q → set.contains (with_made born x) q ≡ true
+pub made-born : (born : NameSet) (x : Made) (q : Name) → IsMade x q → set.contains (with_made born x) q ≡ true
 made-born born made.Nothing q is = absurd is
 made-born born (made.One m) q is = born-now born m q is
 made-born born (made.Two m n) q (inl is) = born-stays (set.insert born m) n q (born-now born m q is)

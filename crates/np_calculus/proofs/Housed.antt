@@ -3,26 +3,22 @@
 use Rattle.std.proofs.Common.{◌≡◌, ℕ, inl, inr, List, [], ◌∷◌, length, Some, refl, subst, sym, ◌∙◌}
 use Rattle.std.specs.Prelude.{◌⊎◌}
 use Rattle.std.specs.FinMap as map
-use Rattle.np_syntax.specs.declared.value.Name.{Name}
-use Rattle.np_syntax.specs.declared.process.Proc.{Proc}
+use Rattle.np_calculus.proofs.Common.{Name, Proc, Event, then, done, Atom, Config, apply}
 use Rattle.np_syntax.specs.declared.program.Program.{Program}
 use Rattle.np_syntax.specs.declared.program.LowProgram.{LowProgram}
-use Rattle.np_syntax.specs.declared.event.Event.{Event}
 use Rattle.np_tables.specs.Names.{name_cmp}
-use Rattle.np_syntax.proofs.Options.{then, done}
-use Rattle.np_tables.proofs.Tables.{get-none, put_cases, put_there, kept}
-use Rattle.np_calculus.specs.declared.config.Atom.{Atom}
+use Rattle.np_tables.proofs.Tables.{get-none, put_there, kept}
 use Rattle.np_calculus.specs.declared.config.Place.TheVariants as place
 use Rattle.np_calculus.specs.Agents.{Each, HasPlace, Housed, OfAtom, StaysLodged, proc_agents}
-use Rattle.np_calculus.specs.Config.{Config}
 use Rattle.np_calculus.specs.Starts.{start_high, start_low, main_agent, daemon_agent, main_mark, daemon_mark, first_atom}
-use Rattle.np_calculus.specs.Reductions.{apply, run}
-use Rattle.np_calculus.proofs.HousedKept.{kept-at}
-use Rattle.np_calculus.proofs.HousedAtoms.{nothing-fits, atoms-put, atoms-wider}
+use Rattle.np_calculus.specs.Changes.{put}
+use Rattle.np_calculus.specs.Reductions.{run}
+use Rattle.np_calculus.proofs.HousedKept.{atoms-wider, kept-at, nothing-fits}
+use Rattle.np_calculus.proofs.Writes.{each-written}
 
 kept-run : (events : List Event) (c d : Config) → Housed c → run c events ≡ Some d → Housed d
 kept-run [] c d i h = subst Housed (sym (done h)) i
-kept-run (e ∷ es) c d i h = then (apply c e) _ h λ m first h. kept-run es m d (kept-at c e m i e.kind first) h
+kept-run (e ∷ es) c d i h = then (apply c e) _ h λ m first h. kept-run es m d (kept-at c e m i first) h
 
 pub stays-lodged : StaysLodged
 stays-lodged c i events d h = record { each = λ m a is. ((kept-run events c d i h).atoms m a is).agent }
@@ -44,7 +40,7 @@ high-housed p named =
     let there : HasPlace (start_high p).places (main_agent n) = put_there map.empty (main_agent n) (place.At p.at) in
     let placed : (a : Name) → P a → HasPlace (start_high p).places a = λ a own. subst (HasPlace (start_high p).places) (sym own) there in
     record {
-      atoms = atoms-wider P _ placed _ (atoms-put P map.empty (main_mark n) _ none-fits (first-fits P (main_agent n) p.main refl named));
+      atoms = atoms-wider P _ placed _ (each-written _ (put (main_mark n) _ ∷ []) map.empty (first-fits P (main_agent n) p.main refl named, tt) none-fits);
       packets = λ m q is. absurd (nothing m q is);
     }
 
@@ -63,8 +59,9 @@ low-housed q main daemon =
       | inl e ↦ subst (HasPlace (start_low q).places) (sym e) main_there
       | inr e ↦ subst (HasPlace (start_low q).places) (sym e) daemon_there
     ] in
-    let first = atoms-put (IsOwn n) map.empty (main_mark n) _ none-fits (first-fits (IsOwn n) (main_agent n) q.main (inl refl) main) in
+    let first = first-fits (IsOwn n) (main_agent n) q.main (inl refl) main in
+    let second = first-fits (IsOwn n) (daemon_agent n) q.daemon (inr refl) daemon in
     record {
-      atoms = atoms-wider (IsOwn n) _ placed _ (atoms-put (IsOwn n) _ (daemon_mark n) _ first (first-fits (IsOwn n) (daemon_agent n) q.daemon (inr refl) daemon));
+      atoms = atoms-wider (IsOwn n) _ placed _ (each-written _ (put (main_mark n) _ ∷ put (daemon_mark n) _ ∷ []) map.empty (first, (second, tt)) none-fits);
       packets = λ m q is. absurd (nothing m q is);
     }

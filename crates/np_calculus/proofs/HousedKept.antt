@@ -1,216 +1,176 @@
--- Each kind of event keeps the agents of a configuration housed.
-use Rattle.std.proofs.Common.{◌≡◌, ℕ, Bool, true, false, cond, Option, None, Some, IsSome, refl}
+-- Each event keeps the agents of a configuration housed.
+use Rattle.std.proofs.Common.{◌≡◌, ℕ, Bool, true, false, cond, Option, None, Some, subst, sym, ◌∙◌}
 use Rattle.std.specs.FinMap as map
-use Rattle.np_syntax.specs.declared.value.Name.{Name}
-use Rattle.np_syntax.specs.declared.value.Value.{Value}
+use Rattle.std.specs.FinMap.{get-empty}
+use Rattle.std.specs.Ordering.{nat_cmp}
+use Rattle.np_calculus.proofs.Common.{Name, Value, Expr, Pat, Proc, Event, Kind, then, done, NameMap, Env, chan_of, agent_of, truth_of, letter_of, places_of, find_place}
+use Rattle.np_calculus.proofs.Common.{eval, bind, Layer, layer, Atom, Packet, Config, Sight, inside, sight, Change, one_made, two_made, no_other, goes, output_in, found_on}
+use Rattle.np_calculus.proofs.Common.{sends, offered_in, row, act, acting, is_at, offered}
 use Rattle.np_syntax.specs.declared.value.Value as value
-use Rattle.np_syntax.specs.declared.process.Proc.{Proc}
-use Rattle.np_syntax.specs.declared.event.Event.{Event}
-use Rattle.np_syntax.specs.declared.event.Kind.{Kind}
+use Rattle.np_syntax.specs.declared.process.ProcForm.TheVariants.{outs-Out}
+use Rattle.np_syntax.specs.declared.process.Tag.{Tag}
 use Rattle.np_syntax.specs.declared.event.Kind.TheVariants as kind
-use Rattle.np_tables.proofs.Tables.{put_there, kept}
-use Rattle.np_calculus.specs.declared.config.Atom.{Atom}
-use Rattle.np_calculus.specs.declared.config.Place.{Place}
-use Rattle.np_calculus.specs.declared.config.Place.TheVariants as place
-use Rattle.np_calculus.specs.Agents.{HasPlace, Housed, OfAtom}
-use Rattle.np_calculus.specs.Config.{Config}
-use Rattle.np_eval.specs.Eval.{find_place}
-use Rattle.np_calculus.specs.Reductions.{goes, output_in, row}
-use Rattle.np_calculus.specs.Seen.{acting, is_at}
-use Rattle.np_calculus.proofs.Steps.{acting-step}
-use Rattle.np_calculus.proofs.Inversions.{TestStep, stop-step, fork-step, new-step, let-step, if-step, comm-step, rep-step, agent-step, depart-step}
-use Rattle.np_calculus.proofs.Inversions.{arrive-step, local-step, send-step, land-step, print-step, open-step, lookup-step, post-step}
-use Rattle.np_calculus.proofs.AgentForms.{of-layer, first-part, last-part}
-use Rattle.np_calculus.proofs.AgentValues.{OfValue, chan-fits, agent-fits, eval-fits, agent_of-fits, letter_of-fits, env-put, bind-fits}
-use Rattle.np_calculus.proofs.HousedAtoms.{OfAtoms, OfPackets, atoms-put, atoms-cut, packets-put, packets-cut}
-use Rattle.np_calculus.proofs.HousedAtoms.{goes-on, goes-in, found-on, choose, made-fits, offered-fits, atom-wider, atoms-wider, packets-wider}
+use Rattle.np_eval.specs.Forms.{as_out}
+use Rattle.np_eval.proofs.FormsByParts.{out-form}
+use Rattle.np_calculus.specs.Agents.{Agents, Each, HasPlace, Housed, OfAtom, expr_agents, proc_agents, value_agents}
+use Rattle.np_calculus.specs.Changes.{written}
+use Rattle.np_calculus.specs.FrameRule.{Every}
+use Rattle.np_calculus.specs.Reductions.{becomes, goes_under, output, site_in}
+use Rattle.np_calculus.proofs.AgentForms.{OfForm, OfProc, of-proc, of-layer, both-parts, halves}
+use Rattle.np_calculus.proofs.AgentValues.{OfValue, OfEnv, chan-fits, agent-fits, eval-fits, agent_of-fits, letter_of-fits, env-put, expr_value, bind-fits}
+use Rattle.np_calculus.proofs.Fits.{fits, has_place}
+use Rattle.np_calculus.proofs.Puts.{Puts, puts-row, tested}
+use Rattle.np_calculus.proofs.Rows.{lone, parts, so, taking}
+use Rattle.np_calculus.proofs.Steps.{acting-step, offered-step, row-step, same-offer}
+use Rattle.np_calculus.proofs.Writes.{each-written, stays-written, written-there}
 
--- an agent that is at a site has a place
-at-site : (c : Config) (agent : Name) (site : ℕ) → is_at c agent site ≡ true → HasPlace c.places agent
-at-site c agent site h = some_place (map.get c.places agent) refl
-  where
-    some_place : (o : Option Place) → map.get c.places agent ≡ o → IsSome (map.get c.places agent)
-    some_place None is = absurd (let away : is_at c agent site ≡ false = rw is refl in cc)
-    some_place (Some p) is = rw is refl
+-- ---- atoms: what they send, and how they go on
 
-module _ (c : Config) (e : Event) (d : Config) (i : Housed c) where
-  abbrev P : Name → Type 0
-  P = HasPlace c.places
+module _ (P : Name → Type 0) where
+  abbrev pub OfAtoms : NameMap Atom → Type 0
+  OfAtoms atoms = (m : Name) (a : Atom) → map.get atoms m ≡ Some a → OfAtom P a
 
-  -- the acting atom
-  actor : (a : Atom) → acting c e ≡ Some a → OfAtom P a
-  actor a h = i.atoms e.actor a (acting-step c e a h).there
+  pub nothing-fits : OfEnv P map.empty
+  nothing-fits x v h = absurd (let e = sym (get-empty nat_cmp x) ∙ h in cc)
 
-  keeps-stop : row kind.Stop c e ≡ Some d → Housed d
-  keeps-stop h = let s = stop-step c e d h in rw s.is (record { atoms = atoms-cut P _ _ i.atoms; packets = i.packets })
+  -- an atom goes on in its environment, or under another one
+  goes-on : (a : Atom) (p : Proc) → OfAtom P a → OfProc P p → OfAtom P (goes a p)
+  goes-on a p t h = record { agent = t.agent; proc = h; env = t.env }
 
-  keeps-fork : row kind.Fork c e ≡ Some d → Housed d
-  keeps-fork h =
-      let s = fork-step c e d h in
-      let a = actor s.atom s.acts in
-      let g = of-layer P s.atom.proc _ s.form a.proc in
-      let made = atoms-put P c.atoms s.mark _ i.atoms (goes-on P s.atom s.right a (last-part P _ _ g)) in
-      rw s.is (record { atoms = atoms-put P _ e.actor _ made (goes-on P s.atom s.left a (first-part P _ _ g)); packets = i.packets })
+  goes-in : (a : Atom) (p : Proc) (env : Env) → OfAtom P a → OfProc P p → OfEnv P env → OfAtom P (goes_under a p env)
+  goes-in a p env t h k = record { agent = t.agent; proc = h; env = k }
 
-  keeps-new : row kind.New c e ≡ Some d → Housed d
-  keeps-new h =
-      let s = new-step c e d h in
-      let a = actor s.atom s.acts in
-      let g = of-layer P s.atom.proc _ s.form a.proc in
-      let env = env-put P s.atom.env s.binder (value.Chan s.chan) (chan-fits P s.chan) a.env in
-      rw s.is (record { atoms = atoms-put P c.atoms e.actor _ i.atoms (goes-in P s.atom s.body _ a g env); packets = i.packets })
+  found-on : (a : Atom) (x : ℕ) (p q : Proc) (o : Option Name) → OfAtom P a → OfProc P p → OfProc P q → OfAtom P (found_on a x p q o)
+  found-on a x p q None t h k = goes-on a q t k
+  found-on a x p q (Some l) t h k = goes-in a p _ t h (env-put P a.env x (value.Chan l) (chan-fits P l) t.env)
 
-  keeps-let : row kind.Let c e ≡ Some d → Housed d
-  keeps-let h =
-      let s = let-step c e d h in
-      let a = actor s.atom s.acts in
-      let g = of-layer P s.atom.proc _ s.form a.proc in
-      let v = eval-fits P s.atom.env a.env s.bound s.value s.gives (first-part P _ _ g) in
-      let env = bind-fits P s.pat s.value s.atom.env s.env s.binds v a.env in
-      rw s.is (record { atoms = atoms-put P c.atoms e.actor _ i.atoms (goes-in P s.atom s.body s.env a (last-part P _ _ g) env); packets = i.packets })
+  choose : (b : Bool) (p q : Proc) → OfProc P p → OfProc P q → OfProc P (cond b p q)
+  choose true p q h k = h
+  choose false p q h k = k
 
-  keeps-if : row kind.If c e ≡ Some d → Housed d
-  keeps-if h =
-      let s = if-step c e d h in
-      let a = actor s.atom s.acts in
-      let g = of-layer P s.atom.proc _ s.form a.proc in
-      let way = choose P s.first s.met s.unmet (last-part P _ _ (first-part P _ _ g)) (last-part P _ _ g) in
-      rw s.is (record { atoms = atoms-put P c.atoms e.actor _ i.atoms (goes-on P s.atom _ a way); packets = i.packets })
+  -- an output that an event makes
+  made-fits : (agent n : Name) (v : Value) (tag : Tag) → P agent → OfValue P v → OfAtom P (output_in agent n v tag)
+  made-fits agent n v tag h k = record {
+    agent = h;
+    proc =
+        let both = both-parts P _ _ (expr_value P 0 (value.Chan n) (chan-fits P n)) (expr_value P 0 v k) in
+        of-proc P (output n v tag) _ (outs-Out _ _) both;
+    env = nothing-fits;
+  }
 
-  keeps-comm : row kind.Comm c e ≡ Some d → Housed d
-  keeps-comm h =
-      let s = comm-step c e d h in
-      let a = actor s.atom s.acts in
-      let g = of-layer P s.atom.proc _ s.form a.proc in
-      let v = offered-fits P c s.mark s.atom.agent s.chan s.value i.atoms s.offer in
-      let env = bind-fits P s.pat s.value s.atom.env s.env s.binds v a.env in
-      rw s.is (record { atoms = atoms-cut P _ s.mark (atoms-put P c.atoms e.actor _ i.atoms (goes-in P s.atom s.body s.env a (last-part P _ _ g) env)); packets = i.packets })
+  -- what an output sends
+  sends-fits : (a : Atom) (s : Name × Value) → OfAtom P a → sends a ≡ Some s → OfValue P s.1
+  sends-fits a s t h =
+      then (as_out (layer a.proc)) _ h λ parts form h. then (chan_of parts.0 a.env) _ h λ n on h. then (eval parts.1 a.env) _ h λ v gives h.
+      let same : s ≡ (n, v) = done h in
+      rw same (eval-fits P a.env t.env parts.1 v gives (halves P (of-layer P a.proc _ (out-form (layer a.proc) parts form) t.proc)).1)
 
-  keeps-rep : row kind.Rep c e ≡ Some d → Housed d
-  keeps-rep h =
-      let s = rep-step c e d h in
-      let a = actor s.atom s.acts in
-      let g = of-layer P s.atom.proc _ s.form a.proc in
-      let v = offered-fits P c s.mark s.atom.agent s.chan s.value i.atoms s.offer in
-      let env = bind-fits P s.pat s.value s.atom.env s.env s.binds v a.env in
-      rw s.is (record { atoms = atoms-put P c.atoms s.mark _ i.atoms (goes-in P s.atom s.body s.env a (last-part P _ _ g) env); packets = i.packets })
+  -- what the atom of a mark offers on a channel
+  offered-fits : (c : Config) (mark agent chan : Name) (v : Value) → OfAtoms c.atoms → offered c mark agent chan ≡ Some v → OfValue P v
+  offered-fits c mark agent chan v i h =
+      let o = offered-step c mark agent chan v h in
+      subst (OfValue P) (sym o.is) (sends-fits o.mate o.sent (i mark o.mate o.waits) o.sends_it)
 
-  -- an agent that has a place keeps one where a place is written
-  stays : (k : Name) (p : Place) (a : Name) → P a → HasPlace (map.insert c.places k p) a
-  stays k p a h = kept c.places a k p h
+-- what holds of more names
+module _ (P Q : Name → Type 0) (wider : (a : Name) → P a → Q a) where
+  each-wider : (agents : Agents) → Each P agents → Each Q agents
+  each-wider agents h = record { each = λ a i. wider a (h.each a i) }
 
-  keeps-agent : row kind.Agent c e ≡ Some d → Housed d
-  keeps-agent h =
-      let s = agent-step c e d h in
-      let b = s.agent in
-      let Q : Name → Type 0 = HasPlace (map.insert c.places b (place.At e.site)) in
-      let w : (a : Name) → P a → Q a = stays b (place.At e.site) in
-      let a = atom-wider P Q w s.atom (actor s.atom s.acts) in
-      let g = of-layer Q s.atom.proc _ s.form a.proc in
-      let there : Q b = put_there c.places b (place.At e.site) in
-      let env = env-put Q s.atom.env s.binder (value.Agent b) (agent-fits Q b there) a.env in
-      let made = atoms-put Q c.atoms s.mark _ (atoms-wider P Q w c.atoms i.atoms) (record { agent = there; proc = first-part Q _ _ g; env = env }) in
-      rw s.is (record { atoms = atoms-put Q _ e.actor _ made (goes-in Q s.atom s.rest _ a (last-part Q _ _ g) env); packets = packets-wider P Q w c.packets i.packets })
+  atom-wider : (a : Atom) → OfAtom P a → OfAtom Q a
+  atom-wider a t = record { agent = wider a.agent t.agent; proc = each-wider _ t.proc; env = λ x v h. each-wider _ (t.env x v h) }
 
-  keeps-depart : row kind.Depart c e ≡ Some d → Housed d
-  keeps-depart h =
-      let s = depart-step c e d h in
-      let Q : Name → Type 0 = HasPlace (map.insert c.places s.atom.agent (place.Way s.to)) in
-      let w : (a : Name) → P a → Q a = stays s.atom.agent (place.Way s.to) in
-      let a = atom-wider P Q w s.atom (actor s.atom s.acts) in
-      let g = of-layer Q s.atom.proc _ s.form a.proc in
-      let goes_there = atoms-put Q c.atoms e.actor _ (atoms-wider P Q w c.atoms i.atoms) (goes-on Q s.atom s.body a (last-part Q _ _ g)) in
-      rw s.is (record { atoms = goes_there; packets = packets-wider P Q w c.packets i.packets })
+  pub atoms-wider : (t : NameMap Atom) → OfAtoms P t → OfAtoms Q t
+  atoms-wider t h m a is = atom-wider a (h m a is)
 
-  keeps-arrive : row kind.Arrive c e ≡ Some d → Housed d
-  keeps-arrive h =
-      let s = arrive-step c e d h in
-      let Q : Name → Type 0 = HasPlace (map.insert c.places e.actor (place.At s.site)) in
-      let w : (a : Name) → P a → Q a = stays e.actor (place.At s.site) in
-      rw s.is (record { atoms = atoms-wider P Q w c.atoms i.atoms; packets = packets-wider P Q w c.packets i.packets })
+-- ---- events
 
-  asked : (b : Bool) (a : Atom) (agent chan : Name) (v : Value) (p q : Proc) → TestStep b c e a p q agent chan v d
-      → (b ≡ true → P agent) → OfValue P v → OfAtom P (goes a p) → OfAtom P (goes a q) → Housed d
-  asked true a agent chan v p q s there f g k =
-      let made = atoms-put P c.atoms s.mark (output_in agent chan v e.tag) i.atoms (made-fits P agent chan v e.tag (there refl) f) in
-      rw s.is (record { atoms = atoms-put P _ e.actor (goes a p) made g; packets = i.packets })
-  asked false a agent chan v p q s there f g k = rw s.is (record { atoms = atoms-put P c.atoms e.actor (goes a q) i.atoms k; packets = i.packets })
+-- what the acting atom puts names no agents but those of the configuration, of its site, and of the places that are written
+module _ (P : Name → Type 0) (c : Config) (e : Event) (d : Change) where
+  abbrev F : Change → Type 0
+  F = Puts (OfAtom P) (λ p. OfValue P p.value)
 
-  keeps-local : row kind.Local c e ≡ Some d → Housed d
-  keeps-local h =
-      let s = local-step c e d h in
-      let a = actor s.atom s.acts in
-      let g = of-layer P s.atom.proc _ s.form a.proc in
-      let v = eval-fits P s.atom.env a.env s.sent s.value s.gives (last-part P _ _ (first-part P _ _ (first-part P _ _ g))) in
-      let met = goes-on P s.atom s.met a (last-part P _ _ (first-part P _ _ g)) in
-      let unmet = goes-on P s.atom s.unmet a (last-part P _ _ g) in
-      asked _ s.atom s.agent s.chan s.value s.met s.unmet s.is (at-site c s.agent e.site) v met unmet
+  abbrev w : Sight
+  w = sight c.sites (inside c) e.site
 
-  keeps-send : row kind.Send c e ≡ Some d → Housed d
-  keeps-send h =
-      let s = send-step c e d h in
-      let a = actor s.atom s.acts in
-      let g = of-layer P s.atom.proc _ s.form a.proc in
-      let v = eval-fits P s.atom.env a.env s.sent s.value s.gives (last-part P _ _ g) in
-      rw s.is (record { atoms = atoms-cut P _ _ i.atoms; packets = packets-put P c.packets e.actor _ i.packets v })
+  module _ (i : OfAtoms P c.atoms) (here : (b : Name) → is_at c b e.site ≡ true → P b) (seated : Every (λ w. P w.0) d.places) (a : Atom) (acts : acting c e ≡ Some a) where
+    f : OfAtom P a
+    f = i e.actor a (acting-step c e a acts).there
 
-  -- a packet's value comes into an agent that is at the site
-  landed : (b : Bool) (agent chan : Name) (v : Value) → (b ≡ true → P agent) → OfValue P v
-      → OfAtoms P (cond b (map.insert c.atoms e.actor (output_in agent chan v e.tag)) c.atoms)
-  landed true agent chan v there f = atoms-put P c.atoms e.actor _ i.atoms (made-fits P agent chan v e.tag (there refl) f)
-  landed false agent chan v there f = i.atoms
+    its : {l : Layer} → layer a.proc ≡ l → OfForm P l
+    its {l} is = of-layer P a.proc l is f.proc
 
-  keeps-land : row kind.Land c e ≡ Some d → Housed d
-  keeps-land h =
-      let s = land-step c e d h in
-      let p = s.packet in
-      let made = landed (is_at c p.agent e.site) p.agent p.chan p.value (at-site c p.agent e.site) (i.packets e.actor p s.flies) in
-      rw s.is (record { atoms = made; packets = packets-cut P _ _ i.packets })
+    gives : (x : Expr) (v : Value) → eval x a.env ≡ Some v → Each P (expr_agents x) → OfValue P v
+    gives = eval-fits P a.env f.env
 
-  keeps-print : row kind.Print c e ≡ Some d → Housed d
-  keeps-print h = let s = print-step c e d h in rw s.is (record { atoms = atoms-cut P _ _ i.atoms; packets = i.packets })
+    on : {b : Atom} → OfAtom P b → F (becomes e b)
+    on h = record { atoms = (h, tt); packets = tt }
 
-  keeps-post : row kind.Post c e ≡ Some d → Housed d
-  keeps-post h =
-      let s = post-step c e d h in
-      let a = actor s.atom s.acts in
-      let g = of-layer P s.atom.proc _ s.form a.proc in
-      let b = agent_of-fits P s.atom.env a.env s.receiver s.agent s.names (first-part P _ _ (first-part P _ _ g)) in
-      let v = eval-fits P s.atom.env a.env s.sent s.value s.gives (last-part P _ _ g) in
-      rw s.is (record { atoms = atoms-put P c.atoms e.actor _ i.atoms (made-fits P s.agent s.chan s.value e.tag b v); packets = i.packets })
+    -- an input with what it takes
+    took : (x : Pat) (p : Proc) (n o : Name) (v : Value) (env : Env) → offered_in w.atom o a.agent n ≡ Some v → bind x v a.env ≡ Some env → Each P (proc_agents p)
+        → OfAtom P (goes_under a p env)
+    took x p n o v env offer binds h =
+        let there = subst (λ s. s ≡ Some v) (same-offer c e a o n acts) offer in
+        goes-in P a p env f h (bind-fits P x v a.env env binds (offered-fits P c o a.agent n v i there) f.env)
 
-  keeps-open : row kind.Open c e ≡ Some d → Housed d
-  keeps-open h =
-      let s = open-step c e d h in
-      let a = actor s.atom s.acts in
-      let g = of-layer P s.atom.proc _ s.form a.proc in
-      let v = letter_of-fits P s.atom.env a.env s.expr s.letter s.holds g in
-      rw s.is (record { atoms = atoms-put P c.atoms e.actor _ i.atoms (made-fits P s.atom.agent s.letter.0 s.letter.1 e.tag a.agent v); packets = i.packets })
+    puts : (k : Kind) → act k (layer a.proc) w e a ≡ Some d → F d
+    unfolding act
+    puts kind.Stop h = parts kind.Stop w e a h λ p is h. lone F e h (record { atoms = (tt, tt); packets = tt })
+    puts kind.Fork h = parts kind.Fork w e a h λ (p, q) is h. then (one_made e.made) _ h λ m made h. then (no_other e.other) _ h λ l other h.
+        let (x, y) = halves P (its is) in
+        so F e h (record { atoms = (goes-on P a q f y, (goes-on P a p f x, tt)); packets = tt })
+    puts kind.New h = parts kind.New w e a h λ (x, t, p) is h. then (one_made e.made) _ h λ n made h. then (no_other e.other) _ h λ l other h.
+        so F e h (on (goes-in P a p _ f (its is) (env-put P a.env x (value.Chan n) (chan-fits P n) f.env)))
+    puts kind.Let h = parts kind.Let w e a h λ (x, b, p) is h. then (eval b a.env) _ h λ v is_v h. then (bind x v a.env) _ h λ env binds h.
+        let (y, z) = halves P (its is) in
+        lone F e h (on (goes-in P a p env f z (bind-fits P x v a.env env binds (gives b v is_v y) f.env)))
+    puts kind.If h = parts kind.If w e a h λ (b, p, q) is h. then (truth_of b a.env) _ h λ t truth h.
+        let (y, z) = halves P (its is) in
+        lone F e h (on (goes-on P a _ f (choose P t p q (halves P y).1 z)))
+    puts kind.Comm h = parts kind.Comm w e a h λ (b, x, p) is h. taking w e a b x _ h λ n o v env on offer binds h.
+        so F e h (record { atoms = (took x p n o v env offer binds (halves P (its is)).1, (tt, tt)); packets = tt })
+    puts kind.Rep h = parts kind.Rep w e a h λ (b, x, p) is h. taking w e a b x _ h λ n o v env on offer binds h.
+        so F e h (record { atoms = (took x p n o v env offer binds (halves P (its is)).1, tt); packets = tt })
+    puts kind.Agent h = parts kind.Agent w e a h λ (x, p, q) is h. then (two_made e.made) _ h λ m made h. then (no_other e.other) _ h λ l other h.
+        let there : P m.0 = (subst (λ (d : Change). Every (λ w. P w.0) d.places) (done h) seated).0 in
+        let env = env-put P a.env x (value.Agent m.0) (agent-fits P m.0 there) f.env in
+        let (y, z) = halves P (its is) in
+        so F e h (record { atoms = (record { agent = there; proc = y; env = env }, (goes-in P a q _ f z env, tt)); packets = tt })
+    puts kind.Depart h = parts kind.Depart w e a h λ (s, p) is h. then (site_in c.sites s a.env) _ h λ t names h.
+        lone F e h (record { atoms = (goes-on P a p f (halves P (its is)).1, tt); packets = tt })
+    puts kind.Arrive h = absurd cc
+    puts kind.Local h = parts kind.Local w e a h λ (b, x, s, p, q) is h. then (agent_of b a.env) _ h λ m names h. then (chan_of x a.env) _ h λ n along h.
+        then (eval s a.env) _ h λ v is_v h. then (no_other e.other) _ h λ l other h.
+        let (y, unmet) = halves P (its is) in
+        let (z, met) = halves P y in
+        let sent = gives s v is_v (halves P z).1 in
+        tested _ _ c e d a (is_at c m e.site) p q m n v (λ at. made-fits P m n v e.tag (here m at) sent) (goes-on P a p f met) (goes-on P a q f unmet) h
+    puts kind.Send h = parts kind.Send w e a h λ (b, s, x, m) is h. then (agent_of b a.env) _ h λ n names h. then (site_in c.sites s a.env) _ h λ t to h.
+        then (chan_of x a.env) _ h λ n along h. then (eval m a.env) _ h λ v is_v h.
+        lone F e h (record { atoms = (tt, tt); packets = (gives m v is_v (halves P (its is)).1, tt) })
+    puts kind.Land h = absurd cc
+    puts kind.Print h = parts kind.Print w e a h λ x is h. then (eval x a.env) _ h λ v is_v h. lone F e h (record { atoms = (tt, tt); packets = tt })
+    puts kind.Open h = parts kind.Open w e a h λ x is h. then (letter_of x a.env) _ h λ l holds h.
+        lone F e h (on (made-fits P a.agent l.0 l.1 e.tag f.agent (letter_of-fits P a.env f.env x l holds (its is))))
+    puts kind.Lookup h = parts kind.Lookup w e a h λ (b, m, x, p, q) is h. then (agent_of b a.env) _ h λ n names h. then (places_of m a.env) _ h λ ps lists h.
+        let (y, z) = halves P (its is) in
+        lone F e h (on (found-on P a x p q (find_place ps n) f (halves P y).1 z))
+    puts kind.Post h = parts kind.Post w e a h λ (b, x, s) is h. then (agent_of b a.env) _ h λ m names h. then (chan_of x a.env) _ h λ n along h.
+        then (eval s a.env) _ h λ v is_v h.
+        let (y, z) = halves P (its is) in
+        lone F e h (on (made-fits P m n v e.tag (agent_of-fits P a.env f.env b m names (halves P y).0) (gives s v is_v z)))
 
-  keeps-lookup : row kind.Lookup c e ≡ Some d → Housed d
-  keeps-lookup h =
-      let s = lookup-step c e d h in
-      let a = actor s.atom s.acts in
-      let g = of-layer P s.atom.proc _ s.form a.proc in
-      let l = found-on P s.atom s.binder s.met s.unmet (find_place s.places s.agent) a (last-part P _ _ (first-part P _ _ g)) (last-part P _ _ g) in
-      rw s.is (record { atoms = atoms-put P c.atoms e.actor _ i.atoms l; packets = i.packets })
-
-  -- each kind of event keeps the agents housed
-  pub kept-at : (k : Kind) → row k c e ≡ Some d → Housed d
-  kept-at kind.Stop = keeps-stop
-  kept-at kind.Fork = keeps-fork
-  kept-at kind.New = keeps-new
-  kept-at kind.Let = keeps-let
-  kept-at kind.If = keeps-if
-  kept-at kind.Comm = keeps-comm
-  kept-at kind.Rep = keeps-rep
-  kept-at kind.Agent = keeps-agent
-  kept-at kind.Depart = keeps-depart
-  kept-at kind.Arrive = keeps-arrive
-  kept-at kind.Local = keeps-local
-  kept-at kind.Send = keeps-send
-  kept-at kind.Land = keeps-land
-  kept-at kind.Print = keeps-print
-  kept-at kind.Open = keeps-open
-  kept-at kind.Lookup = keeps-lookup
-  kept-at kind.Post = keeps-post
+-- each event keeps the agents housed
+pub kept-at : (c : Config) (e : Event) (d : Config) → Housed c → row e.kind c e ≡ Some d → Housed d
+kept-at c e d i h =
+    let s = row-step c e d e.kind h in
+    let settled = (fits c.sites (inside c) e s.made s.gives).settled in
+    let P : Name → Type 0 = HasPlace c.places in
+    let Q : Name → Type 0 = HasPlace (written c.places s.made.places) in
+    let wider : (a : Name) → P a → Q a = stays-written s.made.places c.places settled in
+    let here : (b : Name) → is_at c b e.site ≡ true → Q b = λ b at. wider b (has_place _ e.site at) in
+    let atoms : OfAtoms Q c.atoms = atoms-wider P Q wider c.atoms i.atoms in
+    let packets : (m : Name) (p : Packet) → map.get c.packets m ≡ Some p → Each Q (value_agents p.value) = λ m p is. each-wider P Q wider _ (i.packets m p is) in
+    let lands = λ (p : Packet) (flies : map.get c.packets e.actor ≡ Some p) (at : is_at c p.agent e.site ≡ true). made-fits Q p.agent p.chan p.value e.tag (here p.agent at) (packets e.actor p flies) in
+    let acts = λ (a : Atom) (is : acting c e ≡ Some a). puts Q c e s.made atoms here (written-there s.made.places c.places settled) a is e.kind in
+    let p = puts-row _ _ c e s.made lands e.kind acts s.gives in
+    rw s.is (record { atoms = each-written _ s.made.atoms c.atoms p.atoms atoms; packets = each-written _ s.made.packets c.packets p.packets packets })

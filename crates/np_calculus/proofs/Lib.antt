@@ -7,11 +7,11 @@ pub mod ExampleRuns
 pub mod Fits
 pub mod FrameRule
 pub mod Housed
-pub mod HousedAtoms
 pub mod HousedKept
 pub mod Inversions
 pub mod NotEnabled
 pub mod OwnNames
+pub mod Puts
 pub mod Rows
 pub mod Steps
 pub mod Touches

@@ -1,7 +1,7 @@
 -- The rows of acting atoms, by the parts of their forms.
-use Rattle.std.proofs.Common.{◌≡◌, Option, None, Some, refl, ap, sym, ◌∙◌}
-use Rattle.np_calculus.proofs.Common.{ProcForm-F, Event, Kind, ◌>>=◌, then, Layer, layer, Atom, Config, Sight, inside, sight, Change, after_change, row, act}
-use Rattle.np_calculus.proofs.Common.{acting}
+use Rattle.std.proofs.Common.{◌≡◌, Option, None, Some, refl, ap, sym, subst, ◌∙◌}
+use Rattle.np_calculus.proofs.Common.{Name, Value, Expr, Pat, ProcForm-F, Event, Kind, ◌>>=◌, ◌>>◌, then, done, Env, chan_of, bind, Layer, layer, Atom, Config, Sight}
+use Rattle.np_calculus.proofs.Common.{inside, sight, Change, none_made, no_other, offered_in, after_change, row, act, acting}
 use Rattle.np_syntax.specs.declared.event.Kind.TheVariants as kind
 use Rattle.np_eval.specs.FormParts.{as_stop, as_par, as_new, as_inp, as_rep, as_agent_form, as_migrate, as_iflocal, as_send, as_post, as_if, as_let, as_print, as_open, as_lookup}
 use Rattle.np_eval.proofs.FormsByParts as form
@@ -75,6 +75,23 @@ by _ _ w e a = refl
 pub parts : {R : Type 0} (k : Kind) (w : Sight) (e : Event) (a : Atom) {x : Change} → act k (layer a.proc) w e a ≡ Some x
     → ((p : (asked k).Parts) → layer a.proc ≡ (asked k).form p → act k ((asked k).form p) w e a ≡ Some x → R) → R
 parts k w e a h f = then ((asked k).parts (layer a.proc)) _ (sym (by k (layer a.proc) w e a) ∙ h) λ p is h. f p (is-form k (layer a.proc) p is) h
+
+-- the last step of a row, and the last steps of one that makes no name and takes no output
+module _ (F : Change → Type 0) (e : Event) {x y : Change} where
+  pub so : Some y ≡ Some x → F y → F x
+  so h f = subst F (sym (done h)) f
+
+  pub lone : (none_made e.made >> (no_other e.other >> Some y)) ≡ Some x → F y → F x
+  lone h f = then (none_made e.made) _ h λ u made h. then (no_other e.other) _ h λ v other h. so h f
+
+-- the steps of an input, which takes the output of a mark off its channel
+pub taking : {R : Type 0} (w : Sight) (e : Event) (a : Atom) (c : Expr) (p : Pat) (f : Name → Env → Change) {x : Change}
+    → (chan_of c a.env >>= λ n. e.other >>= λ o. offered_in w.atom o a.agent n >>= λ v. bind p v a.env >>= λ env. none_made e.made >> Some (f o env)) ≡ Some x
+    → ((n o : Name) (v : Value) (env : Env) → chan_of c a.env ≡ Some n → offered_in w.atom o a.agent n ≡ Some v → bind p v a.env ≡ Some env → Some (f o env) ≡ Some x → R)
+    → R
+taking w e a c p f h r =
+    then (chan_of c a.env) _ h λ n on h. then e.other _ h λ o other h. then (offered_in w.atom o a.agent n) _ h λ v offer h.
+    then (bind p v a.env) _ h λ env binds h. then (none_made e.made) _ h λ u made h. r n o v env on offer binds h
 
 module _ (c : Config) (e : Event) where
   abbrev w : Sight

@@ -7,10 +7,7 @@ use Rattle.np_calculus.proofs.Common.{Contents, Name, Value, Event, Kind, Made, 
 use Rattle.np_calculus.proofs.Common.{Config, inside, sight, at_site, Change, effect, same_tag, none_made, one_made, two_made, sends, offered_in, are_new}
 use Rattle.np_calculus.proofs.Common.{change, row, acting, is_at, offered}
 use Rattle.np_syntax.specs.declared.event.Made.TheVariants as made
-use Rattle.np_syntax.proofs.Bools.{and-out}
 use Rattle.np_calculus.specs.declared.config.Place.TheVariants as place
-use Rattle.np_calculus.specs.Changes.{with_made}
-use Rattle.np_calculus.specs.Seen.{fresh}
 
 -- ---- the names that are made
 
@@ -43,24 +40,6 @@ module _ (c : Config) (e : Event) (d : Config) where
 
   pub row-step : (k : Kind) → row k c e ≡ Some d → RowStep k
   row-step k h = then (change k c.sites (inside c) e) _ h λ x gives h. when (are_new c.born e.made) _ h λ new h. record { made = x; gives = gives; new = new; is = done h }
-
-  -- the effect of a change, where these names are born afterwards
-  pub made-is : {born : NameSet} (x y : Change) → with_made c.born e.made ≡ born → Some y ≡ Some x → d ≡ effect c e x → d ≡ record (effect c e y) { born = born }
-  made-is {born = born} x y made same is =
-      is ∙ ap (λ b. record (effect c e x) { born = b }) made ∙ ap (λ z. record (effect c e z) { born = born }) (done same)
-
-  pub one-fresh : (m : Name) → one_made e.made ≡ Some m → are_new c.born e.made ≡ true → fresh c m ≡ Some tt
-  one-fresh m made new = ap need (sym (one-new c.born e.made m made) ∙ new)
-
-  pub record TwoFresh (m : Name × Name) : Type 0 where
-    pub differ : not (same_name m.0 m.1) ≡ true
-    pub first : fresh c m.0 ≡ Some tt
-    pub second : fresh c m.1 ≡ Some tt
-
-  pub two-fresh : (m : Name × Name) → two_made e.made ≡ Some m → are_new c.born e.made ≡ true → TwoFresh m
-  two-fresh m made new =
-      let h = and-out _ _ (sym (ap (are_new c.born) (is-two e.made m made)) ∙ new) in let k = and-out _ _ h.1 in
-      record { differ = h.0; first = ap need k.0; second = ap need k.1 }
 
 -- ---- the acting atom
 

@@ -2,7 +2,7 @@
 use Rattle.std.proofs.Common.{◌≡◌, Bool, true, false, cond, inl, inr, List, [], ◌∷◌, Option, None, Some, IsSome, IfSome, refl, ap, sym, subst, ◌∙◌}
 use Rattle.std.specs.FinMap as map
 use mathlib.Core.Path.{fun_ext}
-use Rattle.np_calculus.proofs.Common.{Name, Event, done, NameMap, same_name, same_name-is, Config, Contents, inside, Change, Write, effect}
+use Rattle.np_calculus.proofs.Common.{Name, Event, done, NameMap, same_name, same_name-is, same_name-itself, Config, Contents, inside, Change, Write, effect}
 use Rattle.np_tables.proofs.Tables.{get-put, get-cut}
 use Rattle.np_calculus.specs.Changes.{rewritten, written}
 use Rattle.np_calculus.specs.FrameRule.{Every, left_by, changed, Writes}
@@ -62,6 +62,21 @@ module _ {X : Type 0} where
   -- where no write removes, what stood there stands there still
   pub left-there : (ws : List (Write X)) (q : Name) (o : Option X) → Every (λ w. IsSome w.1) ws → IsSome o → IsSome (left_by ws q o)
   left-there ws q o h is = left-by IsSome ws q o is (every-map _ _ (λ w p same. p) ws h)
+
+  -- what holds of each entry and of what is written holds of each entry afterwards
+  pub each-written : (P : X → Type 0) (ws : List (Write X)) (t : NameMap X) → Every (λ w. IfSome w.1 P) ws → ((q : Name) (x : X) → map.get t q ≡ Some x → P x)
+      → (q : Name) (x : X) → map.get (written t ws) q ≡ Some x → P x
+  each-written P ws t h old q x is = left-is P ws q (map.get t q) h (old q) x (sym (get-written ws t q) ∙ is)
+
+  -- where no write removes, what stood there and what is written stand there afterwards
+  pub stays-written : (ws : List (Write X)) (t : NameMap X) → Every (λ w. IsSome w.1) ws → (q : Name) → IsSome (map.get t q) → IsSome (map.get (written t ws) q)
+  stays-written ws t h q is = subst IsSome (sym (get-written ws t q)) (left-there ws q (map.get t q) h is)
+
+  pub written-there : (ws : List (Write X)) (t : NameMap X) → Every (λ w. IsSome w.1) ws → Every (λ w. IsSome (map.get (written t ws) w.0)) ws
+  written-there [] t h = tt
+  written-there (w ∷ ws) t h =
+      let u : NameMap X = rewritten t w.0 w.1 in
+      (stays-written ws u h.1 w.0 (rw (get-rewritten t w.0 w.1 w.0, same_name-itself w.0) h.0), written-there ws u h.1)
 
 pub writes-map : (A B M N : Name → Type 0) → ((q : Name) → A q → B q) → ((q : Name) → M q → N q) → (d : Change) → Writes A M d → Writes B N d
 writes-map A B M N f g d t = record {

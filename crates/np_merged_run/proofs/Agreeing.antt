@@ -1,14 +1,13 @@
 -- A configuration that agrees with what a site has is that and a rest.
 use Rattle.std.proofs.Common.{◌≡◌, inl, inr, ℕ, Option, None, Some, IsSome, refl}
 use mathlib.Core.Path.{fun_ext}
-use Rattle.np_syntax.specs.declared.value.Name.{Name}
+use Rattle.np_calculus.proofs.Common.{Name, Config, Contents, inside}
 use Rattle.np_calculus.specs.declared.config.Atom.{Atom}
 use Rattle.np_calculus.specs.declared.config.Packet.{Packet}
 use Rattle.np_calculus.specs.declared.config.Place.TheVariants as place
-use Rattle.np_calculus.specs.Config.{Config}
 use Rattle.np_calculus.specs.Parts.{IsAway, IsLodged, IsWhole, either}
-use Rattle.np_calculus.specs.Sight.{Contents, inside}
-use Rattle.np_calculus.proofs.FrameRule.{frame_rule, none_of}
+use Rattle.np_calculus.proofs.Fits.{some}
+use Rattle.np_calculus.proofs.FrameRule.{frame_rule, none-some, none_of}
 use Rattle.np_merged_run.specs.Agrees.{Agrees, EventOfSite, lacking, minus}
 
 -- a look-up of the whole is one of the part, or else one of the rest
@@ -43,13 +42,6 @@ module _ {X Y : Type 0} where
 gone_too : {X Y : Type 0} (o : Option X) (c : Option Y) → c ≡ None → lacking o c ≡ None
 gone_too None c h = h
 gone_too (Some x) c h = refl
-
-none-some : {X : Type 0} (o : Option X) → o ≡ None → IsSome o → ⊥
-none-some None e h = cc
-none-some (Some x) e h = cc
-
-some : {X : Type 0} (o : Option X) (x : X) → o ≡ Some x → IsSome o
-some o x h = rw h refl
 
 module _ (part whole : Config) (site : ℕ) (a : Agrees part whole site) where
   abbrev x : Contents

@@ -1,17 +1,12 @@
 -- An agent with its atoms, or a packet, leaves what a site has, and an item comes to it.
 use Rattle.std.proofs.Common.{◌≡◌, inl, inr, ℕ, Bool, true, false, cond, [], ◌∷◌, Option, None, Some, IsSome, refl, ap, sym, subst, ◌∙◌}
 use mathlib.Core.Path.{fun_ext}
-use Rattle.np_syntax.specs.declared.value.Name.{Name}
-use Rattle.np_syntax.specs.Options.{◌>>=◌}
-use Rattle.np_tables.specs.Names.{same_name}
-use Rattle.np_syntax.proofs.Options.{done}
-use Rattle.np_tables.proofs.Tables.{same_name-is}
+use Rattle.np_calculus.proofs.Common.{Name, ◌>>=◌, done, same_name, same_name-is, Config, Contents, inside}
 use Rattle.np_calculus.specs.declared.config.Atom.{Atom}
 use Rattle.np_calculus.specs.declared.config.Place.TheVariants as place
-use Rattle.np_calculus.specs.Config.{Config}
 use Rattle.np_calculus.specs.Parts.{IsAway, IsLodged, IsOfSite, either}
-use Rattle.np_calculus.specs.Sight.{Contents, inside}
-use Rattle.np_calculus.proofs.FrameRule.{keeps_of_site}
+use Rattle.np_calculus.proofs.Fits.{some}
+use Rattle.np_calculus.proofs.FrameRule.{keeps_of_site, none-some}
 use Rattle.np_calculus.proofs.Writes.{either-none}
 use Rattle.np_merged_run.specs.Items.{AgentLeaves, ItemComes, PacketLeaves, of_agent, of_packet, without_agent, without_packet}
 use Rattle.np_merged_run.specs.Joined.{IsJoined}
@@ -38,10 +33,6 @@ module _ {X : Type 0} where
   others t None h = refl
   others t (Some x) h = other (t x) (Some x) h
 
-  none-not : (o : Option X) → o ≡ None → IsSome o → ⊥
-  none-not None e h = cc
-  none-not (Some x) e h = cc
-
   only : (t : Bool) (o : Option X) (x : X) → cond t o None ≡ Some x → (t ≡ true) × (o ≡ Some x)
   only true o x h = (refl, h)
   only false o x h = absurd cc
@@ -62,9 +53,6 @@ module _ {X : Type 0} where
       let p = rest (t y) (Some y) x h in
       (ap t (done p.1) ∙ p.0, p.1)
 
-some : {X : Type 0} (o : Option X) (x : X) → o ≡ Some x → IsSome o
-some o x h = rw h refl
-
 module _ (x : Contents) where
   agent-joined : (a : Name) → ((m : Name) → x.packet m ≡ None) → IsJoined x (without_agent x a ∷ of_agent x a ∷ [])
   agent-joined a none = record {
@@ -78,7 +66,7 @@ module _ (x : Contents) where
         agents = λ q is. other (same_name q a) (x.place q) is;
         marks = λ m is. elim is [
           | inl h ↦ record { atom = others (λ (b : Atom). same_name b.agent a) (x.atom m) h; packet = refl }
-          | inr h ↦ absurd (none-not (x.packet m) (none m) h)
+          | inr h ↦ absurd (none-some (x.packet m) (none m) h)
         ];
       },
       (record { agents = λ q is. refl; marks = λ q is. record { atom = refl; packet = refl } }, tt),
@@ -86,7 +74,7 @@ module _ (x : Contents) where
   }
 
   unmarked : (m q : Name) → x.atom m ≡ None → (t : Bool) → same_name q m ≡ t → IsSome (x.atom q) → either (cond t (x.packet q) None) None ≡ None
-  unmarked m q none true e h = absurd (none-not (x.atom q) (ap x.atom (same_name-is q m e) ∙ none) h)
+  unmarked m q none true e h = absurd (none-some (x.atom q) (ap x.atom (same_name-is q m e) ∙ none) h)
   unmarked m q none false e h = refl
 
   packet-joined : (m : Name) → x.atom m ≡ None → IsJoined x (without_packet x m ∷ of_packet x m ∷ [])

@@ -1,11 +1,10 @@
 -- Parts side by side may be grouped and ordered in any way.
 use Rattle.std.proofs.Common.{◌≡◌, ◌⊎◌, inl, inr, List, [], ◌∷◌, ◌++◌, Option, None, Some, IsSome, refl, ap, sym, subst, ◌∙◌}
 use mathlib.Core.Path.{fun_ext}
-use Rattle.np_syntax.specs.declared.value.Name.{Name}
+use Rattle.np_calculus.proofs.Common.{Name, Contents}
 use Rattle.np_calculus.specs.FrameRule.{Every}
 use Rattle.np_calculus.specs.Parts.{IsApart, IsMark, LacksMark, either, beside, nothing}
-use Rattle.np_calculus.specs.Sight.{Contents}
-use Rattle.np_calculus.proofs.FrameRule.{lacks, none_of}
+use Rattle.np_calculus.proofs.FrameRule.{lacks, none-some, none_of}
 use Rattle.np_merged_run.specs.Joined.{AreApart, IsJoined, Reordered, and_then, behind, kept, swapped, together}
 
 module _ {X : Type 0} where
@@ -46,13 +45,9 @@ beside-swap x y z h = λ i. record {
   packet = fun_ext (λ q. either-swap (x.packet q) (y.packet q) (z.packet q) (λ is. (h.marks q (inr is)).packet)) i;
 }
 
-none-some : {X : Type 0} (o : Option X) → IsSome o → o ≡ None → ⊥
-none-some None h e = cc
-none-some (Some x) h e = cc
-
 mark-not : (x : Contents) (q : Name) → IsMark x q → LacksMark x q → ⊥
-mark-not x q (inl h) l = none-some (x.atom q) h l.atom
-mark-not x q (inr h) l = none-some (x.packet q) h l.packet
+mark-not x q (inl h) l = none-some (x.atom q) l.atom h
+mark-not x q (inr h) l = none-some (x.packet q) l.packet h
 
 mark-one : (x y : Contents) (q : Name) → IsMark (beside x y) q → IsMark x q ⊎ IsMark y q
 mark-one x y q (inl h) = elim (one_of (x.atom q) (y.atom q) h) [ inl a ↦ inl (inl a) | inr b ↦ inr (inl b) ]
@@ -62,7 +57,7 @@ mark-one x y q (inr h) = elim (one_of (x.packet q) (y.packet q) h) [ inl a ↦ i
 
 pub apart-back : (x y : Contents) → IsApart x y → IsApart y x
 apart-back x y h = record {
-  agents = λ q is. none_of (x.place q) λ other. none-some (y.place q) is (h.agents q other);
+  agents = λ q is. none_of (x.place q) λ other. none-some (y.place q) (h.agents q other) is;
   marks = λ q is. lacks x q λ other. mark-not y q is (h.marks q other);
 }
 

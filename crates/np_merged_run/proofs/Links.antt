@@ -1,9 +1,8 @@
 -- What is taken from a link or put on one leaves and joins the items under way.
 use Rattle.std.proofs.Common.{◌≡◌, ◌<◌, ℕ, zero, suc, Bool, true, false, ◌&&◌, nat_eq, List, [], ◌∷◌, ◌++◌, map, Option, None, Some, refl, ap, sym, subst, ◌∙◌, arith}
 use Rattle.std.proofs.lemmas.Bool.{eqb-true, eq-eqb}
-use Rattle.np_syntax.specs.Options.{◌>>=◌}
+use Rattle.np_calculus.proofs.Common.{◌>>=◌, Contents}
 use Rattle.np_calculus.specs.Reductions.{run}
-use Rattle.np_calculus.specs.Sight.{Contents}
 use Rattle.np_merged_run.specs.Joined.{Reordered, and_then, behind, kept, swapped}
 use Rattle.np_merged_run.specs.Links.{Item, Linked, Links, MergedRun, Move, MovesTo, Puts, Takes, air, loads, over, spread, with_link}
 use Rattle.np_merged_run.specs.Steps.{IsSpread, Step, StepsTo}

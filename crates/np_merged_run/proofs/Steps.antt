@@ -4,23 +4,16 @@ use Rattle.std.proofs.lemmas.Bool.{eqb-true, eq-eqb}
 use Rattle.std.proofs.lemmas.List.{append-nil}
 use Rattle.std.proofs.lemmas.List.Elements.{filter-append}
 use Rattle.std.specs.FinSet as set
-use Rattle.np_syntax.specs.declared.value.Name.{Name}
-use Rattle.np_syntax.specs.declared.value.Value.{Value}
-use Rattle.np_syntax.specs.declared.event.Event.{Event}
-use Rattle.np_syntax.specs.declared.event.Made.{Made}
+use Rattle.np_calculus.proofs.Common.{Name, Value, Event, Made, ◌>>=◌, NameSet, same_name, same_name-is, Config, Contents, inside, are_new, apply}
 use Rattle.np_syntax.specs.declared.event.Made.TheVariants as made
-use Rattle.np_syntax.specs.Options.{◌>>=◌}
-use Rattle.np_tables.specs.Names.{NameSet, same_name}
-use Rattle.np_tables.proofs.Tables.{same_name-is, born_insert}
+use Rattle.np_tables.proofs.Tables.{born_insert}
 use Rattle.np_calculus.specs.declared.config.Atom.{Atom}
 use Rattle.np_calculus.specs.declared.config.Place.{Place}
 use Rattle.np_calculus.specs.declared.config.Place.TheVariants as place
 use Rattle.np_calculus.specs.Changes.{with_made, with_said}
-use Rattle.np_calculus.specs.Config.{Config}
 use Rattle.np_calculus.specs.FrameRule.{Every, Framed, IsMade}
 use Rattle.np_calculus.specs.Parts.{IsApart, IsAway, IsLodged, IsOfSite, IsWhole, beside, either}
-use Rattle.np_calculus.specs.Reductions.{apply, are_new, run}
-use Rattle.np_calculus.specs.Sight.{Contents, inside}
+use Rattle.np_calculus.specs.Reductions.{run}
 use Rattle.np_calculus.proofs.FrameRule.{either-here, either-there, frame_rule}
 use Rattle.np_calculus.proofs.OwnNames.{not_true}
 use Rattle.np_calculus.proofs.Steps.{row-step}

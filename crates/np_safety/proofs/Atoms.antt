@@ -1,8 +1,8 @@
 -- Atoms in which each value fits: what they send and take, and how they go on.
-use Rattle.std.proofs.Common.{◌≡◌, true, List, inl, inr, Option, None, Some, Ok, refl, subst, sym, ap, ◌∙◌}
+use Rattle.std.proofs.Common.{◌≡◌, true, List, Option, None, Some, Ok, refl, subst, sym, ap, ◌∙◌}
 use Rattle.std.specs.FinMap as table
 use Rattle.std.specs.FinMap.{get-empty}
-use Rattle.np_safety.proofs.Common.{nat_cmp, Name, Value, Cap, Ty, Expr, Pat, Proc, put_cases, same_name-is, reads, writes, sub, is_letter}
+use Rattle.np_safety.proofs.Common.{nat_cmp, Name, Value, Cap, Ty, Expr, Pat, Proc, same_name-is, reads, writes, sub, is_letter}
 use Rattle.np_safety.proofs.Common.{is_places, World, all_locks, kind, Types, least, sub-trans, Checking, check_step, Env, eval, layer, Atom, Config, Fits}
 use Rattle.np_safety.proofs.Common.{Sent, LeastOf}
 use Rattle.np_syntax.specs.declared.value.Value as value
@@ -10,13 +10,10 @@ use Rattle.np_syntax.specs.declared.types.Ty.TheVariants.{outs-Chan}
 use Rattle.np_syntax.specs.declared.expression.ExprForm as expr
 use Rattle.np_syntax.specs.declared.process.Tag.{Tag}
 use Rattle.np_syntax.specs.declared.process.ProcForm.TheVariants.{outs-Out}
-use Rattle.np_tables.specs.Names.{NameMap}
 use Rattle.np_syntax.proofs.Options as maybe
-use Rattle.np_tables.proofs.Tables.{cut_cases}
 use Rattle.np_types.specs.declared.fault.Rule.TheVariants as rule
 use Rattle.np_types.specs.Checks.{want}
 use Rattle.np_types.proofs.Leasts.{least-form, least-val, output-parts}
-use Rattle.np_calculus.specs.declared.config.Packet.{Packet}
 use Rattle.np_eval.specs.Eval.{bind, chan_of, letter_of, places_of, as_letter, as_places}
 use Rattle.np_eval.specs.Forms.{as_out}
 use Rattle.np_calculus.specs.Reductions.{sends, output_in}
@@ -24,7 +21,7 @@ use Rattle.np_calculus.specs.Seen.{offered}
 use Rattle.np_eval.proofs.FormsByParts.{out-form}
 use Rattle.np_calculus.specs.Reductions as made
 use Rattle.np_calculus.proofs.Steps.{offered-step}
-use Rattle.np_safety.proofs.Fitting.{Agrees, FittingAtom, FittingAtoms, SentPackets}
+use Rattle.np_safety.proofs.Fitting.{Agrees, FittingAtom, FittingAtoms}
 use Rattle.np_safety.proofs.Shapes.{chan_value, letter_value, places_value, fits-below}
 use Rattle.np_safety.proofs.Evaluates.{evaluates, chan-kind}
 use Rattle.np_safety.proofs.Matches.{Bound, matches}
@@ -136,15 +133,3 @@ made-typed w agent n v tag s =
           ∙ output-parts w table.empty c x
           ∙ rw (value-least w table.empty (value.Chan n) _ (chan-kind w n s.own s.carries), outs-Chan s.own.0 s.own.1, s.may_write, value-least w table.empty v s.fits.type s.fits.is, s.fits.below) refl;
     }
-
-pub atoms-put : (w : World) (t : NameMap Atom) (k : Name) (v : Atom) → FittingAtoms w t → FittingAtom w v → FittingAtoms w (table.insert t k v)
-atoms-put w t k v h l m a is = elim (put_cases t k v m a is) [ inl e ↦ rw e.1 l | inr old ↦ h m a old ]
-
-pub atoms-cut : (w : World) (t : NameMap Atom) (k : Name) → FittingAtoms w t → FittingAtoms w (table.remove t k)
-atoms-cut w t k h m a is = h m a (cut_cases t k m a is).1
-
-pub packets-put : (w : World) (t : NameMap Packet) (k : Name) (v : Packet) → SentPackets w t → Sent w v.chan v.value → SentPackets w (table.insert t k v)
-packets-put w t k v h l m a is = elim (put_cases t k v m a is) [ inl e ↦ rw e.1 l | inr old ↦ h m a old ]
-
-pub packets-cut : (w : World) (t : NameMap Packet) (k : Name) → SentPackets w t → SentPackets w (table.remove t k)
-packets-cut w t k h m a is = h m a (cut_cases t k m a is).1

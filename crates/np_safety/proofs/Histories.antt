@@ -6,13 +6,13 @@ use Rattle.np_safety.proofs.Common.{Name, Cap, Ty, out-Ty, Event, same_name, sam
 use Rattle.np_syntax.specs.declared.event.Kind.{Kind}
 use Rattle.np_syntax.specs.declared.event.Kind.TheVariants as kind
 use Rattle.np_syntax.proofs.Options.{then, done}
-use Rattle.np_tables.proofs.Tables.{get-put, put_here, born_here}
+use Rattle.np_tables.proofs.Tables.{get-put, put_here}
 use Rattle.np_eval.specs.FormParts.{as_new}
 use Rattle.np_calculus.specs.Reductions.{one_made, row, apply, run}
 use Rattle.np_calculus.specs.Seen.{acting}
-use Rattle.np_calculus.proofs.Steps.{need-met, row-step}
-use Rattle.np_calculus.proofs.FrameRule.{not-false, still-born}
-use Rattle.np_calculus.proofs.Inversions.{new-step}
+use Rattle.np_calculus.proofs.Steps.{row-step}
+use Rattle.np_calculus.proofs.Fits.{makes-one}
+use Rattle.np_calculus.proofs.FrameRule.{made-born, made-unborn, still-born}
 use Rattle.np_safety.specs.Channels.{makes_at, noted, after, channels_after}
 use Rattle.np_safety.specs.Laws.{HasMade}
 use Rattle.np_safety.proofs.Fitting.{Fitting}
@@ -49,12 +49,11 @@ record MadeNew (c d : Config) (n : Name) : Type 0 where
 
 made-at : (k : Kind) (c : Config) (e : Event) (d : Config) (x : Name × (Cap × Ty)) → row k c e ≡ Some d → makes_at k c e ≡ Some x → MadeNew c d x.0
 made-at kind.New c e d x h m =
-    let s = new-step c e d h in
     then (acting c e) _ m λ a acts m. then (as_new (layer a.proc)) _ m λ p form m. then (one_made e.made) _ m λ n made m. then (as_chan (out-Ty p.1)) _ m λ k is m.
-    let same : n ≡ s.chan = done (sym s.made ∙ made) in
-    let whole : x ≡ (n, k) = done m in
-    let at : x.0 ≡ s.chan = ap (λ (x : Name × (Cap × Ty)). x.0) whole ∙ same in
-    rw at (record { new = not-false _ (need-met _ tt s.new); born = subst (λ (x : Config). set.contains x.born s.chan ≡ true) (sym s.is) (born_here c.born s.chan) })
+    let s = row-step c e d kind.New h in
+    let at : x.0 ≡ n = ap (λ (x : Name × (Cap × Ty)). x.0) (done m) in
+    let it = makes-one e.made n made in
+    rw at (record { new = made-unborn c.born e.made n s.new it; born = subst (λ d. Born d n) (sym s.is) (made-born c.born e.made n it) })
 made-at _ c e d x h m = absurd cc
 
 apart : (c : Config) (q n : Name) → Born c q → set.contains c.born n ≡ false → (b : Bool) → same_name q n ≡ b → b ≡ false

@@ -1,32 +1,31 @@
 -- Each event keeps the types.
 use Rattle.std.proofs.Common.{◌≡◌, ℕ, Bool, true, false, cond, Option, None, Some, List, [], ◌∷◌, refl, subst, sym, ap, ◌∙◌}
 use Rattle.std.specs.FinMap as map
-use Rattle.np_safety.proofs.Common.{Name, Value, Cap, Ty, Ty-F, out-Ty, Proc, Event, and-out, same_name, TyLayer, is_site, World, is_lock_chan}
-use Rattle.np_safety.proofs.Common.{all_locks, Types, lock_type, Env, Layer, layer, Atom, Config, Fits, Sent}
+use Rattle.np_calculus.proofs.Common.{Kind, then, bind, chan_of, agent_of, truth_of, letter_of, places_of, find_place, Sight, inside, sight, Change, one_made, two_made}
+use Rattle.np_calculus.proofs.Common.{no_other, goes, found_on, offered_in, row, act, acting, is_at}
+use Rattle.np_safety.proofs.Common.{Name, Value, Cap, Ty, Ty-F, out-Ty, Expr, Pat, Proc, Event, and-out, same_name, TyLayer, is_site, World, is_lock_chan}
+use Rattle.np_safety.proofs.Common.{all_locks, Types, lock_type, Env, eval, Layer, layer, Atom, Config, Fits, Sent}
 use Rattle.np_syntax.specs.declared.value.Value as value
 use Rattle.np_syntax.specs.declared.types.Cap.TheVariants as cap
 use Rattle.np_syntax.specs.declared.types.Ty.{roll-Ty, roll-out-Ty}
 use Rattle.np_syntax.specs.declared.types.Ty as ty
 use Rattle.np_syntax.specs.declared.types.Ty.TheVariants.{outs-Site}
-use Rattle.np_syntax.specs.declared.event.Kind.{Kind}
 use Rattle.np_syntax.specs.declared.event.Kind.TheVariants as kind
 use Rattle.np_types.specs.Worlds.{is_lock}
 use Rattle.np_types.proofs.Subs.{chan-again}
-use Rattle.np_eval.specs.Eval.{find_place}
-use Rattle.np_calculus.specs.Reductions.{goes, found_on, row}
-use Rattle.np_calculus.specs.Seen.{acting}
-use Rattle.np_calculus.proofs.Steps.{acting-step}
-use Rattle.np_calculus.proofs.Inversions.{TestStep, stop-step, fork-step, new-step, let-step, if-step, comm-step, rep-step, agent-step, depart-step}
-use Rattle.np_calculus.proofs.Inversions.{arrive-step, local-step, send-step, land-step, print-step, open-step, lookup-step, post-step}
+use Rattle.np_calculus.specs.Reductions.{becomes, goes_under, site_in}
+use Rattle.np_calculus.proofs.Puts.{Puts, puts-row, tested}
+use Rattle.np_calculus.proofs.Rows.{lone, parts, so, taking}
+use Rattle.np_calculus.proofs.Steps.{acting-step, row-step, same-offer}
+use Rattle.np_calculus.proofs.Writes.{each-written}
 use Rattle.np_safety.specs.Channels.{makes_at}
 use Rattle.np_safety.specs.Laws.{HasMade}
-use Rattle.np_safety.proofs.Fitting.{Agrees, Fitting, FittingAtom, FittingAtoms}
+use Rattle.np_safety.proofs.Fitting.{Agrees, Fitting, FittingAtom}
 use Rattle.np_safety.proofs.Shapes.{fits-itself}
 use Rattle.np_safety.proofs.Evaluates.{either, agent-kind, chan-kind}
-use Rattle.np_safety.proofs.Matches.{agrees-put, matches}
-use Rattle.np_safety.proofs.Forms.{Good, GoodForm, good-as}
-use Rattle.np_safety.proofs.Atoms.{sent_on, letter_sent, places_locked, fits-value, takes, bound-as}
-use Rattle.np_safety.proofs.Atoms.{offered-typed, made-typed, atoms-put, atoms-cut, packets-put, packets-cut}
+use Rattle.np_safety.proofs.Matches.{Bound, agrees-put, matches}
+use Rattle.np_safety.proofs.Forms.{Good, GoodForm, Sending, Taking, good-as}
+use Rattle.np_safety.proofs.Atoms.{sent_on, letter_sent, places_locked, fits-value, takes, bound-as, offered-typed, made-typed}
 
 -- an atom that goes on in its environment
 goes-on : (w : World) (a : Atom) (p : Proc) (t : FittingAtom w a) → Good w t.types p → FittingAtom w (goes a p)
@@ -70,80 +69,92 @@ looked-typed w a t x p q (Some l) ok g h =
 
 -- ---- the events
 
-module _ (w : World) (c : Config) (e : Event) (d : Config) (i : Fitting w c) where
-  -- the acting atom, and what its form says
-  acted : {l : Layer} (a : Atom) → acting c e ≡ Some a → layer a.proc ≡ l → (t : FittingAtom w a) × GoodForm w t.types l
-  acted a acts form = let t = i.atoms e.actor a (acting-step c e a acts).there in (t, good-as w t.types a.proc _ form t.good)
+-- what the acting atom puts fits
+module _ (w : World) (c : Config) (e : Event) (d : Change) where
+  abbrev F : Change → Type 0
+  F = Puts (FittingAtom w) (λ p. Sent w p.chan p.value)
 
-  asked : (b : Bool) (a : Atom) (agent chan : Name) (v : Value) (p q : Proc) → TestStep b c e a p q agent chan v d
-      → Sent w chan v → FittingAtom w (goes a p) → FittingAtom w (goes a q) → Fitting w d
-  asked true a agent chan v p q s f g k =
-      rw s.is (record { atoms = atoms-put w _ e.actor _ (atoms-put w c.atoms s.mark _ i.atoms (made-typed w agent chan v e.tag f)) g; packets = i.packets })
-  asked false a agent chan v p q s f g k = rw s.is (record { atoms = atoms-put w c.atoms e.actor _ i.atoms k; packets = i.packets })
+  abbrev s : Sight
+  s = sight c.sites (inside c) e.site
 
-  -- each kind of event keeps the types
-  pub kept-at : (k : Kind) → row k c e ≡ Some d → HasMade w (makes_at k c e) → Fitting w d
-  kept-at kind.Stop h names = let s = stop-step c e d h in rw s.is (record { atoms = atoms-cut w _ _ i.atoms; packets = i.packets })
-  kept-at kind.Fork h names =
-      let s = fork-step c e d h in let (a, g) = acted s.atom s.acts s.form in
-      let atoms = atoms-put w _ e.actor _ (atoms-put w c.atoms s.mark _ i.atoms (goes-on w s.atom s.right a g.1)) (goes-on w s.atom s.left a g.0) in
-      rw s.is (record { atoms = atoms; packets = i.packets })
-  kept-at kind.New h names =
-      let s = new-step c e d h in let (a, g) = acted s.atom s.acts s.form in
-      let made : makes_at kind.New c e ≡ Some (s.chan, g.carries) = rw (s.acts, s.form, s.made, g.chan) refl in
-      let called : w.chan s.chan ≡ Some g.carries = subst (HasMade w) made names in
-      let f : Fits w (value.Chan s.chan) s.type = record { type = ty.Chan g.carries.0 g.carries.1; is = chan-kind w s.chan g.carries called; below = chan-again s.type g.carries g.chan } in
-      let b = agrees-put w s.atom.env a.types s.binder (value.Chan s.chan) s.type f a.agrees in
-      rw s.is (record { atoms = atoms-put w c.atoms e.actor _ i.atoms (goes-in w s.atom.agent s.body _ _ b g.body); packets = i.packets })
-  kept-at kind.Let h names =
-      let s = let-step c e d h in let (a, g) = acted s.atom s.acts s.form in
-      let f = fits-value w s.atom.env a.types a.agrees s.bound g.type s.value g.is s.gives in
-      let b = matches w s.pat s.value g.type s.atom.env a.types g.inner f a.agrees g.covers in
-      rw s.is (record { atoms = atoms-put w c.atoms e.actor _ i.atoms (goes-in w s.atom.agent s.body s.env g.inner (bound-as w _ s.env g.inner b s.binds) g.body); packets = i.packets })
-  kept-at kind.If h names =
-      let s = if-step c e d h in let (a, g) = acted s.atom s.acts s.form in
-      rw s.is (record { atoms = atoms-put w c.atoms e.actor _ i.atoms (goes-on w s.atom _ a (either (Good w a.types) s.first s.met s.unmet g.1 g.2)); packets = i.packets })
-  kept-at kind.Comm h names =
-      let s = comm-step c e d h in let (a, g) = acted s.atom s.acts s.form in
-      let b = takes w s.atom.env a.types a.agrees s.from s.pat s.body s.chan s.value g s.on (offered-typed w c s.mark s.atom.agent s.chan s.value i.atoms s.offer) in
-      let atoms = atoms-put w c.atoms e.actor _ i.atoms (goes-in w s.atom.agent s.body s.env g.inner (bound-as w _ s.env g.inner b s.binds) g.body) in
-      rw s.is (record { atoms = atoms-cut w _ s.mark atoms; packets = i.packets })
-  kept-at kind.Rep h names =
-      let s = rep-step c e d h in let (a, g) = acted s.atom s.acts s.form in
-      let b = takes w s.atom.env a.types a.agrees s.from s.pat s.body s.chan s.value g s.on (offered-typed w c s.mark s.atom.agent s.chan s.value i.atoms s.offer) in
-      rw s.is (record { atoms = atoms-put w c.atoms s.mark _ i.atoms (goes-in w s.atom.agent s.body s.env g.inner (bound-as w _ s.env g.inner b s.binds) g.body); packets = i.packets })
-  kept-at kind.Agent h names =
-      let s = agent-step c e d h in let (a, g) = acted s.atom s.acts s.form in
-      let b = agrees-put w s.atom.env a.types s.binder (value.Agent s.agent) ty.Agent (fits-itself w _ ty.Agent (agent-kind w s.agent)) a.agrees in
-      let atoms = atoms-put w _ e.actor _ (atoms-put w c.atoms s.mark _ i.atoms (goes-in w s.agent s.body _ _ b g.0)) (goes-in w s.atom.agent s.rest _ _ b g.1) in
-      rw s.is (record { atoms = atoms; packets = i.packets })
-  kept-at kind.Depart h names =
-      let s = depart-step c e d h in let (a, g) = acted s.atom s.acts s.form in
-      rw s.is (record { atoms = atoms-put w c.atoms e.actor _ i.atoms (goes-on w s.atom s.body a g.1); packets = i.packets })
-  kept-at kind.Arrive h names = let s = arrive-step c e d h in rw s.is (record { atoms = i.atoms; packets = i.packets })
-  kept-at kind.Local h names =
-      let s = local-step c e d h in let (a, g) = acted s.atom s.acts s.form in
-      let f = sent_on w s.atom.env a.types a.agrees s.on s.sent s.chan s.value g.1 s.along s.gives in
-      asked _ s.atom s.agent s.chan s.value s.met s.unmet s.is f (goes-on w s.atom s.met a g.2) (goes-on w s.atom s.unmet a g.3)
-  kept-at kind.Send h names =
-      let s = send-step c e d h in let (a, g) = acted s.atom s.acts s.form in
-      let f = sent_on w s.atom.env a.types a.agrees s.on s.sent s.chan s.value g.2 s.along s.gives in
-      rw s.is (record { atoms = atoms-cut w _ _ i.atoms; packets = packets-put w c.packets e.actor _ i.packets f })
-  kept-at kind.Land h names =
-      let s = land-step c e d h in
-      let made = made-typed w s.packet.agent s.packet.chan s.packet.value e.tag (i.packets e.actor s.packet s.flies) in
-      rw s.is (record { atoms = either (FittingAtoms w) _ _ c.atoms (atoms-put w c.atoms e.actor _ i.atoms made) i.atoms; packets = packets-cut w _ _ i.packets })
-  kept-at kind.Print h names = let s = print-step c e d h in rw s.is (record { atoms = atoms-cut w _ _ i.atoms; packets = i.packets })
-  kept-at kind.Open h names =
-      let s = open-step c e d h in let (a, g) = acted s.atom s.acts s.form in
-      let f = letter_sent w s.atom.env a.types a.agrees s.expr s.letter g s.holds in
-      rw s.is (record { atoms = atoms-put w c.atoms e.actor _ i.atoms (made-typed w s.atom.agent s.letter.0 s.letter.1 e.tag f); packets = i.packets })
-  kept-at kind.Lookup h names =
-      let s = lookup-step c e d h in let (a, g) = acted s.atom s.acts s.form in
-      let ok = places_locked w s.atom.env a.types a.agrees s.among s.places g.1 s.lists in
-      let l = looked-typed w s.atom a s.binder s.met s.unmet (find_place s.places s.agent) (found_lock w s.places s.agent ok) g.2 g.3 in
-      rw s.is (record { atoms = atoms-put w c.atoms e.actor _ i.atoms l; packets = i.packets })
-  kept-at kind.Post h names =
-      let s = post-step c e d h in let (a, g) = acted s.atom s.acts s.form in
-      let f = sent_on w s.atom.env a.types a.agrees s.on s.sent s.chan s.value g.1 s.along s.gives in
-      rw s.is (record { atoms = atoms-put w c.atoms e.actor _ i.atoms (made-typed w s.agent s.chan s.value e.tag f); packets = i.packets })
+  module _ (i : Fitting w c) (a : Atom) (acts : acting c e ≡ Some a) where
+    t : FittingAtom w a
+    t = i.atoms e.actor a (acting-step c e a acts).there
+
+    its : {l : Layer} → layer a.proc ≡ l → GoodForm w t.types l
+    its {l} is = good-as w t.types a.proc l is t.good
+
+    -- the actor goes on, alone
+    on : {b : Atom} → FittingAtom w b → F (becomes e b)
+    on h = record { atoms = (h, tt); packets = tt }
+
+    sent : (x y : Expr) (n : Name) (v : Value) → Sending w t.types x y → chan_of x a.env ≡ Some n → eval y a.env ≡ Some v → Sent w n v
+    sent = sent_on w a.env t.types t.agrees
+
+    -- the body of an input or a binding, under the names that it binds
+    under : (p : Proc) (x : Pat) (v : Value) (env : Env) (inner : Types) → Bound w (bind x v a.env) inner → bind x v a.env ≡ Some env → Good w inner p
+        → FittingAtom w (goes_under a p env)
+    under p x v env inner b binds g = goes-in w a.agent p env inner (bound-as w _ env inner b binds) g
+
+    -- an input with what it takes
+    took : (x : Expr) (q : Pat) (p : Proc) (n o : Name) (v : Value) (env : Env) → Taking w t.types x q p → chan_of x a.env ≡ Some n → offered_in s.atom o a.agent n ≡ Some v
+        → bind q v a.env ≡ Some env → FittingAtom w (goes_under a p env)
+    took x q p n o v env g on offer binds =
+        let there = subst (λ y. y ≡ Some v) (same-offer c e a o n acts) offer in
+        under p q v env g.inner (takes w a.env t.types t.agrees x q p n v g on (offered-typed w c o a.agent n v i.atoms there)) binds g.body
+
+    puts : (k : Kind) → HasMade w (makes_at k c e) → act k (layer a.proc) s e a ≡ Some d → F d
+    unfolding act
+    puts kind.Stop names h = parts kind.Stop s e a h λ p is h. lone F e h (record { atoms = (tt, tt); packets = tt })
+    puts kind.Fork names h = parts kind.Fork s e a h λ (p, q) is h. then (one_made e.made) _ h λ m made h. then (no_other e.other) _ h λ l other h.
+        let (x, y) = its is in
+        so F e h (record { atoms = (goes-on w a q t y, (goes-on w a p t x, tt)); packets = tt })
+    puts kind.New names h = parts kind.New s e a h λ (x, y, p) is h. then (one_made e.made) _ h λ n made h. then (no_other e.other) _ h λ l other h.
+        let g = its is in
+        let makes : makes_at kind.New c e ≡ Some (n, g.carries) = rw (acts, is, made, g.chan) refl in
+        let is_chan = chan-kind w n g.carries (subst (HasMade w) makes names) in
+        let f : Fits w (value.Chan n) y = record { type = ty.Chan g.carries.0 g.carries.1; is = is_chan; below = chan-again y g.carries g.chan } in
+        so F e h (on (goes-in w a.agent p _ _ (agrees-put w a.env t.types x (value.Chan n) y f t.agrees) g.body))
+    puts kind.Let names h = parts kind.Let s e a h λ (x, b, p) is h. then (eval b a.env) _ h λ v gives h. then (bind x v a.env) _ h λ env binds h.
+        let g = its is in
+        let b = matches w x v g.type a.env t.types g.inner (fits-value w a.env t.types t.agrees b g.type v g.is gives) t.agrees g.covers in
+        lone F e h (on (under p x v env g.inner b binds g.body))
+    puts kind.If names h = parts kind.If s e a h λ (b, p, q) is h. then (truth_of b a.env) _ h λ y truth h.
+        let g = its is in
+        lone F e h (on (goes-on w a _ t (either (Good w t.types) y p q g.1 g.2)))
+    puts kind.Comm names h = parts kind.Comm s e a h λ (b, x, p) is h. taking s e a b x _ h λ n o v env along offer binds h.
+        so F e h (record { atoms = (took b x p n o v env (its is) along offer binds, (tt, tt)); packets = tt })
+    puts kind.Rep names h = parts kind.Rep s e a h λ (b, x, p) is h. taking s e a b x _ h λ n o v env along offer binds h.
+        so F e h (record { atoms = (took b x p n o v env (its is) along offer binds, tt); packets = tt })
+    puts kind.Agent names h = parts kind.Agent s e a h λ (x, p, q) is h. then (two_made e.made) _ h λ m made h. then (no_other e.other) _ h λ l other h.
+        let g = its is in
+        let b = agrees-put w a.env t.types x (value.Agent m.0) ty.Agent (fits-itself w _ ty.Agent (agent-kind w m.0)) t.agrees in
+        so F e h (record { atoms = (goes-in w m.0 p _ _ b g.0, (goes-in w a.agent q _ _ b g.1, tt)); packets = tt })
+    puts kind.Depart names h = parts kind.Depart s e a h λ (x, p) is h. then (site_in c.sites x a.env) _ h λ n to h.
+        lone F e h (record { atoms = (goes-on w a p t (its is).1, tt); packets = tt })
+    puts kind.Arrive names h = absurd cc
+    puts kind.Local names h = parts kind.Local s e a h λ (b, x, y, p, q) is h. then (agent_of b a.env) _ h λ m named h. then (chan_of x a.env) _ h λ n along h.
+        then (eval y a.env) _ h λ v gives h. then (no_other e.other) _ h λ l other h.
+        let g = its is in
+        tested _ _ c e d a (is_at c m e.site) p q m n v (λ at. made-typed w m n v e.tag (sent x y n v g.1 along gives)) (goes-on w a p t g.2) (goes-on w a q t g.3) h
+    puts kind.Send names h = parts kind.Send s e a h λ (b, z, x, y) is h. then (agent_of b a.env) _ h λ m named h. then (site_in c.sites z a.env) _ h λ o to h.
+        then (chan_of x a.env) _ h λ n along h. then (eval y a.env) _ h λ v gives h.
+        lone F e h (record { atoms = (tt, tt); packets = (sent x y n v (its is).2 along gives, tt) })
+    puts kind.Land names h = absurd cc
+    puts kind.Print names h = parts kind.Print s e a h λ x is h. then (eval x a.env) _ h λ v gives h. lone F e h (record { atoms = (tt, tt); packets = tt })
+    puts kind.Open names h = parts kind.Open s e a h λ x is h. then (letter_of x a.env) _ h λ l holds h.
+        lone F e h (on (made-typed w a.agent l.0 l.1 e.tag (letter_sent w a.env t.types t.agrees x l (its is) holds)))
+    puts kind.Lookup names h = parts kind.Lookup s e a h λ (b, m, x, p, q) is h. then (agent_of b a.env) _ h λ n named h. then (places_of m a.env) _ h λ ps lists h.
+        let g = its is in
+        lone F e h (on (looked-typed w a t x p q (find_place ps n) (found_lock w ps n (places_locked w a.env t.types t.agrees m ps g.1 lists)) g.2 g.3))
+    puts kind.Post names h = parts kind.Post s e a h λ (b, x, y) is h. then (agent_of b a.env) _ h λ m named h. then (chan_of x a.env) _ h λ n along h.
+        then (eval y a.env) _ h λ v gives h.
+        lone F e h (on (made-typed w m n v e.tag (sent x y n v (its is).1 along gives)))
+
+-- each kind of event keeps the types
+pub kept-at : (w : World) (c : Config) (e : Event) (d : Config) → Fitting w c → (k : Kind) → row k c e ≡ Some d → HasMade w (makes_at k c e) → Fitting w d
+kept-at w c e d i k h names =
+    let s = row-step c e d k h in
+    let p = puts-row (FittingAtom w) (λ p. Sent w p.chan p.value) c e s.made (λ p flies at. made-typed w p.agent p.chan p.value e.tag (i.packets e.actor p flies)) k
+    (λ a acts. puts w c e s.made i a acts k names) s.gives in
+    rw s.is (record { atoms = each-written _ s.made.atoms c.atoms p.atoms i.atoms; packets = each-written _ s.made.packets c.packets p.packets i.packets })

@@ -1,5 +1,5 @@
 -- A resolved program without a fault is typed at its start, and so along each of its runs.
-use Rattle.std.proofs.Common.{◌≡◌, ◌<◌, ℕ, true, Some, Ok, Err, [], length, nat_lt, refl, sym, ◌∙◌, arith}
+use Rattle.std.proofs.Common.{◌≡◌, ◌<◌, ℕ, true, Some, Ok, Err, [], ◌∷◌, length, nat_lt, refl, sym, ◌∙◌, arith}
 use Rattle.std.proofs.lemmas.Bool.Decides.{nat_tests}
 use Rattle.std.specs.FinMap as map
 use Rattle.std.specs.FinMap.{get-empty}
@@ -9,13 +9,15 @@ use Rattle.np_tables.specs.Names.{name_cmp}
 use Rattle.np_types.specs.Checks.{found}
 use Rattle.np_types.specs.Worlds.{bare}
 use Rattle.np_calculus.specs.Starts.{start_high, with_agent, names_alone, main_agent, main_mark}
+use Rattle.np_calculus.specs.Changes.{put}
 use Rattle.np_calculus.proofs.Housed.{high-housed, stays-lodged}
+use Rattle.np_calculus.proofs.Writes.{each-written}
 use Rattle.np_check.specs.Faults.{IsAccepted}
 use Rattle.np_check.specs.Laws.{HasSites}
 use Rattle.np_check.proofs.Resolved.{same_check}
 use Rattle.np_safety.specs.Laws.{RunsWellTyped, StartsTyped, WellTyped}
 use Rattle.np_safety.proofs.Fitting.{Fitting}
-use Rattle.np_safety.proofs.Atoms.{nothing-agrees, atoms-put}
+use Rattle.np_safety.proofs.Atoms.{nothing-agrees}
 use Rattle.np_safety.proofs.Literal.{fitting-typed}
 use Rattle.np_safety.proofs.Runs.{stays-typed}
 use Rattle.np_safety.proofs.SoundAgents.{own-agents}
@@ -42,7 +44,7 @@ accepted p g a =
 -- the first atom of one more agent fits where its process has no fault
 pub fits-more : (w : World) (c : Config) (agent : Name) (site : ℕ) (mark : Name) (p : Proc) → Fitting w c → check w p map.empty ≡ Ok tt → Fitting w (with_agent c agent site mark p)
 fits-more w c agent site mark p i h = record {
-  atoms = atoms-put w c.atoms mark _ i.atoms (record { types = map.empty; agrees = nothing-agrees w; good = h });
+  atoms = each-written _ (put mark _ ∷ []) c.atoms (record { types = map.empty; agrees = nothing-agrees w; good = h }, tt) i.atoms;
   packets = i.packets;
 }
 
