@@ -121,6 +121,6 @@ Opening = (n s : ℕ) (a c j : Name) →
 abbrev pub LookingUp : Type 0
 LookingUp = (n s x : ℕ) (a b l j : Name) (f g : ProcForm) →
     (apply (agent_with n (place.At s) a (one j (atom a (looks_up b ((b, l) ∷ []) x f g) map.empty))) (event s kind.Lookup j None)
-        ≡ Some (agent_with n (place.At s) a (one j (atom a f (map.insert map.empty x (value.Chan l))))))
+    ≡ Some (agent_with n (place.At s) a (one j (atom a f (map.insert map.empty x (value.Chan l))))))
     × (apply (agent_with n (place.At s) a (one j (atom a (looks_up b [] x f g) map.empty))) (event s kind.Lookup j None)
-        ≡ Some (agent_with n (place.At s) a (one j (atom a g map.empty))))
+    ≡ Some (agent_with n (place.At s) a (one j (atom a g map.empty))))
