@@ -21,7 +21,7 @@ use Rattle.np_calculus.proofs.Writes.{each-written}
 use Rattle.np_safety.specs.Channels.{makes_at}
 use Rattle.np_safety.specs.Laws.{HasMade}
 use Rattle.np_safety.proofs.Fitting.{Agrees, Fitting, FittingAtom}
-use Rattle.np_safety.proofs.Shapes.{fits-itself}
+use Rattle.np_safety.proofs.Shapes.{fits-itself, passes-is}
 use Rattle.np_safety.proofs.Evaluates.{either, agent-kind, chan-kind}
 use Rattle.np_safety.proofs.Matches.{Bound, agrees-put, matches}
 use Rattle.np_safety.proofs.Forms.{Good, GoodForm, Sending, Taking, good-as}
@@ -37,12 +37,8 @@ goes-in w agent p env types a g = record { types = types; agrees = a; good = g }
 
 -- ---- maps of places
 
-site_is : (y : TyLayer) → is_site y ≡ true → y ≡ Ty-F.Site
-site_is Ty-F.Site h = refl
-site_is _ h = absurd cc
-
 site-type : (t : Ty) → is_site (out-Ty t) ≡ true → t ≡ ty.Site
-site-type t h = sym (roll-out-Ty t) ∙ ap roll-Ty (site_is (out-Ty t) h ∙ sym outs-Site) ∙ roll-out-Ty ty.Site
+site-type t h = sym (roll-out-Ty t) ∙ ap roll-Ty (passes-is Ty-F.Site (out-Ty t) h ∙ sym outs-Site) ∙ roll-out-Ty ty.Site
 
 lock_both : (c : Cap) (t : Ty) → is_lock c t ≡ true → ty.Chan c t ≡ lock_type
 lock_both cap.Both t h = ap (ty.Chan cap.Both) (site-type t h)

@@ -57,16 +57,12 @@ narrower-put small large x s t f a = record {
   all = λ y u h. subst (λ o. Smaller o u) (sym (slot_put small x s y)) (put_smaller (eq_by_cmp nat_cmp y x) s t u _ _ f (a.all y u) (sym (slot_put large x t y) ∙ h));
 }
 
-same_layer : (x y : TyLayer) → basic y ≡ true → sub_at x y ≡ true → x ≡ y
+same_layer : (y x : TyLayer) → basic y ≡ true → sub_at x y ≡ true → x ≡ y
 same_layer Ty-F.Int Ty-F.Int h b = refl
 same_layer Ty-F.Bool Ty-F.Bool h b = refl
 same_layer Ty-F.Site Ty-F.Site h b = refl
 same_layer Ty-F.Agent Ty-F.Agent h b = refl
 same_layer Ty-F.Str Ty-F.Str h b = refl
-same_layer Ty-F.Letter Ty-F.Letter h b = absurd cc
-same_layer Ty-F.Places Ty-F.Places h b = absurd cc
-same_layer (Ty-F.Chan c s) (Ty-F.Chan d t) h b = absurd cc
-same_layer (Ty-F.Tuple ss) (Ty-F.Tuple ts) h b = absurd cc
 same_layer _ _ h b = absurd cc
 
 basic_too : (y u : TyLayer) → same_basic y u ≡ true → basic y ≡ true → basic u ≡ true
@@ -79,7 +75,7 @@ basic_too _ _ h b = absurd cc
 
 weak_basic : (x y z u : TyLayer) → basic y ≡ true → same_basic y u ≡ true → sub_at x y ≡ true → sub_at z u ≡ true → (basic x ≡ true) × (same_basic x z ≡ true)
 weak_basic x y z u h k a b =
-    let e = same_layer x y h a in let f = same_layer z u (basic_too y u k h) b in
+    let e = same_layer y x h a in let f = same_layer u z (basic_too y u k h) b in
     (ap basic e ∙ h, (λ i. same_basic (e i) (f i)) ∙ k)
 
 -- a type below ^Site is this type
