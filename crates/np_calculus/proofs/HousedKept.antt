@@ -1,5 +1,5 @@
 -- Each event keeps the agents of a configuration housed.
-use Rattle.std.proofs.Common.{◌≡◌, ℕ, Bool, true, false, cond, Option, None, Some, subst, sym, ◌∙◌}
+use Rattle.std.proofs.Common.{◌≡◌, ℕ, true, Option, None, Some, subst, sym, ◌∙◌}
 use Rattle.std.specs.FinMap as map
 use Rattle.std.specs.FinMap.{get-empty}
 use Rattle.std.specs.Ordering.{nat_cmp}
@@ -19,7 +19,7 @@ use Rattle.np_calculus.specs.Reductions.{becomes, goes_under, output, site_in}
 use Rattle.np_calculus.proofs.AgentForms.{OfForm, OfProc, of-proc, of-layer, both-parts, halves}
 use Rattle.np_calculus.proofs.AgentValues.{OfValue, OfEnv, chan-fits, agent-fits, eval-fits, agent_of-fits, letter_of-fits, env-put, expr_value, bind-fits}
 use Rattle.np_calculus.proofs.Fits.{fits, has_place}
-use Rattle.np_calculus.proofs.Puts.{Puts, puts-row, tested}
+use Rattle.np_calculus.proofs.Puts.{Puts, picked, puts-row, tested}
 use Rattle.np_calculus.proofs.Rows.{lone, parts, so, taking}
 use Rattle.np_calculus.proofs.Steps.{acting-step, offered-step, row-step, same-offer}
 use Rattle.np_calculus.proofs.Writes.{each-written, stays-written, written-there}
@@ -43,10 +43,6 @@ module _ (P : Name → Type 0) where
   found-on : (a : Atom) (x : ℕ) (p q : Proc) (o : Option Name) → OfAtom P a → OfProc P p → OfProc P q → OfAtom P (found_on a x p q o)
   found-on a x p q None t h k = goes-on a q t k
   found-on a x p q (Some l) t h k = goes-in a p _ t h (env-put P a.env x (value.Chan l) (chan-fits P l) t.env)
-
-  choose : (b : Bool) (p q : Proc) → OfProc P p → OfProc P q → OfProc P (cond b p q)
-  choose true p q h k = h
-  choose false p q h k = k
 
   -- an output that an event makes
   made-fits : (agent n : Name) (v : Value) (tag : Tag) → P agent → OfValue P v → OfAtom P (output_in agent n v tag)
@@ -125,7 +121,7 @@ module _ (P : Name → Type 0) (c : Config) (e : Event) (d : Change) where
         lone F e h (on (goes-in P a p env f z (bind-fits P x v a.env env binds (gives b v is_v y) f.env)))
     puts kind.If h = parts kind.If w e a h λ (b, p, q) is h. then (truth_of b a.env) _ h λ t truth h.
         let (y, z) = halves P (its is) in
-        lone F e h (on (goes-on P a _ f (choose P t p q (halves P y).1 z)))
+        lone F e h (on (goes-on P a _ f (picked (OfProc P) t p q (halves P y).1 z)))
     puts kind.Comm h = parts kind.Comm w e a h λ (b, x, p) is h. taking w e a b x _ h λ n o v env on offer binds h.
         so F e h (record { atoms = (took x p n o v env offer binds (halves P (its is)).1, (tt, tt)); packets = tt })
     puts kind.Rep h = parts kind.Rep w e a h λ (b, x, p) is h. taking w e a b x _ h λ n o v env on offer binds h.

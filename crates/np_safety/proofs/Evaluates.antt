@@ -25,6 +25,7 @@ use Rattle.np_types.proofs.Subs.{sub-out}
 use Rattle.np_types.proofs.ValueTypes.{kind_of, kinds-map}
 use Rattle.np_types.proofs.Leasts.{least_layer, least-out}
 use Rattle.np_eval.specs.Eval.{eval_step, operate, operate_at, equal_at, same_truth, put_place, pack, with_place}
+use Rattle.np_calculus.proofs.Puts.{picked}
 use Rattle.np_safety.proofs.Fitting.{Agrees, Valued}
 use Rattle.np_eval.proofs.Layers.{eval_layer, eval-out}
 use Rattle.np_safety.proofs.Forms.{sending, tested}
@@ -56,16 +57,11 @@ places-kind w ps h = kind_of w (value.Places ps) _ (outs.outs-Places ps) ∙ rw 
 
 -- ---- maps of places
 
--- what holds of two things holds of the one that a test picks
-pub either : {A : Type 0} (P : A → Type 0) (b : Bool) (x y : A) → P x → P y → P (cond b x y)
-either P true x y h k = h
-either P false x y h k = k
-
 put_locks : (w : World) (ps : List (Name × Name)) (a l : Name) → all_locks w ps ≡ true → is_lock_chan (w.chan l) ≡ true → all_locks w (put_place ps a l) ≡ true
 put_locks w [] a l h k = and-in k refl
 put_locks w (p ∷ ps) a l h k =
     let b = and-out _ _ h in
-    either (λ qs. all_locks w qs ≡ true) (same_name p.0 a) ((a, l) ∷ ps) (p ∷ put_place ps a l) (and-in k b.1) (and-in b.0 (put_locks w ps a l b.1 k))
+    picked (λ qs. all_locks w qs ≡ true) (same_name p.0 a) ((a, l) ∷ ps) (p ∷ put_place ps a l) (and-in k b.1) (and-in b.0 (put_locks w ps a l b.1 k))
 
 pub both_ways : (c : Cap) (t : Ty) → reads c ≡ true → writes c ≡ true → is_site (out-Ty t) ≡ true → is_lock c t ≡ true
 both_ways cap.Both t r w h = h

@@ -14,7 +14,7 @@ use Rattle.np_syntax.specs.declared.event.Kind.TheVariants as kind
 use Rattle.np_types.specs.Worlds.{is_lock}
 use Rattle.np_types.proofs.Subs.{chan-again}
 use Rattle.np_calculus.specs.Reductions.{becomes, goes_under, site_in}
-use Rattle.np_calculus.proofs.Puts.{Puts, puts-row, tested}
+use Rattle.np_calculus.proofs.Puts.{Puts, picked, puts-row, tested}
 use Rattle.np_calculus.proofs.Rows.{lone, parts, so, taking}
 use Rattle.np_calculus.proofs.Steps.{acting-step, row-step, same-offer}
 use Rattle.np_calculus.proofs.Writes.{each-written}
@@ -22,7 +22,7 @@ use Rattle.np_safety.specs.Channels.{makes_at}
 use Rattle.np_safety.specs.Laws.{HasMade}
 use Rattle.np_safety.proofs.Fitting.{Agrees, Fitting, FittingAtom}
 use Rattle.np_safety.proofs.Shapes.{fits-itself, passes-is}
-use Rattle.np_safety.proofs.Evaluates.{either, agent-kind, chan-kind}
+use Rattle.np_safety.proofs.Evaluates.{agent-kind, chan-kind}
 use Rattle.np_safety.proofs.Matches.{Bound, agrees-put, matches}
 use Rattle.np_safety.proofs.Forms.{Good, GoodForm, Sending, Taking, good-as}
 use Rattle.np_safety.proofs.Atoms.{sent_on, letter_sent, places_locked, fits-value, takes, bound-as, offered-typed, made-typed}
@@ -117,7 +117,7 @@ module _ (w : World) (c : Config) (e : Event) (d : Change) where
         lone F e h (on (under p x v env g.inner b binds g.body))
     puts kind.If names h = parts kind.If s e a h λ (b, p, q) is h. then (truth_of b a.env) _ h λ y truth h.
         let g = its is in
-        lone F e h (on (goes-on w a _ t (either (Good w t.types) y p q g.1 g.2)))
+        lone F e h (on (goes-on w a _ t (picked (Good w t.types) y p q g.1 g.2)))
     puts kind.Comm names h = parts kind.Comm s e a h λ (b, x, p) is h. taking s e a b x _ h λ n o v env along offer binds h.
         so F e h (record { atoms = (took b x p n o v env (its is) along offer binds, (tt, tt)); packets = tt })
     puts kind.Rep names h = parts kind.Rep s e a h λ (b, x, p) is h. taking s e a b x _ h λ n o v env along offer binds h.
