@@ -3,7 +3,7 @@ use Rattle.std.proofs.Common.{◌≡◌, ℕ, Bool, true, false, cond, Option, N
 use Rattle.std.specs.FinMap as map
 use Rattle.np_calculus.proofs.Common.{Kind, then, bind, chan_of, agent_of, truth_of, letter_of, places_of, find_place, Sight, inside, sight, Change, one_made, two_made}
 use Rattle.np_calculus.proofs.Common.{no_other, goes, found_on, offered_in, row, act, acting, is_at}
-use Rattle.np_safety.proofs.Common.{Name, Value, Cap, Ty, Ty-F, out-Ty, Expr, Pat, Proc, Event, and-out, same_name, TyLayer, is_site, World, is_lock_chan}
+use Rattle.np_safety.proofs.Common.{Name, Value, Cap, Ty, Ty-F, out-Ty, Expr, Pat, Proc, Event, and-out, same_name, is_site, World, is_lock_chan}
 use Rattle.np_safety.proofs.Common.{all_locks, Types, lock_type, Env, eval, Layer, layer, Atom, Config, Fits, Sent}
 use Rattle.np_syntax.specs.declared.value.Value as value
 use Rattle.np_syntax.specs.declared.types.Cap.TheVariants as cap

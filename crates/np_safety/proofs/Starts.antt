@@ -1,5 +1,5 @@
 -- A resolved program without a fault is typed at its start, and so along each of its runs.
-use Rattle.std.proofs.Common.{◌≡◌, ◌<◌, ℕ, true, Some, Ok, Err, [], ◌∷◌, length, nat_lt, refl, sym, ◌∙◌, arith}
+use Rattle.std.proofs.Common.{◌≡◌, ◌<◌, ℕ, true, Ok, Err, [], ◌∷◌, length, nat_lt, refl, ◌∙◌, arith}
 use Rattle.std.proofs.lemmas.Bool.Decides.{nat_tests}
 use Rattle.std.specs.FinMap as map
 use Rattle.np_safety.proofs.Common.{Name, Proc, World, Check, check, Config, Channels, world}
