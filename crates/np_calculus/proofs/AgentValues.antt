@@ -41,7 +41,7 @@ expr-out : (e : Expr) → expr_agents e ≡ expr_step (expr_layer (out-ExprForm 
 unfolding expr_agents
 expr-out e = fold_out-Expr Agents Agents expr_step (λ e. e.form) e ∙ fold_out-ExprForm Agents Agents expr_step (λ e. e.form) e.form
 
-slot_put : (m : Env) (k : ℕ) (v : Value) (q : ℕ) → table.get (table.insert m k v) q ≡ cond (eq_by_cmp nat_cmp q k) (Some v) (table.get m q)
+pub slot_put : {X : Type 0} (m : table.FinMap nat_cmp X) (k : ℕ) (v : X) (q : ℕ) → table.get (table.insert m k v) q ≡ cond (eq_by_cmp nat_cmp q k) (Some v) (table.get m q)
 slot_put = get-insert nat_cmp_total
 
 module _ (P : Name → Type 0) where

@@ -68,9 +68,6 @@ module _ (c : Config) (m : Name) (a : Atom) (s : ℕ) (there : map.get c.atoms m
     alone-begins ProcForm-F.Stop is r h = (kind.Stop, refl, rw (acts kind.Stop None made.Nothing, is) (_, refl))
     alone-begins (ProcForm-F.Par left right) is r h = (kind.Fork, refl, rw (acts kind.Fork None (made.One first), is, new.first_new) (_, refl))
     alone-begins (ProcForm-F.New x ty body) is r h = (kind.New, refl, rw (acts kind.New None (made.One first), is, new.first_new) (_, refl))
-    alone-begins (ProcForm-F.Out x e) is r h = absurd cc
-    alone-begins (ProcForm-F.Inp x pat body) is r h = absurd cc
-    alone-begins (ProcForm-F.Rep x pat body) is r h = absurd cc
     alone-begins (ProcForm-F.Agent b body rest) is r h = (kind.Agent, refl, rw (acts kind.Agent None (made.Two first second), is, apart, new.first_new, new.second_new) (_, refl))
     alone-begins (ProcForm-F.Migrate t body) is r h = (kind.Depart, refl, rw (acts kind.Depart None made.Nothing, is, r.1) (_, refl))
     alone-begins (ProcForm-F.IfLocal b x e met unmet) is r h = (kind.Local, refl, local-enabled b x e met unmet first is r new.first_new)
@@ -81,6 +78,7 @@ module _ (c : Config) (m : Name) (a : Atom) (s : ℕ) (there : map.get c.atoms m
     alone-begins (ProcForm-F.Print e) is r h = (kind.Print, refl, rw (acts kind.Print None made.Nothing, is, r.1) (_, refl))
     alone-begins (ProcForm-F.Open e) is r h = (kind.Open, refl, rw (acts kind.Open None made.Nothing, is, r.1) (_, refl))
     alone-begins (ProcForm-F.Lookup b x n met unmet) is r h = (kind.Lookup, refl, rw (acts kind.Lookup None made.Nothing, is, r.0.1, r.1.1) (_, refl))
+    alone-begins _ is r h = absurd cc
 
     -- an input, plain or replicated, that takes an output
     pub meeting-begins : (l : Layer) → layer a.proc ≡ l → (t : Expr × Pat) → taken_on l ≡ Some t → (o n : Name) (v : Value)

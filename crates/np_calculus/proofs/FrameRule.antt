@@ -1,5 +1,5 @@
 -- The frame rule and its reverse, and what an event keeps.
-use Rattle.std.proofs.Common.{◌≡◌, ℕ, Bool, true, false, not, ◌||◌, ◌⊎◌, inl, inr, List, Option, None, Some, IsSome, IfSome, refl, ap, sym, subst, ◌∙◌}
+use Rattle.std.proofs.Common.{◌≡◌, ℕ, Bool, true, false, not, ◌⊎◌, inl, inr, List, Option, None, Some, IsSome, IfSome, refl, ap, sym, subst, ◌∙◌}
 use Rattle.std.specs.FinSet as set
 use mathlib.Core.Path.{fun_ext}
 use Rattle.np_calculus.proofs.Common.{Name, Event, Kind, Made, ◌>>=◌, ◌>>◌, need, NameSet, same_name, layer, Atom, Place, Config, Contents, Sight, inside}
@@ -13,7 +13,7 @@ use Rattle.np_calculus.specs.FrameRule.{Comes, Every, Fits, FrameBack, FrameRule
 use Rattle.np_calculus.specs.Parts.{IsApart, IsAway, IsLodged, IsMark, IsWhole, LacksMark, beside, either}
 use Rattle.np_syntax.proofs.Bools.{and-out}
 use Rattle.np_calculus.proofs.Fits.{comes-in, fits}
-use Rattle.np_calculus.proofs.OwnNames.{not_true}
+use Rattle.np_calculus.proofs.OwnNames.{not_true, or-second}
 use Rattle.np_calculus.proofs.Steps.{at_site-is, row-step}
 use Rattle.np_calculus.proofs.Writes.{agent-changed, either-none, every-map, inside-effect, left-by, left-is, left-there, mark-changed, split-changed, writes-map}
 
@@ -105,10 +105,6 @@ made-unborn born made.Nothing q h is = absurd is
 made-unborn born (made.One m) q h is = ap (set.contains born) is ∙ not-false (set.contains born m) h
 made-unborn born (made.Two m n) q h (inl is) = let k = and-out _ _ (and-out _ _ h).1 in ap (set.contains born) is ∙ not-false (set.contains born m) k.0
 made-unborn born (made.Two m n) q h (inr is) = let k = and-out _ _ (and-out _ _ h).1 in ap (set.contains born) is ∙ not-false (set.contains born n) k.1
-
-or-second : (a b : Bool) → b ≡ true → (a || b) ≡ true
-or-second true b h = refl
-or-second false b h = h
 
 pub born-stays : (born : NameSet) (k q : Name) → set.contains born q ≡ true → set.contains (set.insert born k) q ≡ true
 born-stays born k q h = born_insert born k q ∙ or-second (same_name q k) (set.contains born q) h

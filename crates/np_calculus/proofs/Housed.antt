@@ -23,7 +23,7 @@ kept-run (e ∷ es) c d i h = then (apply c e) _ h λ m first h. kept-run es m d
 pub stays-lodged : StaysLodged
 stays-lodged c i events d h = record { each = λ m a is. ((kept-run events c d i h).atoms m a is).agent }
 
-nothing : {X : Type 0} (q : Name) (x : X) → map.get (map.empty {K = Name} {X = X} {R = name_cmp}) q ≡ Some x → ⊥
+pub nothing : {X : Type 0} (q : Name) (x : X) → map.get (map.empty {K = Name} {X = X} {R = name_cmp}) q ≡ Some x → ⊥
 nothing q x h = let e = sym (get-none q) ∙ h in cc
 
 none-fits : {P : Name → Type 0} (m : Name) (a : Atom) → map.get (map.empty {K = Name} {X = Atom} {R = name_cmp}) m ≡ Some a → OfAtom P a

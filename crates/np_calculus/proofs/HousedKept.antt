@@ -1,9 +1,9 @@
 -- Each event keeps the agents of a configuration housed.
-use Rattle.std.proofs.Common.{◌≡◌, ℕ, Bool, true, false, cond, Option, None, Some, subst, sym, ◌∙◌}
+use Rattle.std.proofs.Common.{◌≡◌, ℕ, true, Option, None, Some, subst, sym, ◌∙◌}
 use Rattle.std.specs.FinMap as map
 use Rattle.std.specs.FinMap.{get-empty}
 use Rattle.std.specs.Ordering.{nat_cmp}
-use Rattle.np_calculus.proofs.Common.{Name, Value, Expr, Pat, Proc, Event, Kind, then, done, NameMap, Env, chan_of, agent_of, truth_of, letter_of, places_of, find_place}
+use Rattle.np_calculus.proofs.Common.{Name, Value, Pat, Proc, Event, Kind, then, done, NameMap, Env, chan_of, agent_of, truth_of, letter_of, places_of, find_place}
 use Rattle.np_calculus.proofs.Common.{eval, bind, Layer, layer, Atom, Packet, Config, Sight, inside, sight, Change, one_made, two_made, no_other, goes, output_in, found_on}
 use Rattle.np_calculus.proofs.Common.{sends, offered_in, row, act, acting, is_at, offered}
 use Rattle.np_syntax.specs.declared.value.Value as value
@@ -12,14 +12,14 @@ use Rattle.np_syntax.specs.declared.process.Tag.{Tag}
 use Rattle.np_syntax.specs.declared.event.Kind.TheVariants as kind
 use Rattle.np_eval.specs.Forms.{as_out}
 use Rattle.np_eval.proofs.FormsByParts.{out-form}
-use Rattle.np_calculus.specs.Agents.{Agents, Each, HasPlace, Housed, OfAtom, expr_agents, proc_agents, value_agents}
+use Rattle.np_calculus.specs.Agents.{Agents, Each, HasPlace, Housed, OfAtom, proc_agents, value_agents}
 use Rattle.np_calculus.specs.Changes.{written}
 use Rattle.np_calculus.specs.FrameRule.{Every}
 use Rattle.np_calculus.specs.Reductions.{becomes, goes_under, output, site_in}
 use Rattle.np_calculus.proofs.AgentForms.{OfForm, OfProc, of-proc, of-layer, both-parts, halves}
 use Rattle.np_calculus.proofs.AgentValues.{OfValue, OfEnv, chan-fits, agent-fits, eval-fits, agent_of-fits, letter_of-fits, env-put, expr_value, bind-fits}
 use Rattle.np_calculus.proofs.Fits.{fits, has_place}
-use Rattle.np_calculus.proofs.Puts.{Puts, puts-row, tested}
+use Rattle.np_calculus.proofs.Puts.{Puts, picked, puts-row, tested}
 use Rattle.np_calculus.proofs.Rows.{lone, parts, so, taking}
 use Rattle.np_calculus.proofs.Steps.{acting-step, offered-step, row-step, same-offer}
 use Rattle.np_calculus.proofs.Writes.{each-written, stays-written, written-there}
@@ -43,10 +43,6 @@ module _ (P : Name → Type 0) where
   found-on : (a : Atom) (x : ℕ) (p q : Proc) (o : Option Name) → OfAtom P a → OfProc P p → OfProc P q → OfAtom P (found_on a x p q o)
   found-on a x p q None t h k = goes-on a q t k
   found-on a x p q (Some l) t h k = goes-in a p _ t h (env-put P a.env x (value.Chan l) (chan-fits P l) t.env)
-
-  choose : (b : Bool) (p q : Proc) → OfProc P p → OfProc P q → OfProc P (cond b p q)
-  choose true p q h k = h
-  choose false p q h k = k
 
   -- an output that an event makes
   made-fits : (agent n : Name) (v : Value) (tag : Tag) → P agent → OfValue P v → OfAtom P (output_in agent n v tag)
@@ -99,9 +95,6 @@ module _ (P : Name → Type 0) (c : Config) (e : Event) (d : Change) where
     its : {l : Layer} → layer a.proc ≡ l → OfForm P l
     its {l} is = of-layer P a.proc l is f.proc
 
-    gives : (x : Expr) (v : Value) → eval x a.env ≡ Some v → Each P (expr_agents x) → OfValue P v
-    gives = eval-fits P a.env f.env
-
     on : {b : Atom} → OfAtom P b → F (becomes e b)
     on h = record { atoms = (h, tt); packets = tt }
 
@@ -109,7 +102,7 @@ module _ (P : Name → Type 0) (c : Config) (e : Event) (d : Change) where
     took : (x : Pat) (p : Proc) (n o : Name) (v : Value) (env : Env) → offered_in w.atom o a.agent n ≡ Some v → bind x v a.env ≡ Some env → Each P (proc_agents p)
         → OfAtom P (goes_under a p env)
     took x p n o v env offer binds h =
-        let there = subst (λ s. s ≡ Some v) (same-offer c e a o n acts) offer in
+        let there = sym (same-offer c e a o n acts) ∙ offer in
         goes-in P a p env f h (bind-fits P x v a.env env binds (offered-fits P c o a.agent n v i there) f.env)
 
     puts : (k : Kind) → act k (layer a.proc) w e a ≡ Some d → F d
@@ -122,10 +115,10 @@ module _ (P : Name → Type 0) (c : Config) (e : Event) (d : Change) where
         so F e h (on (goes-in P a p _ f (its is) (env-put P a.env x (value.Chan n) (chan-fits P n) f.env)))
     puts kind.Let h = parts kind.Let w e a h λ (x, b, p) is h. then (eval b a.env) _ h λ v is_v h. then (bind x v a.env) _ h λ env binds h.
         let (y, z) = halves P (its is) in
-        lone F e h (on (goes-in P a p env f z (bind-fits P x v a.env env binds (gives b v is_v y) f.env)))
+        lone F e h (on (goes-in P a p env f z (bind-fits P x v a.env env binds (eval-fits P a.env f.env b v is_v y) f.env)))
     puts kind.If h = parts kind.If w e a h λ (b, p, q) is h. then (truth_of b a.env) _ h λ t truth h.
         let (y, z) = halves P (its is) in
-        lone F e h (on (goes-on P a _ f (choose P t p q (halves P y).1 z)))
+        lone F e h (on (goes-on P a _ f (picked (OfProc P) t p q (halves P y).1 z)))
     puts kind.Comm h = parts kind.Comm w e a h λ (b, x, p) is h. taking w e a b x _ h λ n o v env on offer binds h.
         so F e h (record { atoms = (took x p n o v env offer binds (halves P (its is)).1, (tt, tt)); packets = tt })
     puts kind.Rep h = parts kind.Rep w e a h λ (b, x, p) is h. taking w e a b x _ h λ n o v env on offer binds h.
@@ -142,11 +135,11 @@ module _ (P : Name → Type 0) (c : Config) (e : Event) (d : Change) where
         then (eval s a.env) _ h λ v is_v h. then (no_other e.other) _ h λ l other h.
         let (y, unmet) = halves P (its is) in
         let (z, met) = halves P y in
-        let sent = gives s v is_v (halves P z).1 in
+        let sent = eval-fits P a.env f.env s v is_v (halves P z).1 in
         tested _ _ c e d a (is_at c m e.site) p q m n v (λ at. made-fits P m n v e.tag (here m at) sent) (goes-on P a p f met) (goes-on P a q f unmet) h
     puts kind.Send h = parts kind.Send w e a h λ (b, s, x, m) is h. then (agent_of b a.env) _ h λ n names h. then (site_in c.sites s a.env) _ h λ t to h.
         then (chan_of x a.env) _ h λ n along h. then (eval m a.env) _ h λ v is_v h.
-        lone F e h (record { atoms = (tt, tt); packets = (gives m v is_v (halves P (its is)).1, tt) })
+        lone F e h (record { atoms = (tt, tt); packets = (eval-fits P a.env f.env m v is_v (halves P (its is)).1, tt) })
     puts kind.Land h = absurd cc
     puts kind.Print h = parts kind.Print w e a h λ x is h. then (eval x a.env) _ h λ v is_v h. lone F e h (record { atoms = (tt, tt); packets = tt })
     puts kind.Open h = parts kind.Open w e a h λ x is h. then (letter_of x a.env) _ h λ l holds h.
@@ -157,7 +150,7 @@ module _ (P : Name → Type 0) (c : Config) (e : Event) (d : Change) where
     puts kind.Post h = parts kind.Post w e a h λ (b, x, s) is h. then (agent_of b a.env) _ h λ m names h. then (chan_of x a.env) _ h λ n along h.
         then (eval s a.env) _ h λ v is_v h.
         let (y, z) = halves P (its is) in
-        lone F e h (on (made-fits P m n v e.tag (agent_of-fits P a.env f.env b m names (halves P y).0) (gives s v is_v z)))
+        lone F e h (on (made-fits P m n v e.tag (agent_of-fits P a.env f.env b m names (halves P y).0) (eval-fits P a.env f.env s v is_v z)))
 
 -- each event keeps the agents housed
 pub kept-at : (c : Config) (e : Event) (d : Config) → Housed c → row e.kind c e ≡ Some d → Housed d
@@ -170,7 +163,6 @@ kept-at c e d i h =
     let here : (b : Name) → is_at c b e.site ≡ true → Q b = λ b at. wider b (has_place _ e.site at) in
     let atoms : OfAtoms Q c.atoms = atoms-wider P Q wider c.atoms i.atoms in
     let packets : (m : Name) (p : Packet) → map.get c.packets m ≡ Some p → Each Q (value_agents p.value) = λ m p is. each-wider P Q wider _ (i.packets m p is) in
-    let lands = λ (p : Packet) (flies : map.get c.packets e.actor ≡ Some p) (at : is_at c p.agent e.site ≡ true). made-fits Q p.agent p.chan p.value e.tag (here p.agent at) (packets e.actor p flies) in
-    let acts = λ (a : Atom) (is : acting c e ≡ Some a). puts Q c e s.made atoms here (written-there s.made.places c.places settled) a is e.kind in
-    let p = puts-row _ _ c e s.made lands e.kind acts s.gives in
+    let p = puts-row (OfAtom Q) (λ p. OfValue Q p.value) c e s.made (λ p flies at. made-fits Q p.agent p.chan p.value e.tag (here p.agent at) (packets e.actor p flies)) e.kind
+    (λ a acts. puts Q c e s.made atoms here (written-there s.made.places c.places settled) a acts e.kind) s.gives in
     rw s.is (record { atoms = each-written _ s.made.atoms c.atoms p.atoms atoms; packets = each-written _ s.made.packets c.packets p.packets packets })

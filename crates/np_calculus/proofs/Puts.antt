@@ -9,6 +9,11 @@ use Rattle.np_calculus.specs.Changes.{put, cut, still}
 use Rattle.np_calculus.specs.FrameRule.{Every}
 use Rattle.np_calculus.proofs.Rows.{so, lone}
 
+-- what holds of two things holds of the one that a test picks
+pub picked : {X : Type 0} (P : X → Type 0) (t : Bool) (x y : X) → P x → P y → P (cond t x y)
+picked P true x y h k = h
+picked P false x y h k = k
+
 module _ (A : Atom → Type 0) (B : Packet → Type 0) where
   pub record Puts (d : Change) : Type 0 where
     pub atoms : Every (λ w. IfSome w.1 A) d.atoms

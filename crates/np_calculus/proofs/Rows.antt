@@ -7,6 +7,11 @@ use Rattle.np_eval.specs.FormParts.{as_stop, as_par, as_new, as_inp, as_rep, as_
 use Rattle.np_eval.proofs.FormsByParts as form
 use Rattle.np_calculus.specs.Rows.{row_by}
 
+-- two chains with the same first step
+pub step : {A B : Type 0} (o p : Option A) (f g : A → Option B) → o ≡ p → ((a : A) → o ≡ Some a → f a ≡ g a) → (o >>= f) ≡ (p >>= g)
+step None p f g e h = ap (λ o. o >>= g) e
+step (Some a) p f g e h = h a refl ∙ ap (λ o. o >>= g) e
+
 -- a form of processes: its parts, how they are found, and the form that they make
 pub record Asked : Type 1 where
   pub Parts : Type 0
@@ -97,12 +102,8 @@ module _ (c : Config) (e : Event) where
   abbrev w : Sight
   w = sight c.sites (inside c) e.site
 
-  chain : (o : Option Atom) (f g : Atom → Option Change) → ((a : Atom) → f a ≡ g a) → ((o >>= f) >>= after_change c e) ≡ ((o >>= g) >>= after_change c e)
-  chain None f g h = refl
-  chain (Some a) f g h = ap (λ o. o >>= after_change c e) (h a)
-
   same_steps : (k : Kind) → ((acting c e >>= λ a. act k (layer a.proc) w e a) >>= after_change c e) ≡ row_by k (asked k).parts (asked k).form c e
-  same_steps k = chain (acting c e) _ _ λ a. by k (layer a.proc) w e a
+  same_steps k = ap (λ o. o >>= after_change c e) (step (acting c e) (acting c e) _ _ refl λ a acts. by k (layer a.proc) w e a)
 
   pub stop-row : row kind.Stop c e ≡ row_by kind.Stop as_stop (λ s. ProcForm-F.Stop) c e
   stop-row = same_steps kind.Stop

@@ -1,5 +1,5 @@
 -- An event depends on nothing but what it touches.
-use Rattle.std.proofs.Common.{◌≡◌, ℕ, cond, List, [], ◌∷◌, ◌++◌, map, Option, None, Some, refl, ap, sym, subst, ◌∙◌}
+use Rattle.std.proofs.Common.{◌≡◌, ℕ, cond, List, [], ◌∷◌, ◌++◌, map, Option, Some, refl, ap, sym, subst, ◌∙◌}
 use Rattle.np_calculus.proofs.Common.{Name, ProcForm-F, Event, Kind, ◌>>=◌, ◌>>◌, need, same_name, same_name-is, chan_of, agent_of, Layer, layer, Atom}
 use Rattle.np_calculus.proofs.Common.{Contents, Sight, inside, sight, at_site, Change, Write, effect, same_tag, offered_in, acting_in, change, act}
 use Rattle.np_calculus.proofs.Common.{arrive_row, land_row}
@@ -9,14 +9,9 @@ use Rattle.np_calculus.specs.Footprints.{listed, asked_by, bound_for, touches, w
 use Rattle.np_calculus.specs.FrameRule.{Every, left_by, changed}
 use Rattle.np_calculus.proofs.Fits.{actor-seen}
 use Rattle.np_calculus.proofs.OwnNames.{not_true}
-use Rattle.np_calculus.proofs.Rows.{by}
+use Rattle.np_calculus.proofs.Rows.{by, step}
 use Rattle.np_calculus.proofs.Steps.{offer-seen}
 use Rattle.np_calculus.proofs.Writes.{inside-effect, every-map}
-
--- two chains with the same first step
-step : {A B : Type 0} (o p : Option A) (f g : A → Option B) → o ≡ p → ((a : A) → o ≡ Some a → f a ≡ g a) → (o >>= f) ≡ (p >>= g)
-step None p f g e h = ap (λ o. o >>= g) e
-step (Some a) p f g e h = h a refl ∙ ap (λ o. o >>= g) e
 
 pub every-first : {A : Type 0} (P : A → Type 0) (xs ys : List A) → Every P (xs ++ ys) → Every P xs
 every-first P [] ys h = tt

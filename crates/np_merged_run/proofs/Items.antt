@@ -1,16 +1,16 @@
 -- An agent with its atoms, or a packet, leaves what a site has, and an item comes to it.
 use Rattle.std.proofs.Common.{◌≡◌, inl, inr, ℕ, Bool, true, false, cond, [], ◌∷◌, Option, None, Some, IsSome, refl, ap, sym, subst, ◌∙◌}
 use mathlib.Core.Path.{fun_ext}
-use Rattle.np_calculus.proofs.Common.{Name, ◌>>=◌, done, same_name, same_name-is, Config, Contents, inside}
+use Rattle.np_calculus.proofs.Common.{Name, Event, ◌>>=◌, done, same_name, same_name-is, Config, Contents, inside}
 use Rattle.np_calculus.specs.declared.config.Atom.{Atom}
 use Rattle.np_calculus.specs.declared.config.Place.TheVariants as place
 use Rattle.np_calculus.specs.Parts.{IsAway, IsLodged, IsOfSite, either}
 use Rattle.np_calculus.proofs.Fits.{some}
 use Rattle.np_calculus.proofs.FrameRule.{keeps_of_site, none-some}
 use Rattle.np_calculus.proofs.Writes.{either-none}
-use Rattle.np_merged_run.specs.Items.{AgentLeaves, ItemComes, PacketLeaves, of_agent, of_packet, without_agent, without_packet}
+use Rattle.np_merged_run.specs.Items.{AgentLeaves, IsLeft, IsOwn, ItemComes, PacketLeaves, of_agent, of_packet, without_agent, without_packet}
 use Rattle.np_merged_run.specs.Joined.{IsJoined}
-use Rattle.np_merged_run.specs.Steps.{InnerStep, IsItem, SameRecords}
+use Rattle.np_merged_run.specs.Steps.{InnerStep, IsItem, IsStep, SameRecords}
 use Rattle.np_merged_run.proofs.Steps.{together-away, together-lodged}
 
 module _ {X : Type 0} where
@@ -154,33 +154,29 @@ inner_step old new e i apart own h = record {
   own = own;
 }
 
-pub agent_leaves : AgentLeaves
-agent_leaves old next new e a t o none way left = record {
+-- an item of which what a site has after an event is made up leaves it
+leaves : (old next new : Config) (e : Event) (left item : Contents) → IsOwn old next e → IsLeft next new left → IsJoined (inside next) (left ∷ item ∷ [])
+    → (IsOfSite e.site (inside next) → IsOfSite e.site left) → IsItem item → IsStep e old [] new (item ∷ [])
+leaves old next new e left item o l joined stays is_item = record {
   full = old;
   joins = whole-alone (inside old);
   same = unchanged old;
   next = next;
   applies = o.applies;
-  parts = subst (λ y. IsJoined (inside next) (y ∷ of_agent (inside next) a ∷ [])) (sym left.is) (agent-joined (inside next) a none);
-  kept = left.same;
-  site = subst (IsOfSite e.site) (sym left.is) (stays-without-agent (inside next) e.site a (keeps_of_site old next e o.apart o.site o.applies));
-  items = (agent-item (inside next) a t way, tt);
+  parts = subst (λ y. IsJoined (inside next) (y ∷ item ∷ [])) (sym l.is) joined;
+  kept = l.same;
+  site = subst (IsOfSite e.site) (sym l.is) (stays (keeps_of_site old next e o.apart o.site o.applies));
+  items = (is_item, tt);
   own = o.own;
 }
 
+pub agent_leaves : AgentLeaves
+agent_leaves old next new e a t o none way left =
+    leaves old next new e _ _ o left (agent-joined (inside next) a none) (stays-without-agent (inside next) e.site a) (agent-item (inside next) a t way)
+
 pub packet_leaves : PacketLeaves
-packet_leaves old next new e m o none left = record {
-  full = old;
-  joins = whole-alone (inside old);
-  same = unchanged old;
-  next = next;
-  applies = o.applies;
-  parts = subst (λ y. IsJoined (inside next) (y ∷ of_packet (inside next) m ∷ [])) (sym left.is) (packet-joined (inside next) m none);
-  kept = left.same;
-  site = subst (IsOfSite e.site) (sym left.is) (stays-without-packet (inside next) e.site m (keeps_of_site old next e o.apart o.site o.applies));
-  items = (packet-item (inside next) m, tt);
-  own = o.own;
-}
+packet_leaves old next new e m o none left =
+    leaves old next new e _ _ o left (packet-joined (inside next) m none) (stays-without-packet (inside next) e.site m) (packet-item (inside next) m)
 
 pub item_comes : ItemComes
 item_comes old full next e x i item joins same apart own h =

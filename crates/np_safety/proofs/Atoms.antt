@@ -2,7 +2,7 @@
 use Rattle.std.proofs.Common.{◌≡◌, true, List, Option, None, Some, Ok, refl, subst, sym, ap, ◌∙◌}
 use Rattle.std.specs.FinMap as table
 use Rattle.std.specs.FinMap.{get-empty}
-use Rattle.np_safety.proofs.Common.{nat_cmp, Name, Value, Cap, Ty, Expr, Pat, Proc, same_name-is, reads, writes, sub, is_letter}
+use Rattle.np_safety.proofs.Common.{nat_cmp, Name, Value, Cap, Ty, Ty-F, Expr, Pat, Proc, same_name-is, reads, writes, sub, is_letter}
 use Rattle.np_safety.proofs.Common.{is_places, World, all_locks, kind, Types, least, sub-trans, Checking, check_step, Env, eval, layer, Atom, Config, Fits}
 use Rattle.np_safety.proofs.Common.{Sent, LeastOf}
 use Rattle.np_syntax.specs.declared.value.Value as value
@@ -22,7 +22,7 @@ use Rattle.np_eval.proofs.FormsByParts.{out-form}
 use Rattle.np_calculus.specs.Reductions as made
 use Rattle.np_calculus.proofs.Steps.{offered-step}
 use Rattle.np_safety.proofs.Fitting.{Agrees, FittingAtom, FittingAtoms}
-use Rattle.np_safety.proofs.Shapes.{chan_value, letter_value, places_value, fits-below}
+use Rattle.np_safety.proofs.Shapes.{chan_value, fits-below, value_as}
 use Rattle.np_safety.proofs.Evaluates.{evaluates, chan-kind}
 use Rattle.np_safety.proofs.Matches.{Bound, matches}
 use Rattle.np_safety.proofs.Forms.{OnChannel, Tested, Sending, Taking, checks, check-out, good-as}
@@ -75,14 +75,14 @@ module _ (w : World) (env : Env) (types : Types) (agrees : Agrees w env types) w
   -- the value of a letter fits the letter's channel
   pub letter_sent : (e : Expr) (l : Name × Value) → Tested w types is_letter e → letter_of e env ≡ Some l → Sent w l.0 l.1
   letter_sent e l t h = maybe.then (eval e env) _ h λ v gives h.
-      let k = letter_value w v t.type (fits-value e t.type v t.is gives) t.passes in
+      let k = value_as w v Ty-F.Letter t.type (fits-value e t.type v t.is gives) t.passes in
       let same : k.0 ≡ l = same_answer (ap as_letter k.1) h in
       subst (λ (l : Name × Value). Sent w l.0 l.1) same (record { own = k.2; carries = k.3; may_write = k.4; fits = k.5 })
 
   -- each channel of a map of places is a lock channel
   pub places_locked : (e : Expr) (ps : List (Name × Name)) → Tested w types is_places e → places_of e env ≡ Some ps → all_locks w ps ≡ true
   places_locked e ps t h = maybe.then (eval e env) _ h λ v gives h.
-      let k = places_value w v t.type (fits-value e t.type v t.is gives) t.passes in
+      let k = value_as w v Ty-F.Places t.type (fits-value e t.type v t.is gives) t.passes in
       let same : k.0 ≡ ps = same_answer (ap as_places k.1) h in
       subst (λ ps. all_locks w ps ≡ true) same k.2
 

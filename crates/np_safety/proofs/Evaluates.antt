@@ -1,5 +1,5 @@
 -- An expression with a type has a value, which fits the type.
-use Rattle.std.proofs.Common.{◌≡◌, ℕ, ℤ, Bool, true, false, cond, Option, Some, Ok, refl, subst, map, List, [], ◌∷◌, sym, ap, ◌∙◌}
+use Rattle.std.proofs.Common.{◌≡◌, ℕ, ℤ, Bool, true, Option, Some, Ok, refl, subst, map, List, [], ◌∷◌, sym, ap, ◌∙◌}
 use Rattle.std.specs.Prelude.{nat_eq}
 use Rattle.std.specs.Ordering.{int_eq}
 use Rattle.std.specs.Str.{bytes_eq}
@@ -25,10 +25,11 @@ use Rattle.np_types.proofs.Subs.{sub-out}
 use Rattle.np_types.proofs.ValueTypes.{kind_of, kinds-map}
 use Rattle.np_types.proofs.Leasts.{least_layer, least-out}
 use Rattle.np_eval.specs.Eval.{eval_step, operate, operate_at, equal_at, same_truth, put_place, pack, with_place}
+use Rattle.np_calculus.proofs.Puts.{picked}
 use Rattle.np_safety.proofs.Fitting.{Agrees, Valued}
 use Rattle.np_eval.proofs.Layers.{eval_layer, eval-out}
 use Rattle.np_safety.proofs.Forms.{sending, tested}
-use Rattle.np_safety.proofs.Shapes.{fits-itself, int_value, truth_value, text_value, places_value, chan_value, site_value, agent_value}
+use Rattle.np_safety.proofs.Shapes.{fits-itself, chan_value, value_as}
 
 -- ---- the least types of values
 
@@ -56,16 +57,11 @@ places-kind w ps h = kind_of w (value.Places ps) _ (outs.outs-Places ps) ∙ rw 
 
 -- ---- maps of places
 
--- what holds of two things holds of the one that a test picks
-pub either : {A : Type 0} (P : A → Type 0) (b : Bool) (x y : A) → P x → P y → P (cond b x y)
-either P true x y h k = h
-either P false x y h k = k
-
 put_locks : (w : World) (ps : List (Name × Name)) (a l : Name) → all_locks w ps ≡ true → is_lock_chan (w.chan l) ≡ true → all_locks w (put_place ps a l) ≡ true
 put_locks w [] a l h k = and-in k refl
 put_locks w (p ∷ ps) a l h k =
     let b = and-out _ _ h in
-    either (λ qs. all_locks w qs ≡ true) (same_name p.0 a) ((a, l) ∷ ps) (p ∷ put_place ps a l) (and-in k b.1) (and-in b.0 (put_locks w ps a l b.1 k))
+    picked (λ qs. all_locks w qs ≡ true) (same_name p.0 a) ((a, l) ∷ ps) (p ∷ put_place ps a l) (and-in k b.1) (and-in b.0 (put_locks w ps a l b.1 k))
 
 pub both_ways : (c : Cap) (t : Ty) → reads c ≡ true → writes c ≡ true → is_site (out-Ty t) ≡ true → is_lock c t ≡ true
 both_ways cap.Both t r w h = h
@@ -124,7 +120,7 @@ module _ (w : World) (env : Env) (types : Types) (agrees : Agrees w env types) w
   int_of e h =
       then (least w types e.0) (λ t. ensure (is_int (out-Ty t)) (least_of w types e.0).at _) h λ t is h.
       let v = e.1 t is in
-      let i = int_value w v.value t v.fits (ensured _ _ _ h) in
+      let i = value_as w v.value Ty-F.Int t v.fits (ensured _ _ _ h) in
       record { value = v.value; is = v.is; number = i.0; has = i.1 }
 
   ints : (a b : With Expr Sound) (r t : Ty) → (number (least_of w types a.0) >> (number (least_of w types b.0) >> Ok r)) ≡ Ok t → IntOf a.0 × IntOf b.0 × (t ≡ r)
@@ -148,19 +144,19 @@ module _ (w : World) (env : Env) (types : Types) (agrees : Agrees w env types) w
   equals : (s t : Ty) (l : TyLayer) (x y : Value) → out-Ty s ≡ l → basic l ≡ true → same_basic l (out-Ty t) ≡ true → Fits w x s → Fits w y t
       → (b : Bool) × (equal_at (out-Value x) (out-Value y) ≡ Some b)
   equals s t Ty-F.Int x y h k e f g =
-      let i = int_value w x s f (rw h refl) in let j = int_value w y t g e in
+      let i = value_as w x Ty-F.Int s f (rw h refl) in let j = value_as w y Ty-F.Int t g e in
       (int_eq i.0 j.0, rw (i.1, j.1) refl)
   equals s t Ty-F.Bool x y h k e f g =
-      let i = truth_value w x s f (rw h refl) in let j = truth_value w y t g e in
+      let i = value_as w x Ty-F.Bool s f (rw h refl) in let j = value_as w y Ty-F.Bool t g e in
       (same_truth i.0 j.0, rw (i.1, j.1) refl)
   equals s t Ty-F.Str x y h k e f g =
-      let i = text_value w x s f (rw h refl) in let j = text_value w y t g e in
+      let i = value_as w x Ty-F.Str s f (rw h refl) in let j = value_as w y Ty-F.Str t g e in
       (bytes_eq i.0 j.0, rw (i.1, j.1) refl)
   equals s t Ty-F.Site x y h k e f g =
-      let i = site_value w x s f (rw h refl) in let j = site_value w y t g e in
+      let i = value_as w x Ty-F.Site s f (rw h refl) in let j = value_as w y Ty-F.Site t g e in
       (nat_eq i.0 j.0, rw (i.1, j.1) refl)
   equals s t Ty-F.Agent x y h k e f g =
-      let i = agent_value w x s f (rw h refl) in let j = agent_value w y t g e in
+      let i = value_as w x Ty-F.Agent s f (rw h refl) in let j = value_as w y Ty-F.Agent t g e in
       (same_name i.0 j.0, rw (i.1, j.1) refl)
   equals s t _ x y h k e f g = absurd cc
 
@@ -203,8 +199,8 @@ module _ (w : World) (env : Env) (types : Types) (agrees : Agrees w env types) w
       let k = tested w types is_lock_type _ l.0 _ third in
       let x = m.1 i.type i.is in let y = a.1 j.type j.is in
       let z = l.1 k.type k.is in
-      let p = places_value w x.value i.type x.fits i.passes in
-      let b = agent_value w y.value j.type y.fits j.passes in
+      let p = value_as w x.value Ty-F.Places i.type x.fits i.passes in
+      let b = value_as w y.value Ty-F.Agent j.type y.fits j.passes in
       let n = lock_value w z.value k.type z.fits k.passes in
       let same : t ≡ ty.Places = done h in
       rw same (record {

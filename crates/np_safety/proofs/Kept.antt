@@ -3,7 +3,7 @@ use Rattle.std.proofs.Common.{◌≡◌, ℕ, Bool, true, false, cond, Option, N
 use Rattle.std.specs.FinMap as map
 use Rattle.np_calculus.proofs.Common.{Kind, then, bind, chan_of, agent_of, truth_of, letter_of, places_of, find_place, Sight, inside, sight, Change, one_made, two_made}
 use Rattle.np_calculus.proofs.Common.{no_other, goes, found_on, offered_in, row, act, acting, is_at}
-use Rattle.np_safety.proofs.Common.{Name, Value, Cap, Ty, Ty-F, out-Ty, Expr, Pat, Proc, Event, and-out, same_name, TyLayer, is_site, World, is_lock_chan}
+use Rattle.np_safety.proofs.Common.{Name, Value, Cap, Ty, Ty-F, out-Ty, Expr, Pat, Proc, Event, and-out, same_name, is_site, World, is_lock_chan}
 use Rattle.np_safety.proofs.Common.{all_locks, Types, lock_type, Env, eval, Layer, layer, Atom, Config, Fits, Sent}
 use Rattle.np_syntax.specs.declared.value.Value as value
 use Rattle.np_syntax.specs.declared.types.Cap.TheVariants as cap
@@ -14,17 +14,17 @@ use Rattle.np_syntax.specs.declared.event.Kind.TheVariants as kind
 use Rattle.np_types.specs.Worlds.{is_lock}
 use Rattle.np_types.proofs.Subs.{chan-again}
 use Rattle.np_calculus.specs.Reductions.{becomes, goes_under, site_in}
-use Rattle.np_calculus.proofs.Puts.{Puts, puts-row, tested}
+use Rattle.np_calculus.proofs.Puts.{Puts, picked, puts-row, tested}
 use Rattle.np_calculus.proofs.Rows.{lone, parts, so, taking}
 use Rattle.np_calculus.proofs.Steps.{acting-step, row-step, same-offer}
 use Rattle.np_calculus.proofs.Writes.{each-written}
 use Rattle.np_safety.specs.Channels.{makes_at}
 use Rattle.np_safety.specs.Laws.{HasMade}
 use Rattle.np_safety.proofs.Fitting.{Agrees, Fitting, FittingAtom}
-use Rattle.np_safety.proofs.Shapes.{fits-itself}
-use Rattle.np_safety.proofs.Evaluates.{either, agent-kind, chan-kind}
-use Rattle.np_safety.proofs.Matches.{Bound, agrees-put, matches}
-use Rattle.np_safety.proofs.Forms.{Good, GoodForm, Sending, Taking, good-as}
+use Rattle.np_safety.proofs.Shapes.{fits-itself, passes-is}
+use Rattle.np_safety.proofs.Evaluates.{agent-kind, chan-kind}
+use Rattle.np_safety.proofs.Matches.{agrees-put, matches}
+use Rattle.np_safety.proofs.Forms.{Good, GoodForm, Taking, good-as}
 use Rattle.np_safety.proofs.Atoms.{sent_on, letter_sent, places_locked, fits-value, takes, bound-as, offered-typed, made-typed}
 
 -- an atom that goes on in its environment
@@ -37,12 +37,8 @@ goes-in w agent p env types a g = record { types = types; agrees = a; good = g }
 
 -- ---- maps of places
 
-site_is : (y : TyLayer) → is_site y ≡ true → y ≡ Ty-F.Site
-site_is Ty-F.Site h = refl
-site_is _ h = absurd cc
-
 site-type : (t : Ty) → is_site (out-Ty t) ≡ true → t ≡ ty.Site
-site-type t h = sym (roll-out-Ty t) ∙ ap roll-Ty (site_is (out-Ty t) h ∙ sym outs-Site) ∙ roll-out-Ty ty.Site
+site-type t h = sym (roll-out-Ty t) ∙ ap roll-Ty (passes-is Ty-F.Site (out-Ty t) h ∙ sym outs-Site) ∙ roll-out-Ty ty.Site
 
 lock_both : (c : Cap) (t : Ty) → is_lock c t ≡ true → ty.Chan c t ≡ lock_type
 lock_both cap.Both t h = ap (ty.Chan cap.Both) (site-type t h)
@@ -88,20 +84,13 @@ module _ (w : World) (c : Config) (e : Event) (d : Change) where
     on : {b : Atom} → FittingAtom w b → F (becomes e b)
     on h = record { atoms = (h, tt); packets = tt }
 
-    sent : (x y : Expr) (n : Name) (v : Value) → Sending w t.types x y → chan_of x a.env ≡ Some n → eval y a.env ≡ Some v → Sent w n v
-    sent = sent_on w a.env t.types t.agrees
-
-    -- the body of an input or a binding, under the names that it binds
-    under : (p : Proc) (x : Pat) (v : Value) (env : Env) (inner : Types) → Bound w (bind x v a.env) inner → bind x v a.env ≡ Some env → Good w inner p
-        → FittingAtom w (goes_under a p env)
-    under p x v env inner b binds g = goes-in w a.agent p env inner (bound-as w _ env inner b binds) g
-
     -- an input with what it takes
     took : (x : Expr) (q : Pat) (p : Proc) (n o : Name) (v : Value) (env : Env) → Taking w t.types x q p → chan_of x a.env ≡ Some n → offered_in s.atom o a.agent n ≡ Some v
         → bind q v a.env ≡ Some env → FittingAtom w (goes_under a p env)
     took x q p n o v env g on offer binds =
-        let there = subst (λ y. y ≡ Some v) (same-offer c e a o n acts) offer in
-        under p q v env g.inner (takes w a.env t.types t.agrees x q p n v g on (offered-typed w c o a.agent n v i.atoms there)) binds g.body
+        let there = sym (same-offer c e a o n acts) ∙ offer in
+        let b = takes w a.env t.types t.agrees x q p n v g on (offered-typed w c o a.agent n v i.atoms there) in
+        goes-in w a.agent p env g.inner (bound-as w _ env g.inner b binds) g.body
 
     puts : (k : Kind) → HasMade w (makes_at k c e) → act k (layer a.proc) s e a ≡ Some d → F d
     unfolding act
@@ -118,10 +107,10 @@ module _ (w : World) (c : Config) (e : Event) (d : Change) where
     puts kind.Let names h = parts kind.Let s e a h λ (x, b, p) is h. then (eval b a.env) _ h λ v gives h. then (bind x v a.env) _ h λ env binds h.
         let g = its is in
         let b = matches w x v g.type a.env t.types g.inner (fits-value w a.env t.types t.agrees b g.type v g.is gives) t.agrees g.covers in
-        lone F e h (on (under p x v env g.inner b binds g.body))
+        lone F e h (on (goes-in w a.agent p env g.inner (bound-as w _ env g.inner b binds) g.body))
     puts kind.If names h = parts kind.If s e a h λ (b, p, q) is h. then (truth_of b a.env) _ h λ y truth h.
         let g = its is in
-        lone F e h (on (goes-on w a _ t (either (Good w t.types) y p q g.1 g.2)))
+        lone F e h (on (goes-on w a _ t (picked (Good w t.types) y p q g.1 g.2)))
     puts kind.Comm names h = parts kind.Comm s e a h λ (b, x, p) is h. taking s e a b x _ h λ n o v env along offer binds h.
         so F e h (record { atoms = (took b x p n o v env (its is) along offer binds, (tt, tt)); packets = tt })
     puts kind.Rep names h = parts kind.Rep s e a h λ (b, x, p) is h. taking s e a b x _ h λ n o v env along offer binds h.
@@ -136,10 +125,10 @@ module _ (w : World) (c : Config) (e : Event) (d : Change) where
     puts kind.Local names h = parts kind.Local s e a h λ (b, x, y, p, q) is h. then (agent_of b a.env) _ h λ m named h. then (chan_of x a.env) _ h λ n along h.
         then (eval y a.env) _ h λ v gives h. then (no_other e.other) _ h λ l other h.
         let g = its is in
-        tested _ _ c e d a (is_at c m e.site) p q m n v (λ at. made-typed w m n v e.tag (sent x y n v g.1 along gives)) (goes-on w a p t g.2) (goes-on w a q t g.3) h
+        tested _ _ c e d a (is_at c m e.site) p q m n v (λ at. made-typed w m n v e.tag (sent_on w a.env t.types t.agrees x y n v g.1 along gives)) (goes-on w a p t g.2) (goes-on w a q t g.3) h
     puts kind.Send names h = parts kind.Send s e a h λ (b, z, x, y) is h. then (agent_of b a.env) _ h λ m named h. then (site_in c.sites z a.env) _ h λ o to h.
         then (chan_of x a.env) _ h λ n along h. then (eval y a.env) _ h λ v gives h.
-        lone F e h (record { atoms = (tt, tt); packets = (sent x y n v (its is).2 along gives, tt) })
+        lone F e h (record { atoms = (tt, tt); packets = (sent_on w a.env t.types t.agrees x y n v (its is).2 along gives, tt) })
     puts kind.Land names h = absurd cc
     puts kind.Print names h = parts kind.Print s e a h λ x is h. then (eval x a.env) _ h λ v gives h. lone F e h (record { atoms = (tt, tt); packets = tt })
     puts kind.Open names h = parts kind.Open s e a h λ x is h. then (letter_of x a.env) _ h λ l holds h.
@@ -149,7 +138,7 @@ module _ (w : World) (c : Config) (e : Event) (d : Change) where
         lone F e h (on (looked-typed w a t x p q (find_place ps n) (found_lock w ps n (places_locked w a.env t.types t.agrees m ps g.1 lists)) g.2 g.3))
     puts kind.Post names h = parts kind.Post s e a h λ (b, x, y) is h. then (agent_of b a.env) _ h λ m named h. then (chan_of x a.env) _ h λ n along h.
         then (eval y a.env) _ h λ v gives h.
-        lone F e h (on (made-typed w m n v e.tag (sent x y n v (its is).1 along gives)))
+        lone F e h (on (made-typed w m n v e.tag (sent_on w a.env t.types t.agrees x y n v (its is).1 along gives)))
 
 -- each kind of event keeps the types
 pub kept-at : (w : World) (c : Config) (e : Event) (d : Config) → Fitting w c → (k : Kind) → row k c e ≡ Some d → HasMade w (makes_at k c e) → Fitting w d

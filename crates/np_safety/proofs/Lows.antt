@@ -10,13 +10,14 @@ use Rattle.np_syntax.specs.declared.program.LowProgram.{LowProgram}
 use Rattle.np_tables.specs.Names.{NameSet}
 use Rattle.np_tables.proofs.Tables.{born_here}
 use Rattle.np_calculus.specs.Starts.{own, own_numbers, own_names, with_all, start_low}
+use Rattle.np_calculus.proofs.Housed.{nothing}
 use Rattle.np_calculus.proofs.OwnNames.{with_all-keeps}
 use Rattle.np_safety.specs.Typed.{AreBorn}
 use Rattle.np_safety.specs.Low.{carried, channels_of, infrastructure, low_world, IsFaultless, LowStartsTyped, LowWellTyped}
 use Rattle.np_safety.proofs.Fitting.{Fitting}
 use Rattle.np_safety.proofs.Literal.{fitting-typed}
 use Rattle.np_safety.proofs.Runs.{stays-typed}
-use Rattle.np_safety.proofs.Starts.{nothing, fits-more, fits-main}
+use Rattle.np_safety.proofs.Starts.{fits-more, fits-main}
 
 -- ---- names of the program's own
 

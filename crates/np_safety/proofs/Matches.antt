@@ -1,8 +1,6 @@
 -- A pattern that covers a type matches each value that fits the type.
 use Rattle.std.proofs.Common.{◌≡◌, ℕ, Bool, true, false, cond, Option, Some, Ok, refl, subst, map, List, [], ◌∷◌, sym, ap, ◌∙◌}
 use Rattle.std.specs.FinMap as table
-use Rattle.std.specs.FinMap.{get-insert}
-use Rattle.std.specs.Cmp.{nat_cmp_total}
 use Rattle.np_safety.proofs.Common.{nat_cmp, Value, Ty, Pat, then, done, With, World, kind, Types, cover, when, Env, Fits, LeastOf}
 use Rattle.std.specs.Ordering.{eq_by_cmp}
 use Rattle.np_syntax.specs.declared.pattern.PatForm.{PatForm-F}
@@ -11,13 +9,10 @@ use Rattle.np_syntax.proofs.Trees.{PatHyps, pat_of, pat_ind}
 use Rattle.np_types.proofs.Covers.{cover_layer, cover-out}
 use Rattle.np_eval.specs.Eval.{Binding, bind, bind_each, bind_step}
 use Rattle.np_eval.proofs.Layers.{bind_layer, bind-out}
+pub use Rattle.np_calculus.proofs.AgentValues.{slot_put}
 use Rattle.np_safety.proofs.Fitting.{Agrees, FitAll, Known, Valued}
 use Rattle.np_types.proofs.Passed.{take}
 use Rattle.np_safety.proofs.Shapes.{tuple_value}
-
-module _ {X : Type 0} where
-  pub slot_put : (m : table.FinMap nat_cmp X) (k : ℕ) (v : X) (q : ℕ) → table.get (table.insert m k v) q ≡ cond (eq_by_cmp nat_cmp q k) (Some v) (table.get m q)
-  slot_put = get-insert nat_cmp_total
 
 put_value : (w : World) (b : Bool) (v : Value) (t u : Ty) (o : Option Value) (p : Option Ty) → Fits w v t → (p ≡ Some u → Valued w o u) → cond b (Some t) p ≡ Some u
     → Valued w (cond b (Some v) o) u

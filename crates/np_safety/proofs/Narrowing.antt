@@ -28,8 +28,8 @@ use Rattle.np_types.proofs.ValueTypes.{kind_layer}
 use Rattle.np_types.proofs.Leasts.{least_layer, least-out}
 use Rattle.np_types.proofs.Covers.{cover_layer, cover-out}
 use Rattle.np_types.proofs.Passed.{take}
-use Rattle.np_safety.proofs.Evaluates.{lock_is, both_ways}
 use Rattle.np_safety.proofs.Matches.{slot_put}
+use Rattle.np_safety.proofs.Evaluates.{lock_is, both_ways}
 use Rattle.np_safety.proofs.Forms.{Good, GoodForm, Tested, OnChannel, Sending, Taking, good-form, sending, tested}
 use Rattle.np_safety.proofs.Backs.{good-back, sending-back}
 use Rattle.np_safety.proofs.Processes.{ProcHyps, proc_of, proc_ind}
@@ -57,16 +57,12 @@ narrower-put small large x s t f a = record {
   all = λ y u h. subst (λ o. Smaller o u) (sym (slot_put small x s y)) (put_smaller (eq_by_cmp nat_cmp y x) s t u _ _ f (a.all y u) (sym (slot_put large x t y) ∙ h));
 }
 
-same_layer : (x y : TyLayer) → basic y ≡ true → sub_at x y ≡ true → x ≡ y
+same_layer : (y x : TyLayer) → basic y ≡ true → sub_at x y ≡ true → x ≡ y
 same_layer Ty-F.Int Ty-F.Int h b = refl
 same_layer Ty-F.Bool Ty-F.Bool h b = refl
 same_layer Ty-F.Site Ty-F.Site h b = refl
 same_layer Ty-F.Agent Ty-F.Agent h b = refl
 same_layer Ty-F.Str Ty-F.Str h b = refl
-same_layer Ty-F.Letter Ty-F.Letter h b = absurd cc
-same_layer Ty-F.Places Ty-F.Places h b = absurd cc
-same_layer (Ty-F.Chan c s) (Ty-F.Chan d t) h b = absurd cc
-same_layer (Ty-F.Tuple ss) (Ty-F.Tuple ts) h b = absurd cc
 same_layer _ _ h b = absurd cc
 
 basic_too : (y u : TyLayer) → same_basic y u ≡ true → basic y ≡ true → basic u ≡ true
@@ -79,7 +75,7 @@ basic_too _ _ h b = absurd cc
 
 weak_basic : (x y z u : TyLayer) → basic y ≡ true → same_basic y u ≡ true → sub_at x y ≡ true → sub_at z u ≡ true → (basic x ≡ true) × (same_basic x z ≡ true)
 weak_basic x y z u h k a b =
-    let e = same_layer x y h a in let f = same_layer z u (basic_too y u k h) b in
+    let e = same_layer y x h a in let f = same_layer u z (basic_too y u k h) b in
     (ap basic e ∙ h, (λ i. same_basic (e i) (f i)) ∙ k)
 
 -- a type below ^Site is this type
@@ -268,6 +264,9 @@ weak_cover = pat_ind WeakPat (λ p y is s t small large inner b n h.
 -- ---- processes
 
 module _ (w v : World) (wider : Wider w v) where
+  abbrev WeakProc : Proc → Type 0
+  WeakProc p = (small large : Types) → Narrower small large → Good w large p → Good v small p
+
   module _ (small large : Types) (n : Narrower small large) where
     pub weak_tested : (test : TyLayer → Bool) → Down test → (e : Expr) → Tested w large test e → Tested v small test e
     weak_tested test down e t = lesser_tested w v wider small large n test down (e, weak_least w v wider small large n e) t
@@ -275,47 +274,44 @@ module _ (w v : World) (wider : Wider w v) where
     sends : (c e : Expr) → Sending w large c e → Sending v small c e
     sends c e s = weak_sending w v wider small large n (c, weak_least w v wider small large n c) (e, weak_least w v wider small large n e) s
 
-  abbrev WeakProc : Proc → Type 0
-  WeakProc p = (small large : Types) → Narrower small large → Good w large p → Good v small p
+    -- with one more binder, of one type in both
+    more : (x : ℕ) (t : Ty) → Narrower (table.insert small x t) (table.insert large x t)
+    more x t = narrower-put small large x t t (sub-itself t) n
 
-  weak_taking : (small large : Types) → Narrower small large → (c : Expr) (x : Pat) (p : With Proc WeakProc) → Taking w large c x p.0 → Taking v small c x p.0
-  weak_taking small large n c x p t =
-      let k = weak_channel w v wider small large n (c, weak_least w v wider small large n c) t.carries t.on in
-      let q = k.reading t.may_read in
-      let r = weak_cover x k.own.1 t.carries.1 small large t.inner q.1 n t.covers in
-      record { carries = k.own; on = k.on; may_read = q.0; inner = r.types; covers = r.is; body = p.1 r.types t.inner r.less t.body }
+    weak_taking : (c : Expr) (x : Pat) (p : With Proc WeakProc) → Taking w large c x p.0 → Taking v small c x p.0
+    weak_taking c x p t =
+        let k = weak_channel w v wider small large n (c, weak_least w v wider small large n c) t.carries t.on in
+        let q = k.reading t.may_read in
+        let r = weak_cover x k.own.1 t.carries.1 small large t.inner q.1 n t.covers in
+        record { carries = k.own; on = k.on; may_read = q.0; inner = r.types; covers = r.is; body = p.1 r.types t.inner r.less t.body }
 
-  weak_form : (y : ProcHyps WeakProc) (small large : Types) → Narrower small large → GoodForm w large (proc_of WeakProc y) → GoodForm v small (proc_of WeakProc y)
-  weak_form ProcForm-F.Stop small large n g = tt
-  weak_form (ProcForm-F.Par p q) small large n g = (p.1 small large n g.0, q.1 small large n g.1)
-  weak_form (ProcForm-F.New x t p) small large n g =
-      record { carries = g.carries; chan = g.chan; small = g.small; body = p.1 _ _ (narrower-put small large x t t (sub-itself t) n) g.body }
-  weak_form (ProcForm-F.Out c e) small large n g = sends small large n c e g
-  weak_form (ProcForm-F.Inp c x p) small large n g = weak_taking small large n c x p g
-  weak_form (ProcForm-F.Rep c x p) small large n g = weak_taking small large n c x p g
-  weak_form (ProcForm-F.Agent b p q) small large n g = let m = narrower-put small large b ty.Agent ty.Agent (sub-itself ty.Agent) n in (p.1 _ _ m g.0, q.1 _ _ m g.1)
-  weak_form (ProcForm-F.Migrate e p) small large n g = (weak_tested small large n is_site site_below e g.0, p.1 small large n g.1)
-  weak_form (ProcForm-F.IfLocal b c e p q) small large n g =
-      (weak_tested small large n is_agent agent_below b g.0, sends small large n c e g.1, p.1 small large n g.2, q.1 small large n g.3)
-  weak_form (ProcForm-F.Send b s c e) small large n g =
-      (weak_tested small large n is_agent agent_below b g.0, weak_tested small large n is_site site_below s g.1, sends small large n c e g.2)
-  weak_form (ProcForm-F.Post b c e) small large n g = (weak_tested small large n is_agent agent_below b g.0, sends small large n c e g.1)
-  weak_form (ProcForm-F.If e p q) small large n g = (weak_tested small large n is_bool bool_below e g.0, p.1 small large n g.1, q.1 small large n g.2)
-  weak_form (ProcForm-F.Let x e p) small large n g =
-      let y = weak_least w v wider small large n e g.type g.is in
-      let r = weak_cover x y.type g.type small large g.inner y.below n g.covers in
-      record { type = y.type; is = y.is; inner = r.types; covers = r.is; body = p.1 r.types g.inner r.less g.body }
-  weak_form (ProcForm-F.Print e) small large n g =
-      let y = weak_least w v wider small large n e g.type g.is in
-      record { type = y.type; is = y.is; shows = printable_below g.type y.type y.below g.shows }
-  weak_form (ProcForm-F.Open e) small large n g = weak_tested small large n is_letter letter_below e g
-  weak_form (ProcForm-F.Lookup a m x p q) small large n g =
-      let l = narrower-put small large x lock_type lock_type (sub-itself lock_type) n in
-      (weak_tested small large n is_agent agent_below a g.0, weak_tested small large n is_places places_below m g.1, p.1 _ _ l g.2, q.1 small large n g.3)
+    weak_form : (y : ProcHyps WeakProc) → GoodForm w large (proc_of WeakProc y) → GoodForm v small (proc_of WeakProc y)
+    weak_form ProcForm-F.Stop g = tt
+    weak_form (ProcForm-F.Par p q) g = (p.1 small large n g.0, q.1 small large n g.1)
+    weak_form (ProcForm-F.New x t p) g = record { carries = g.carries; chan = g.chan; small = g.small; body = p.1 _ _ (more x t) g.body }
+    weak_form (ProcForm-F.Out c e) g = sends c e g
+    weak_form (ProcForm-F.Inp c x p) g = weak_taking c x p g
+    weak_form (ProcForm-F.Rep c x p) g = weak_taking c x p g
+    weak_form (ProcForm-F.Agent b p q) g = (p.1 _ _ (more b ty.Agent) g.0, q.1 _ _ (more b ty.Agent) g.1)
+    weak_form (ProcForm-F.Migrate e p) g = (weak_tested is_site site_below e g.0, p.1 small large n g.1)
+    weak_form (ProcForm-F.IfLocal b c e p q) g = (weak_tested is_agent agent_below b g.0, sends c e g.1, p.1 small large n g.2, q.1 small large n g.3)
+    weak_form (ProcForm-F.Send b s c e) g = (weak_tested is_agent agent_below b g.0, weak_tested is_site site_below s g.1, sends c e g.2)
+    weak_form (ProcForm-F.Post b c e) g = (weak_tested is_agent agent_below b g.0, sends c e g.1)
+    weak_form (ProcForm-F.If e p q) g = (weak_tested is_bool bool_below e g.0, p.1 small large n g.1, q.1 small large n g.2)
+    weak_form (ProcForm-F.Let x e p) g =
+        let y = weak_least w v wider small large n e g.type g.is in
+        let r = weak_cover x y.type g.type small large g.inner y.below n g.covers in
+        record { type = y.type; is = y.is; inner = r.types; covers = r.is; body = p.1 r.types g.inner r.less g.body }
+    weak_form (ProcForm-F.Print e) g =
+        let y = weak_least w v wider small large n e g.type g.is in
+        record { type = y.type; is = y.is; shows = printable_below g.type y.type y.below g.shows }
+    weak_form (ProcForm-F.Open e) g = weak_tested is_letter letter_below e g
+    weak_form (ProcForm-F.Lookup a m x p q) g =
+        (weak_tested is_agent agent_below a g.0, weak_tested is_places places_below m g.1, p.1 _ _ (more x lock_type) g.2, q.1 small large n g.3)
 
   pub weaker : (p : Proc) → WeakProc p
   weaker = proc_ind WeakProc (λ p y is small large n g.
-      good-back v small p (subst (GoodForm v small) (sym is) (weak_form y small large n (subst (GoodForm w large) is (good-form w large p g)))))
+      good-back v small p (subst (GoodForm v small) (sym is) (weak_form small large n y (subst (GoodForm w large) is (good-form w large p g)))))
 
 pub same_world : (w : World) → Wider w w
 same_world w = record { site = λ s h. h; chan = λ c k h. h }

@@ -1,5 +1,5 @@
 -- The form that a value of each type has.
-use Rattle.std.proofs.Common.{◌≡◌, ℕ, ℤ, Bool, true, Some, refl, subst, List, [], ◌∷◌, sym, ap, ◌∙◌}
+use Rattle.std.proofs.Common.{◌≡◌, ℕ, ℤ, Bool, true, false, Some, refl, subst, List, [], ◌∷◌, sym, ap, ◌∙◌}
 use Rattle.np_safety.proofs.Common.{Name, Value, Value-F, out-Value, Cap, Ty, Ty-F, out-Ty, outs-Tuple, and-out, TyLayer, reads, writes, sub_all, is_int}
 use Rattle.np_safety.proofs.Common.{is_bool, is_site, is_agent, is_letter, is_places, World, kinds, all_locks, kind, sub-itself, sub-trans, site_below}
 use Rattle.np_safety.proofs.Common.{kind-out, Fits}
@@ -8,7 +8,7 @@ use Rattle.np_syntax.specs.Options.{◌>>=◌}
 use Rattle.np_syntax.proofs.Options.{then, when, done}
 use Rattle.np_types.specs.Sub as sub
 use Rattle.np_types.specs.Sub.{is_str}
-use Rattle.np_types.proofs.Below.{int_below, bool_below, str_below, agent_below, letter_below, places_below, chan_below, tuple_below}
+use Rattle.np_types.proofs.Below.{Down, int_below, bool_below, str_below, agent_below, letter_below, places_below, chan_below, tuple_below}
 use Rattle.np_types.proofs.ValueTypes.{kind_layer, kinds-map}
 use Rattle.np_eval.specs.Eval.{ValueLayer}
 use Rattle.np_safety.proofs.Fitting.{FitAll}
@@ -74,35 +74,41 @@ held_at w (Value-F.Places x) z h = rw h.0 (x, refl, h.1)
 held : (w : World) (v : Value) (t : Ty) (f : Fits w v t) → Held w (out-Value v) (out-Ty f.type)
 held w v t f = held_at w (out-Value v) (out-Ty f.type) (shaped w v f.type f.is)
 
+-- the test of each form that has no parts
+abbrev tests : TyLayer → TyLayer → Bool
+tests Ty-F.Int = is_int
+tests Ty-F.Bool = is_bool
+tests Ty-F.Str = is_str
+tests Ty-F.Site = is_site
+tests Ty-F.Agent = is_agent
+tests Ty-F.Letter = is_letter
+tests Ty-F.Places = is_places
+tests _ = λ y. false
+
+pub passes-is : (z y : TyLayer) → tests z y ≡ true → y ≡ z
+passes-is Ty-F.Int Ty-F.Int h = refl
+passes-is Ty-F.Bool Ty-F.Bool h = refl
+passes-is Ty-F.Str Ty-F.Str h = refl
+passes-is Ty-F.Site Ty-F.Site h = refl
+passes-is Ty-F.Agent Ty-F.Agent h = refl
+passes-is Ty-F.Letter Ty-F.Letter h = refl
+passes-is Ty-F.Places Ty-F.Places h = refl
+passes-is _ _ h = absurd cc
+
+tests-below : (z : TyLayer) → Down (tests z)
+tests-below Ty-F.Int = int_below
+tests-below Ty-F.Bool = bool_below
+tests-below Ty-F.Str = str_below
+tests-below Ty-F.Site = site_below
+tests-below Ty-F.Agent = agent_below
+tests-below Ty-F.Letter = letter_below
+tests-below Ty-F.Places = places_below
+tests-below _ = λ s t h k. absurd cc
+
+pub value_as : (w : World) (v : Value) (z : TyLayer) (t : Ty) → Fits w v t → tests z (out-Ty t) ≡ true → Held w (out-Value v) z
+value_as w v z t f k = subst (Held w (out-Value v)) (passes-is z (out-Ty f.type) (tests-below z f.type t k f.below)) (held w v t f)
+
 module _ (w : World) (y : ValueLayer) where
-  int_at : (z : TyLayer) → is_int z ≡ true → Held w y z → Held w y Ty-F.Int
-  int_at Ty-F.Int k h = h
-  int_at _ k h = absurd cc
-
-  bool_at : (z : TyLayer) → is_bool z ≡ true → Held w y z → Held w y Ty-F.Bool
-  bool_at Ty-F.Bool k h = h
-  bool_at _ k h = absurd cc
-
-  str_at : (z : TyLayer) → is_str z ≡ true → Held w y z → Held w y Ty-F.Str
-  str_at Ty-F.Str k h = h
-  str_at _ k h = absurd cc
-
-  site_at : (z : TyLayer) → is_site z ≡ true → Held w y z → Held w y Ty-F.Site
-  site_at Ty-F.Site k h = h
-  site_at _ k h = absurd cc
-
-  agent_at : (z : TyLayer) → is_agent z ≡ true → Held w y z → Held w y Ty-F.Agent
-  agent_at Ty-F.Agent k h = h
-  agent_at _ k h = absurd cc
-
-  letter_at : (z : TyLayer) → is_letter z ≡ true → Held w y z → Held w y Ty-F.Letter
-  letter_at Ty-F.Letter k h = h
-  letter_at _ k h = absurd cc
-
-  places_at : (z : TyLayer) → is_places z ≡ true → Held w y z → Held w y Ty-F.Places
-  places_at Ty-F.Places k h = h
-  places_at _ k h = absurd cc
-
   chan_at : (z : TyLayer) (j : Cap × Ty) → sub.as_chan z ≡ Some j → Held w y z → Held w y (Ty-F.Chan j.0 j.1)
   chan_at (Ty-F.Chan c t) j k h = (h.0, h.1, h.2 ∙ k)
   chan_at _ j k h = absurd cc
@@ -110,28 +116,6 @@ module _ (w : World) (y : ValueLayer) where
   tuple_at : (z : TyLayer) (j : List Ty) → sub.as_tuple z ≡ Some j → Held w y z → Held w y (Ty-F.Tuple j)
   tuple_at (Ty-F.Tuple ts) j k h = (h.0, h.1, h.2 ∙ k)
   tuple_at _ j k h = absurd cc
-
-module _ (w : World) (v : Value) (t : Ty) (f : Fits w v t) where
-  pub int_value : is_int (out-Ty t) ≡ true → Held w (out-Value v) Ty-F.Int
-  int_value k = int_at w (out-Value v) (out-Ty f.type) (int_below f.type t k f.below) (held w v t f)
-
-  pub truth_value : is_bool (out-Ty t) ≡ true → Held w (out-Value v) Ty-F.Bool
-  truth_value k = bool_at w (out-Value v) (out-Ty f.type) (bool_below f.type t k f.below) (held w v t f)
-
-  pub text_value : is_str (out-Ty t) ≡ true → Held w (out-Value v) Ty-F.Str
-  text_value k = str_at w (out-Value v) (out-Ty f.type) (str_below f.type t k f.below) (held w v t f)
-
-  pub site_value : is_site (out-Ty t) ≡ true → Held w (out-Value v) Ty-F.Site
-  site_value k = site_at w (out-Value v) (out-Ty f.type) (site_below f.type t k f.below) (held w v t f)
-
-  pub agent_value : is_agent (out-Ty t) ≡ true → Held w (out-Value v) Ty-F.Agent
-  agent_value k = agent_at w (out-Value v) (out-Ty f.type) (agent_below f.type t k f.below) (held w v t f)
-
-  pub letter_value : is_letter (out-Ty t) ≡ true → Held w (out-Value v) Ty-F.Letter
-  letter_value k = letter_at w (out-Value v) (out-Ty f.type) (letter_below f.type t k f.below) (held w v t f)
-
-  pub places_value : is_places (out-Ty t) ≡ true → Held w (out-Value v) Ty-F.Places
-  places_value k = places_at w (out-Value v) (out-Ty f.type) (places_below f.type t k f.below) (held w v t f)
 
 -- a channel that a type of channels fits
 pub record ChanOf (w : World) (v : Value) (k : Cap × Ty) : Type 0 where

@@ -1,16 +1,14 @@
 -- A resolved program without a fault is typed at its start, and so along each of its runs.
-use Rattle.std.proofs.Common.{◌≡◌, ◌<◌, ℕ, true, Some, Ok, Err, [], ◌∷◌, length, nat_lt, refl, sym, ◌∙◌, arith}
+use Rattle.std.proofs.Common.{◌≡◌, ◌<◌, ℕ, true, Ok, Err, [], ◌∷◌, length, nat_lt, refl, ◌∙◌, arith}
 use Rattle.std.proofs.lemmas.Bool.Decides.{nat_tests}
 use Rattle.std.specs.FinMap as map
-use Rattle.std.specs.FinMap.{get-empty}
 use Rattle.np_safety.proofs.Common.{Name, Proc, World, Check, check, Config, Channels, world}
 use Rattle.np_syntax.specs.declared.program.Program.{Program}
-use Rattle.np_tables.specs.Names.{name_cmp}
 use Rattle.np_types.specs.Checks.{found}
 use Rattle.np_types.specs.Worlds.{bare}
 use Rattle.np_calculus.specs.Starts.{start_high, with_agent, names_alone, main_agent, main_mark}
 use Rattle.np_calculus.specs.Changes.{put}
-use Rattle.np_calculus.proofs.Housed.{high-housed, stays-lodged}
+use Rattle.np_calculus.proofs.Housed.{high-housed, nothing, stays-lodged}
 use Rattle.np_calculus.proofs.Writes.{each-written}
 use Rattle.np_check.specs.Faults.{IsAccepted}
 use Rattle.np_check.specs.Laws.{HasSites}
@@ -25,9 +23,6 @@ use Rattle.np_safety.proofs.SoundAgents.{own-agents}
 none_found : (o : Check (Unit {0})) → found o ≡ [] → o ≡ Ok tt
 none_found (Ok u) h = refl
 none_found (Err f) h = absurd cc
-
-pub nothing : {X : Type 0} (q : Name) (x : X) → map.get (map.empty {K = Name} {X = X} {R = name_cmp}) q ≡ Some x → ⊥
-nothing q x h = let e = sym (get-empty name_cmp q) ∙ h in cc
 
 pub below-is : (s n : ℕ) → s < n → nat_lt s n ≡ true
 below-is s n h = grind (arith, nat_tests)

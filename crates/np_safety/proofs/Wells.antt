@@ -1,7 +1,7 @@
 -- A configuration whose values fit is well.
 use Rattle.std.proofs.Common.{◌≡◌, ℕ, Bool, true, Some, Ok, List, [], ◌∷◌, map, refl, subst, sym, ap, ◌∙◌}
 use Rattle.std.specs.List.{list_all}
-use Rattle.np_safety.proofs.Common.{Value, Value-F, out-Value, Cap, Ty, out-Ty, Expr, Pat, Proc, ProcForm-F, and-in, and-out, With, TyLayer, is_bool, is_site}
+use Rattle.np_safety.proofs.Common.{Value, Value-F, out-Value, Cap, Ty, Ty-F, out-Ty, Expr, Pat, Proc, ProcForm-F, and-in, and-out, With, TyLayer, is_bool, is_site}
 use Rattle.np_safety.proofs.Common.{is_agent, World, kinds, kind, Types, least, Env, eval, Layer, layer, Config, Channels, world}
 use Rattle.np_syntax.specs.declared.value.Value.{map-Value, fold_out-Value}
 use Rattle.np_syntax.specs.declared.types.Ty.{map-Ty}
@@ -14,7 +14,7 @@ use Rattle.np_eval.specs.Forms.{taken_on}
 use Rattle.np_calculus.specs.Seen.{site_of}
 use Rattle.np_calculus.specs.Well.{Has, Ready, Well, is_printable, printable_step}
 use Rattle.np_safety.proofs.Fitting.{Agrees, Fitting}
-use Rattle.np_safety.proofs.Shapes.{Shaped, shaped, kinds_more, site_value, agent_value, truth_value, letter_value, places_value}
+use Rattle.np_safety.proofs.Shapes.{Shaped, shaped, kinds_more, value_as}
 use Rattle.np_safety.proofs.Evaluates.{evaluates}
 use Rattle.np_safety.proofs.Matches.{matches}
 use Rattle.np_safety.proofs.Forms.{GoodForm, Tested, Taking, OnChannel, good-form}
@@ -71,19 +71,19 @@ module _ (n : ℕ) (g : Channels) (c : Config) (sites : c.sites ≡ n) where
     has_agent : (e : Expr) → Tested w types is_agent e → Has (agent_of e env)
     has_agent e t =
         let v = evaluates w env types agrees e t.type t.is in
-        let a = agent_value w v.value t.type v.fits t.passes in
+        let a = value_as w v.value Ty-F.Agent t.type v.fits t.passes in
         (a.0, rw (v.is, a.1) refl)
 
     has_truth : (e : Expr) → Tested w types is_bool e → Has (truth_of e env)
     has_truth e t =
         let v = evaluates w env types agrees e t.type t.is in
-        let a = truth_value w v.value t.type v.fits t.passes in
+        let a = value_as w v.value Ty-F.Bool t.type v.fits t.passes in
         (a.0, rw (v.is, a.1) refl)
 
     has_site : (e : Expr) → Tested w types is_site e → Has (site_of c e env)
     has_site e t =
         let v = evaluates w env types agrees e t.type t.is in
-        let a = site_value w v.value t.type v.fits t.passes in
+        let a = value_as w v.value Ty-F.Site t.type v.fits t.passes in
         (a.0, rw (v.is, a.1, sites, a.2) refl)
 
     ready : (l : Layer) → GoodForm w types l → Ready c env l
@@ -108,11 +108,11 @@ module _ (n : ℕ) (g : Channels) (c : Config) (sites : c.sites ≡ n) where
         (v.value, v.is, shows w v.value v.fits.type v.fits.is (printable_below h.type v.fits.type v.fits.below h.shows))
     ready (ProcForm-F.Open e) h =
         let v = evaluates w env types agrees e h.type h.is in
-        let l = letter_value w v.value h.type v.fits h.passes in
+        let l = value_as w v.value Ty-F.Letter h.type v.fits h.passes in
         (l.0, rw (v.is, l.1) refl)
     ready (ProcForm-F.Lookup a m x p q) h =
         let v = evaluates w env types agrees m h.1.type h.1.is in
-        let l = places_value w v.value h.1.type v.fits h.1.passes in
+        let l = value_as w v.value Ty-F.Places h.1.type v.fits h.1.passes in
         (has_agent a h.0, (l.0, rw (v.is, l.1) refl))
 
     -- an input, plain or replicated
