@@ -1,6 +1,6 @@
 //! The lines of the generated source.
 
-ghost use Rattle.std.specs.Prelude.{◌≡◌, ◌≤◌, ◌<◌, ◌++◌, OnOk, IfOk, codes, decimal, map};
+ghost use Rattle.std.specs.Prelude.{◌≡◌, ◌≤◌, ◌++◌, OnOk, IfOk, decimal, map};
 ghost use Rattle.std.specs.List.{range_with_len};
 ghost use Rattle.np_generate.specs.Generated as spec;
 
