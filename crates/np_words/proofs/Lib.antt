@@ -1,2 +1,3 @@
 pub mod Commands
 mod Examples
+pub mod Walks

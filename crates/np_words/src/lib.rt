@@ -4,10 +4,12 @@
 
 mod arguments;
 mod fail;
+mod laws;
 mod modes;
 mod numerals;
 mod planning;
 
 pub use fail::PlanFail;
+pub use laws::law_taken;
 pub use modes::{Links, Mode};
 pub use planning::{Plan, plan_of};
