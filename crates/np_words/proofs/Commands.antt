@@ -1,6 +1,7 @@
 -- The one command of the program, argument by argument, and what it answers.
 use Rattle.std.proofs.Common.{◌≡◌, inl, inr, ◌∙◌, ap, sym, subst, codes, true, List, [], ◌∷◌, Option, None, Some, Result, Ok, Err, refl, map}
-use Rattle.std.specs.Prelude.{IfOk, option_and_then}
+use Rattle.std.specs.Prelude.{IfOk}
+use Rattle.np_syntax.specs.Options.{◌>>=◌}
 use Rattle.clap.specs.Words.{App, Text, HasMatchesOf, found_of, rows_of, matches_of, fault_of, is_simple, is_simple_and_free, Kinds, HasKind, kind_of, with_rule}
 use Rattle.clap.specs.declared.error.Error.{Error}
 use Rattle.clap.specs.declared.error.kind.ErrorKind.TheVariants.{OutOfMemory}
@@ -62,8 +63,8 @@ same_words (w ∷ words) = ap (λ (rest : List Text). w ∷ rest) (same_words wo
 
 pub planned_is : (words : List Text) (g s : Given) (r : Result Plan PlanFail) → taken words ≡ Some g → s ≡ g → Plans (planned s) r → Plans (plan words) r
 unfolding plan
-planned_is words g s r t e p = subst (λ (o : Option Plan). Plans o r) (ap planned e ∙ sym (ap (option_and_then planned) t)) p
+planned_is words g s r t e p = subst (λ (o : Option Plan). Plans o r) (ap planned e ∙ sym (ap (λ given. given >>= planned) t)) p
 
 pub no_plan : (words : List Text) → taken words ≡ None → plan words ≡ None
 unfolding plan
-no_plan words t = ap (option_and_then planned) t
+no_plan words t = ap (λ given. given >>= planned) t

@@ -1,6 +1,7 @@
 -- Which words ask for what (docs/LANGUAGE.md, "Reports and refusals"): those that are taken, and meet the table of the modes that are built.
-use Rattle.std.specs.Prelude.{◌≡◌, ℕ, Bool, true, false, ◌&&◌, ◌||◌, not, List, Option, Some, None, is_some, option_and_then, Result, Ok, Err, if◌then◌else◌}
+use Rattle.std.specs.Prelude.{◌≡◌, ℕ, Bool, true, false, ◌&&◌, ◌||◌, not, List, Option, Some, None, is_some, Result, Ok, Err}
 use Rattle.clap.specs.Words.{Text}
+use Rattle.np_syntax.specs.Options.{◌>>=◌, ◌>>◌, need}
 use Rattle.np_syntax.specs.declared.limits.TheConstants.{LARGEST_BUDGET, USUAL_BUDGET}
 use Rattle.np_words.specs.Arguments.{Given, taken}
 use Rattle.np_words.specs.Modes.{entry_of, number_of, links_of}
@@ -26,6 +27,9 @@ is_met entry given = same entry.second (is_some given.second)
     && only entry.options.high given.high && only entry.options.serial given.serial
     && only entry.options.links (is_some given.links)
 
+abbrev pub entry_given : Option Text → Option Entry
+entry_given word = word >>= entry_of
+
 abbrev pub budget_of : Option Text → Option ℕ
 budget_of None = Some USUAL_BUDGET
 budget_of (Some word) = number_of LARGEST_BUDGET word
@@ -34,24 +38,26 @@ abbrev pub kind_of : Option Text → Option Links
 kind_of None = Some Rings
 kind_of (Some word) = links_of word
 
-abbrev pub asked : Given → Option Entry → Option Text → Option ℕ → Option Links → Option Plan
-asked given (Some entry) (Some file) (Some budget) (Some links) = if is_met entry given then Some (record {
-  mode = entry.mode;
-  file = file;
-  second = given.second;
-  budget = budget;
-  history = given.history;
-  high = given.high;
-  serial = given.serial;
-  links = links;
-}) else None
-asked given entry file budget links = None
-
 abbrev pub planned : Given → Option Plan
-planned given = asked given (option_and_then entry_of given.mode) given.file (budget_of given.budget) (kind_of given.links)
+planned given = do
+  entry ← entry_given given.mode
+  file ← given.file
+  budget ← budget_of given.budget
+  links ← kind_of given.links
+  need (is_met entry given)
+  Some (record {
+    mode = entry.mode;
+    file = file;
+    second = given.second;
+    budget = budget;
+    history = given.history;
+    high = given.high;
+    serial = given.serial;
+    links = links;
+  })
 
 unfoldable pub plan : List Text → Option Plan
-plan words = option_and_then planned (taken words)
+plan words = taken words >>= planned
 
 -- a plan exactly where the words have one, and a usage fault exactly where they have none; memory aside
 abbrev pub Plans : Option Plan → Result Plan PlanFail → Type 0

@@ -1,7 +1,6 @@
 //! From the words to a plan.
 
-ghost use Rattle.std.specs.Prelude.{◌≡◌, option_and_then, option_map, IfOk};
-ghost use Rattle.np_words.specs.Modes.{entry_of};
+ghost use Rattle.std.specs.Prelude.{◌≡◌, option_map, IfOk};
 ghost use Rattle.np_words.specs.Arguments.{seen};
 ghost use Rattle.np_words.specs.Plans as spec;
 
@@ -76,7 +75,7 @@ fn copied(alloc: Global, word: Option<&str>) -> Result<Option<Word>, Memory>
 
 /// The mode that the word names, if it is built.
 fn entry_given(word: Option<&str>) -> Option<Entry>
-    ensures { result ≡ option_and_then entry_of (option_map (λ text. text.now) word.entry) }
+    ensures { result ≡ spec.entry_given (option_map (λ text. text.now) word.entry) }
 {
     entry_of(word?)
 }
