@@ -1,0 +1,88 @@
+-- The words of the command line as one simple command (docs/LANGUAGE.md, "Reports and refusals"): its arguments, and what the words
+-- give for each. The definitions of clap say which words are taken.
+use Rattle.std.specs.Prelude.{Bool, true, false, List, [], ◌∷◌, codes, Option, Some, None, option_map, if◌then◌else◌}
+use Rattle.std.specs.Str.{bytes_eq}
+use Rattle.clap.specs.Words.{App, Kinds, Row, Rule, Text, fault_of, first_of, matches_of, new_app, new_rule}
+use Rattle.clap.specs.declared.builder.ArgAction.TheVariants.{SetTrue}
+use Rattle.np_words.specs.declared.arguments.Given.{Given as Held}
+
+-- ---- the command
+
+-- a word that has to stand there, in its place
+abbrev pub operand : Text → Rule
+operand id = record (new_rule id) { required = true }
+
+-- a word that may stand there, in its place
+abbrev pub further : Text → Rule
+further id = new_rule id
+
+-- `--id VALUE`
+abbrev pub valued : Text → Rule
+valued id = record (new_rule id) { long = Some id }
+
+-- `--id`
+abbrev pub flag : Text → Rule
+flag id = record (new_rule id) { long = Some id; action = Some SetTrue }
+
+abbrev pub arguments : List Rule
+arguments =
+    operand (codes "mode") ∷ operand (codes "file") ∷ further (codes "second")
+    ∷ valued (codes "budget") ∷ flag (codes "history") ∷ flag (codes "high") ∷ flag (codes "serial") ∷ valued (codes "links") ∷ []
+
+-- the words leave out the program's name
+abbrev pub start : App
+start = record { top = record (new_app (codes "np")).top { no_binary_name = true }; subs = [] }
+
+unfoldable pub command : App
+command = record { top = record start.top { rules = arguments }; subs = [] }
+
+-- ---- what the words give
+
+-- what stands for each argument
+pub record Given : Type 0 where
+  pub mode : Option Text
+  pub file : Option Text
+  pub second : Option Text
+  pub budget : Option Text
+  pub history : Bool
+  pub high : Bool
+  pub serial : Bool
+  pub links : Option Text
+
+-- whether a flag was given
+abbrev pub is_set : Option Text → Bool
+is_set None = false
+is_set (Some text) = bytes_eq text (codes "true")
+
+-- the words that the code holds
+abbrev pub seen : Held → Given
+seen held = record {
+  mode = option_map (λ text. text.now) held.mode;
+  file = option_map (λ text. text.now) held.file;
+  second = option_map (λ text. text.now) held.second;
+  budget = option_map (λ text. text.now) held.budget;
+  history = held.history;
+  high = held.high;
+  serial = held.serial;
+  links = option_map (λ text. text.now) held.links;
+}
+
+abbrev pub given : List Row → Given
+given rows = record {
+  mode = first_of (codes "mode") rows;
+  file = first_of (codes "file") rows;
+  second = first_of (codes "second") rows;
+  budget = first_of (codes "budget") rows;
+  history = is_set (first_of (codes "history") rows);
+  high = is_set (first_of (codes "high") rows);
+  serial = is_set (first_of (codes "serial") rows);
+  links = first_of (codes "links") rows;
+}
+
+abbrev pub has_fault : Kinds → Bool
+has_fault [] = false
+has_fault (kind ∷ kinds) = true
+
+-- what the words give, where they are taken
+unfoldable pub taken : List Text → Option Given
+taken words = if has_fault (fault_of command words) then None else Some (given (matches_of command words))

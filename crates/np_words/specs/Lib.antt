@@ -1,0 +1,4 @@
+pub mod Arguments
+pub mod Modes
+pub mod Plans
+pub mod Laws

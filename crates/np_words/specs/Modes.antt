@@ -1,0 +1,66 @@
+-- The table of the modes that are built, and the words of the options (docs/LANGUAGE.md, "Reports and refusals").
+use Rattle.std.specs.Prelude.{ℕ, Bool, true, false, ◌&&◌, nat_le, nat_lt, if◌then◌else◌, List, [], ◌∷◌, length, codes, find, Option, Some, None}
+use Rattle.std.specs.Char.{is_ascii_digit}
+use Rattle.std.specs.List.{list_all}
+use Rattle.std.specs.Str.{bytes_eq}
+use Rattle.std.specs.Str.Parse.{digits_value}
+use Rattle.np_words.specs.declared.modes.Mode.{Mode}
+use Rattle.np_words.specs.declared.modes.Mode.TheVariants as mode
+use Rattle.np_words.specs.declared.modes.Options.{Options}
+use Rattle.np_words.specs.declared.modes.Entry.{Entry}
+use Rattle.np_words.specs.declared.modes.Links.{Links}
+use Rattle.np_words.specs.declared.modes.Links.TheVariants as links
+
+-- ---- modes
+
+abbrev pub mode_word : Mode → List ℕ
+mode_word mode.Run = codes "run"
+mode_word mode.High = codes "high"
+mode_word mode.Show = codes "show"
+mode_word mode.Check = codes "check"
+mode_word mode.Low = codes "low"
+
+abbrev pub no_options : Options
+no_options = record { budget = false; history = false; high = false; serial = false; links = false }
+
+abbrev pub only_budget : Options
+only_budget = record no_options { budget = true }
+
+-- a mode that reads one file
+abbrev pub one_file : Mode → Options → Entry
+one_file m options = record { mode = m; second = false; options = options }
+
+-- each mode that is built, with the words that may stand behind FILE
+abbrev pub modes : List Entry
+modes =
+    one_file mode.Run only_budget ∷ one_file mode.High only_budget
+    ∷ one_file mode.Show no_options ∷ one_file mode.Check no_options ∷ one_file mode.Low no_options ∷ []
+
+abbrev pub entry_of : List ℕ → Option Entry
+entry_of word = find (λ (entry : Entry). bytes_eq (mode_word entry.mode) word) modes
+
+-- ---- numbers
+
+-- one to six digits
+abbrev pub is_numeral : List ℕ → Bool
+is_numeral word = nat_lt 0 (length word) && nat_le (length word) 6 && list_all is_ascii_digit word
+
+abbrev pub within : ℕ → ℕ → Option ℕ
+within most n = if nat_le 1 n && nat_le n most then Some n else None
+
+-- the number of a numeral, from 1 to this
+abbrev pub number_of : ℕ → List ℕ → Option ℕ
+number_of most word = if is_numeral word then within most (digits_value 10 word) else None
+
+-- ---- links
+
+abbrev pub links_word : Links → List ℕ
+links_word links.Tray = codes "tray"
+links_word links.Rings = codes "rings"
+links_word links.Inbox = codes "inbox"
+
+abbrev pub kinds : List Links
+kinds = links.Tray ∷ links.Rings ∷ links.Inbox ∷ []
+
+abbrev pub links_of : List ℕ → Option Links
+links_of word = find (λ kind. bytes_eq (links_word kind) word) kinds

@@ -1,0 +1,15 @@
+//! The words of the command line: read by clap as one simple command, they are a plan or a fault of
+//! usage.
+#![tactic(auto)]
+
+mod arguments;
+mod fail;
+mod laws;
+mod modes;
+mod numerals;
+mod planning;
+
+pub use fail::PlanFail;
+pub use laws::law_taken;
+pub use modes::{Links, Mode};
+pub use planning::{Plan, plan_of};

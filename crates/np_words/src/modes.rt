@@ -1,0 +1,124 @@
+//! The modes that are built, and what may stand behind FILE in each.
+
+ghost use Rattle.std.specs.Prelude.{◌≡◌};
+ghost use Rattle.np_words.specs.Modes as spec;
+
+/// What the program does.
+#[derive(Clone, Copy, Debug, PartialEq, Eq)]
+pub enum Mode {
+    Run,
+    High,
+    Show,
+    Check,
+    Low,
+}
+
+/// What carries agents and packets from site to site.
+#[derive(Clone, Copy, Debug, PartialEq, Eq)]
+pub enum Links {
+    Tray,
+    Rings,
+    Inbox,
+}
+
+/// Which options a mode has.
+#[derive(Clone, Copy, Debug)]
+pub struct Options {
+    pub budget: bool,
+    pub history: bool,
+    pub high: bool,
+    pub serial: bool,
+    pub links: bool,
+}
+
+/// A mode, with the words that may stand behind FILE.
+#[derive(Clone, Copy, Debug)]
+pub struct Entry {
+    pub mode: Mode,
+    pub second: bool,
+    pub options: Options,
+}
+
+const NO_OPTIONS: Options = Options {
+    budget: false,
+    history: false,
+    high: false,
+    serial: false,
+    links: false,
+};
+
+const ONLY_BUDGET: Options = Options {
+    budget: true,
+    ..NO_OPTIONS
+};
+
+/// The modes that are built.
+const MODES: [Entry; 5] = [
+    Entry {
+        mode: Mode::Run,
+        second: false,
+        options: ONLY_BUDGET,
+    },
+    Entry {
+        mode: Mode::High,
+        second: false,
+        options: ONLY_BUDGET,
+    },
+    Entry {
+        mode: Mode::Show,
+        second: false,
+        options: NO_OPTIONS,
+    },
+    Entry {
+        mode: Mode::Check,
+        second: false,
+        options: NO_OPTIONS,
+    },
+    Entry {
+        mode: Mode::Low,
+        second: false,
+        options: NO_OPTIONS,
+    },
+];
+
+/// Each kind of links once.
+const KINDS: [Links; 3] = [Links::Tray, Links::Rings, Links::Inbox];
+
+fn mode_word(mode: Mode) -> &'static str
+    ensures { result.now ≡ spec.mode_word mode }
+{
+    match mode {
+        Mode::Run => "run",
+        Mode::High => "high",
+        Mode::Show => "show",
+        Mode::Check => "check",
+        Mode::Low => "low",
+    }
+}
+
+/// The mode that a word names, if it is built.
+pub fn entry_of(word: &str) -> Option<Entry>
+    ensures { result ≡ spec.entry_of word.now }
+{
+    MODES
+        .iter()
+        .copied()
+        .find(|entry| mode_word(entry.mode) == word)
+}
+
+fn links_word(links: Links) -> &'static str
+    ensures { result.now ≡ spec.links_word links }
+{
+    match links {
+        Links::Tray => "tray",
+        Links::Rings => "rings",
+        Links::Inbox => "inbox",
+    }
+}
+
+/// The kind of links that a word names.
+pub fn links_of(word: &str) -> Option<Links>
+    ensures { result ≡ spec.links_of word.now }
+{
+    KINDS.iter().copied().find(|kind| links_word(*kind) == word)
+}
