@@ -67,14 +67,23 @@ fn low_run_of(alloc: Global, budget: u32, bytes: &[u8]) -> Result<(SerialRun, Te
     }
 }
 
-/// Translates a checked program, drops it, and runs its low program.
+/// The low program of a checked program, which is dropped.
+fn translated(alloc: Global, checked: Checked) -> Result<LowProgram, Memory>
+    ensures gives { IfOk result (λ low. low ≡ encoded checked) }
+    ensures runs { IfOk result (λ low. RunsWell (start_low low) low.at) }
+{
+    law_low_runs_well();
+    let _ = checked.program();
+    let made = encode(alloc, &checked);
+    drop(checked);
+    made
+}
+
+/// Translates a checked program and runs its low program.
 fn run_translated(alloc: Global, budget: u32, checked: Checked) -> Result<(SerialRun, Text), Memory>
     ensures { IfOk result (λ made. IsRunOf checked.sites (start_low (encoded checked)) budget made.0 made.1) }
 {
-    law_low_runs_well();
-    let made = encode(alloc, &checked);
-    drop(checked);
-    let low = made?;
+    let low = translated(alloc, checked)?;
     run_encoded(alloc, budget, &low)
 }
 
