@@ -4,7 +4,7 @@ use Rattle.std.proofs.lemmas.List.{append-nil}
 use Rattle.std.specs.Prelude.{◌↔◌}
 use Rattle.std.specs.FinMap as map
 use Rattle.std.specs.FinSet as set
-use Rattle.np_calculus.proofs.Common.{Name, Expr, Pat, ProcForm-F, Event, Kind, Made, ◌>>=◌, NameSet, same_name, then, done, same_name-is, same_name-itself, Place, Config, Env, agent_of, chan_of, Layer, layer, apply, is_at, offered}
+use Rattle.np_calculus.proofs.Common.{Name, Expr, Pat, ProcForm-F, Event, Kind, Made, ◌>>=◌, NameSet, same_name, then, done, same_name-is, same_name-itself, Config, Env, agent_of, chan_of, Layer, layer, apply, is_at, offered}
 use Rattle.np_configuration.proofs.Common.{Errand, mapped, errand_of, Idle, NoneTravels}
 use Rattle.np_syntax.specs.declared.program.Program.{Program}
 use Rattle.np_syntax.specs.declared.program.LowProgram.{LowProgram}
@@ -18,6 +18,7 @@ use Rattle.np_tables.specs.Errands.{IsReady, Meet}
 use Rattle.np_tables.proofs.Mapped.{mapped_there}
 use Rattle.np_tables.proofs.Tables.{born_insert}
 use Rattle.np_calculus.specs.declared.config.Atom.{Atom}
+use Rattle.np_calculus.specs.declared.config.Place.{Place}
 use Rattle.np_calculus.specs.declared.config.Place.TheVariants as place
 use Rattle.np_calculus.specs.Reductions.{run}
 use Rattle.np_serial.specs.Serial.{AreFresh, IsEnabled, IsReached, IsSerialRun, Stands, actor_of, taken_by}
