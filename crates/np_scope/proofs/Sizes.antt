@@ -31,5 +31,24 @@ pub ruleset if_sizes = (nodes-if, binders-if)
 pub ruleset let_sizes = (nodes-let, binders-let)
 
 -- the nodes of each form, by which a form has more than its parts; and the binders of those with no process in them
-pub ruleset form_sizes =
-    (nodes-stop, nodes-par, nodes-new, nodes-out, nodes-inp, nodes-rep, nodes-agent, nodes-migrate, nodes-iflocal, nodes-send, nodes-post, nodes-if, nodes-let, nodes-print, binders-stop, binders-out, binders-send, binders-post, binders-print)
+pub ruleset form_sizes = (
+  nodes-stop,
+  nodes-par,
+  nodes-new,
+  nodes-out,
+  nodes-inp,
+  nodes-rep,
+  nodes-agent,
+  nodes-migrate,
+  nodes-iflocal,
+  nodes-send,
+  nodes-post,
+  nodes-if,
+  nodes-let,
+  nodes-print,
+  binders-stop,
+  binders-out,
+  binders-send,
+  binders-post,
+  binders-print,
+)
