@@ -7,4 +7,4 @@ pub mod FittingShapes
 pub mod FittingTuples
 pub mod FormsByParts
 pub mod Layers
-pub mod Overlays
+pub mod Pairs

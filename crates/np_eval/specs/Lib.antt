@@ -5,4 +5,4 @@ pub mod Fitting
 pub mod FormParts
 pub mod Forms
 pub mod Levels
-pub mod Overlay
+pub mod Pairs
