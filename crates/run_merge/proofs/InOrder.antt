@@ -1,7 +1,7 @@
 -- Lists in order: what putting in an element keeps, and that there is one list in order.
-use Rattle.std.proofs.Common.{◌≡◌, ◌<◌, ◌≤◌, ℕ, suc, Bool, true, false, cond, not, ◌&&◌, List, [], ◌∷◌, length, map, get_or, refl, sym, ap, ap₂, ◌∙◌, subst, arith}
+use Rattle.std.proofs.Common.{◌≡◌, ◌<◌, ◌≤◌, ℕ, suc, Bool, true, false, cond, not, ◌&&◌, List, [], ◌∷◌, ◌++◌, length, map, get_or, refl, sym, ap, ap₂, ◌∙◌, subst, arith}
 use Rattle.std.specs.Cmp.{IsStrictWeakOrder}
-use Rattle.std.specs.List.{AllByRecursion, filter}
+use Rattle.std.specs.List.{AllByRecursion, filter, flat_map}
 use Rattle.std.specs.List.Sorted.{IsSortedBy, IsStableBy, ties}
 use Rattle.std.proofs.lemmas.List.Elements.{recursion_from_All}
 use Rattle.std.proofs.lemmas.List.Sorted.{sorted_far}
@@ -33,6 +33,19 @@ all_pass p [] = tt
 all_pass p (x ∷ xs) =
     let rest = all_pass p xs in
     at_cond (AllByRecursion (λ x. p x ≡ true)) (p x) (x ∷ filter p xs) (filter p xs) (λ h. (h, rest)) (λ h. rest)
+
+pub all_append : {A : Type 0} (P : A → Type 0) (xs ys : List A) → AllByRecursion P xs → AllByRecursion P ys → AllByRecursion P (xs ++ ys)
+all_append P [] ys left right = right
+all_append P (x ∷ xs) ys left right = (left.0, all_append P xs ys left.1 right)
+
+pub all_flat_map : {A B : Type 0} (P : B → Type 0) (f : A → List B) (xs : List A) → AllByRecursion (λ x. AllByRecursion P (f x)) xs → AllByRecursion P (flat_map f xs)
+all_flat_map P f [] all = tt
+all_flat_map P f (x ∷ xs) all = all_append P (f x) (flat_map f xs) all.0 (all_flat_map P f xs all.1)
+
+-- two tests that agree at each element
+pub filter_alike : {A : Type 0} (p q : A → Bool) (xs : List A) → AllByRecursion (λ x. p x ≡ q x) xs → filter p xs ≡ filter q xs
+filter_alike p q [] all = refl
+filter_alike p q (x ∷ xs) all = ap₂ (λ b ys. cond b (x ∷ ys) ys) all.0 (filter_alike p q xs all.1)
 
 pub keeps_all : {A : Type 0} (p : A → Bool) (xs : List A) → AllByRecursion (λ x. p x ≡ true) xs → filter p xs ≡ xs
 keeps_all p [] all = refl
@@ -99,6 +112,10 @@ module _ {X : Type 0} (before : X → X → Bool) (order : IsStrictWeakOrder bef
   all_put_in P x (y ∷ ys) p all =
       let rest = all_put_in P x ys p all.1 in
       at_cond (AllByRecursion P) (before y x) (y ∷ put_in before x ys) (x ∷ y ∷ ys) (λ h. (all.0, rest)) (λ h. (p, all))
+
+  pub all_in_order : (P : X → Type 0) (xs : List X) → AllByRecursion P xs → AllByRecursion P (in_order before xs)
+  all_in_order P [] all = tt
+  all_in_order P (x ∷ xs) all = all_put_in P x (in_order before xs) all.0 (all_in_order P xs all.1)
 
   ascends-put_in : (x : X) (ys : List X) → Ascends before ys → Ascends before (put_in before x ys)
   ascends-put_in x [] up = (tt, tt)

@@ -4,6 +4,8 @@ use Rattle.std.proofs.lemmas.Bool.Decides.{nat_tests}
 use Rattle.std.proofs.lemmas.Cmp.{then_total, on_total}
 use Rattle.std.proofs.lemmas.List.Elements.{filter-append, All-from_recursion}
 use Rattle.std.proofs.lemmas.List.Sorted.{ranks_by}
+use Rattle.std.proofs.lemmas.Simd.{map-map}
+use Rattle.std.specs.Borrow.{Bor}
 use Rattle.std.specs.Cmp.{IsTotalOrder, IsStrictWeakOrder, nat_cmp_total}
 use Rattle.std.specs.List.{AllByRecursion, filter, flat_map}
 use Rattle.std.specs.List.Sorted.{ties}
@@ -14,9 +16,9 @@ use Rattle.stamp_history.specs.Histories.{Recorded, IsHistory, Rises}
 use Rattle.run_merge.specs.declared.rank.Rank.{Rank}
 use Rattle.run_merge.specs.declared.rank.Ranked.{Ranked}
 use Rattle.run_merge.specs.InOrder.{in_order, Ascends}
-use Rattle.run_merge.specs.Laws.{IsAscending, KeepsHistories, HasNoOthers, IsOnly, HaveOwnSites, IsNoLater, IsInOrder, of_site}
-use Rattle.run_merge.specs.Merged.{rank_cmp, comes_before, ranked, events_of, merged}
-use Rattle.run_merge.proofs.InOrder.{all_weaker, all_map, keeps_all, keeps_none, filter_within, ascends-in_order, filter-in_order, in_order-ascends, one_order}
+use Rattle.run_merge.specs.Laws.{IsAscending, KeepsHistories, KeepsEvents, HasNoOthers, IsOnly, HaveOwnSites, HasOwnSite, IsNoLater, IsInOrder, of_site}
+use Rattle.run_merge.specs.Merged.{rank_cmp, comes_before, ranked, events_of, merged, items, shown}
+use Rattle.run_merge.proofs.InOrder.{all_weaker, all_map, all_flat_map, keeps_all, keeps_none, filter_within, filter_alike, filter_map_back, all_in_order, in_order-map, ascends-in_order, filter-in_order, in_order-ascends, one_order}
 
 total : IsTotalOrder rank_cmp
 total = then_total (on_total (λ a. a.stamp) nat_cmp_total) (on_total (λ a. a.site) nat_cmp_total)
@@ -123,6 +125,32 @@ keeps_histories hs k d are within =
 
 pub no_others : HasNoOthers
 no_others hs s apart = site_none events_of events_own hs s apart
+
+-- ---- events that have the sites of their histories
+
+own_ranked : (h : Recorded) → HasOwnSite h → AllByRecursion (λ r. r.item.site ≡ r.rank.site) (events_of h)
+own_ranked h own = all_map (λ r. r.item.site ≡ r.rank.site) (ranked h.site) h.events own
+
+all_ranked : (hs : List Recorded) → AllByRecursion HasOwnSite hs → AllByRecursion (λ r. r.item.site ≡ r.rank.site) (merged hs)
+all_ranked hs own =
+    all_in_order comes_before ranks_order (λ r. r.item.site ≡ r.rank.site) (flat_map events_of hs)
+    (all_flat_map (λ r. r.item.site ≡ r.rank.site) events_of hs (all_weaker HasOwnSite (λ h. AllByRecursion (λ r. r.item.site ≡ r.rank.site) (events_of h)) own_ranked hs own))
+
+pub keeps_events : KeepsEvents
+keeps_events hs k d are own within =
+    let h = get_or hs k d in
+    filter_map_back (λ e. e.site == h.site) (λ r. r.item) (merged hs)
+    ∙ ap items (filter_alike (λ r. r.item.site == h.site) (λ r. r.rank.site == h.site) (merged hs)
+    (all_weaker (λ r. r.item.site ≡ r.rank.site) (λ r. (r.item.site == h.site) ≡ (r.rank.site == h.site)) (λ r e. ap (λ s. s == h.site) e) (merged hs) (all_ranked hs own)))
+    ∙ ap items (keeps_histories hs k d are within)
+    ∙ map-map (λ r. r.item) (ranked h.site) h.events
+
+-- references to all events, in order, lead to the merged history
+pub merged-shown : (rs : List (Ranked (Bor Event))) (hs : List Recorded) → map shown rs ≡ flat_map events_of hs
+    → map (λ one. one.item.now) (in_order comes_before rs) ≡ items (merged hs)
+merged-shown rs hs all =
+    sym (map-map (λ r. r.item) shown (in_order comes_before rs))
+    ∙ ap items (in_order-map comes_before comes_before shown (λ a b. refl) rs ∙ ap (in_order comes_before) all)
 
 -- ---- the only one
 

@@ -6,7 +6,7 @@ use Rattle.np_syntax.specs.declared.value.Value.{Value}
 use Rattle.stamp_history.specs.Histories.{Recorded, IsHistory}
 use Rattle.run_merge.specs.declared.rank.Rank.{Rank}
 use Rattle.run_merge.specs.declared.rank.Ranked.{Ranked}
-use Rattle.run_merge.specs.Merged.{events_of, merged, print_events, merged_values, said}
+use Rattle.run_merge.specs.Merged.{events_of, merged, items, print_events, merged_values, said}
 
 -- no two histories have one site number
 abbrev pub HaveOwnSites : List Recorded → Type 0
@@ -16,6 +16,10 @@ HaveOwnSites (h ∷ hs) = AllByRecursion (λ other. other.site ≢ h.site) hs ×
 pub record AreHistories (hs : List Recorded) : Type 0 where
   pub each : AllByRecursion IsHistory hs
   pub sites : HaveOwnSites hs
+
+-- each event has the site of its history
+abbrev pub HasOwnSite : Recorded → Type 0
+HasOwnSite h = AllByRecursion (λ e. e.event.site ≡ h.site) h.events
 
 -- by stamp, and where stamps are equal by site
 abbrev pub IsNoLater : Rank → Rank → Type 0
@@ -42,6 +46,11 @@ KeepsHistories = (hs : List Recorded) (k : ℕ) (d : Recorded) → AreHistories 
 -- a site that has no history has no event
 abbrev pub HasNoOthers : Type 0
 HasNoOthers = (hs : List Recorded) (s : ℕ) → AllByRecursion (λ h. h.site ≢ s) hs → of_site s (merged hs) ≡ []
+
+-- where each event has its history's site, the events of a site are those of its history
+abbrev pub KeepsEvents : Type 0
+KeepsEvents = (hs : List Recorded) (k : ℕ) (d : Recorded) → AreHistories hs → AllByRecursion HasOwnSite hs → k < length hs
+    → filter (λ e. e.site == (slice_index_or hs k d).site) (items (merged hs)) ≡ map (λ e. e.event) (slice_index_or hs k d).events
 
 -- what is in order, and has the same events of each site, is the merged history
 abbrev pub IsOnly : Type 0

@@ -22,6 +22,10 @@ comes_before a b = is_lt (rank_cmp a.rank b.rank)
 abbrev pub items : {X : Type 0} → List (Ranked X) → List X
 items = map (λ r. r.item)
 
+-- what a reference leads to
+abbrev pub shown : {X : Type 0} → Ranked (Bor X) → Ranked X
+shown r = record { rank = r.rank; item = r.item.now }
+
 -- the histories of stored ones
 abbrev pub past : List Stored → List Recorded
 past = map (λ s. s.history)
@@ -65,7 +69,3 @@ at_site v = (v.rank.site, v.item)
 
 abbrev pub said : List Recorded → List (ℕ × Value)
 said hs = map at_site (merged_values hs)
-
--- what a reference leads to
-abbrev pub shown : Ranked (Bor Value) → Ranked Value
-shown r = record { rank = r.rank; item = r.item.now }

@@ -1,10 +1,11 @@
-ghost use Rattle.run_merge.specs.Laws.{IsAscending, KeepsHistories, HasNoOthers, IsOnly, FollowsPrints, KeepsSaid, IsOnlySaid};
+ghost use Rattle.run_merge.specs.Laws.{IsAscending, KeepsHistories, KeepsEvents, HasNoOthers, IsOnly, FollowsPrints, KeepsSaid, IsOnlySaid};
 
 /// The merged history has the events of each history in their order, and is in order of stamps and then of sites. There is
 /// no other such list.
 pub fn law_merged()
     ensures order { IsAscending }
     ensures histories { KeepsHistories }
+    ensures events { KeepsEvents }
     ensures others { HasNoOthers }
     ensures only { IsOnly }
 {}

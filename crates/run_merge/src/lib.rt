@@ -9,5 +9,4 @@ mod sorting;
 
 pub use laws::{law_merged, law_said};
 pub use merging::merge;
-pub use rank::{Rank, Ranked};
 pub use saying::said;

@@ -14,7 +14,7 @@ pub fn said(alloc: Global, histories: &[History]) -> Result<List<(u32, Value)>, 
 {
     let mut ranked = ranked_values(alloc, histories)?;
     sort(&mut ranked)?;
-    copies(alloc, ranked.as_slice())
+    copied(alloc, ranked.as_slice())
 }
 
 /// The printed values of each history in turn.
@@ -52,7 +52,7 @@ fn add_values<'a>(ranked: &mut Vec<Ranked<&'a Value>>, history: &'a History) -> 
 }
 
 /// Copies of the values, with the sites.
-fn copies(alloc: Global, ranked: &[Ranked<&Value>]) -> Result<List<(u32, Value)>, Memory>
+fn copied(alloc: Global, ranked: &[Ranked<&Value>]) -> Result<List<(u32, Value)>, Memory>
     ensures { IfOk result (λ values. values ≡ map (λ one. (one.rank.site, one.item.now)) ranked.now) }
 {
     let mut values = List::new(alloc);

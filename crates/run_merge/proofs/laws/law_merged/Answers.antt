@@ -1,4 +1,4 @@
-use Rattle.run_merge.proofs.Ranks.{ascending, keeps_histories, no_others, only}
+use Rattle.run_merge.proofs.Ranks.{ascending, keeps_histories, keeps_events, no_others, only}
 use Rattle.run_merge.proofs.laws.law_merged.Goals as goal
 
 pub returns-clause-order : goal.returns-clause-order
@@ -12,3 +12,6 @@ returns-clause-others c = no_others
 
 pub returns-clause-only : goal.returns-clause-only
 returns-clause-only c = only
+
+pub returns-clause-events : goal.returns-clause-events
+returns-clause-events c = keeps_events

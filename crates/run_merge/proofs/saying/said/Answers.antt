@@ -7,4 +7,4 @@ use Rattle.run_merge.proofs.saying.said.Goals as goal
 pub returns : goal.returns
 returns c =
     let sorted = c.as_slice.ensures.value ∙ c.in_ok-sort.ensures in
-    IfOk-weaker c.copies.result _ _ (λ values is. is ∙ ap (map (λ one. (one.rank.site, one.item.now))) sorted ∙ said-shown _ (past c.args.histories.now) c.in_ok-ranked.ensures) c.copies.ensures
+    IfOk-weaker c.copied.result _ _ (λ values is. is ∙ ap (map (λ one. (one.rank.site, one.item.now))) sorted ∙ said-shown _ (past c.args.histories.now) c.in_ok-ranked.ensures) c.copied.ensures
