@@ -4,6 +4,10 @@ pub mod ErrandForms
 pub mod Goings
 pub mod Keeping
 pub mod NewOutputs
+pub mod RowSteps
+pub mod Moved
+pub mod RowForms
 pub mod RestTests
 pub mod Rests
 pub mod Ways
+pub mod Finds

@@ -17,10 +17,6 @@ pub found-goes : (a : Atom) (x : ℕ) (met unmet : Proc) (o : Option Name)
 found-goes a x met unmet (Some lock) = refl
 found-goes a x met unmet None = refl
 
--- the atom of a lookup that is enabled has a process to go on as
-pub looked-way : (c : Config) (e : Event) (first : Bool) (env : Env) (errand : Errand) → IsLookup c e first env errand → IsSome (way_in c.atoms e.actor first)
-looked-way c e first env errand s = rw ((acting-step c e s.atom s.acts).there, s.form) refl
-
 -- the row of a location test, where the conditions of both its ways are met
 pub local-is : (c : Config) (e : Event) (a : Atom) (receiver on sent : Expr) (met unmet : Proc) (b n : Name) (v : Value) (here : Bool) → acting c e ≡ Some a
     → layer a.proc ≡ ProcForm-F.IfLocal receiver on sent met unmet → agent_of receiver a.env ≡ Some b → chan_of on a.env ≡ Some n → eval sent a.env ≡ Some v
@@ -37,11 +33,11 @@ local-is c e a receiver on sent met unmet b n v here acts form names along gives
 
 module _ (c : Config) (e : Event) (b n : Name) (v : Value) (errand : Errand) where
   -- both ways of a location test, where their row is met
-  pub here-made : (d : Config) (unmet : Proc) (s : IsLocal c e b n v true errand) → TestStep true c e s.atom s.next unmet b n v d → local_row c e ≡ Some d
-  here-made d unmet s t = sym (local-by_form c e) ∙ s.gives ∙ passes c e d s.atom s.next unmet b n v true t
+  pub here-made : (d : Config) (unmet : Proc) (s : IsLocal c e b n v true errand) → TestStep true c e s.can.atom s.can.next unmet b n v d → local_row c e ≡ Some d
+  here-made d unmet s t = sym (local-by_form c e) ∙ s.gives ∙ passes c e d s.can.atom s.can.next unmet b n v true t
 
-  pub away-made : (d : Config) (met : Proc) (s : IsLocal c e b n v false errand) → TestStep false c e s.atom met s.next b n v d → local_row c e ≡ Some d
-  away-made d met s t = sym (local-by_form c e) ∙ s.gives ∙ passes c e d s.atom met s.next b n v false t
+  pub away-made : (d : Config) (met : Proc) (s : IsLocal c e b n v false errand) → TestStep false c e s.can.atom met s.can.next b n v d → local_row c e ≡ Some d
+  away-made d met s t = sym (local-by_form c e) ∙ s.gives ∙ passes c e d s.can.atom met s.can.next b n v false t
 
   -- and where it is not
   pub here-unmade : IsLocal c e b n v true errand → one_made e.made ≡ None → local_row c e ≡ None

@@ -9,3 +9,9 @@ abbrev pub Applied : Option Config → Config → Config → Result (Unit {0}) A
 Applied met old new (Ok u) = met ≡ Some new
 Applied met old new (Err NotEnabled) = (met ≡ None) × (new ≡ old)
 Applied met old new (Err Memory) = new ≡ old
+
+-- What a call that looks for what an event needs answers: what it found, and NotEnabled only where the row is not met
+abbrev pub Finds : {T : Type 0} → Option Config → (T → Type 0) → Result T ApplyFail → Type 0
+Finds met found (Ok t) = found t
+Finds met found (Err NotEnabled) = met ≡ None
+Finds met found (Err Memory) = Unit {0}

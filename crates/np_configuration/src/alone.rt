@@ -1,113 +1,202 @@
+ghost use Rattle.std.specs.Prelude.{◌≡◌, None, Some, MatchOption};
 ghost use Rattle.np_configuration.specs.Rows.{fork_row, if_row, let_row, new_row, print_row, stop_row};
-ghost use Rattle.np_configuration.specs.Applied.{Applied};
+ghost use Rattle.np_configuration.specs.Applied.{Applied, Finds};
+ghost use Rattle.np_configuration.specs.Found.{IsFork, IsIf, IsLet, IsNew, IsPrint, IsStop};
 
 use super::cfg::Cfg;
+use super::entries::Entry;
 use super::fail::ApplyFail::{self, NotEnabled};
-use np_agents::{chosen, enter, go_on, no_other, none_made, one_made, split};
-use np_eval::{as_if, as_let, as_new, as_par, as_print, as_stop, bind, errand_of, eval, truth_of};
-use np_syntax::{Event, Value};
+use super::filing::file_two;
+use super::frames::{bound, with_chan};
+use super::views::is_alone;
+use np_agents::{chosen, split};
+use np_eval::{Frame, as_if, as_let, as_new, as_par, as_print, as_stop, errand_of, eval, truth_of};
+use np_syntax::{Event, Made, Name, Value};
+use np_tables::Errand;
 use std::alloc::Global;
+
+/// A composition that is enabled: the mark of its second part, the frame of that, and what each part waits for.
+#[derive(Drop)]
+struct Fork {
+    mark: Name,
+    env: Frame,
+    comes: Errand,
+    stays: Errand,
+}
 
 // The rows of atoms that act alone, within their agent.
 impl Cfg {
-    #[tactic(auto, unfolding(np_calculus::specs::Reductions::act))]
     pub(super) fn apply_stop(&mut self, e: &Event) -> Result<(), ApplyFail>
         ensures { Applied (stop_row self.old e.now) self.old self.new result }
     {
-        let atom = self.acting(e).ok_or(NotEnabled)?;
-        as_stop(&atom.proc).ok_or(NotEnabled)?;
-        none_made(e.made).ok_or(NotEnabled)?;
-        no_other(e.other).ok_or(NotEnabled)?;
-        self.work.remove(e.actor);
-        self.atoms.remove(e.actor);
+        self.find_stop(e)?;
+        self.end(e.actor);
         Ok(())
     }
 
-    #[tactic(auto, using(np_tables::proofs::Tables::puts), unfolding(np_calculus::specs::Reductions::act))]
+    /// Whether the row of an atom that ends is met.
+    #[tactic(auto, unfolding(np_calculus::specs::Reductions::act))]
+    fn find_stop(&self, e: &Event) -> Result<(), ApplyFail>
+        ensures { Finds (stop_row self.now e.now) (λ _. IsStop self.now e.now) result }
+    {
+        let Some(atom) = self.acting(e) else {
+            return Err(NotEnabled);
+        };
+        let Some(()) = as_stop(&atom.proc) else {
+            return Err(NotEnabled);
+        };
+        if is_alone(e) { Ok(()) } else { Err(NotEnabled) }
+    }
+
+    #[tactic(auto, using(np_tables::proofs::Tables::puts))]
     pub(super) fn apply_fork(&mut self, alloc: Global, e: &Event) -> Result<(), ApplyFail>
         ensures { Applied (fork_row self.old e.now) self.old self.new result }
     {
-        let atom = self.acting(e).ok_or(NotEnabled)?;
-        let (left, right) = as_par(&atom.proc).ok_or(NotEnabled)?;
-        let mark = one_made(e.made).ok_or(NotEnabled)?;
-        no_other(e.other).ok_or(NotEnabled)?;
-        self.fresh(mark).ok_or(NotEnabled)?;
+        let fork = self.find_fork(alloc, e)?;
+        file_two(
+            &mut self.atoms,
+            &mut self.born,
+            &mut self.work,
+            (fork.mark, fork.comes),
+            (e.actor, fork.stays),
+        )?;
+        split(&mut self.atoms, e.actor, fork.mark, fork.env);
+        self.born.put(fork.mark);
+        Ok(())
+    }
+
+    /// How a composition goes on, where the row is met.
+    #[tactic(auto, unfolding(np_calculus::specs::Reductions::act))]
+    fn find_fork(&self, alloc: Global, e: &Event) -> Result<Fork, ApplyFail>
+        ensures { Finds (fork_row self.now e.now) (λ f. IsFork self.now e.now f.mark f.env f.comes f.stays) result }
+    {
+        let Some(atom) = self.acting(e) else {
+            return Err(NotEnabled);
+        };
+        let Some((left, right)) = as_par(&atom.proc) else {
+            return Err(NotEnabled);
+        };
+        let Some(mark) = self.one_new(e) else {
+            return Err(NotEnabled);
+        };
         let stays = errand_of(atom.agent, left, &atom.env);
         let comes = errand_of(atom.agent, right, &atom.env);
         let env = atom.env.copy(alloc)?;
-        self.atoms.reserve(2)?;
-        self.born.reserve(1)?;
-        self.work.file_two(mark, comes, e.actor, stays)?;
-        split(&mut self.atoms, e.actor, mark, env);
-        self.born.put(mark);
-        Ok(())
+        Ok(Fork {
+            mark,
+            env,
+            comes,
+            stays,
+        })
     }
 
-    #[tactic(auto, using(np_tables::proofs::Tables::puts), unfolding(np_calculus::specs::Reductions::act))]
     pub(super) fn apply_new(&mut self, alloc: Global, e: &Event) -> Result<(), ApplyFail>
         ensures { Applied (new_row self.old e.now) self.old self.new result }
     {
-        let atom = self.acting(e).ok_or(NotEnabled)?;
-        let (binder, _, body) = as_new(&atom.proc).ok_or(NotEnabled)?;
-        let chan = one_made(e.made).ok_or(NotEnabled)?;
-        no_other(e.other).ok_or(NotEnabled)?;
-        self.fresh(chan).ok_or(NotEnabled)?;
-        let mut env = atom.env.copy(alloc)?;
-        env.set(binder, Value::Chan(chan))?;
-        let errand = errand_of(atom.agent, body, &env);
-        self.atoms.reserve(1)?;
-        self.born.reserve(1)?;
-        self.work.file(e.actor, errand)?;
-        enter(&mut self.atoms, e.actor, env);
-        self.born.put(chan);
+        let entry = self.find_new(alloc, e)?;
+        self.enter(e.actor, e.made, entry)?;
         Ok(())
     }
 
-    #[tactic(auto, using(np_tables::proofs::Tables::puts), unfolding(np_calculus::specs::Reductions::act))]
+    /// How an atom goes on that makes a channel, where the row is met.
+    #[tactic(auto, unfolding(np_calculus::specs::Reductions::act))]
+    fn find_new(&self, alloc: Global, e: &Event) -> Result<Entry, ApplyFail>
+        ensures { Finds (new_row self.now e.now) (λ n. IsNew self.now e.now n.env n.errand) result }
+    {
+        let Some(atom) = self.acting(e) else {
+            return Err(NotEnabled);
+        };
+        let Some((binder, _ty, body)) = as_new(&atom.proc) else {
+            return Err(NotEnabled);
+        };
+        let Some(chan) = self.one_new(e) else {
+            return Err(NotEnabled);
+        };
+        let env = with_chan(alloc, &atom.env, binder, chan)?;
+        let errand = errand_of(atom.agent, body, &env);
+        Ok(Entry { env, errand })
+    }
+
     pub(super) fn apply_let(&mut self, alloc: Global, e: &Event) -> Result<(), ApplyFail>
         ensures { Applied (let_row self.old e.now) self.old self.new result }
     {
-        let atom = self.acting(e).ok_or(NotEnabled)?;
-        let (pat, bound, body) = as_let(&atom.proc).ok_or(NotEnabled)?;
-        let value = eval(alloc, bound, &atom.env)?.ok_or(NotEnabled)?;
-        let env = bind(alloc, pat, &value, &atom.env)?.ok_or(NotEnabled)?;
-        none_made(e.made).ok_or(NotEnabled)?;
-        no_other(e.other).ok_or(NotEnabled)?;
-        let errand = errand_of(atom.agent, body, &env);
-        self.atoms.reserve(1)?;
-        self.work.file(e.actor, errand)?;
-        enter(&mut self.atoms, e.actor, env);
+        let entry = self.find_let(alloc, e)?;
+        self.enter(e.actor, Made::Nothing, entry)?;
         Ok(())
     }
 
-    #[tactic(auto, using(np_tables::proofs::Tables::puts), unfolding(np_calculus::specs::Reductions::act))]
+    /// How an atom goes on that gives names to a value, where the row is met.
+    #[tactic(auto, unfolding(np_calculus::specs::Reductions::act))]
+    fn find_let(&self, alloc: Global, e: &Event) -> Result<Entry, ApplyFail>
+        ensures { Finds (let_row self.now e.now) (λ n. IsLet self.now e.now n.env n.errand) result }
+    {
+        let Some(atom) = self.acting(e) else {
+            return Err(NotEnabled);
+        };
+        let Some((pat, value, body)) = as_let(&atom.proc) else {
+            return Err(NotEnabled);
+        };
+        let Some(env) = bound(alloc, pat, value, &atom.env)? else {
+            return Err(NotEnabled);
+        };
+        if !is_alone(e) {
+            return Err(NotEnabled);
+        }
+        let errand = errand_of(atom.agent, body, &env);
+        Ok(Entry { env, errand })
+    }
+
     pub(super) fn apply_if(&mut self, alloc: Global, e: &Event) -> Result<(), ApplyFail>
         ensures { Applied (if_row self.old e.now) self.old self.new result }
     {
-        let atom = self.acting(e).ok_or(NotEnabled)?;
-        let (test, met, unmet) = as_if(&atom.proc).ok_or(NotEnabled)?;
-        let truth = truth_of(alloc, test, &atom.env)?.ok_or(NotEnabled)?;
-        none_made(e.made).ok_or(NotEnabled)?;
-        no_other(e.other).ok_or(NotEnabled)?;
-        let errand = errand_of(atom.agent, chosen(met, unmet, truth), &atom.env);
-        self.atoms.reserve(1)?;
-        self.work.file(e.actor, errand)?;
-        go_on(&mut self.atoms, e.actor, truth);
+        let (truth, errand) = self.find_if(alloc, e)?;
+        self.go_on(e.actor, truth, errand)?;
         Ok(())
     }
 
+    /// How a test goes on, where the row is met.
     #[tactic(auto, unfolding(np_calculus::specs::Reductions::act))]
+    fn find_if(&self, alloc: Global, e: &Event) -> Result<(bool, Errand), ApplyFail>
+        ensures { Finds (if_row self.now e.now) (λ way. IsIf self.now e.now way.0 way.1) result }
+    {
+        let Some(atom) = self.acting(e) else {
+            return Err(NotEnabled);
+        };
+        let Some((test, met, unmet)) = as_if(&atom.proc) else {
+            return Err(NotEnabled);
+        };
+        let Some(truth) = truth_of(alloc, test, &atom.env)? else {
+            return Err(NotEnabled);
+        };
+        if !is_alone(e) {
+            return Err(NotEnabled);
+        }
+        let errand = errand_of(atom.agent, chosen(met, unmet, truth), &atom.env);
+        Ok((truth, errand))
+    }
+
     pub(super) fn apply_print(&mut self, alloc: Global, e: &Event) -> Result<(), ApplyFail>
         ensures { Applied (print_row self.old e.now) self.old self.new result }
     {
-        let atom = self.acting(e).ok_or(NotEnabled)?;
-        let printed = as_print(&atom.proc).ok_or(NotEnabled)?;
-        let value = eval(alloc, printed, &atom.env)?.ok_or(NotEnabled)?;
-        none_made(e.made).ok_or(NotEnabled)?;
-        no_other(e.other).ok_or(NotEnabled)?;
-        self.said.add((e.site, value))?;
-        self.work.remove(e.actor);
-        self.atoms.remove(e.actor);
+        let value = self.find_print(alloc, e)?;
+        self.say(e.actor, e.site, value)?;
         Ok(())
+    }
+
+    /// The value that an atom prints, where the row is met.
+    #[tactic(auto, unfolding(np_calculus::specs::Reductions::act))]
+    fn find_print(&self, alloc: Global, e: &Event) -> Result<Value, ApplyFail>
+        ensures { Finds (print_row self.now e.now) (λ value. IsPrint self.now e.now value) result }
+    {
+        let Some(atom) = self.acting(e) else {
+            return Err(NotEnabled);
+        };
+        let Some(printed) = as_print(&atom.proc) else {
+            return Err(NotEnabled);
+        };
+        if !is_alone(e) {
+            return Err(NotEnabled);
+        }
+        eval(alloc, printed, &atom.env)?.ok_or(NotEnabled)
     }
 }

@@ -3,7 +3,10 @@
 
 mod alone;
 mod cfg;
+mod entries;
 mod fail;
+mod filing;
+mod frames;
 mod going;
 mod letters;
 mod meets;
@@ -12,6 +15,7 @@ mod rows;
 mod start;
 mod step;
 mod travel;
+mod views;
 
 pub use cfg::Cfg;
 pub use fail::ApplyFail;

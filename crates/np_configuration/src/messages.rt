@@ -1,16 +1,18 @@
 ghost use Rattle.np_configuration.specs.Rows.{local_row, post_row, send_row};
 ghost use Rattle.np_calculus.specs.Reductions.{row};
 ghost use Rattle.np_syntax.specs.declared.event.Kind.TheVariants as kind;
-ghost use Rattle.std.specs.Prelude.{◌≡◌, true, false, None, IfOk, MatchOption};
-ghost use Rattle.np_configuration.specs.Applied.{Applied};
-ghost use Rattle.np_configuration.specs.Found.{IsLocal};
+ghost use Rattle.std.specs.Prelude.{◌≡◌, true, false, None, Some, MatchOption};
+ghost use Rattle.np_configuration.specs.Applied.{Applied, Finds};
+ghost use Rattle.np_configuration.specs.Found.{IsLocal, IsSend, Stands};
 
 use super::cfg::Cfg;
 use super::fail::ApplyFail::{self, NotEnabled};
+use super::filing::{file, file_two};
+use super::views::is_alone;
 use np_agents::{chosen, go_on, no_other, none_made, one_made, one_site, one_tag, output_in};
-use np_calculus::Packet;
+use np_calculus::{Atom, Packet};
 use np_eval::{agent_of, as_iflocal, as_post, as_send, chan_of, errand_of, eval};
-use np_syntax::{Event, Memory, Name, Value};
+use np_syntax::{Event, Name, Value};
 use np_tables::{Errand, Meeting};
 use std::alloc::Global;
 
@@ -27,49 +29,82 @@ struct Local {
 
 // The rows of what goes from one agent to another.
 impl Cfg {
-    #[tactic(auto, using(np_tables::proofs::Tables::puts), unfolding(np_calculus::specs::Reductions::act))]
     pub(super) fn apply_send(&mut self, alloc: Global, e: &Event) -> Result<(), ApplyFail>
         ensures { Applied (send_row self.old e.now) self.old self.new result }
     {
-        let atom = self.acting(e).ok_or(NotEnabled)?;
-        let (agent, site, chan, value) = as_send(&atom.proc).ok_or(NotEnabled)?;
-        let agent = agent_of(alloc, agent, &atom.env)?.ok_or(NotEnabled)?;
-        let to = self.site_of(alloc, site, &atom.env)?.ok_or(NotEnabled)?;
-        let chan = chan_of(chan, &atom.env).ok_or(NotEnabled)?;
-        let value = eval(alloc, value, &atom.env)?.ok_or(NotEnabled)?;
-        none_made(e.made).ok_or(NotEnabled)?;
-        no_other(e.other).ok_or(NotEnabled)?;
+        let packet = self.find_send(alloc, e)?;
+        self.fly(e.actor, packet)?;
+        Ok(())
+    }
+
+    /// The packet that an atom sends, where the row is met.
+    #[tactic(auto, unfolding(np_calculus::specs::Reductions::act))]
+    fn find_send(&self, alloc: Global, e: &Event) -> Result<Packet, ApplyFail>
+        ensures { Finds (send_row self.now e.now) (λ packet. IsSend self.now e.now packet) result }
+    {
+        let Some(atom) = self.acting(e) else {
+            return Err(NotEnabled);
+        };
+        let Some((agent, site, chan, value)) = as_send(&atom.proc) else {
+            return Err(NotEnabled);
+        };
+        let Some(agent) = agent_of(alloc, agent, &atom.env)? else {
+            return Err(NotEnabled);
+        };
+        let Some(to) = self.site_of(alloc, site, &atom.env)? else {
+            return Err(NotEnabled);
+        };
+        let Some(chan) = chan_of(chan, &atom.env) else {
+            return Err(NotEnabled);
+        };
+        if !is_alone(e) {
+            return Err(NotEnabled);
+        }
+        let Some(value) = eval(alloc, value, &atom.env)? else {
+            return Err(NotEnabled);
+        };
         let tag = e.tag;
-        let packet = Packet {
+        Ok(Packet {
             to,
             agent,
             chan,
             value,
             tag,
-        };
-        self.packets.insert(e.actor, packet)?;
-        self.work.remove(e.actor);
-        self.atoms.remove(e.actor);
-        Ok(())
+        })
     }
 
-    #[tactic(auto, using(np_tables::proofs::Tables::puts), unfolding(np_calculus::specs::Reductions::act))]
     pub(super) fn apply_post(&mut self, alloc: Global, e: &Event) -> Result<(), ApplyFail>
         ensures { Applied (post_row self.old e.now) self.old self.new result }
     {
-        let atom = self.acting(e).ok_or(NotEnabled)?;
-        let (agent, chan, value) = as_post(&atom.proc).ok_or(NotEnabled)?;
-        let agent = agent_of(alloc, agent, &atom.env)?.ok_or(NotEnabled)?;
-        let chan = chan_of(chan, &atom.env).ok_or(NotEnabled)?;
-        let value = eval(alloc, value, &atom.env)?.ok_or(NotEnabled)?;
-        none_made(e.made).ok_or(NotEnabled)?;
-        no_other(e.other).ok_or(NotEnabled)?;
-        let made = output_in(alloc, agent, chan, value, e.tag);
-        let errand = errand_of(made.agent, &made.proc, &made.env);
-        self.atoms.reserve(1)?;
-        self.work.file(e.actor, errand)?;
-        self.atoms.put(e.actor, made);
+        let atom = self.find_post(alloc, e)?;
+        self.stand(e.actor, atom)?;
         Ok(())
+    }
+
+    /// The output that an atom makes in its own or another agent, where the row is met.
+    #[tactic(auto, unfolding(np_calculus::specs::Reductions::act))]
+    fn find_post(&self, alloc: Global, e: &Event) -> Result<Atom, ApplyFail>
+        ensures { Finds (post_row self.now e.now) (λ atom. Stands kind.Post self.now e.now e.now.actor atom) result }
+    {
+        let Some(atom) = self.acting(e) else {
+            return Err(NotEnabled);
+        };
+        let Some((agent, chan, value)) = as_post(&atom.proc) else {
+            return Err(NotEnabled);
+        };
+        let Some(agent) = agent_of(alloc, agent, &atom.env)? else {
+            return Err(NotEnabled);
+        };
+        let Some(chan) = chan_of(chan, &atom.env) else {
+            return Err(NotEnabled);
+        };
+        if !is_alone(e) {
+            return Err(NotEnabled);
+        }
+        let Some(value) = eval(alloc, value, &atom.env)? else {
+            return Err(NotEnabled);
+        };
+        Ok(output_in(alloc, agent, chan, value, e.tag))
     }
 
     /// A packet whose agent is at its site becomes an output there, and any other is lost.
@@ -102,7 +137,7 @@ impl Cfg {
     pub(super) fn apply_local(&mut self, alloc: Global, e: &Event) -> Result<(), ApplyFail>
         ensures { Applied (local_row self.old e.now) self.old self.new result }
     {
-        let asked = self.find_local(alloc, e)?.ok_or(NotEnabled)?;
+        let asked = self.find_local(alloc, e)?;
         if asked.here {
             self.local_here(alloc, e, asked)
         } else {
@@ -112,36 +147,36 @@ impl Cfg {
 
     /// What a location test finds, where the conditions are met that do not depend on it.
     #[tactic(auto, unfolding(np_calculus::specs::Reductions::act))]
-    fn find_local(&self, alloc: Global, e: &Event) -> Result<Option<Local>, Memory>
-        ensures { IfOk result (λ o. MatchOption o (local_row self.now e.now ≡ None) (λ a. IsLocal self.now e.now a.agent a.chan a.value a.here a.errand)) }
+    fn find_local(&self, alloc: Global, e: &Event) -> Result<Local, ApplyFail>
+        ensures { Finds (local_row self.now e.now) (λ a. IsLocal self.now e.now a.agent a.chan a.value a.here a.errand) result }
     {
         let Some(atom) = self.acting(e) else {
-            return Ok(None);
+            return Err(NotEnabled);
         };
         let Some((agent, chan, value, met, unmet)) = as_iflocal(&atom.proc) else {
-            return Ok(None);
+            return Err(NotEnabled);
         };
         let Some(agent) = agent_of(alloc, agent, &atom.env)? else {
-            return Ok(None);
+            return Err(NotEnabled);
         };
         let Some(chan) = chan_of(chan, &atom.env) else {
-            return Ok(None);
+            return Err(NotEnabled);
         };
         let Some(value) = eval(alloc, value, &atom.env)? else {
-            return Ok(None);
+            return Err(NotEnabled);
         };
         let Some(()) = no_other(e.other) else {
-            return Ok(None);
+            return Err(NotEnabled);
         };
         let here = self.is_at(agent, e.site);
         let errand = errand_of(atom.agent, chosen(met, unmet, here), &atom.env);
-        Ok(Some(Local {
+        Ok(Local {
             agent,
             chan,
             value,
             here,
             errand,
-        }))
+        })
     }
 
     /// A location test that finds its agent: the output is made in it, and the process goes on as the first.
@@ -154,10 +189,14 @@ impl Cfg {
         self.fresh(mark).ok_or(NotEnabled)?;
         let agent = asked.agent;
         let chan = asked.chan;
-        self.atoms.reserve(2)?;
-        self.born.reserve(1)?;
         let comes = Errand::Gives(Meeting { agent, chan });
-        self.work.file_two(mark, comes, e.actor, asked.errand)?;
+        file_two(
+            &mut self.atoms,
+            &mut self.born,
+            &mut self.work,
+            (mark, comes),
+            (e.actor, asked.errand),
+        )?;
         let made = output_in(alloc, agent, chan, asked.value, e.tag);
         self.atoms.put(mark, made);
         go_on(&mut self.atoms, e.actor, true);
@@ -166,15 +205,12 @@ impl Cfg {
     }
 
     /// A location test that does not find its agent: the process goes on as the second.
-    #[tactic(auto, using(np_tables::proofs::Tables::puts))]
     fn local_away(&mut self, e: &Event, asked: &Local) -> Result<(), ApplyFail>
         requires { IsLocal self.old e.now asked.now.agent asked.now.chan asked.now.value false asked.now.errand }
         ensures { Applied (local_row self.old e.now) self.old self.new result }
     {
         none_made(e.made).ok_or(NotEnabled)?;
-        self.atoms.reserve(1)?;
-        self.work.file(e.actor, asked.errand)?;
-        go_on(&mut self.atoms, e.actor, false);
+        self.go_on(e.actor, false, asked.errand)?;
         Ok(())
     }
 }

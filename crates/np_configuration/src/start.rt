@@ -1,11 +1,12 @@
 ghost use Rattle.std.specs.Prelude.{◌≡◌, ◌<◌, ◌^◌, true, length, map, IfOk, OnOk};
 ghost use Rattle.std.specs.FinSet as set;
-ghost use Rattle.np_calculus.specs.Starts.{start_high, start_low, first_atom, main_agent, main_mark, names_alone, own, with_agent, with_all, with_atom};
+ghost use Rattle.np_calculus.specs.Starts.{start_high, start_low, first_atom, main_agent, main_mark, names_alone, own, with_agent, with_all};
 
 use super::cfg::Cfg;
+use super::filing::put_filed;
 use np_agents::Places;
 use np_calculus::{Atom, Place};
-use np_eval::{Frame, errand_of};
+use np_eval::Frame;
 use np_syntax::{List, LowProgram, Memory, Name, Proc, Program};
 use np_tables::{Names, Table, WorkLists};
 use std::alloc::Global;
@@ -58,19 +59,22 @@ fn first_atom(alloc: Global, agent: Name, proc: &Proc) -> Result<Atom, Memory>
 }
 
 impl Cfg {
-    /// One agent more, at a site, with its atom under a mark that is born.
-    #[tactic(auto, using(np_tables::proofs::Tables::puts))]
-    fn add_agent(&mut self, site: u32, mark: Name, atom: Atom) -> Result<(), Memory>
+    /// One agent more, at a site, with its first atom under a mark that is born.
+    fn add_agent(
+        &mut self,
+        alloc: Global,
+        agent: Name,
+        site: u32,
+        mark: Name,
+        proc: &Proc,
+    ) -> Result<(), Memory>
         requires { set.contains self.old.born mark ≡ true }
-        ensures { OnOk result (self.new ≡ with_atom self.old site mark atom) }
+        ensures { OnOk result (self.new ≡ with_agent self.old agent site mark proc.now) }
     {
-        let agent = atom.agent;
-        let errand = errand_of(agent, &atom.proc, &atom.env);
         self.places.reserve(1)?;
-        self.atoms.reserve(1)?;
-        self.work.file(mark, errand)?;
+        let atom = first_atom(alloc, agent, proc)?;
+        put_filed(&mut self.atoms, &mut self.work, mark, atom)?;
         self.places.put(agent, Place::At(site));
-        self.atoms.put(mark, atom);
         Ok(())
     }
 }
@@ -88,9 +92,13 @@ fn with_main(alloc: Global, sites: u32, at: u32, main: &Proc) -> Result<Cfg, Mem
         site: sites,
         n: MAIN_MARK,
     };
-    let atom = first_atom(alloc, agent, main)?;
-    start.add_agent(at, mark, atom)?;
-    Ok(start)
+    match start.add_agent(alloc, agent, at, mark, main) {
+        Ok(()) => Ok(start),
+        Err(memory) => {
+            drop(start);
+            Err(memory)
+        }
+    }
 }
 
 /// Main at its site, with its process.
@@ -117,7 +125,11 @@ pub fn start_low(alloc: Global, q: &LowProgram) -> Result<Cfg, Memory>
         site: sites,
         n: DAEMON_MARK,
     };
-    let atom = first_atom(alloc, agent, &q.daemon)?;
-    start.add_agent(0, mark, atom)?;
-    Ok(start)
+    match start.add_agent(alloc, agent, 0, mark, &q.daemon) {
+        Ok(()) => Ok(start),
+        Err(memory) => {
+            drop(start);
+            Err(memory)
+        }
+    }
 }

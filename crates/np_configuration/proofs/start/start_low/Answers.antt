@@ -8,6 +8,6 @@ use Rattle.np_configuration.proofs.start.start_low.Goals as goal
 pub add_agent-requires : goal.add_agent-requires
 add_agent-requires c = subst (λ (d : Config). set.contains d.born (daemon_mark c.len-sites.result) ≡ true) (sym c.in_ok-start.ensures) (daemon_mark-born c.len-sites.result)
 
-pub returns : goal.returns
+pub returns-in-Ok : goal.returns-in-Ok
 unfolding start_low
-returns c = rw (c.in_ok-add_agent.ensures, c.in_ok-atom.ensures, c.in_ok-start.ensures, c.len-sites.ensures) refl
+returns-in-Ok c = rw (c.in-Ok.ensures, c.in_ok-start.ensures, c.len-sites.ensures) refl

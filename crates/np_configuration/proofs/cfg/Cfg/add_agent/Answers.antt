@@ -1,11 +1,11 @@
-use Rattle.std.proofs.Common.{◌≡◌, true, subst, ap, sym, ◌∙◌}
+use Rattle.std.proofs.Common.{◌≡◌, true, refl, ap, ◌∙◌}
 use Rattle.std.specs.FinSet as set
 use Rattle.np_configuration.proofs.Common.{Config}
 use Rattle.np_configuration.proofs.Keeping.{kept-put}
+use Rattle.np_configuration.proofs.Moved.{kept-equal}
 use Rattle.np_configuration.proofs.cfg.Cfg.add_agent.Goals as goal
 
 pub invariant_of-self-2 : goal.invariant_of-self-2
 invariant_of-self-2 c =
     let born : set.contains c.self.inside.born.members c.args.mark ≡ true = ap (λ (d : Config). set.contains d.born c.args.mark) c.self.view_is ∙ c.requires in
-    rw (c.in_ok-file.ensures.ok, c.put-2.ensures.items, c.in_ok-reserve-2.ensures.items, c.errand_of-errand.ensures)
-    (kept-put c.self.invariant c.args.mark c.args.atom born)
+    kept-equal (kept-put c.self.invariant c.args.mark c.in_ok-atom.atom born) c.in_ok-put_filed.ensures.ok c.in_ok-put_filed.ensures.items refl

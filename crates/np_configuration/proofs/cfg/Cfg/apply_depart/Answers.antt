@@ -1,17 +1,27 @@
-use Rattle.std.proofs.Common.{◌≡◌, true, Some, rules, refl, ap, ◌∙◌}
+use Rattle.std.proofs.Common.{◌≡◌, Some, sym, ap, ◌∙◌}
 use Rattle.std.specs.FinMap as map
-use Rattle.np_configuration.proofs.Common.{Config, acting, layer, way_at, goes, acting-step}
-use Rattle.np_configuration.proofs.Keeping.{kept-on}
+use Rattle.np_configuration.proofs.Common.{NameMap, Place, Config, the_view, goes}
+use Rattle.np_calculus.specs.declared.config.Place.TheVariants as place
+use Rattle.np_calculus.proofs.Rows.{depart-row}
+use Rattle.np_configuration.proofs.Moved.{may-go, atoms-gone, gone-kept}
 use Rattle.np_configuration.proofs.cfg.Cfg.apply_depart.Goals as goal
 
+pub go_on-requires-clause-whole : goal.go_on-requires-clause-whole
+go_on-requires-clause-whole c = may-go c.self.view_is c.args.e.now.actor c.in_ok-leaves.ensures.can c.in_ok-file.ensures.atoms
+
+atoms : (c : goal.After-go_on)
+    → c.go_on.new.atoms.items ≡ map.insert c.self.inside.atoms.items c.args.e.now.actor (goes c.in_ok-leaves.ensures.can.atom c.in_ok-leaves.ensures.can.next)
+atoms c = atoms-gone c.self.view_is c.args.e.now.actor c.in_ok-leaves.ensures.can c.in_ok-file.ensures.atoms c.go_on.ensures
+
 pub invariant_of-self-2 : goal.invariant_of-self-2
-invariant_of-self-2 c =
-    let acts : acting c.args.self.now c.args.e.now ≡ Some c.in_ok-atom.atom.now = search rules in
-    let there : map.get c.self.inside.atoms.items c.args.e.now.actor ≡ Some c.in_ok-atom.atom.now =
-    ap (λ (d : Config). map.get d.atoms c.args.e.now.actor) c.self.view_is ∙ (acting-step c.args.self.now c.args.e.now c.in_ok-atom.atom.now acts).there in
-    let form : way_at (layer c.in_ok-atom.atom.now.proc) true ≡ Some c.in_ok-site.body.now = search rules in
-    let atoms : c.go_on.new.atoms.items ≡ map.insert c.self.inside.atoms.items c.args.e.now.actor (goes c.in_ok-atom.atom.now c.in_ok-site.body.now) =
-    c.go_on.ensures.each c.in_ok-atom.atom.now c.in_ok-site.body.now (rw (c.in_ok-reserve-2.ensures.items) there) form
-    ∙ rw (c.in_ok-reserve-2.ensures.items) refl in
-    rw (c.in_ok-file.ensures.ok, atoms, c.errand_of-errand.ensures)
-    (kept-on c.self.invariant c.args.e.now.actor c.in_ok-atom.atom.now _ there)
+invariant_of-self-2 c = gone-kept c.self.view_is c.args.e.now.actor c.in_ok-leaves.ensures.can c.self.invariant c.in_ok-file.ensures.ok (atoms c)
+
+pub returns : goal.returns
+returns c =
+    let s = c.in_ok-leaves.ensures.can in
+    let places : c.put.new.self.items ≡ map.insert c.self.inside.places.items c.in_ok-leaves.leaves.agent (place.Way c.in_ok-leaves.leaves.to) =
+    c.put.ensures.items ∙ ap (λ (x : NameMap Place). map.insert x c.in_ok-leaves.leaves.agent (place.Way c.in_ok-leaves.leaves.to)) c.in_ok-reserve.ensures.items in
+    sym (depart-row c.args.self.now c.args.e.now) ∙ c.in_ok-leaves.ensures.gives
+    ∙ ap Some (sym
+    (rw (atoms c, places)
+    (ap (λ (d : Config). record d { atoms = map.insert d.atoms c.args.e.now.actor (goes s.atom s.next); places = map.insert d.places c.in_ok-leaves.leaves.agent (place.Way c.in_ok-leaves.leaves.to) }) c.self.view_is)))

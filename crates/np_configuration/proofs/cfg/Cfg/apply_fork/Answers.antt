@@ -1,46 +1,51 @@
-use Rattle.std.proofs.Common.{◌≡◌, Some, rules, refl, sym, ap, ◌∙◌}
+use Rattle.std.proofs.Common.{◌≡◌, Some, refl, sym, ap, ◌∙◌}
 use Rattle.std.specs.FinMap as map
-use Rattle.np_configuration.proofs.Common.{Config, layer, goes, acting, fork-row, acting-step}
-use Rattle.np_eval.specs.FormParts.{as_par}
-use Rattle.np_eval.proofs.FormsByParts.{par-form}
+use Rattle.std.specs.FinSet as set
+use Rattle.np_configuration.proofs.Common.{NameMap, NameSet, the_view, Atom, Config, Env, goes, goes_under, fork-row}
+use Rattle.np_configuration.specs.Found.{IsFork}
 use Rattle.np_configuration.proofs.Keeping.{kept-absent, kept-more}
-use Rattle.np_calculus.proofs.Inversions.{step-fork}
+use Rattle.np_configuration.proofs.Moved.{kept-equal, remade, two-filed}
 use Rattle.np_configuration.proofs.cfg.Cfg.apply_fork.Goals as goal
 
 pub file_two-requires : goal.file_two-requires
-file_two-requires c = record { absent = kept-absent c.self.invariant c.in_ok-mark.mark (search rules) }
+file_two-requires c =
+    kept-absent c.self.invariant c.in_ok-fork.fork.mark (ap (λ (d : Config). set.contains d.born c.in_ok-fork.fork.mark) c.self.view_is ∙ c.in_ok-fork.ensures.new)
 
-acts : (c : goal.After-put) → acting c.args.self.now c.args.e.now ≡ Some c.in_ok-atom.atom.now
-acts c = search rules
+pub split-requires-clause-whole : goal.split-requires-clause-whole
+split-requires-clause-whole c =
+    let s = c.in_ok-fork.ensures in
+    rw (c.in_ok-file_two.ensures.atoms, ap (λ (d : Config). map.get d.atoms c.args.e.now.actor) c.self.view_is ∙ s.there, s.form) refl
 
-there : (c : goal.After-put) → map.get c.self.inside.atoms.items c.args.e.now.actor ≡ Some c.in_ok-atom.atom.now
-there c = ap (λ (d : Config). map.get d.atoms c.args.e.now.actor) c.self.view_is ∙ (acting-step c.args.self.now c.args.e.now c.in_ok-atom.atom.now (acts c)).there
+found : (c : goal.After-put) → IsFork c.args.self.now c.args.e.now c.in_ok-fork.fork.mark c.in_ok-fork.fork.env c.in_ok-fork.fork.comes c.in_ok-fork.fork.stays
+found c = c.in_ok-fork.ensures
 
-form : (c : goal.After-put) → as_par (layer c.in_ok-atom.atom.now.proc) ≡ Some (c.in_ok-left.left.now, c.in_ok-left.right.now)
-form c = search rules
+there : (c : goal.After-put) → map.get c.self.inside.atoms.items c.args.e.now.actor ≡ Some (found c).atom
+there c = ap (λ (d : Config). map.get d.atoms c.args.e.now.actor) c.self.view_is ∙ (found c).there
 
-atoms : (c : goal.After-put) → c.split.new.atoms.items
-    ≡ map.insert (map.insert c.self.inside.atoms.items c.in_ok-mark.mark (goes c.in_ok-atom.atom.now c.in_ok-left.right.now)) c.args.e.now.actor (goes c.in_ok-atom.atom.now c.in_ok-left.left.now)
+abbrev both : goal.After-put → NameMap Atom → NameMap Atom
+both c x = map.insert (map.insert x c.in_ok-fork.fork.mark (goes (found c).atom (found c).parts.1)) c.args.e.now.actor (goes (found c).atom (found c).parts.0)
+
+atoms : (c : goal.After-put) → c.split.new.atoms.items ≡ both c c.self.inside.atoms.items
 atoms c =
-    c.split.ensures.each c.in_ok-atom.atom.now (c.in_ok-left.left.now, c.in_ok-left.right.now) (rw (c.in_ok-reserve.ensures.items) (there c)) (form c)
-    ∙ rw (c.in_ok-reserve.ensures.items, c.in_ok-env.ensures) refl
+    let s = found c in
+    c.split.ensures.each s.atom s.parts (ap (λ (x : NameMap Atom). map.get x c.args.e.now.actor) c.in_ok-file_two.ensures.atoms ∙ there c) s.form
+    ∙ ap (λ (env : Env). map.insert (map.insert c.file_two.new.atoms.items c.in_ok-fork.fork.mark (goes_under s.atom s.parts.1 env)) c.args.e.now.actor (goes s.atom s.parts.0)) s.same
+    ∙ ap (both c) c.in_ok-file_two.ensures.atoms
+
+members : (c : goal.After-put) → c.put.new.self.members ≡ set.insert c.self.inside.born.members c.in_ok-fork.fork.mark
+members c = c.put.ensures.members ∙ ap (λ (x : NameSet). set.insert x c.in_ok-fork.fork.mark) c.in_ok-file_two.ensures.born
 
 pub invariant_of-self-2 : goal.invariant_of-self-2
 invariant_of-self-2 c =
-    rw (c.in_ok-file_two.ensures.ok, atoms c, c.put.ensures.members, c.in_ok-reserve-2.ensures.members, c.errand_of-stays.ensures, c.errand_of-comes.ensures)
-    (kept-more c.self.invariant c.args.e.now.actor c.in_ok-mark.mark c.in_ok-atom.atom.now _ _ (there c))
+    let s = found c in
+    kept-equal
+    (kept-more c.self.invariant c.args.e.now.actor c.in_ok-fork.fork.mark s.atom (goes s.atom s.parts.0) (goes s.atom s.parts.1) (there c))
+    (c.in_ok-file_two.ensures.ok ∙ two-filed c.self.inside.work c.in_ok-fork.fork.mark c.args.e.now.actor s.second s.first) (atoms c) (members c)
 
 pub returns : goal.returns
 returns c =
-    sym (fork-row c.args.self.now c.args.e.now) ∙ step-fork c.args.self.now c.args.e.now _ (record {
-      atom = c.in_ok-atom.atom.now;
-      acts = acts c;
-      left = c.in_ok-left.left.now;
-      right = c.in_ok-left.right.now;
-      form = par-form (layer c.in_ok-atom.atom.now.proc) (c.in_ok-left.left.now, c.in_ok-left.right.now) (form c);
-      mark = c.in_ok-mark.mark;
-      made = search rules;
-      lone = search rules;
-      new = search rules;
-      is = rw (atoms c, c.put.ensures.members, c.in_ok-reserve-2.ensures.members, ← c.self.view_is) refl;
-    })
+    sym (fork-row c.args.self.now c.args.e.now) ∙ (found c).gives
+    ∙ ap Some (sym
+    (remade {c = the_view c.self.inside} (atoms c ∙ ap (λ (d : Config). both c d.atoms) c.self.view_is)
+    (members c ∙ ap (λ (d : Config). set.insert d.born c.in_ok-fork.fork.mark) c.self.view_is)
+    c.self.view_is))

@@ -1,24 +1,21 @@
-use Rattle.std.proofs.Common.{◌≡◌, Some, IsSome, rules, sym, subst, ap, ◌∙◌}
+use Rattle.std.proofs.Common.{◌≡◌, Some, refl, sym, ap, ◌∙◌}
 use Rattle.std.specs.FinMap as map
-use Rattle.np_configuration.proofs.Common.{NameMap, the_view, Atom, Config, IsLookup, way_in, goes_under, lookup-row, acting-step}
+use Rattle.np_configuration.proofs.Common.{NameMap, the_view, Atom, Config, IsLookup, goes_under, lookup-row}
 use Rattle.np_configuration.proofs.Keeping.{kept-on, kept-as}
-use Rattle.np_configuration.proofs.Ways.{looked-way}
+use Rattle.np_configuration.proofs.Moved.{actor-there}
 use Rattle.np_configuration.proofs.cfg.Cfg.apply_lookup.Goals as goal
 
 pub go_under-requires-clause-whole : goal.go_under-requires-clause-whole
 go_under-requires-clause-whole c =
-    rw (c.in_ok-reserve.ensures.items)
-    (subst (λ (d : Config). IsSome (way_in d.atoms c.args.e.now.actor c.in_ok-looked.looked.first)) (sym c.self.view_is)
-    (looked-way c.args.self.now c.args.e.now c.in_ok-looked.looked.first c.in_ok-looked.looked.env c.in_ok-looked.looked.errand (search rules)))
+    let s = c.in_ok-looked.ensures in
+    rw (c.in_ok-file.ensures.atoms, actor-there c.self.view_is c.args.e.now s.atom s.acts, s.form) refl
 
 looked : (c : goal.After-go_under)
     → IsLookup c.args.self.now c.args.e.now c.in_ok-looked.looked.first c.in_ok-looked.looked.env c.in_ok-looked.looked.errand
-looked c = search rules
+looked c = c.in_ok-looked.ensures
 
 there : (c : goal.After-go_under) → map.get c.self.inside.atoms.items c.args.e.now.actor ≡ Some (looked c).atom
-there c =
-    ap (λ (d : Config). map.get d.atoms c.args.e.now.actor) c.self.view_is
-    ∙ (acting-step c.args.self.now c.args.e.now (looked c).atom (looked c).acts).there
+there c = actor-there c.self.view_is c.args.e.now (looked c).atom (looked c).acts
 
 abbrev next : goal.After-go_under → Atom
 next c = goes_under (looked c).atom (looked c).next c.in_ok-looked.looked.env
@@ -27,9 +24,9 @@ atoms : (c : goal.After-go_under) → c.go_under.new.atoms.items ≡ map.insert 
 atoms c =
     let s = looked c in
     c.go_under.ensures.each s.atom s.next
-    (ap (λ (x : NameMap Atom). map.get x c.args.e.now.actor) c.in_ok-reserve.ensures.items ∙ there c)
+    (ap (λ (x : NameMap Atom). map.get x c.args.e.now.actor) c.in_ok-file.ensures.atoms ∙ there c)
     s.form
-    ∙ ap (λ (x : NameMap Atom). map.insert x c.args.e.now.actor (next c)) c.in_ok-reserve.ensures.items
+    ∙ ap (λ (x : NameMap Atom). map.insert x c.args.e.now.actor (next c)) c.in_ok-file.ensures.atoms
 
 pub invariant_of-self-2 : goal.invariant_of-self-2
 invariant_of-self-2 c =

@@ -1,13 +1,9 @@
-use Rattle.std.proofs.Common.{◌≡◌, Some, rules, ap, ◌∙◌}
-use Rattle.std.specs.FinMap as map
-use Rattle.np_configuration.proofs.Common.{Config, acting, acting-step}
-use Rattle.np_configuration.proofs.Keeping.{kept-on}
+use Rattle.std.proofs.Common.{Some, sym, ap, ◌∙◌}
+use Rattle.np_calculus.proofs.Rows.{post-row}
 use Rattle.np_configuration.proofs.cfg.Cfg.apply_post.Goals as goal
 
-pub invariant_of-self-2 : goal.invariant_of-self-2
-invariant_of-self-2 c =
-    let acts : acting c.args.self.now c.args.e.now ≡ Some c.in_ok-atom.atom.now = search rules in
-    let there : map.get c.self.inside.atoms.items c.args.e.now.actor ≡ Some c.in_ok-atom.atom.now =
-    ap (λ (d : Config). map.get d.atoms c.args.e.now.actor) c.self.view_is ∙ (acting-step c.args.self.now c.args.e.now c.in_ok-atom.atom.now acts).there in
-    rw (c.in_ok-file.ensures.ok, c.put.ensures.items, c.in_ok-reserve.ensures.items, c.errand_of-errand.ensures)
-    (kept-on c.self.invariant c.args.e.now.actor c.in_ok-atom.atom.now _ there)
+pub stand-requires : goal.stand-requires
+stand-requires c = c.in_ok-atom.ensures.there
+
+pub returns : goal.returns
+returns c = sym (post-row c.args.self.now c.args.e.now) ∙ c.in_ok-atom.ensures.gives ∙ ap Some (sym c.in_ok-stand.ensures.ok)

@@ -1,5 +1,6 @@
-use Rattle.np_configuration.proofs.Keeping.{kept-cut}
+use Rattle.std.proofs.Common.{Some, sym, ap, ◌∙◌}
+use Rattle.np_calculus.proofs.Rows.{print-row}
 use Rattle.np_configuration.proofs.cfg.Cfg.apply_print.Goals as goal
 
-pub invariant_of-self-2 : goal.invariant_of-self-2
-invariant_of-self-2 c = rw (c.remove.ensures, c.remove-2.ensures.items) (kept-cut c.self.invariant c.args.e.now.actor)
+pub returns : goal.returns
+returns c = sym (print-row c.args.self.now c.args.e.now) ∙ c.in_ok-value.ensures ∙ ap Some (sym c.in_ok-say.ensures.ok)

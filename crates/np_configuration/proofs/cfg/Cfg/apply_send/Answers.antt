@@ -1,13 +1,9 @@
-use Rattle.std.proofs.Common.{◌≡◌, Some, rules, ap, ◌∙◌}
-use Rattle.std.specs.FinMap as map
-use Rattle.np_configuration.proofs.Common.{Config, acting, acting-step}
-use Rattle.np_configuration.proofs.Keeping.{kept-cut, kept-sent, kept-mark}
+use Rattle.std.proofs.Common.{Some, sym, ap, ◌∙◌}
+use Rattle.np_calculus.proofs.Rows.{send-row}
 use Rattle.np_configuration.proofs.cfg.Cfg.apply_send.Goals as goal
 
-pub invariant_of-self-2 : goal.invariant_of-self-2
-invariant_of-self-2 c =
-    let acts : acting c.args.self.now c.args.e.now ≡ Some c.in_ok-atom.atom.now = search rules in
-    let there : map.get c.self.inside.atoms.items c.args.e.now.actor ≡ Some c.in_ok-atom.atom.now =
-    ap (λ (d : Config). map.get d.atoms c.args.e.now.actor) c.self.view_is ∙ (acting-step c.args.self.now c.args.e.now c.in_ok-atom.atom.now acts).there in
-    rw (c.remove.ensures, c.remove-2.ensures.items, c.in_ok-insert.ensures.ok)
-    (kept-cut (kept-sent c.self.invariant c.args.e.now.actor _ (kept-mark c.self.invariant c.args.e.now.actor c.in_ok-atom.atom.now there)) c.args.e.now.actor)
+pub fly-requires : goal.fly-requires
+fly-requires c = c.in_ok-packet.ensures.there
+
+pub returns : goal.returns
+returns c = sym (send-row c.args.self.now c.args.e.now) ∙ c.in_ok-packet.ensures.gives ∙ ap Some (sym c.in_ok-fly.ensures.ok)

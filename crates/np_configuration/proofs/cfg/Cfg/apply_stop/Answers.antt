@@ -1,5 +1,6 @@
-use Rattle.np_configuration.proofs.Keeping.{kept-cut}
+use Rattle.std.proofs.Common.{Some, sym, ap, ◌∙◌}
+use Rattle.np_calculus.proofs.Rows.{stop-row}
 use Rattle.np_configuration.proofs.cfg.Cfg.apply_stop.Goals as goal
 
-pub invariant_of-self : goal.invariant_of-self
-invariant_of-self c = rw (c.remove.ensures, c.remove-2.ensures.items) (kept-cut c.self.invariant c.args.e.now.actor)
+pub returns : goal.returns
+returns c = sym (stop-row c.args.self.now c.args.e.now) ∙ c.in_ok-find_stop.ensures ∙ ap Some (sym c.end.ensures)

@@ -1,35 +1,23 @@
-use Rattle.std.proofs.Common.{◌≡◌, Some, rules, ap}
-use Rattle.np_configuration.proofs.Common.{layer, Atom}
-use Rattle.np_eval.proofs.FormsByParts.{rep-form}
-use Rattle.std.specs.FinMap as map
-use Rattle.np_calculus.specs.Seen.{offered}
-use Rattle.np_calculus.proofs.Inversions.{step-rep}
-use Rattle.np_calculus.proofs.Steps.{offered-step}
-use Rattle.np_configuration.proofs.Keeping.{is_some_of}
+use Rattle.std.proofs.Common.{rules, sym, ap, ◌∙◌}
+use Rattle.std.specs.Option.{option_copied}
+use Rattle.np_configuration.proofs.RowForms.{rep-taken, rep-made}
+use Rattle.np_configuration.proofs.Finds.{rep-found}
 use Rattle.np_configuration.proofs.cfg.Cfg.find_rep.Goals as goal
+
+pub returns-in_default-2 : goal.returns-in_default-2
+returns-in_default-2 c =
+    let p = c.in-Some-as_rep in
+    rep-taken c.args.self.now c.args.e.now c.in-Some.atom.now (sym c.acting.ensures ∙ ap option_copied c.in-Some.is) p.chan.now p.pat.now p.body.now
+    c.in-Some-chan_of.chan (search rules) c.in-Some-other.mark (search rules) (search rules) (search rules)
+
+pub returns-in_default-none_made : goal.returns-in_default-none_made
+returns-in_default-none_made c =
+    let p = c.in-Some-as_rep in
+    rep-made c.args.self.now c.args.e.now c.in-Some.atom.now (sym c.acting.ensures ∙ ap option_copied c.in-Some.is) p.chan.now p.pat.now p.body.now
+    c.in-Some-chan_of.chan (search rules) c.in-Some-other.mark (search rules) (search rules) c.in-Some-2.env (search rules) (search rules)
 
 pub returns : goal.returns
 returns c =
-    let offer : offered c.args.self.now c.in-Some-other.mark c.in-Some.atom.now.agent c.in-Some-chan_of.chan ≡ Some c.in-Some-2.value = search rules in
-    let o = offered-step c.args.self.now c.in-Some-other.mark c.in-Some.atom.now.agent c.in-Some-chan_of.chan c.in-Some-2.value offer in
-    record {
-      there = is_some_of _ o.mate o.waits;
-      gives = step-rep c.args.self.now c.args.e.now _ (record {
-        atom = c.in-Some.atom.now;
-        acts = search rules;
-        from = c.in-Some-as_rep.chan.now;
-        pat = c.in-Some-as_rep.pat.now;
-        body = c.in-Some-as_rep.body.now;
-        form = rep-form (layer c.in-Some.atom.now.proc) (c.in-Some-as_rep.chan.now, c.in-Some-as_rep.pat.now, c.in-Some-as_rep.body.now) (search rules);
-        chan = c.in-Some-chan_of.chan;
-        on = search rules;
-        mark = c.in-Some-other.mark;
-        other = search rules;
-        value = c.in-Some-2.value;
-        offer = offer;
-        env = c.in-Some-3.env;
-        binds = search rules;
-        made = search rules;
-        is = ap (λ (x : Atom). record c.args.self.now { atoms = map.insert c.args.self.now.atoms c.in-Some-other.mark x }) (search rules);
-      });
-    }
+    let p = c.in-Some-as_rep in
+    rep-found c.args.self.now c.args.e.now c.in-Some.atom.now (sym c.acting.ensures ∙ ap option_copied c.in-Some.is) p.chan.now p.pat.now p.body.now (search rules)
+    c.in-Some-chan_of.chan (search rules) c.in-Some-other.mark (search rules) c.in-Some-2.env (search rules) (search rules) _ (search rules)

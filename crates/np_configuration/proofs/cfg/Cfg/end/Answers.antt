@@ -1,0 +1,5 @@
+use Rattle.np_configuration.proofs.Keeping.{kept-cut}
+use Rattle.np_configuration.proofs.cfg.Cfg.end.Goals as goal
+
+pub invariant_of-self : goal.invariant_of-self
+invariant_of-self c = rw (c.remove.ensures, c.remove-2.ensures.items) (kept-cut c.self.invariant c.args.mark)
