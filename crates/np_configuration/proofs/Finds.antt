@@ -1,8 +1,8 @@
 -- What is found of an event whose row is met.
-use Rattle.std.proofs.Common.{◌≡◌, ℕ, Bool, true, false, not, cond, List, Option, None, Some, IsSome, is_some, refl, sym, subst, ap, ◌∙◌}
+use Rattle.std.proofs.Common.{◌≡◌, ℕ, Bool, true, false, not, cond, List, Option, Some, IsSome, is_some, refl, sym, ap, ◌∙◌}
 use Rattle.std.specs.FinMap as map
 use Rattle.std.specs.FinSet as set
-use Rattle.np_configuration.proofs.Common.{Name, Value, Expr, Proc, ProcForm-F, Event, ◌>>=◌, Errand, Atom, Packet, Config, Env, chan_of, layer, errand_at, goes, goes_under, output_in, acting, acting-step, body_at, way_at}
+use Rattle.np_configuration.proofs.Common.{Name, Value, Expr, Proc, Event, Errand, Atom, Config, Env, chan_of, layer, errand_at, output_in, acting, acting-step, body_at, way_at}
 use Rattle.np_syntax.specs.declared.types.Ty.{Ty}
 use Rattle.np_syntax.specs.declared.pattern.Pat.{Pat}
 use Rattle.np_syntax.specs.declared.value.Value as value
@@ -13,7 +13,7 @@ use Rattle.np_calculus.proofs.Inversions.{step-agent}
 use Rattle.np_calculus.proofs.Steps.{need-met, offered-step}
 use Rattle.np_syntax.proofs.Options.{then}
 use Rattle.np_eval.specs.Eval.{agent_of, bind, eval, find_place, letter_of, places_of, truth_of}
-use Rattle.np_eval.specs.FormParts.{as_stop, as_par, as_new, as_inp, as_rep, as_agent_form, as_migrate, as_send, as_post, as_if, as_let, as_print, as_open, as_lookup}
+use Rattle.np_eval.specs.FormParts.{as_par, as_new, as_inp, as_rep, as_agent_form, as_migrate, as_send, as_post, as_if, as_let, as_open, as_lookup}
 use Rattle.np_eval.proofs.FormsByParts.{new-form, inp-form, let-form, if-form, migrate-form, lookup-form, agent-form}
 use Rattle.np_configuration.specs.Found.{CanEnter, CanGo, IsAgent, IsComm, IsDepart, IsFork, IsIf, IsLet, IsLookup, IsNew, IsSend, Stands, found_env}
 use Rattle.np_configuration.specs.Views.{bound_to, is_alone, one_new, taken_by, two_new}

@@ -1,5 +1,5 @@
 -- The rows of acting atoms, step by step: each lemma says what a row gives where the code has come so far.
-use Rattle.std.proofs.Common.{◌≡◌, ℕ, Bool, true, false, cond, Option, None, Some, is_some, List, [], ◌∷◌, ◌++◌, refl, sym, ap, ◌∙◌}
+use Rattle.std.proofs.Common.{◌≡◌, ℕ, Bool, true, false, cond, Option, None, Some, List, [], ◌∷◌, ◌++◌, refl, ◌∙◌}
 use Rattle.std.specs.FinMap as map
 use Rattle.std.specs.FinSet as set
 use Rattle.np_configuration.proofs.Common.{Name, Value, Expr, Proc, ProcForm-F, Event, ◌>>=◌, Atom, Packet, Config, Env, chan_of, layer, inside, goes, goes_under, output_in, row, acting}
@@ -9,7 +9,7 @@ use Rattle.np_syntax.specs.declared.pattern.Pat.{Pat}
 use Rattle.np_syntax.specs.declared.value.Value as value
 use Rattle.np_syntax.specs.declared.event.Kind.TheVariants as kind
 use Rattle.np_calculus.specs.declared.config.Place.TheVariants as place
-use Rattle.np_calculus.specs.Changes.{Change, put, cut, still, effect, with_made}
+use Rattle.np_calculus.specs.Changes.{Change, put, cut, still, with_made}
 use Rattle.np_calculus.specs.Reductions.{act, alone, becomes, found_on, no_other, none_made, one_made, two_made}
 use Rattle.np_calculus.specs.Seen.{offered, site_of}
 use Rattle.np_calculus.specs.Sight.{Sight, sight}

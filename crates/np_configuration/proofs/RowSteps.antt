@@ -1,17 +1,15 @@
 -- When a row is met, by the steps in which code finds it out.
-use Rattle.std.proofs.Common.{◌≡◌, ℕ, Bool, true, false, not, ◌&&◌, Option, None, Some, is_some, refl, sym, subst, ap, ◌∙◌}
-use Rattle.std.specs.FinMap as map
+use Rattle.std.proofs.Common.{◌≡◌, Bool, true, false, not, ◌&&◌, Option, None, Some, is_some, refl, sym, subst, ap, ◌∙◌}
 use Rattle.std.specs.FinSet as set
-use Rattle.np_configuration.proofs.Common.{Name, Value, Expr, Proc, Event, NameSet, ◌>>=◌, same_name, Atom, Config, Env, layer, inside, acting}
+use Rattle.np_configuration.proofs.Common.{Name, Event, NameSet, ◌>>=◌, same_name, Atom, Config, layer, inside, acting}
 use Rattle.np_syntax.specs.Options.{◌>>◌, need}
 use Rattle.np_syntax.proofs.Options.{then, when, done}
 use Rattle.np_calculus.proofs.Steps.{is-one}
-use Rattle.np_syntax.specs.declared.pattern.Pat.{Pat}
 use Rattle.np_syntax.specs.declared.event.Kind.{Kind}
 use Rattle.np_syntax.specs.declared.event.Made.{Made}
 use Rattle.np_syntax.specs.declared.event.Made.TheVariants as made
 use Rattle.np_calculus.specs.Changes.{Change, effect}
-use Rattle.np_calculus.specs.Reductions.{act, alone, after_change, are_new, no_other, none_made, one_made, two_made}
+use Rattle.np_calculus.specs.Reductions.{act, alone, are_new, no_other, none_made, one_made, two_made}
 use Rattle.np_calculus.specs.Rows.{row_by}
 use Rattle.np_calculus.specs.Seen.{fresh}
 use Rattle.np_calculus.specs.Sight.{Sight, sight}

@@ -1,7 +1,7 @@
 -- How a lookup and a location test go on.
-use Rattle.std.proofs.Common.{◌≡◌, ℕ, Bool, true, false, cond, Option, None, Some, IsSome, is_some, refl, sym, ◌∙◌}
+use Rattle.std.proofs.Common.{◌≡◌, ℕ, Bool, true, false, cond, Option, None, Some, is_some, refl, sym, ◌∙◌}
 use Rattle.np_configuration.proofs.Common.{Name, Value, Expr, Proc, ProcForm-F, Event, ◌>>=◌, Errand, Atom, Config}
-use Rattle.np_configuration.proofs.Common.{goes_under, row, acting, acting-step, Env, chan_of, layer, IsLookup, found_env, way_in, local_row}
+use Rattle.np_configuration.proofs.Common.{goes_under, row, acting, chan_of, layer, found_env, local_row}
 use Rattle.np_syntax.specs.declared.event.Kind.TheVariants as kind
 use Rattle.np_calculus.specs.Reductions.{after_change, found_on, here_row, away_row, one_made, none_made, no_other, act}
 use Rattle.np_calculus.specs.Seen.{fresh, is_at}

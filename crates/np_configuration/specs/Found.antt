@@ -18,7 +18,7 @@ use Rattle.np_calculus.specs.declared.config.Packet.{Packet}
 use Rattle.np_calculus.specs.declared.config.Place.TheVariants as place
 use Rattle.np_calculus.specs.Changes.{with_made}
 use Rattle.np_calculus.specs.Config.{Config}
-use Rattle.np_calculus.specs.Reductions.{after_change, away_row, goes, goes_under, here_row, output_in, row}
+use Rattle.np_calculus.specs.Reductions.{after_change, away_row, goes, goes_under, here_row, row}
 use Rattle.np_calculus.specs.Seen.{acting}
 use Rattle.np_eval.specs.Eval.{Env}
 use Rattle.np_eval.specs.Forms.{layer}

@@ -1,4 +1,3 @@
-ghost use Rattle.std.specs.Prelude.{◌≡◌, None, Some, MatchOption};
 ghost use Rattle.np_configuration.specs.Rows.{fork_row, if_row, let_row, new_row, print_row, stop_row};
 ghost use Rattle.np_configuration.specs.Applied.{Applied, Finds};
 ghost use Rattle.np_configuration.specs.Found.{IsFork, IsIf, IsLet, IsNew, IsPrint, IsStop};

@@ -1,7 +1,7 @@
 ghost use Rattle.np_configuration.specs.Rows.{local_row, post_row, send_row};
 ghost use Rattle.np_calculus.specs.Reductions.{row};
 ghost use Rattle.np_syntax.specs.declared.event.Kind.TheVariants as kind;
-ghost use Rattle.std.specs.Prelude.{◌≡◌, true, false, None, Some, MatchOption};
+ghost use Rattle.std.specs.Prelude.{true, false};
 ghost use Rattle.np_configuration.specs.Applied.{Applied, Finds};
 ghost use Rattle.np_configuration.specs.Found.{IsLocal, IsSend, Stands};
 
@@ -123,9 +123,8 @@ impl Cfg {
         }
         let agent = packet.agent;
         let chan = packet.chan;
-        self.atoms.reserve(1)?;
-        self.work
-            .file(e.actor, Errand::Gives(Meeting { agent, chan }))?;
+        let comes = Errand::Gives(Meeting { agent, chan });
+        file(&mut self.atoms, &mut self.work, e.actor, comes)?;
         let Some(packet) = self.packets.take(e.actor) else {
             unreachable!();
         };

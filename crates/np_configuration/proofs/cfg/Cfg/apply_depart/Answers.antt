@@ -1,6 +1,6 @@
 use Rattle.std.proofs.Common.{◌≡◌, Some, sym, ap, ◌∙◌}
 use Rattle.std.specs.FinMap as map
-use Rattle.np_configuration.proofs.Common.{NameMap, Place, Config, the_view, goes}
+use Rattle.np_configuration.proofs.Common.{NameMap, Place, Config, goes}
 use Rattle.np_calculus.specs.declared.config.Place.TheVariants as place
 use Rattle.np_calculus.proofs.Rows.{depart-row}
 use Rattle.np_configuration.proofs.Moved.{may-go, atoms-gone, gone-kept}

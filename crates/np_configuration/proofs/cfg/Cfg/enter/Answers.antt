@@ -1,7 +1,7 @@
-use Rattle.std.proofs.Common.{refl, ◌∙◌, ap}
+use Rattle.std.proofs.Common.{◌∙◌, ap}
 use Rattle.np_configuration.proofs.Common.{NameSet}
 use Rattle.np_calculus.specs.Changes.{with_made}
-use Rattle.np_configuration.proofs.Moved.{may-enter, atoms-entered, entered-kept, entered-is}
+use Rattle.np_configuration.proofs.Moved.{atoms-entered, entered-kept}
 use Rattle.np_configuration.proofs.cfg.Cfg.enter.Goals as goal
 
 pub invariant_of-self-2 : goal.invariant_of-self-2

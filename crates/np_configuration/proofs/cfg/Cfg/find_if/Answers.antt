@@ -1,4 +1,4 @@
-use Rattle.std.proofs.Common.{◌≡◌, rules, sym, ap, ◌∙◌}
+use Rattle.std.proofs.Common.{rules, sym, ap, ◌∙◌}
 use Rattle.std.specs.Option.{option_copied}
 use Rattle.np_configuration.proofs.Common.{Proc, errand_at, layer}
 use Rattle.np_configuration.proofs.RowForms.{if-alone, if-none}

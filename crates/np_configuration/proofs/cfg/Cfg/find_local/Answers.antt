@@ -1,4 +1,4 @@
-use Rattle.std.proofs.Common.{◌≡◌, Some, cond, rules, refl, sym, ap, ◌∙◌}
+use Rattle.std.proofs.Common.{◌≡◌, Some, cond, rules, sym, ap, ◌∙◌}
 use Rattle.std.specs.Option.{option_copied}
 use Rattle.np_configuration.proofs.Common.{Proc, ProcForm-F, layer, errand_at, way_at, acting, acting-step}
 use Rattle.np_eval.proofs.FormsByParts.{iflocal-form}

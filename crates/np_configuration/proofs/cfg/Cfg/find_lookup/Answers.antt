@@ -1,7 +1,7 @@
 use Rattle.std.proofs.Common.{rules, sym, ap, ◌∙◌}
 use Rattle.std.specs.Option.{option_copied}
 use Rattle.np_configuration.proofs.Common.{Proc, errand_at, layer}
-use Rattle.np_configuration.proofs.RowForms.{lookup-alone, lookup-none}
+use Rattle.np_configuration.proofs.RowForms.{lookup-alone}
 use Rattle.np_configuration.proofs.Finds.{lookup-found}
 use Rattle.np_configuration.proofs.cfg.Cfg.find_lookup.Goals as goal
 

@@ -1,6 +1,6 @@
 use Rattle.std.proofs.Common.{rules, sym, ap, ◌∙◌}
 use Rattle.std.specs.Option.{option_copied}
-use Rattle.np_configuration.proofs.RowForms.{open-alone, open-none}
+use Rattle.np_configuration.proofs.RowForms.{open-alone}
 use Rattle.np_configuration.proofs.Finds.{open-found}
 use Rattle.np_configuration.proofs.cfg.Cfg.find_open.Goals as goal
 

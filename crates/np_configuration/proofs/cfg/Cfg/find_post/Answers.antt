@@ -1,6 +1,6 @@
 use Rattle.std.proofs.Common.{rules, sym, ap, ◌∙◌}
 use Rattle.std.specs.Option.{option_copied}
-use Rattle.np_configuration.proofs.RowForms.{post-alone, post-none}
+use Rattle.np_configuration.proofs.RowForms.{post-alone}
 use Rattle.np_configuration.proofs.Finds.{post-found}
 use Rattle.np_configuration.proofs.cfg.Cfg.find_post.Goals as goal
 

@@ -1,6 +1,6 @@
 use Rattle.std.proofs.Common.{rules, sym, ap, ◌∙◌}
 use Rattle.std.specs.Option.{option_copied}
-use Rattle.np_configuration.proofs.RowForms.{send-alone, send-none}
+use Rattle.np_configuration.proofs.RowForms.{send-alone}
 use Rattle.np_configuration.proofs.Finds.{send-found}
 use Rattle.np_configuration.proofs.cfg.Cfg.find_send.Goals as goal
 

@@ -1,4 +1,4 @@
-use Rattle.np_configuration.proofs.Moved.{may-go, atoms-gone, gone-kept, gone-is}
+use Rattle.np_configuration.proofs.Moved.{atoms-gone, gone-kept}
 use Rattle.np_configuration.proofs.cfg.Cfg.go_on.Goals as goal
 
 pub invariant_of-self-2 : goal.invariant_of-self-2
