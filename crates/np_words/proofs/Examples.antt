@@ -1,24 +1,18 @@
 -- What some words ask for.
-use Rattle.std.proofs.Common.{◌≡◌, ℕ, false, List, [], ◌∷◌, Option, None, Some, codes, refl}
+use Rattle.std.proofs.Common.{◌≡◌, ℕ, Bool, false, true, List, [], ◌∷◌, Option, None, Some, codes, refl}
 use Rattle.clap.proofs.OnLiterals.{clap_on_literals}
 use Rattle.np_words.specs.Arguments.{command, taken}
 use Rattle.np_words.specs.Plans.{plan}
-use Rattle.np_words.specs.declared.modes.Mode.{Mode}
-use Rattle.np_words.specs.declared.modes.Mode.TheVariants.{Run, High, Show}
 use Rattle.np_words.specs.declared.modes.Links.TheVariants.{Rings}
 use Rattle.np_words.specs.declared.planning.Plan.{Plan}
+use Rattle.np_words.specs.declared.planning.Plan.TheVariants.{Source, Replay, Upgrade, Generate}
+use Rattle.np_words.specs.declared.planning.Task.TheVariants.{Run, High, Show}
 
-abbrev asks : Mode → List ℕ → ℕ → Option Plan
-asks mode file budget = Some (record {
-  mode = mode;
-  file = file;
-  second = None;
-  budget = budget;
-  history = false;
-  high = false;
-  serial = false;
-  links = Rings;
-})
+abbrev runs : List ℕ → ℕ → Option Plan
+runs file budget = Some (Source file (Run budget false false false Rings))
+
+abbrev runs_high : List ℕ → ℕ → Bool → Option Plan
+runs_high file budget history = Some (Source file (High budget history))
 
 abbrev a : List ℕ
 a = codes "a"
@@ -28,29 +22,45 @@ budget = codes "--budget"
 
 -- ---- words with a plan
 
-run_file : plan (codes "run" ∷ a ∷ []) ≡ asks Run a 10000
+run_file : plan (codes "run" ∷ a ∷ []) ≡ runs a 10000
 unfolding plan taken command clap_on_literals
 run_file = refl
 
-show_file : plan (codes "show" ∷ a ∷ []) ≡ asks Show a 10000
+show_file : plan (codes "show" ∷ a ∷ []) ≡ Some (Source a Show)
 unfolding plan taken command clap_on_literals
 show_file = refl
 
-with_budget : plan (codes "high" ∷ a ∷ budget ∷ codes "007" ∷ []) ≡ asks High a 7
+with_budget : plan (codes "high" ∷ a ∷ budget ∷ codes "007" ∷ []) ≡ runs_high a 7 false
 unfolding plan taken command clap_on_literals
 with_budget = refl
 
-largest : plan (codes "run" ∷ a ∷ budget ∷ codes "200000" ∷ []) ≡ asks Run a 200000
+largest : plan (codes "run" ∷ a ∷ budget ∷ codes "200000" ∷ []) ≡ runs a 200000
 unfolding plan taken command clap_on_literals
 largest = refl
 
-option_first : plan (codes "--budget=5" ∷ codes "run" ∷ codes "--" ∷ codes "--history" ∷ []) ≡ asks Run (codes "--history") 5
+option_first : plan (codes "--budget=5" ∷ codes "run" ∷ codes "--" ∷ codes "--history" ∷ []) ≡ runs (codes "--history") 5
 unfolding plan taken command clap_on_literals
 option_first = refl
 
-option_between : plan (codes "run" ∷ budget ∷ codes "5" ∷ a ∷ []) ≡ asks Run a 5
+option_between : plan (codes "run" ∷ budget ∷ codes "5" ∷ a ∷ []) ≡ runs a 5
 unfolding plan taken command clap_on_literals
 option_between = refl
+
+history_of_high : plan (codes "high" ∷ a ∷ codes "--history" ∷ []) ≡ runs_high a 10000 true
+unfolding plan taken command clap_on_literals
+history_of_high = refl
+
+replay_two : plan (codes "replay" ∷ a ∷ codes "b" ∷ []) ≡ Some (Replay a (codes "b"))
+unfolding plan taken command clap_on_literals
+replay_two = refl
+
+upgrade_one : plan (codes "upgrade" ∷ a ∷ []) ≡ Some (Upgrade a)
+unfolding plan taken command clap_on_literals
+upgrade_one = refl
+
+most_agents : plan (codes "gen" ∷ codes "100" ∷ []) ≡ Some (Generate 100)
+unfolding plan taken command clap_on_literals
+most_agents = refl
 
 -- ---- words without one
 
@@ -70,9 +80,25 @@ fourth_word : plan (codes "run" ∷ a ∷ a ∷ a ∷ []) ≡ None
 unfolding plan taken command clap_on_literals
 fourth_word = refl
 
-other_mode : plan (codes "gen" ∷ codes "1" ∷ []) ≡ None
+other_mode : plan (codes "load" ∷ codes "1" ∷ []) ≡ None
 unfolding plan taken command clap_on_literals
 other_mode = refl
+
+no_second : plan (codes "replay" ∷ a ∷ []) ≡ None
+unfolding plan taken command clap_on_literals
+no_second = refl
+
+second_of_upgrade : plan (codes "upgrade" ∷ a ∷ a ∷ []) ≡ None
+unfolding plan taken command clap_on_literals
+second_of_upgrade = refl
+
+many_agents : plan (codes "gen" ∷ codes "101" ∷ []) ≡ None
+unfolding plan taken command clap_on_literals
+many_agents = refl
+
+no_number : plan (codes "gen" ∷ a ∷ []) ≡ None
+unfolding plan taken command clap_on_literals
+no_number = refl
 
 zero_budget : plan (codes "run" ∷ a ∷ budget ∷ codes "0" ∷ []) ≡ None
 unfolding plan taken command clap_on_literals
@@ -107,9 +133,9 @@ serial_check : plan (codes "check" ∷ a ∷ codes "--serial" ∷ []) ≡ None
 unfolding plan taken command clap_on_literals
 serial_check = refl
 
-history_of_high : plan (codes "high" ∷ a ∷ codes "--history" ∷ []) ≡ None
+history_of_run : plan (codes "run" ∷ a ∷ codes "--history" ∷ []) ≡ None
 unfolding plan taken command clap_on_literals
-history_of_high = refl
+history_of_run = refl
 
 links_of_run : plan (codes "run" ∷ a ∷ codes "--links" ∷ codes "tray" ∷ []) ≡ None
 unfolding plan taken command clap_on_literals

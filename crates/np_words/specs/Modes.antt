@@ -19,22 +19,30 @@ mode_word mode.High = codes "high"
 mode_word mode.Show = codes "show"
 mode_word mode.Check = codes "check"
 mode_word mode.Low = codes "low"
+mode_word mode.Replay = codes "replay"
+mode_word mode.Upgrade = codes "upgrade"
+mode_word mode.Gen = codes "gen"
 
 abbrev pub no_options : Options
 no_options = record { budget = false; history = false; high = false; serial = false; links = false }
 
-abbrev pub only_budget : Options
-only_budget = record no_options { budget = true }
+abbrev pub run_options : Options
+run_options = record no_options { budget = true }
 
--- a mode that reads one file
-abbrev pub one_file : Mode → Options → Entry
-one_file m options = record { mode = m; second = false; options = options }
+abbrev pub high_options : Options
+high_options = record no_options { budget = true; history = true }
 
--- each mode that is built, with the words that may stand behind FILE
+-- a mode that has no SECOND
+abbrev pub alone : Mode → Options → Entry
+alone m options = record { mode = m; second = false; options = options }
+
+-- each mode that is built, whether it has a SECOND, and the options that may stand behind FILE
 abbrev pub modes : List Entry
 modes =
-    one_file mode.Run only_budget ∷ one_file mode.High only_budget
-    ∷ one_file mode.Show no_options ∷ one_file mode.Check no_options ∷ one_file mode.Low no_options ∷ []
+    alone mode.Run run_options ∷ alone mode.High high_options
+    ∷ alone mode.Show no_options ∷ alone mode.Check no_options ∷ alone mode.Low no_options
+    ∷ record { mode = mode.Replay; second = true; options = no_options }
+    ∷ alone mode.Upgrade no_options ∷ alone mode.Gen no_options ∷ []
 
 abbrev pub entry_of : List ℕ → Option Entry
 entry_of word = find (λ (entry : Entry). bytes_eq (mode_word entry.mode) word) modes

@@ -1,14 +1,20 @@
 -- Which words ask for what (docs/LANGUAGE.md, "Reports and refusals"): those that are taken, and meet the table of the modes that are built.
-use Rattle.std.specs.Prelude.{◌≡◌, ℕ, Bool, true, false, ◌&&◌, ◌||◌, not, List, Option, Some, None, is_some, Result, Ok, Err}
+use Rattle.std.specs.Prelude.{◌≡◌, ℕ, ◌≤◌, Bool, true, false, ◌&&◌, ◌||◌, not, List, Option, Some, None, is_some, Result, Ok, Err}
 use Rattle.clap.specs.Words.{Text}
 use Rattle.np_syntax.specs.Options.{◌>>=◌, ◌>>◌, need}
 use Rattle.np_syntax.specs.declared.limits.TheConstants.{LARGEST_BUDGET, USUAL_BUDGET}
+use Rattle.np_generate.specs.declared.source.TheConstants.{MOST_AGENTS}
 use Rattle.np_words.specs.Arguments.{Given, taken}
 use Rattle.np_words.specs.Modes.{entry_of, number_of, links_of}
 use Rattle.np_words.specs.declared.modes.Entry.{Entry}
 use Rattle.np_words.specs.declared.modes.Links.{Links}
 use Rattle.np_words.specs.declared.modes.Links.TheVariants.{Rings}
+use Rattle.np_words.specs.declared.modes.Mode.{Mode}
+use Rattle.np_words.specs.declared.modes.Mode.TheVariants as modes
 use Rattle.np_words.specs.declared.planning.Plan.{Plan}
+use Rattle.np_words.specs.declared.planning.Plan.TheVariants as plans
+use Rattle.np_words.specs.declared.planning.Task.{Task}
+use Rattle.np_words.specs.declared.planning.Task.TheVariants as tasks
 use Rattle.np_words.specs.declared.fail.PlanFail.{PlanFail}
 use Rattle.np_words.specs.declared.fail.PlanFail.TheVariants.{Memory, Usage}
 
@@ -38,26 +44,69 @@ abbrev pub kind_of : Option Text → Option Links
 kind_of None = Some Rings
 kind_of (Some word) = links_of word
 
+-- ---- the options of a mode that reads one source
+
+abbrev pub run_of : Given → Option Task
+run_of given = do
+  budget ← budget_of given.budget
+  links ← kind_of given.links
+  Some (tasks.Run budget given.history given.high given.serial links)
+
+abbrev pub high_of : Given → Option Task
+high_of given = do
+  budget ← budget_of given.budget
+  Some (tasks.High budget given.history)
+
+-- ---- what FILE and SECOND are
+
+-- FILE is a source
+abbrev pub on_source : Text → Option Task → Option Plan
+on_source file what = do
+  task ← what
+  Some (plans.Source file task)
+
+-- FILE is a source, SECOND a history
+abbrev pub replay_of : Text → Option Text → Option Plan
+replay_of file second = do
+  history ← second
+  Some (plans.Replay file history)
+
+-- FILE is a number
+abbrev pub generate_of : Text → Option Plan
+generate_of file = do
+  agents ← number_of MOST_AGENTS file
+  Some (plans.Generate agents)
+
+-- FILE is a history
+abbrev pub upgrade_of : Text → Option Plan
+upgrade_of file = Some (plans.Upgrade file)
+
+abbrev pub plan_for : Mode → Text → Given → Option Plan
+plan_for modes.Run file given = on_source file (run_of given)
+plan_for modes.High file given = on_source file (high_of given)
+plan_for modes.Show file given = on_source file (Some tasks.Show)
+plan_for modes.Check file given = on_source file (Some tasks.Check)
+plan_for modes.Low file given = on_source file (Some tasks.Low)
+plan_for modes.Replay file given = replay_of file given.second
+plan_for modes.Upgrade file given = upgrade_of file
+plan_for modes.Gen file given = generate_of file
+
+-- ---- plans
+
 abbrev pub planned : Given → Option Plan
 planned given = do
   entry ← entry_given given.mode
   file ← given.file
-  budget ← budget_of given.budget
-  links ← kind_of given.links
   need (is_met entry given)
-  Some (record {
-    mode = entry.mode;
-    file = file;
-    second = given.second;
-    budget = budget;
-    history = given.history;
-    high = given.high;
-    serial = given.serial;
-    links = links;
-  })
+  plan_for entry.mode file given
 
 unfoldable pub plan : List Text → Option Plan
 plan words = taken words >>= planned
+
+-- a generated source has as many agents as it may have
+abbrev pub HasFewAgents : Plan → Type 0
+HasFewAgents (plans.Generate agents) = (1 ≤ agents) × (agents ≤ MOST_AGENTS)
+HasFewAgents _ = Unit {0}
 
 -- a plan exactly where the words have one, and a usage fault exactly where they have none; memory aside
 abbrev pub Plans : Option Plan → Result Plan PlanFail → Type 0

@@ -11,5 +11,5 @@ mod planning;
 
 pub use fail::PlanFail;
 pub use laws::law_taken;
-pub use modes::{Links, Mode};
-pub use planning::{Plan, plan_of};
+pub use modes::Links;
+pub use planning::{Plan, Task, plan_of};

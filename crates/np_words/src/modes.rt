@@ -11,6 +11,9 @@ pub enum Mode {
     Show,
     Check,
     Low,
+    Replay,
+    Upgrade,
+    Gen,
 }
 
 /// What carries agents and packets from site to site.
@@ -47,22 +50,28 @@ const NO_OPTIONS: Options = Options {
     links: false,
 };
 
-const ONLY_BUDGET: Options = Options {
+const RUN_OPTIONS: Options = Options {
     budget: true,
     ..NO_OPTIONS
 };
 
+const HIGH_OPTIONS: Options = Options {
+    budget: true,
+    history: true,
+    ..NO_OPTIONS
+};
+
 /// The modes that are built.
-const MODES: [Entry; 5] = [
+const MODES: [Entry; 8] = [
     Entry {
         mode: Mode::Run,
         second: false,
-        options: ONLY_BUDGET,
+        options: RUN_OPTIONS,
     },
     Entry {
         mode: Mode::High,
         second: false,
-        options: ONLY_BUDGET,
+        options: HIGH_OPTIONS,
     },
     Entry {
         mode: Mode::Show,
@@ -76,6 +85,21 @@ const MODES: [Entry; 5] = [
     },
     Entry {
         mode: Mode::Low,
+        second: false,
+        options: NO_OPTIONS,
+    },
+    Entry {
+        mode: Mode::Replay,
+        second: true,
+        options: NO_OPTIONS,
+    },
+    Entry {
+        mode: Mode::Upgrade,
+        second: false,
+        options: NO_OPTIONS,
+    },
+    Entry {
+        mode: Mode::Gen,
         second: false,
         options: NO_OPTIONS,
     },
@@ -93,6 +117,9 @@ fn mode_word(mode: Mode) -> &'static str
         Mode::Show => "show",
         Mode::Check => "check",
         Mode::Low => "low",
+        Mode::Replay => "replay",
+        Mode::Upgrade => "upgrade",
+        Mode::Gen => "gen",
     }
 }
 

@@ -1,6 +1,6 @@
 //! Numbers as words.
 
-ghost use Rattle.std.specs.Prelude.{◌≡◌};
+ghost use Rattle.std.specs.Prelude.{◌≡◌, ◌≤◌, IfSome};
 ghost use Rattle.std.specs.Char.{is_ascii_digit};
 ghost use Rattle.std.specs.List.{list_all};
 ghost use Rattle.np_words.specs.Modes as spec;
@@ -28,7 +28,8 @@ fn is_numeral(bytes: &[u8]) -> bool
 }
 
 fn within(most: u32, number: u32) -> Option<u32>
-    ensures { result ≡ spec.within most number }
+    ensures is { result ≡ spec.within most number }
+    ensures bounds { IfSome result (λ n. (1 ≤ n) × (n ≤ most)) }
 {
     if 1 <= number && number <= most {
         Some(number)
@@ -39,7 +40,8 @@ fn within(most: u32, number: u32) -> Option<u32>
 
 /// The number that a word gives, if it is a numeral of a number from 1 to this.
 pub fn number_of(most: u32, word: &str) -> Option<u32>
-    ensures { result ≡ spec.number_of most word.now }
+    ensures is { result ≡ spec.number_of most word.now }
+    ensures bounds { IfSome result (λ n. (1 ≤ n) × (n ≤ most)) }
 {
     if !is_numeral(word.as_bytes()) {
         return None;

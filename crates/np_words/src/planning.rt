@@ -9,21 +9,40 @@ use super::fail::PlanFail;
 use super::modes::{Entry, Links, Mode, entry_of, links_of};
 use super::numerals::number_of;
 use clap::error::ErrorKind;
+use np_generate::MOST_AGENTS;
 use np_io::Word;
-use np_syntax::{LARGEST_BUDGET, Memory, USUAL_BUDGET};
+use np_syntax::{LARGEST_BUDGET, USUAL_BUDGET};
 use std::alloc::Global;
 
-/// What the words ask for.
+/// What is done with a source.
+#[derive(Clone, Copy, Debug, PartialEq, Eq)]
+pub enum Task {
+    /// It is run. Each site makes at most `budget` events. No words ask for the other options yet.
+    Run {
+        budget: u32,
+        history: bool,
+        high: bool,
+        serial: bool,
+        links: Links,
+    },
+    /// It is run at the high level, with at most `budget` events.
+    High {
+        budget: u32,
+        history: bool,
+    },
+    Show,
+    Check,
+    Low,
+}
+
+/// What the words ask for: a mode with its operands and options.
 #[derive(Drop)]
-pub struct Plan {
-    pub mode: Mode,
-    pub file: Word,
-    pub second: Option<Word>,
-    pub budget: u32,
-    pub history: bool,
-    pub high: bool,
-    pub serial: bool,
-    pub links: Links,
+pub enum Plan {
+    /// A mode that reads one source.
+    Source { file: Word, task: Task },
+    Replay { source: Word, history: Word },
+    Upgrade { history: Word },
+    Generate { agents: u32 },
 }
 
 /// A word stands there only where it may.
@@ -63,13 +82,82 @@ fn kind_of(word: Option<&str>) -> Option<Links>
     }
 }
 
-/// A copy of a word.
-fn copied(alloc: Global, word: Option<&str>) -> Result<Option<Word>, Memory>
-    ensures { IfOk result (λ copied. copied ≡ option_map (λ text. text.now) word.entry) }
+fn run_of(given: &Given<'_>) -> Option<Task>
+    ensures { result ≡ spec.run_of (seen given.now) }
 {
-    match word {
-        Some(word) => Ok(Some(Word::new(alloc, word)?)),
-        None => Ok(None),
+    Some(Task::Run {
+        budget: budget_of(given.budget)?,
+        history: given.history,
+        high: given.high,
+        serial: given.serial,
+        links: kind_of(given.links)?,
+    })
+}
+
+fn high_of(given: &Given<'_>) -> Option<Task>
+    ensures { result ≡ spec.high_of (seen given.now) }
+{
+    Some(Task::High {
+        budget: budget_of(given.budget)?,
+        history: given.history,
+    })
+}
+
+/// The plan where FILE is a source.
+fn on_source(alloc: Global, file: &str, task: Option<Task>) -> Result<Plan, PlanFail>
+    ensures { spec.Plans (spec.on_source file.now task) result }
+{
+    let task = task.ok_or(PlanFail::Usage)?;
+    Ok(Plan::Source {
+        file: Word::new(alloc, file)?,
+        task,
+    })
+}
+
+/// The plan where FILE is a source and SECOND a history.
+fn replay_of(alloc: Global, file: &str, second: Option<&str>) -> Result<Plan, PlanFail>
+    ensures { spec.Plans (spec.replay_of file.now (option_map (λ text. text.now) second.entry)) result }
+{
+    let second = second.ok_or(PlanFail::Usage)?;
+    Ok(Plan::Replay {
+        source: Word::new(alloc, file)?,
+        history: Word::new(alloc, second)?,
+    })
+}
+
+/// The plan where FILE is a history.
+fn upgrade_of(alloc: Global, file: &str) -> Result<Plan, PlanFail>
+    ensures { spec.Plans (spec.upgrade_of file.now) result }
+{
+    Ok(Plan::Upgrade {
+        history: Word::new(alloc, file)?,
+    })
+}
+
+/// The plan where FILE is a number.
+fn generate_of(file: &str) -> Result<Plan, PlanFail>
+    ensures plans { spec.Plans (spec.generate_of file.now) result }
+    ensures agents { IfOk result spec.HasFewAgents }
+{
+    match number_of(MOST_AGENTS, file) {
+        Some(agents) => Ok(Plan::Generate { agents }),
+        None => Err(PlanFail::Usage),
+    }
+}
+
+fn plan_for(alloc: Global, mode: Mode, file: &str, given: &Given<'_>) -> Result<Plan, PlanFail>
+    ensures plans { spec.Plans (spec.plan_for mode file.now (seen given.now)) result }
+    ensures agents { IfOk result spec.HasFewAgents }
+{
+    match mode {
+        Mode::Run => on_source(alloc, file, run_of(given)),
+        Mode::High => on_source(alloc, file, high_of(given)),
+        Mode::Show => on_source(alloc, file, Some(Task::Show)),
+        Mode::Check => on_source(alloc, file, Some(Task::Check)),
+        Mode::Low => on_source(alloc, file, Some(Task::Low)),
+        Mode::Replay => replay_of(alloc, file, given.second),
+        Mode::Upgrade => upgrade_of(alloc, file),
+        Mode::Gen => generate_of(file),
     }
 }
 
@@ -82,30 +170,21 @@ fn entry_given(word: Option<&str>) -> Option<Entry>
 
 /// The plan of words that were taken, if they meet the table of the modes.
 fn planned(alloc: Global, given: &Given<'_>) -> Result<Plan, PlanFail>
-    ensures { spec.Plans (spec.planned (seen given.now)) result }
+    ensures plans { spec.Plans (spec.planned (seen given.now)) result }
+    ensures agents { IfOk result spec.HasFewAgents }
 {
     let entry = entry_given(given.mode).ok_or(PlanFail::Usage)?;
     let file = given.file.ok_or(PlanFail::Usage)?;
-    let budget = budget_of(given.budget).ok_or(PlanFail::Usage)?;
-    let links = kind_of(given.links).ok_or(PlanFail::Usage)?;
     if !is_met(&entry, given) {
         return Err(PlanFail::Usage);
     }
-    Ok(Plan {
-        mode: entry.mode,
-        file: Word::new(alloc, file)?,
-        second: copied(alloc, given.second)?,
-        budget,
-        history: given.history,
-        high: given.high,
-        serial: given.serial,
-        links,
-    })
+    plan_for(alloc, entry.mode, file, given)
 }
 
 /// What the words ask for, if they ask for something that the program does.
 pub fn plan_of(alloc: Global, words: &[Word]) -> Result<Plan, PlanFail>
-    ensures { spec.Plans (spec.plan words.now) result }
+    ensures plans { spec.Plans (spec.plan words.now) result }
+    ensures agents { IfOk result spec.HasFewAgents }
 {
     let Ok(command) = command(alloc) else {
         return Err(PlanFail::Memory);

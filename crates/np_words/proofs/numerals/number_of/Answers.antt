@@ -40,12 +40,12 @@ gives most word r m h e =
     let parsed : OkIff r ((0 < length word) × (digits_value 10 word < 2 ^ 32)) (digits_value 10 word) = parse_digits own 32 word r h d.0 in
     rw e (by_value most word r m d.1 parsed)
 
-pub returns-in-Ok : goal.returns-in-Ok
-returns-in-Ok c =
+pub returns-in-Ok-clause-is : goal.returns-in-Ok-clause-is
+returns-in-Ok-clause-is c =
     let numeral : is_numeral c.args.word.now ≡ true = ap is_numeral (sym c.as_bytes.ensures.value) ∙ sym c.is_numeral.ensures ∙ c.if-not-is_numeral.false in
-    c.within.ensures ∙ ap (read c.args.most) (sym c.in-Ok.is) ∙ gives c.args.most c.args.word.now c.parse.result c.ranges.most.fits c.parse.ensures.value.0 numeral
+    c.within.ensures.is ∙ ap (read c.args.most) (sym c.in-Ok.is) ∙ gives c.args.most c.args.word.now c.parse.result c.ranges.most.fits c.parse.ensures.value.0 numeral
 
-pub returns-in-Err : goal.returns-in-Err
-returns-in-Err c =
+pub returns-in-Err-clause-is : goal.returns-in-Err-clause-is
+returns-in-Err-clause-is c =
     let numeral : is_numeral c.args.word.now ≡ true = ap is_numeral (sym c.as_bytes.ensures.value) ∙ sym c.is_numeral.ensures ∙ c.if-not-is_numeral.false in
     ap (read c.args.most) (sym c.in-Err.is) ∙ gives c.args.most c.args.word.now c.parse.result c.ranges.most.fits c.parse.ensures.value.0 numeral
