@@ -1,5 +1,2 @@
-pub mod Words
-pub mod Report
-pub mod Lines
-pub mod Faults
+pub mod Readings
 pub mod Causes

@@ -1,21 +1,8 @@
-//! What each mode does: from the words and the bytes of a source to a text, or to a refusal.
+//! What each mode does: from the words and the texts that they name to a text, or to a refusal.
 #![tactic(auto)]
 
-mod job;
+mod histories;
 mod reading;
-mod record;
-mod refusal;
-mod reporting;
-mod runs;
-mod statuses;
-mod words;
+mod work;
 
-pub use job::{Job, work};
-pub use record::Record;
-pub use refusal::{Refusal, line, status};
-pub use reporting::report;
-pub use runs::run_low;
-pub use statuses::{
-    BAD_SOURCE, BAD_USAGE, BUDGET_SPENT, DONE, NO_MEMORY, READ_FAILED, WRITE_FAILED,
-};
-pub use words::Mode;
+pub use work::work;

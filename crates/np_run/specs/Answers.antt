@@ -6,13 +6,14 @@ use Rattle.np_syntax.specs.declared.event.End.TheVariants.{Rest, Spent}
 use Rattle.np_io.specs.Causes.{Rose}
 use Rattle.np_io.specs.Bytes.{AppendsPrefix}
 use Rattle.np_serial.specs.declared.serial.SerialRun.{SerialRun}
-use Rattle.np_modes.specs.Causes.{Reading, Stands, HasMade}
-use Rattle.np_modes.specs.Words.{plan, texts_read}
-use Rattle.np_modes.specs.Lines.{line_of, status_of}
-use Rattle.np_modes.specs.declared.record.Record.{Record}
-use Rattle.np_modes.specs.declared.refusal.Refusal.{Refusal}
-use Rattle.np_modes.specs.declared.refusal.Refusal.TheVariants.{Usage, ReadFault}
-use Rattle.np_modes.specs.declared.statuses.TheConstants.{BAD_SOURCE, BAD_USAGE, BUDGET_SPENT, DONE, NO_MEMORY, READ_FAILED, WRITE_FAILED}
+use Rattle.np_words.specs.Plans.{plan}
+use Rattle.np_sources.specs.declared.record.Record.{Record}
+use Rattle.np_verdict.specs.Lines.{line_of, status_of}
+use Rattle.np_verdict.specs.declared.refusal.Refusal.{Refusal}
+use Rattle.np_verdict.specs.declared.refusal.Refusal.TheVariants.{Usage, ReadFault}
+use Rattle.np_modes.specs.Readings.{Reading}
+use Rattle.np_modes.specs.Causes.{Stands, HasMade, texts_read}
+use Rattle.np_verdict.specs.declared.statuses.TheConstants.{BAD_HISTORY, BAD_SOURCE, BAD_USAGE, BUDGET_SPENT, DONE, NO_MEMORY, READ_FAILED, WRITE_FAILED}
 use Rattle.np_run.specs.declared.answer.Answer.{Answer}
 use Rattle.np_run.specs.declared.answer.Told.{Told}
 
@@ -92,6 +93,7 @@ pub record IsWanting (call : Call) (answer : Answer) : Type 0 where
 
 abbrev pub IsStatus : ℕ → Type 0
 IsStatus n = (n ≡ DONE) ⊎ (n ≡ BUDGET_SPENT) ⊎ (n ≡ BAD_USAGE) ⊎ (n ≡ BAD_SOURCE) ⊎ (n ≡ READ_FAILED) ⊎ (n ≡ WRITE_FAILED) ⊎ (n ≡ NO_MEMORY)
+    ⊎ (n ≡ BAD_HISTORY)
 
 -- each answer has its cause
 pub record HasCauses (call : Call) (answer : Answer) : Type 0 where
@@ -102,6 +104,7 @@ pub record HasCauses (call : Call) (answer : Answer) : Type 0 where
   pub read : answer.status ≡ READ_FAILED → IsRefused call answer ReadFault
   pub write : answer.status ≡ WRITE_FAILED → OutFailed call answer ⊎ ErrFailed call answer
   pub memory : answer.status ≡ NO_MEMORY → IsWanting call answer
+  pub history : answer.status ≡ BAD_HISTORY → Refuses call answer
   pub status : IsStatus answer.status
   -- no other text was to begin, and none twice
   pub begins : call.texts.begins ≤ call.texts.begun + texts_read (plan call.words)

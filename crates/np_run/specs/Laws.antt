@@ -1,26 +1,111 @@
--- What follows from the causes of the answers: when each comes. The source is told.
-use Rattle.std.specs.Prelude.{◌≡◌, ◌≢◌, ℕ, ◌<◌, ◌≤◌, ◌⊎◌, ◌↔◌, List, length, Some, None}
+-- What follows from the causes of the answers: when each comes. The texts are told.
+use Rattle.std.specs.Prelude.{◌≡◌, ◌≢◌, ℕ, ◌<◌, ◌≤◌, ◌⊎◌, ◌↔◌, List, length, Option, Some, None}
 use Rattle.np_syntax.specs.declared.limits.TheConstants.{LONGEST_SOURCE}
+use Rattle.np_syntax.specs.declared.program.LowProgram.{LowProgram}
+use Rattle.np_syntax.specs.declared.program.Program.{Program}
 use Rattle.np_io.specs.Causes.{Rose}
-use Rattle.np_modes.specs.Faults.{Accepted, Faulty}
-use Rattle.np_modes.specs.Words.{Plan, plan}
+use Rattle.daemon_encode.specs.Encoded.{encoded}
+use Rattle.np_words.specs.Plans.{plan}
+use Rattle.np_words.specs.declared.planning.Plan.{Plan}
+use Rattle.np_words.specs.declared.planning.Plan.TheVariants as plans
+use Rattle.np_words.specs.declared.planning.Task.{Task}
+use Rattle.np_verdict.specs.Faults.{Stage, Accepted, Faulty, IsWellTyped}
+use Rattle.np_verdict.specs.declared.refusal.Refusal.{Refusal}
+use Rattle.np_verdict.specs.declared.refusal.Refusal.TheVariants.{TooLong, HistoryTooLong}
+use Rattle.np_verdict.specs.declared.statuses.TheConstants.{BAD_HISTORY, BAD_SOURCE, BAD_USAGE, BUDGET_SPENT, DONE, NO_MEMORY}
+use Rattle.np_histories.specs.Histories.{HasEvents, HasRun, HasNoEvents, IsFaulty}
+use Rattle.np_histories.specs.declared.limits.TheConstants.{LONGEST_HISTORY}
+use Rattle.np_sources.specs.Makes.{stage_of}
 use Rattle.np_modes.specs.Causes.{Stands}
 use Rattle.np_run.specs.Answers.{Call, HasCauses, IsRefused}
 use Rattle.np_run.specs.declared.answer.Answer.{Answer}
-use Rattle.np_modes.specs.declared.refusal.Refusal.{Refusal}
-use Rattle.np_modes.specs.declared.refusal.Refusal.TheVariants.{TooLong}
-use Rattle.np_modes.specs.declared.statuses.TheConstants.{BAD_SOURCE, BAD_USAGE, BUDGET_SPENT, DONE, NO_MEMORY}
 
--- the words ask for this, the file that they name holds these bytes, and no read of it failed
-pub record Reads (call : Call) (asked : Plan) (bytes : List ℕ) : Type 0 where
+-- the name holds these bytes, and no read of it failed
+pub record IsTold (call : Call) (name bytes : List ℕ) : Type 0 where
+  pub held : call.texts.held name ≡ Some bytes
+  pub whole : ¬ Rose (call.texts.before name) (call.texts.now name)
+
+-- ---- sources
+
+-- the source that is read first, and how far; whether a history is read behind it
+pub data ReadsSource : Plan → List ℕ → Stage → Type 0 where
+  alone : (file : List ℕ) (task : Task) → ReadsSource (plans.Source file task) file (stage_of task)
+  replayed : (source history : List ℕ) → ReadsSource (plans.Replay source history) source Stage.program
+
+-- the words ask for something of a source, and these are its bytes
+pub record Reads (call : Call) (asked : Plan) (stage : Stage) (bytes : List ℕ) : Type 0 where
   pub planned : plan call.words ≡ Some asked
-  pub held : call.texts.held asked.file ≡ Some bytes
-  pub whole : ¬ Rose (call.texts.before asked.file) (call.texts.now asked.file)
+  pub file : List ℕ
+  pub reads : ReadsSource asked file stage
+  pub told : IsTold call file bytes
 
--- where no call failed, what is asked of an accepted source is done, or memory was wanting
+-- the source is well typed, and then the history is read
+pub record Replays (asked : Plan) (bytes : List ℕ) : Type 0 where
+  pub source : List ℕ
+  pub history : List ℕ
+  pub is : asked ≡ plans.Replay source history
+  pub program : Program
+  pub accepted : IsWellTyped bytes program
+
+-- ---- histories
+
+-- the history that is read, and the low program from whose start it is replayed, if it is
+pub data ReadsHistory (call : Call) : Plan → List ℕ → Option LowProgram → Type 0 where
+  alone : (history : List ℕ) → ReadsHistory call (plans.Upgrade history) history None
+  replayed : (source history bytes : List ℕ) (program : Program) → IsTold call source bytes → length bytes ≤ LONGEST_SOURCE → IsWellTyped bytes program
+      → ReadsHistory call (plans.Replay source history) history (Some (encoded program))
+
+-- the words ask for something of a history, and these are its bytes
+pub record Follows (call : Call) (low : Option LowProgram) (bytes : List ℕ) : Type 0 where
+  pub asked : Plan
+  pub planned : plan call.words ≡ Some asked
+  pub history : List ℕ
+  pub reads : ReadsHistory call asked history low
+  pub told : IsTold call history bytes
+
+-- what is wrong with a history
+abbrev pub FaultyHistory : Option LowProgram → List ℕ → Refusal → Type 0
+FaultyHistory None bytes refusal = HasNoEvents bytes refusal
+FaultyHistory (Some low) bytes refusal = IsFaulty low bytes refusal
+
+-- ---- where what is asked for is done
+
+pub record AcceptsSource (call : Call) (file : List ℕ) (stage : Stage) : Type 0 where
+  pub bytes : List ℕ
+  pub told : IsTold call file bytes
+  pub short : length bytes ≤ LONGEST_SOURCE
+  pub accepted : Accepted stage bytes
+
+pub record AcceptsReplay (call : Call) (source history : List ℕ) : Type 0 where
+  pub bytes : List ℕ
+  pub told : IsTold call source bytes
+  pub short : length bytes ≤ LONGEST_SOURCE
+  pub program : Program
+  pub accepted : IsWellTyped bytes program
+  pub run : List ℕ
+  pub told_run : IsTold call history run
+  pub short_run : length run ≤ LONGEST_HISTORY
+  pub replays : HasRun (encoded program) run
+
+pub record AcceptsHistory (call : Call) (history : List ℕ) : Type 0 where
+  pub bytes : List ℕ
+  pub told : IsTold call history bytes
+  pub short : length bytes ≤ LONGEST_HISTORY
+  pub accepted : HasEvents bytes
+
+-- each text that is read is accepted, and no read of it failed
+abbrev pub Accepts : Call → Plan → Type 0
+Accepts call (plans.Source file task) = AcceptsSource call file (stage_of task)
+Accepts call (plans.Replay source history) = AcceptsReplay call source history
+Accepts call (plans.Upgrade history) = AcceptsHistory call history
+Accepts call (plans.Generate agents) = Unit {0}
+
+-- ---- the laws
+
+-- where no call failed, and each text is accepted, what is asked for is done, or memory was wanting
 abbrev pub Completes : Type 0
-Completes = (call : Call) (answer : Answer) (asked : Plan) (bytes : List ℕ) → HasCauses call answer → Reads call asked bytes
-    → length bytes ≤ LONGEST_SOURCE → Accepted asked.mode bytes → ¬ Rose call.out.before call.out.now → ¬ Rose call.err.before call.err.now
+Completes = (call : Call) (answer : Answer) (asked : Plan) → HasCauses call answer → plan call.words ≡ Some asked → Accepts call asked
+    → ¬ Rose call.out.before call.out.now → ¬ Rose call.err.before call.err.now
     → (answer.status ≡ DONE) ⊎ (answer.status ≡ BUDGET_SPENT) ⊎ (answer.status ≡ NO_MEMORY)
 
 -- the words are refused exactly where they ask for nothing that the program does
@@ -30,26 +115,50 @@ RefusesWords = (call : Call) (answer : Answer) → HasCauses call answer → ¬ 
 
 -- a source is refused as too long exactly where it is
 abbrev pub RefusesLong : Type 0
-RefusesLong = (call : Call) (answer : Answer) (asked : Plan) (bytes : List ℕ) → HasCauses call answer → Reads call asked bytes
+RefusesLong = (call : Call) (answer : Answer) (asked : Plan) (stage : Stage) (bytes : List ℕ) → HasCauses call answer → Reads call asked stage bytes
     → ¬ Rose call.err.before call.err.now → answer.status ≢ NO_MEMORY → IsRefused call answer TooLong ↔ (LONGEST_SOURCE < length bytes)
 
--- where the words ask for something, it is refused as too long exactly where more was read than a source may have
+-- where the words ask for something of a source alone, it is refused as too long exactly where more was read than a source may have
 abbrev pub CountsLong : Type 0
-CountsLong = (call : Call) (answer : Answer) (asked : Plan) → HasCauses call answer → plan call.words ≡ Some asked
+CountsLong = (call : Call) (answer : Answer) (file : List ℕ) (task : Task) → HasCauses call answer → plan call.words ≡ Some (plans.Source file task)
     → ¬ Rose call.err.before call.err.now → answer.status ≢ NO_MEMORY → IsRefused call answer TooLong ↔ (LONGEST_SOURCE < call.texts.taken)
 
--- a source that is not too long is refused exactly where the mode refuses it, and so
+-- a source that is not too long is refused exactly where the mode refuses it, and so; only a history behind it gets another refusal
 abbrev pub RefusesSources : Type 0
-RefusesSources = (call : Call) (answer : Answer) (asked : Plan) (bytes : List ℕ) (refusal : Refusal) → HasCauses call answer → Reads call asked bytes
-    → ¬ Rose call.err.before call.err.now → answer.status ≢ NO_MEMORY → length bytes ≤ LONGEST_SOURCE → IsRefused call answer refusal ↔ Faulty asked.mode bytes refusal
+RefusesSources = (call : Call) (answer : Answer) (asked : Plan) (stage : Stage) (bytes : List ℕ) (refusal : Refusal) → HasCauses call answer
+    → Reads call asked stage bytes → ¬ Rose call.err.before call.err.now → answer.status ≢ NO_MEMORY → length bytes ≤ LONGEST_SOURCE
+    → (Faulty stage bytes refusal → IsRefused call answer refusal) × (IsRefused call answer refusal → Faulty stage bytes refusal ⊎ Replays asked bytes)
 
--- the answer is this refusal, of status 3, and no other has its cause in the call
-pub record RefusesAlone (call : Call) (answer : Answer) (refusal : Refusal) : Type 0 where
-  pub status : answer.status ≡ BAD_SOURCE
+-- the answer is this refusal, of this status, and no other has its cause in the call
+pub record RefusesAlone (status : ℕ) (call : Call) (answer : Answer) (refusal : Refusal) : Type 0 where
+  pub is : answer.status ≡ status
   pub refused : IsRefused call answer refusal
   pub only : (other : Refusal) → Stands call.words call.texts other → other ≡ refusal
 
 -- a source that is not too long, and that the mode refuses, has this one refusal
 abbrev pub RefusesOnce : Type 0
-RefusesOnce = (call : Call) (answer : Answer) (asked : Plan) (bytes : List ℕ) (refusal : Refusal) → HasCauses call answer → Reads call asked bytes
-    → ¬ Rose call.err.before call.err.now → answer.status ≢ NO_MEMORY → length bytes ≤ LONGEST_SOURCE → Faulty asked.mode bytes refusal → RefusesAlone call answer refusal
+RefusesOnce = (call : Call) (answer : Answer) (asked : Plan) (stage : Stage) (bytes : List ℕ) (refusal : Refusal) → HasCauses call answer
+    → Reads call asked stage bytes → ¬ Rose call.err.before call.err.now → answer.status ≢ NO_MEMORY → length bytes ≤ LONGEST_SOURCE
+    → Faulty stage bytes refusal → RefusesAlone BAD_SOURCE call answer refusal
+
+-- a history is refused as too long exactly where it is
+abbrev pub RefusesLongHistories : Type 0
+RefusesLongHistories = (call : Call) (answer : Answer) (low : Option LowProgram) (bytes : List ℕ) → HasCauses call answer → Follows call low bytes
+    → ¬ Rose call.err.before call.err.now → answer.status ≢ NO_MEMORY → IsRefused call answer HistoryTooLong ↔ (LONGEST_HISTORY < length bytes)
+
+-- where the words ask for something of a history alone, it is refused as too long exactly where more was read than a history may have
+abbrev pub CountsLongHistories : Type 0
+CountsLongHistories = (call : Call) (answer : Answer) (history : List ℕ) → HasCauses call answer → plan call.words ≡ Some (plans.Upgrade history)
+    → ¬ Rose call.err.before call.err.now → answer.status ≢ NO_MEMORY → IsRefused call answer HistoryTooLong ↔ (LONGEST_HISTORY < call.texts.taken)
+
+-- a history that is not too long is refused exactly where it is none, or of no run, and so
+abbrev pub RefusesHistories : Type 0
+RefusesHistories = (call : Call) (answer : Answer) (low : Option LowProgram) (bytes : List ℕ) (refusal : Refusal) → HasCauses call answer
+    → Follows call low bytes → ¬ Rose call.err.before call.err.now → answer.status ≢ NO_MEMORY → length bytes ≤ LONGEST_HISTORY
+    → IsRefused call answer refusal ↔ FaultyHistory low bytes refusal
+
+-- such a history has this one refusal
+abbrev pub RefusesHistoriesOnce : Type 0
+RefusesHistoriesOnce = (call : Call) (answer : Answer) (low : Option LowProgram) (bytes : List ℕ) (refusal : Refusal) → HasCauses call answer
+    → Follows call low bytes → ¬ Rose call.err.before call.err.now → answer.status ≢ NO_MEMORY → length bytes ≤ LONGEST_HISTORY
+    → FaultyHistory low bytes refusal → RefusesAlone BAD_HISTORY call answer refusal

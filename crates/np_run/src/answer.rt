@@ -1,8 +1,8 @@
 ghost use Rattle.std.specs.Prelude.{◌≡◌};
 ghost use Rattle.np_run.specs.Answers.{told_of};
 
-use np_modes::Record;
 use np_serial::SerialRun;
+use np_sources::Record;
 
 /// The exit status, and the run if there was one: `kept` in the mode `run`, `high` in the mode
 /// `high`.

@@ -1,7 +1,6 @@
-ghost use Rattle.np_run.specs.Laws.{Completes, CountsLong, RefusesLong, RefusesOnce, RefusesSources, RefusesWords};
+ghost use Rattle.np_run.specs.Laws.{Completes, CountsLong, CountsLongHistories, RefusesHistories, RefusesHistoriesOnce, RefusesLong, RefusesLongHistories, RefusesOnce, RefusesSources, RefusesWords};
 
-/// Where no read or write failed, a source of at most 1,048,576 bytes that its mode accepts gives
-/// status 0 or 1, or 6 if memory ran out.
+/// Where no read or write failed, and each text that is read is accepted, the status is 0 or 1, or 6 if memory ran out.
 pub fn law_completes()
     ensures { Completes }
 {}
@@ -16,13 +15,13 @@ pub fn law_refuses_long()
     ensures { RefusesLong }
 {}
 
-/// A source is refused as too long exactly where more was read of it than a source may have.
+/// A source that is read alone is refused as too long exactly where more was read of it than a source may have.
 pub fn law_counts_long()
     ensures { CountsLong }
 {}
 
 /// A source that is not too long gets a refusal exactly where its mode refuses it with that
-/// refusal.
+/// refusal. Once it is accepted, its history may get another.
 pub fn law_refuses_sources()
     ensures { RefusesSources }
 {}
@@ -30,4 +29,24 @@ pub fn law_refuses_sources()
 /// A source that is not too long, and that the mode refuses, has one refusal, with status 3.
 pub fn law_refuses_once()
     ensures { RefusesOnce }
+{}
+
+/// A history that is read is refused as TooLong exactly where it has more than 67,108,864 bytes.
+pub fn law_refuses_long_histories()
+    ensures { RefusesLongHistories }
+{}
+
+/// A history that is read alone is refused as too long exactly where more was read of it than a history may have.
+pub fn law_counts_long_histories()
+    ensures { CountsLongHistories }
+{}
+
+/// A history that is read and is not too long gets a refusal exactly where it is no history, or of no run.
+pub fn law_refuses_histories()
+    ensures { RefusesHistories }
+{}
+
+/// Such a history has one refusal, with status 7.
+pub fn law_refuses_histories_once()
+    ensures { RefusesHistoriesOnce }
 {}

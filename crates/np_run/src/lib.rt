@@ -7,11 +7,14 @@ mod top;
 
 pub use answer::{Answer, Told};
 pub use laws::{
-    law_completes, law_counts_long, law_refuses_long, law_refuses_once, law_refuses_sources,
-    law_refuses_words,
+    law_completes, law_counts_long, law_counts_long_histories, law_refuses_histories,
+    law_refuses_histories_once, law_refuses_long, law_refuses_long_histories, law_refuses_once,
+    law_refuses_sources, law_refuses_words,
 };
-pub use np_modes::{
-    BAD_SOURCE, BAD_USAGE, BUDGET_SPENT, DONE, Mode, NO_MEMORY, READ_FAILED, Record, Refusal,
-    WRITE_FAILED, line, report, run_low, status,
+pub use np_histories::LONGEST_HISTORY;
+pub use np_sources::{Record, run_low};
+pub use np_verdict::{
+    BAD_HISTORY, BAD_SOURCE, BAD_USAGE, BUDGET_SPENT, DONE, NO_MEMORY, READ_FAILED, Refusal,
+    WRITE_FAILED, line, status,
 };
 pub use top::np;

@@ -3,11 +3,11 @@ ghost use Rattle.np_run.specs.Answers.{HasCauses, end_status, status_at};
 
 use super::answer::Answer;
 use np_io::{Sink, Texts, Word, write_all};
-use np_modes::{
-    BUDGET_SPENT, DONE, Job, NO_MEMORY, Record, Refusal, WRITE_FAILED, line, status, work,
-};
+use np_modes::work;
 use np_serial::SerialRun;
+use np_sources::{Job, Record};
 use np_syntax::End;
+use np_verdict::{BUDGET_SPENT, DONE, NO_MEMORY, Refusal, WRITE_FAILED, line, status};
 use std::alloc::Global;
 use std::sync::Wait;
 use std::thread::Threads;

@@ -1,0 +1,11 @@
+//! What is made of the text of a history: the replay of a low program, or the text in the newest format; or the first
+//! refusal.
+#![tactic(auto)]
+
+mod events;
+mod limits;
+mod replaying;
+
+pub use events::upgraded;
+pub use limits::LONGEST_HISTORY;
+pub use replaying::replayed;

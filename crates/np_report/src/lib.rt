@@ -1,0 +1,6 @@
+//! The texts of runs and of replays: what was printed, and how it ended.
+#![tactic(auto)]
+
+mod reporting;
+
+pub use reporting::{replay_report, report};

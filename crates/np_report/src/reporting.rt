@@ -1,0 +1,84 @@
+ghost use Rattle.std.specs.Prelude.{◌≡◌, ◌++◌, IfOk, OnOk, codes, decimal};
+ghost use Rattle.np_report.specs.Report.{said_line, said_text, last_line, report_text, replay_text};
+
+use itoa::Buffer;
+use np_syntax::{End, List, Memory, Text, Value, print_value};
+use std::alloc::Global;
+
+/// The report of a run: a line for each printed value, with the name of its site; the text `between`; and the line that
+/// says how the run ended.
+#[tactic(auto, unfolding(crate::specs::Report::report_text))]
+pub fn report(
+    alloc: Global,
+    sites: &List<Text>,
+    said: &[(u32, Value)],
+    between: &[u8],
+    end: End,
+) -> Result<Text, Memory>
+    ensures { IfOk result (λ text. text ≡ report_text sites.now said.now between.now end) }
+{
+    let mut text = List::new(alloc);
+    append_all(alloc, &mut text, sites, said)?;
+    text.append(between)?;
+    text.append(end_line(end))?;
+    Ok(text)
+}
+
+/// The report of a replay: a line for each printed value, and how many events the run has.
+#[tactic(auto, unfolding(crate::specs::Report::replay_text))]
+pub fn replay_report(
+    alloc: Global,
+    sites: &List<Text>,
+    said: &[(u32, Value)],
+    events: usize,
+) -> Result<Text, Memory>
+    ensures { IfOk result (λ text. text ≡ replay_text sites.now said.now events) }
+{
+    let mut text = List::new(alloc);
+    append_all(alloc, &mut text, sites, said)?;
+    text.append(b"a run of ")?;
+    text.append(Buffer::new().format(events).as_bytes())?;
+    text.append(b" events\n")?;
+    Ok(text)
+}
+
+fn append_all(
+    alloc: Global,
+    text: &mut Text,
+    sites: &List<Text>,
+    said: &[(u32, Value)],
+) -> Result<(), Memory>
+    ensures { OnOk result (text.new ≡ text.old ++ said_text sites.now said.now) }
+{
+    for (site, value) in said {
+        append_said(alloc, text, sites, *site, value)?;
+    }
+    Ok(())
+}
+
+fn append_said(
+    alloc: Global,
+    text: &mut Text,
+    sites: &List<Text>,
+    site: u32,
+    value: &Value,
+) -> Result<(), Memory>
+    ensures { OnOk result (text.new ≡ text.old ++ said_line sites.now (site, value.now)) }
+{
+    if let Some(name) = sites.as_slice().get(site as usize) {
+        text.append(name.as_slice())?;
+    }
+    text.append(b": ")?;
+    let printed = print_value(alloc, value, sites)?;
+    text.append(printed.as_slice())?;
+    text.append(b"\n")
+}
+
+fn end_line(end: End) -> &'static [u8]
+    ensures { result.now ≡ last_line end }
+{
+    match end {
+        End::Rest => b"at rest\n",
+        End::Spent => b"budget spent\n",
+    }
+}

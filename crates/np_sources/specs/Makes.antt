@@ -1,0 +1,115 @@
+-- What a mode makes of the bytes of a source (docs/LANGUAGE.md, "Reports and refusals").
+use Rattle.std.specs.Prelude.{◌≡◌, ℕ, Bool, true, false, List, [], codes, Option, Some, None}
+use Rattle.np_syntax.specs.declared.event.Event.{Event}
+use Rattle.np_syntax.specs.declared.program.LowProgram.{LowProgram}
+use Rattle.np_syntax.specs.declared.program.Program.{Program}
+use Rattle.np_tree.specs.declared.tree.Tree.{Tree}
+use Rattle.np_show.specs.Shown.{shown}
+use Rattle.np_low_text.specs.LowText.{low_text}
+use Rattle.np_calculus.specs.Config.{Config}
+use Rattle.np_calculus.specs.Starts.{start_high, start_low}
+use Rattle.daemon_encode.specs.Encoded.{encoded}
+use Rattle.np_serial.specs.declared.serial.SerialRun.{SerialRun}
+use Rattle.np_serial.specs.Serial.{IsSerialRun}
+use Rattle.history_text.specs.Spelling.{high_text}
+use Rattle.np_report.specs.Report.{report_text}
+use Rattle.np_verdict.specs.Faults.{Stage, HasTree, IsWellTyped}
+use Rattle.np_words.specs.declared.planning.Task.{Task}
+use Rattle.np_words.specs.declared.planning.Task.TheVariants as task
+use Rattle.np_sources.specs.declared.record.Record.{Record}
+
+-- the source is accepted, and this is the low program of its program
+pub record IsLowOf (bytes : List ℕ) (low : LowProgram) : Type 0 where
+  pub program : Program
+  pub accepted : IsWellTyped bytes program
+  pub is : low ≡ encoded program
+
+-- ---- runs
+
+-- the high text, where it is asked for
+abbrev pub high_part : Bool → List Event → List ℕ
+high_part true events = high_text events
+high_part false events = []
+
+-- a run from the start within the budget, and the text of its report
+pub record IsRunOf (sites : List (List ℕ)) (start : Config) (budget : ℕ) (history : Bool) (made : SerialRun) (text : List ℕ) : Type 0 where
+  pub run : IsSerialRun start budget made.events made.last made.end
+  pub report : text ≡ report_text sites made.last.said (high_part history made.events) made.end
+
+-- the source is accepted, and its program was run
+pub record Runs (budget : ℕ) (history : Bool) (bytes : List ℕ) (made : SerialRun) (text : List ℕ) : Type 0 where
+  pub program : Program
+  pub accepted : IsWellTyped bytes program
+  pub run : IsRunOf program.sites (start_high program) budget history made text
+
+-- the source is accepted, and its low program was run
+pub record RunsLow (budget : ℕ) (bytes : List ℕ) (made : SerialRun) (text : List ℕ) : Type 0 where
+  pub program : Program
+  pub accepted : IsWellTyped bytes program
+  pub run : IsRunOf program.sites (start_low (encoded program)) budget false made text
+
+-- the record of a run
+abbrev pub record_of : SerialRun → Record
+record_of made = record { events = made.events; end = made.end }
+
+-- the low program was run, and this is the record of the run
+pub record KeepsLow (budget : ℕ) (bytes : List ℕ) (kept : Record) (text : List ℕ) : Type 0 where
+  pub made : SerialRun
+  pub runs : RunsLow budget bytes made text
+  pub is_kept : kept ≡ record_of made
+
+-- ---- modes
+
+-- the record of the run is kept, and nothing else
+pub record KeepsRun (budget : ℕ) (bytes : List ℕ) (kept : Option Record) (high : Option SerialRun) (text : List ℕ) : Type 0 where
+  pub made : SerialRun
+  pub runs : Runs budget false bytes made text
+  pub is_kept : kept ≡ Some (record_of made)
+  pub is_high : high ≡ None
+
+-- the run is kept whole, and nothing else
+pub record KeepsHigh (budget : ℕ) (history : Bool) (bytes : List ℕ) (kept : Option Record) (high : Option SerialRun) (text : List ℕ) : Type 0 where
+  pub made : SerialRun
+  pub runs : Runs budget history bytes made text
+  pub is_kept : kept ≡ None
+  pub is_high : high ≡ Some made
+
+-- the source has a tree, and this is its canonical text
+pub record Shows (bytes : List ℕ) (kept : Option Record) (high : Option SerialRun) (text : List ℕ) : Type 0 where
+  pub tree : Tree
+  pub accepted : HasTree bytes tree
+  pub shows : text ≡ shown tree
+  pub is_kept : kept ≡ None
+  pub is_high : high ≡ None
+
+-- the source is well typed, and the text says so
+pub record Checks (bytes : List ℕ) (kept : Option Record) (high : Option SerialRun) (text : List ℕ) : Type 0 where
+  pub program : Program
+  pub accepted : IsWellTyped bytes program
+  pub says : text ≡ codes "well typed\n"
+  pub is_kept : kept ≡ None
+  pub is_high : high ≡ None
+
+-- the source is well typed, and this is the low text of its low program
+pub record Lowers (bytes : List ℕ) (kept : Option Record) (high : Option SerialRun) (text : List ℕ) : Type 0 where
+  pub program : Program
+  pub accepted : IsWellTyped bytes program
+  pub lowers : text ≡ low_text (encoded program)
+  pub is_kept : kept ≡ None
+  pub is_high : high ≡ None
+
+-- how far the source is read: `show` asks for no types
+abbrev pub stage_of : Task → Stage
+stage_of (task.Run budget history high serial links) = Stage.program
+stage_of (task.High budget history) = Stage.program
+stage_of task.Show = Stage.tree
+stage_of task.Check = Stage.program
+stage_of task.Low = Stage.program
+
+-- what is made of a source: a run, which is kept, the canonical text, that it is well typed, or the low text
+abbrev pub DoesTask : Task → List ℕ → Option Record → Option SerialRun → List ℕ → Type 0
+DoesTask (task.Run budget history high serial links) bytes kept made text = KeepsRun budget bytes kept made text
+DoesTask (task.High budget history) bytes kept made text = KeepsHigh budget history bytes kept made text
+DoesTask task.Show bytes kept made text = Shows bytes kept made text
+DoesTask task.Check bytes kept made text = Checks bytes kept made text
+DoesTask task.Low bytes kept made text = Lowers bytes kept made text
