@@ -13,10 +13,10 @@ use Rattle.np_verdict.specs.declared.refusal.Refusal.{Refusal}
 use Rattle.np_verdict.specs.declared.refusal.Refusal.TheVariants.{HistSyntax, NotARun}
 use Rattle.np_histories.specs.Histories.{IsRead, HasEvents, HasRun, HasNoEvents, Stops, HasNoRun, IsFaulty}
 
-some_history : (bytes : List ℕ) (events : List Event) → IsRead bytes events → IsSomeHistory bytes
+abbrev some_history : (bytes : List ℕ) (events : List Event) → IsRead bytes events → IsSomeHistory bytes
 some_history bytes events r = record { format = r.format; events = events; is = r.history }
 
-some_refusal : (bytes : List ℕ) (refusal : Refusal) → HasNoEvents bytes refusal → IsSomewhereRefused bytes
+abbrev some_refusal : (bytes : List ℕ) (refusal : Refusal) → HasNoEvents bytes refusal → IsSomewhereRefused bytes
 some_refusal bytes refusal h = record { line = h.line; is = h.refused }
 
 events_once : (bytes : List ℕ) (a b : List Event) → IsRead bytes a → IsRead bytes b → a ≡ b

@@ -4,14 +4,14 @@ use Rattle.std.specs.Io.KnownBytes.{Appends, Keeps}
 use Rattle.np_syntax.specs.declared.event.End.{End}
 use Rattle.np_syntax.specs.declared.event.End.TheVariants.{Rest, Spent}
 use Rattle.np_serial.specs.declared.serial.SerialRun.{SerialRun}
-use Rattle.np_modes.specs.Words.{plan, texts_read}
-use Rattle.np_modes.specs.Lines.{line_of, status_of}
-use Rattle.np_modes.specs.Causes.{Stands}
+use Rattle.np_words.specs.Plans.{plan}
+use Rattle.np_verdict.specs.Lines.{line_of, status_of}
+use Rattle.np_modes.specs.Causes.{Stands, texts_read}
 use Rattle.np_run.specs.Answers.{Call, HasCauses, IsDone, IsRefused, IsStatus, IsWanting, end_status, status_at}
 use Rattle.np_run.specs.declared.answer.Answer.{Answer}
-use Rattle.np_modes.specs.declared.record.Record.{Record}
-use Rattle.np_modes.specs.declared.refusal.Refusal.{Refusal}
-use Rattle.np_modes.specs.declared.refusal.Refusal.TheVariants.{Memory, Usage, ReadFault, TooLong, BadChar, BadString, BigNumber, Syntax, TooDeep, Unbound, SiteTwice, TooManySites, NotASite, TypeFault}
+use Rattle.np_sources.specs.declared.record.Record.{Record}
+use Rattle.np_verdict.specs.declared.refusal.Refusal.{Refusal}
+use Rattle.np_verdict.specs.declared.refusal.Refusal.TheVariants.{Memory, Usage, ReadFault, TooLong, BadChar, BadString, BigNumber, Syntax, TooDeep, Unbound, SiteTwice, TooManySites, NotASite, TypeFault, HistoryTooLong, HistSyntax, NotARun}
 
 abbrev refusing : ℕ → Answer
 refusing status = record { status = status; kept = None; high = None }
@@ -35,7 +35,8 @@ wanting call status is w b = record {
   read = λ e. absurd (omega (arith, is, e));
   write = λ e. absurd (omega (arith, is, e));
   memory = λ e. w;
-  status = inr (inr (inr (inr (inr (inr is)))));
+  history = λ e. absurd (omega (arith, is, e));
+  status = inr (inr (inr (inr (inr (inr (inl is))))));
   begins = b;
 }
 
@@ -48,6 +49,7 @@ usage call status is r b = record {
   read = λ e. absurd (omega (arith, is, e));
   write = λ e. absurd (omega (arith, is, e));
   memory = λ e. absurd (omega (arith, is, e));
+  history = λ e. absurd (omega (arith, is, e));
   status = inr (inr (inl is));
   begins = b;
 }
@@ -61,6 +63,7 @@ fault call status is r b = record {
   read = λ e. r;
   write = λ e. absurd (omega (arith, is, e));
   memory = λ e. absurd (omega (arith, is, e));
+  history = λ e. absurd (omega (arith, is, e));
   status = inr (inr (inr (inr (inl is))));
   begins = b;
 }
@@ -74,7 +77,22 @@ source call status refusal is of r b = record {
   read = λ e. absurd (omega (arith, is, e));
   write = λ e. absurd (omega (arith, is, e));
   memory = λ e. absurd (omega (arith, is, e));
+  history = λ e. absurd (omega (arith, is, e));
   status = inr (inr (inr (inl is)));
+  begins = b;
+}
+
+history : (call : Call) (status : ℕ) (refusal : Refusal) → status ≡ 7 → status_of refusal ≡ 7 → IsRefused call (refusing status) refusal → Begins call → HasCauses call (refusing status)
+history call status refusal is of r b = record {
+  done = λ e. absurd (omega (arith, is, e));
+  spent = λ e. absurd (omega (arith, is, e));
+  usage = λ e. absurd (omega (arith, is, e));
+  source = λ e. absurd (omega (arith, is, e));
+  read = λ e. absurd (omega (arith, is, e));
+  write = λ e. absurd (omega (arith, is, e));
+  memory = λ e. absurd (omega (arith, is, e));
+  history = λ e. record { refusal = refusal; status = is ∙ sym of; refused = r };
+  status = inr (inr (inr (inr (inr (inr (inr is))))));
   begins = b;
 }
 
@@ -91,6 +109,9 @@ refused call status refusal some t = record { stands = t.stands some; kept = ref
 of_source : (call : Call) (status : ℕ) (refusal : Refusal) → refusal ≢ Memory → status ≡ 3 → status_of refusal ≡ 3 → Told call refusal → HasCauses call (refusing status)
 of_source call status refusal some is of t = source call status refusal is of (refused call status refusal some t) t.begins
 
+of_history : (call : Call) (status : ℕ) (refusal : Refusal) → refusal ≢ Memory → status ≡ 7 → status_of refusal ≡ 7 → Told call refusal → HasCauses call (refusing status)
+of_history call status refusal some is of t = history call status refusal is of (refused call status refusal some t) t.begins
+
 pub answered : (call : Call) (status : ℕ) (refusal : Refusal) → status ≡ status_of refusal → Told call refusal → HasCauses call (refusing status)
 answered call status Memory is t = wanting call status is (record { kept = refl; high = refl; out = t.out; err = nothing_written call.err.old call.err.new t.err }) t.begins
 answered call status Usage is t = usage call status is (refused call status Usage (λ e. cc) t) t.begins
@@ -106,6 +127,9 @@ answered call status (SiteTwice at) is t = of_source call status (SiteTwice at) 
 answered call status (TooManySites at) is t = of_source call status (TooManySites at) (λ e. cc) is refl t
 answered call status (NotASite at) is t = of_source call status (NotASite at) (λ e. cc) is refl t
 answered call status (TypeFault fault) is t = of_source call status (TypeFault fault) (λ e. cc) is refl t
+answered call status HistoryTooLong is t = of_history call status HistoryTooLong (λ e. cc) is refl t
+answered call status (HistSyntax line) is t = of_history call status (HistSyntax line) (λ e. cc) is refl t
+answered call status (NotARun index) is t = of_history call status (NotARun index) (λ e. cc) is refl t
 
 -- ---- what was made was written
 
@@ -128,6 +152,7 @@ by_status call answer small is d b = record {
   read = λ e. absurd (omega (arith, small, e));
   write = λ e. absurd (omega (arith, small, e));
   memory = λ e. absurd (omega (arith, small, e));
+  history = λ e. absurd (omega (arith, small, e));
   status = is;
   begins = b;
 }

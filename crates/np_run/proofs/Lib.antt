@@ -1,2 +1,4 @@
 mod Answered
 pub mod Outcomes
+pub mod Sources
+pub mod Histories

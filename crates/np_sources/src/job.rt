@@ -14,7 +14,9 @@ pub struct Job {
 
 /// The job of a mode that keeps no run.
 pub fn text_alone(text: Text) -> Job
-    ensures { result ≡ record { kept = None; high = None; text = text } }
+    ensures kept { result.kept ≡ None }
+    ensures high { result.high ≡ None }
+    ensures text { result.text ≡ text }
 {
     Job {
         kept: None,

@@ -1,22 +1,47 @@
-use Rattle.std.proofs.Common.{ℕ, ◌≤◌, List, length, inl, inr, arith}
+use Rattle.std.proofs.Common.{ℕ, ◌≤◌, ◌<◌, List, length, Option, None, Some, inl, inr, refl, subst, sym, arith}
 use Rattle.np_syntax.specs.declared.limits.TheConstants.{LONGEST_SOURCE}
-use Rattle.np_modes.specs.Causes.{Stands}
-use Rattle.np_modes.specs.Faults.{Accepted}
-use Rattle.np_modes.specs.declared.refusal.Refusal.{Refusal}
-use Rattle.np_modes.specs.declared.refusal.Refusal.TheVariants.{Usage, ReadFault}
-use Rattle.np_modes.specs.declared.words.Mode.{Mode}
-use Rattle.np_run.proofs.Outcomes.{Says, stands_says}
-use Rattle.np_modes.proofs.Verdicts.{not_both}
+use Rattle.np_syntax.specs.declared.program.LowProgram.{LowProgram}
+use Rattle.daemon_encode.specs.Encoded.{encoded}
+use Rattle.np_words.specs.declared.planning.Plan.{Plan}
+use Rattle.np_words.specs.declared.planning.Plan.TheVariants as plans
+use Rattle.np_sources.specs.Makes.{stage_of}
+use Rattle.np_verdict.specs.Faults.{Stage, Accepted}
+use Rattle.np_verdict.specs.declared.refusal.Refusal.{Refusal}
+use Rattle.np_verdict.specs.declared.refusal.Refusal.TheVariants.{Usage, ReadFault}
+use Rattle.np_verdict.proofs.Verdicts.{not_both}
+use Rattle.np_histories.specs.declared.limits.TheConstants.{LONGEST_HISTORY}
+use Rattle.np_modes.specs.Causes.{RefusesPlan, Stands}
+use Rattle.np_run.specs.Answers.{Call}
+use Rattle.np_run.specs.Laws.{Accepts}
+use Rattle.np_run.proofs.Outcomes.{refused_plan}
+use Rattle.np_run.proofs.Sources.{Says, source_says}
+use Rattle.np_run.proofs.Histories as history
 use Rattle.np_run.proofs.laws.law_completes.Goals as goal
 
 -- no refusal says anything of an accepted source
-accepted : (m : Mode) (bytes : List ℕ) (refusal : Refusal) → length bytes ≤ LONGEST_SOURCE → Accepted m bytes → Says m bytes refusal → ⊥
-accepted m bytes refusal short a (inl s) = let long = s.1 in omega arith
-accepted m bytes refusal short a (inr s) = not_both m bytes refusal a s.1
+of_source : (stage : Stage) (bytes : List ℕ) (refusal : Refusal) → length bytes ≤ LONGEST_SOURCE → Accepted stage bytes → Says stage bytes refusal → ⊥
+of_source stage bytes refusal short a (inl s) = let long = s.1 in omega arith
+of_source stage bytes refusal short a (inr s) = not_both stage bytes refusal a s.1
+
+-- and none of an accepted history
+of_history : (low : Option LowProgram) (bytes : List ℕ) (refusal : Refusal) → length bytes ≤ LONGEST_HISTORY → history.AcceptedHistory low bytes → history.SaysHistory low bytes refusal → ⊥
+of_history low bytes refusal short a (inl s) = let long = s.1 in omega arith
+of_history low bytes refusal short a (inr s) = history.not_both low bytes refusal a s.1
+
+of_plan : (call : Call) (asked : Plan) (refusal : Refusal) → Accepts call asked → RefusesPlan call.texts asked refusal → ⊥
+of_plan call (plans.Source file task) refusal a r = of_source (stage_of task) a.bytes refusal a.short a.accepted (source_says call file (stage_of task) a.bytes refusal a.told r)
+of_plan call (plans.Replay source h) refusal a (inl r) =
+    of_source Stage.program a.bytes refusal a.short (a.program, a.accepted) (source_says call source Stage.program a.bytes refusal a.told r)
+of_plan call (plans.Replay source h) refusal a (inr r) =
+    of_history (Some (encoded a.program)) a.run refusal a.short_run a.replays
+    (subst (λ (low : LowProgram). history.SaysHistory (Some low) a.run refusal) (history.same_low call source a.bytes a.program r.low a.told a.accepted r.lowered)
+    (history.run_says call h r.low a.run refusal a.told_run r.run))
+of_plan call (plans.Upgrade h) refusal a r = of_history None a.bytes refusal a.short a.accepted (history.history_says call h a.bytes refusal a.told r)
+of_plan call (plans.Generate agents) refusal a r = r
 
 pub returns : goal.returns
-returns c = λ call answer asked bytes h r short a no_out no_err.
-    let none = λ (refusal : Refusal) (s : Stands call.words call.texts refusal). accepted asked.mode bytes refusal short a (stands_says call asked bytes refusal r s) in
+returns c = λ call answer asked h planned a no_out no_err.
+    let none = λ (refusal : Refusal) (s : Stands call.words call.texts refusal). of_plan call asked refusal a (refused_plan call asked refusal planned s) in
     elim (h.status) [
       | inl e ↦ inl e
       | inr rest ↦ elim rest [
@@ -29,7 +54,10 @@ returns c = λ call answer asked bytes h r short a no_out no_err.
               | inl e ↦ absurd (none ReadFault (h.read e).stands)
               | inr rest ↦ elim rest [
                 | inl e ↦ elim (h.write e) [ inl s ↦ absurd (no_out s.rose) | inr s ↦ absurd (none s.refusal s.stands) ]
-                | inr e ↦ inr (inr e)
+                | inr rest ↦ elim rest [
+                  | inl e ↦ inr (inr e)
+                  | inr e ↦ let s = h.history e in absurd (none s.refusal s.refused.stands)
+                ]
               ]
             ]
           ]

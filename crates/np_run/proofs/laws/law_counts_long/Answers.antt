@@ -1,32 +1,45 @@
-use Rattle.std.proofs.Common.{◌≡◌, ◌<◌, Some, arith}
+use Rattle.std.proofs.Common.{◌≡◌, ℕ, ◌<◌, ◌⊎◌, List, Some, inl, inr, subst, arith}
 use Rattle.np_syntax.specs.declared.limits.TheConstants.{LONGEST_SOURCE}
-use Rattle.np_modes.specs.Words.{Plan, plan}
-use Rattle.np_modes.specs.Causes.{Stands}
+use Rattle.np_words.specs.Plans.{plan}
+use Rattle.np_words.specs.declared.planning.Plan.{Plan}
+use Rattle.np_words.specs.declared.planning.Plan.TheVariants as plans
+use Rattle.np_words.specs.declared.planning.Task.{Task}
+use Rattle.np_sources.specs.Makes.{stage_of}
+use Rattle.np_verdict.specs.Faults.{Stage}
+use Rattle.np_verdict.specs.declared.refusal.Refusal.{Refusal}
+use Rattle.np_verdict.specs.declared.refusal.Refusal.TheVariants.{TooLong}
+use Rattle.np_verdict.proofs.Verdicts.{not_long}
+use Rattle.np_modes.specs.Readings.{Reading, IsUnread}
+use Rattle.np_modes.specs.Causes.{Does, IsFaultySource}
 use Rattle.np_run.specs.Answers.{Call, IsRefused}
 use Rattle.np_run.specs.declared.answer.Answer.{Answer}
-use Rattle.np_modes.specs.declared.refusal.Refusal.{Refusal}
-use Rattle.np_modes.specs.declared.refusal.Refusal.TheVariants.{TooLong}
-use Rattle.np_run.proofs.Outcomes.{Outcome, outcome}
-use Rattle.np_modes.proofs.Verdicts.{not_long}
+use Rattle.np_run.proofs.Outcomes.{Outcome, outcome, one, refused_plan}
 use Rattle.np_run.proofs.laws.law_counts_long.Goals as goal
 
 -- what is refused as too long has more than a source may have
-counted : (call : Call) → Stands call.words call.texts TooLong → LONGEST_SOURCE < call.texts.taken
-counted call (Stands.long planned taken more) = taken
-counted call (Stands.source s) = absurd (not_long s.asked.mode s.bytes s.faulty)
+counted : (texts : Reading) (file : List ℕ) (stage : Stage) → IsUnread texts file LONGEST_SOURCE TooLong TooLong ⊎ IsFaultySource texts file stage TooLong → LONGEST_SOURCE < texts.taken
+counted texts file stage (inl (inl f)) = let is = f.0 in cc
+counted texts file stage (inl (inr l)) = l.1.taken
+counted texts file stage (inr s) = absurd (not_long stage s.bytes s.faulty)
 
 -- of so much no other refusal has its cause
-long : (call : Call) (answer : Answer) (asked : Plan) (refusal : Refusal) → plan call.words ≡ Some asked → LONGEST_SOURCE < call.texts.taken
-    → Stands call.words call.texts refusal → IsRefused call answer refusal → IsRefused call answer TooLong
-long call answer asked refusal p l (Stands.words none) is = cc
-long call answer asked refusal p l (Stands.fault planned rose few) is = absurd (omega (arith, l, few))
-long call answer asked refusal p l (Stands.long planned taken more) is = is
-long call answer asked refusal p l (Stands.source s) is = let short = s.read.short in let all = s.read.taken in absurd (omega (arith, l, short, all))
+long : (texts : Reading) (file : List ℕ) (stage : Stage) (refusal : Refusal) → LONGEST_SOURCE < texts.taken
+    → IsUnread texts file LONGEST_SOURCE TooLong refusal ⊎ IsFaultySource texts file stage refusal → refusal ≡ TooLong
+long texts file stage refusal l (inl (inl f)) = let few = f.1.few in absurd (omega (arith, l, few))
+long texts file stage refusal l (inl (inr u)) = u.0
+long texts file stage refusal l (inr s) = let short = s.read.text.short in let all = s.read.taken in absurd (omega (arith, l, short, all))
 
-by_outcome : (call : Call) (answer : Answer) (asked : Plan) → plan call.words ≡ Some asked → LONGEST_SOURCE < call.texts.taken → Outcome call answer
-    → IsRefused call answer TooLong
-by_outcome call answer asked p l (Outcome.made text h) = let short = h.read.short in let all = h.read.taken in absurd (omega (arith, l, short, all))
-by_outcome call answer asked p l (Outcome.refused refusal e s) = long call answer asked refusal p l s.stands s
+by_outcome : (call : Call) (answer : Answer) (file : List ℕ) (task : Task) → plan call.words ≡ Some (plans.Source file task) → LONGEST_SOURCE < call.texts.taken
+    → Outcome call answer → IsRefused call answer TooLong
+by_outcome call answer file task p l (Outcome.made text h) =
+    let does = subst (λ (q : Plan). Does call.texts q answer.kept answer.high text) (one h.asked (plans.Source file task) _ h.planned p) h.does in
+    let short = does.read.text.short in let all = does.read.taken in absurd (omega (arith, l, short, all))
+by_outcome call answer file task p l (Outcome.refused refusal e s) =
+    let r = refused_plan call (plans.Source file task) refusal p s.stands in
+    subst (λ (x : Refusal). IsRefused call answer x) (long call.texts file (stage_of task) refusal l r.cause) s
 
 pub returns : goal.returns
-returns c = λ call answer asked h p err some. (λ is. counted call is.stands, λ l. by_outcome call answer asked p l (outcome call answer h err some))
+returns c = λ call answer file task h p err some. (
+  λ is. let r = refused_plan call (plans.Source file task) TooLong p is.stands in counted call.texts file (stage_of task) r.cause,
+  λ l. by_outcome call answer file task p l (outcome call answer h err some),
+)

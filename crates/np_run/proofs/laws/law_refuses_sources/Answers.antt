@@ -1,25 +1,37 @@
-use Rattle.std.proofs.Common.{ℕ, ◌≤◌, List, length, subst}
+use Rattle.std.proofs.Common.{ℕ, ◌≤◌, ◌⊎◌, List, length, inl, inr, subst}
 use Rattle.np_syntax.specs.declared.limits.TheConstants.{LONGEST_SOURCE}
+use Rattle.np_words.specs.declared.planning.Plan.{Plan}
+use Rattle.np_verdict.specs.Faults.{Stage, Faulty}
+use Rattle.np_verdict.specs.declared.refusal.Refusal.{Refusal}
+use Rattle.np_verdict.proofs.Verdicts.{not_both, same_fault}
 use Rattle.np_run.specs.Answers.{Call, IsRefused}
-use Rattle.np_modes.specs.Faults.{Faulty}
-use Rattle.np_run.specs.Laws.{Reads}
-use Rattle.np_modes.specs.Words.{Plan}
+use Rattle.np_run.specs.Laws.{Reads, Replays}
 use Rattle.np_run.specs.declared.answer.Answer.{Answer}
-use Rattle.np_modes.specs.declared.refusal.Refusal.{Refusal}
-use Rattle.np_run.proofs.Outcomes.{Outcome, outcome, stands_says, says_faulty, made_accepts}
-use Rattle.np_modes.proofs.Verdicts.{not_both, same_fault}
+use Rattle.np_run.proofs.Outcomes.{Outcome, outcome}
+use Rattle.np_run.proofs.Sources.{Cause, stands_cause, says_faulty, made_accepts}
 use Rattle.np_run.proofs.laws.law_refuses_sources.Goals as goal
 
-by_outcome : (call : Call) (answer : Answer) (asked : Plan) (bytes : List ℕ) (refusal : Refusal) → Reads call asked bytes → length bytes ≤ LONGEST_SOURCE
-    → Faulty asked.mode bytes refusal → Outcome call answer → IsRefused call answer refusal
-by_outcome call answer asked bytes refusal r short f (Outcome.made text h) =
-    absurd (not_both asked.mode bytes refusal (made_accepts call asked bytes answer.kept answer.high text r h).1 f)
-by_outcome call answer asked bytes refusal r short f (Outcome.refused other e s) =
-    let first : Faulty asked.mode bytes other = says_faulty asked.mode bytes other short (stands_says call asked bytes other r s.stands) in
-    subst (λ (x : Refusal). IsRefused call answer x) (same_fault asked.mode bytes other refusal first f) s
+-- a refusal is the one of the source, or the source is accepted
+by_cause : (asked : Plan) (stage : Stage) (bytes : List ℕ) (refusal : Refusal) → length bytes ≤ LONGEST_SOURCE → Cause asked stage bytes refusal
+    → Faulty stage bytes refusal ⊎ Replays asked bytes
+by_cause asked stage bytes refusal short (Cause.source s) = inl (says_faulty stage bytes refusal short s)
+by_cause asked stage bytes refusal short (Cause.history r small accepted of) = inr r
+
+first : (asked : Plan) (stage : Stage) (bytes : List ℕ) (refusal other : Refusal) → length bytes ≤ LONGEST_SOURCE → Faulty stage bytes refusal → Cause asked stage bytes other
+    → Faulty stage bytes other
+first asked stage bytes refusal other short f (Cause.source s) = says_faulty stage bytes other short s
+first asked stage bytes refusal other short f (Cause.history r small accepted of) = absurd (not_both stage bytes refusal accepted f)
+
+by_outcome : (call : Call) (answer : Answer) (asked : Plan) (stage : Stage) (bytes : List ℕ) (refusal : Refusal) → Reads call asked stage bytes → length bytes ≤ LONGEST_SOURCE
+    → Faulty stage bytes refusal → Outcome call answer → IsRefused call answer refusal
+by_outcome call answer asked stage bytes refusal r short f (Outcome.made text h) =
+    absurd (not_both stage bytes refusal (made_accepts call asked stage bytes answer.kept answer.high text r h).1 f)
+by_outcome call answer asked stage bytes refusal r short f (Outcome.refused other e s) =
+    let wrong : Faulty stage bytes other = first asked stage bytes refusal other short f (stands_cause call asked stage bytes other r s.stands) in
+    subst (λ (x : Refusal). IsRefused call answer x) (same_fault stage bytes other refusal wrong f) s
 
 pub returns : goal.returns
-returns c = λ call answer asked bytes refusal h r err some short. (
-  λ is. says_faulty asked.mode bytes refusal short (stands_says call asked bytes refusal r is.stands),
-  λ f. by_outcome call answer asked bytes refusal r short f (outcome call answer h err some),
+returns c = λ call answer asked stage bytes refusal h r err some short. (
+  λ f. by_outcome call answer asked stage bytes refusal r short f (outcome call answer h err some),
+  λ is. by_cause asked stage bytes refusal short (stands_cause call asked stage bytes refusal r is.stands),
 )

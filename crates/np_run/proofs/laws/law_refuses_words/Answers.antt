@@ -1,29 +1,59 @@
-use Rattle.std.proofs.Common.{◌≡◌, ℕ, None}
-use Rattle.np_modes.specs.Words.{plan}
-use Rattle.np_modes.specs.Lines.{status_of}
-use Rattle.np_modes.specs.Causes.{Stands}
+use Rattle.std.proofs.Common.{◌≡◌, ℕ, List, ◌⊎◌, inl, inr, Some, None, arith}
+use Rattle.np_syntax.specs.declared.limits.TheConstants.{LONGEST_SOURCE}
+use Rattle.np_syntax.specs.declared.program.LowProgram.{LowProgram}
+use Rattle.np_words.specs.Plans.{plan}
+use Rattle.np_words.specs.declared.planning.Plan.{Plan}
+use Rattle.np_words.specs.declared.planning.Plan.TheVariants as plans
+use Rattle.np_sources.specs.Makes.{stage_of}
+use Rattle.np_verdict.specs.Faults.{Stage}
+use Rattle.np_verdict.specs.Lines.{status_of}
+use Rattle.np_verdict.specs.declared.refusal.Refusal.{Refusal}
+use Rattle.np_verdict.specs.declared.refusal.Refusal.TheVariants.{Usage, TooLong, HistoryTooLong}
+use Rattle.np_verdict.proofs.Verdicts.{not_usage}
+use Rattle.np_histories.proofs.Once.{fault_status, run_fault_status}
+use Rattle.np_modes.specs.Readings.{Reading, IsUnread}
+use Rattle.np_modes.specs.Causes.{IsFaultySource, RefusesHistory, RefusesRun, RefusesPlan, Stands}
 use Rattle.np_run.specs.Answers.{Call}
 use Rattle.np_run.specs.declared.answer.Answer.{Answer}
-use Rattle.np_modes.specs.declared.refusal.Refusal.{Refusal}
-use Rattle.np_modes.specs.declared.refusal.Refusal.TheVariants.{Usage}
 use Rattle.np_run.proofs.Outcomes.{Outcome, outcome}
-use Rattle.np_modes.proofs.Verdicts.{not_usage}
 use Rattle.np_run.proofs.laws.law_refuses_words.Goals as goal
 
 -- where the words ask for nothing that the program does, usage alone stands
 usage_stands : (call : Call) (status : ℕ) (refusal : Refusal) → plan call.words ≡ None → status ≡ status_of refusal → Stands call.words call.texts refusal → status ≡ 2
 usage_stands call status refusal p e (Stands.words none) = e
-usage_stands call status refusal p e (Stands.fault planned rose few) = cc
-usage_stands call status refusal p e (Stands.long planned taken more) = cc
-usage_stands call status refusal p e (Stands.source s) = let q = s.read.planned in cc
+usage_stands call status refusal p e (Stands.asked asked planned refused) = cc
+
+-- usage is no refusal of what is asked for
+
+of_source : (texts : Reading) (file : List ℕ) (stage : Stage) → IsUnread texts file LONGEST_SOURCE TooLong Usage ⊎ IsFaultySource texts file stage Usage → ⊥
+of_source texts file stage (inl (inl u)) = let is = u.0 in cc
+of_source texts file stage (inl (inr u)) = let is = u.0 in cc
+of_source texts file stage (inr s) = not_usage stage s.bytes s.faulty
+
+of_run : (texts : Reading) (history : List ℕ) (low : LowProgram) → RefusesRun texts history low Usage → ⊥
+of_run texts history low (inl (inl u)) = let is = u.0 in cc
+of_run texts history low (inl (inr u)) = let is = u.0 in cc
+of_run texts history low (inr s) = let is = run_fault_status low s.bytes Usage s.faulty in omega (arith, is)
+
+of_history : (texts : Reading) (history : List ℕ) → RefusesHistory texts history Usage → ⊥
+of_history texts history (inl (inl u)) = let is = u.0 in cc
+of_history texts history (inl (inr u)) = let is = u.0 in cc
+of_history texts history (inr s) = let is = fault_status s.bytes Usage s.faulty in omega (arith, is)
+
+of_plan : (texts : Reading) (asked : Plan) → RefusesPlan texts asked Usage → ⊥
+of_plan texts (plans.Source file task) r = of_source texts file (stage_of task) r.cause
+of_plan texts (plans.Replay source history) (inl r) = of_source texts source Stage.program r.cause
+of_plan texts (plans.Replay source history) (inr r) = of_run texts history r.low r.run
+of_plan texts (plans.Upgrade history) r = of_history texts history r
+of_plan texts (plans.Generate agents) r = r
 
 -- usage stands where the words ask for nothing that the program does
 unplanned_words : (call : Call) → Stands call.words call.texts Usage → plan call.words ≡ None
 unplanned_words call (Stands.words none) = none
-unplanned_words call (Stands.source s) = absurd (not_usage s.asked.mode s.bytes s.faulty)
+unplanned_words call (Stands.asked asked planned refused) = absurd (of_plan call.texts asked refused)
 
 unplanned : (call : Call) (answer : Answer) → plan call.words ≡ None → Outcome call answer → answer.status ≡ 2
-unplanned call answer p (Outcome.made text h) = let q = h.read.planned in cc
+unplanned call answer p (Outcome.made text h) = let q = h.planned in cc
 unplanned call answer p (Outcome.refused refusal e s) = usage_stands call answer.status refusal p e s.stands
 
 pub returns : goal.returns
