@@ -23,9 +23,9 @@ pub(crate) fn upgrade<T: Texts>(
 ) -> Result<Job, Refusal>
     ensures begins { T.begins texts.new ≤ T.begins texts.old + 1 }
     ensures made { let seen = seen (T.held texts.old) (T.faults texts.old) (T.faults texts.new) (T.taken texts.new) (T.begins texts.old) (T.begins texts.new)
-      in IfOk result (λ job. OfUpgrade seen history.now job.kept job.high job.text) }
+        in IfOk result (λ job. OfUpgrade seen history.now job.kept job.high job.text) }
     ensures refused { let seen = seen (T.held texts.old) (T.faults texts.old) (T.faults texts.new) (T.taken texts.new) (T.begins texts.old) (T.begins texts.new)
-      in IfErr result (λ refusal. refusal ≢ Refusal.Memory → RefusesHistory seen history.now refusal) }
+        in IfErr result (λ refusal. refusal ≢ Refusal.Memory → RefusesHistory seen history.now refusal) }
 {
     let bytes = read_text(
         alloc,
@@ -47,13 +47,15 @@ pub(crate) fn replay<T: Texts>(
 ) -> Result<Job, Refusal>
     ensures begins { T.begins texts.new ≤ T.begins texts.old + 2 }
     ensures made { let seen = seen (T.held texts.old) (T.faults texts.old) (T.faults texts.new) (T.taken texts.new) (T.begins texts.old) (T.begins texts.new)
-      in IfOk result (λ job. OfReplay seen source.now history.now job.kept job.high job.text) }
+        in IfOk result (λ job. OfReplay seen source.now history.now job.kept job.high job.text) }
     ensures refused { let seen = seen (T.held texts.old) (T.faults texts.old) (T.faults texts.new) (T.taken texts.new) (T.begins texts.old) (T.begins texts.new)
-      in IfErr result (λ refusal. refusal ≢ Refusal.Memory
+        in IfErr result (λ refusal. refusal ≢ Refusal.Memory
         → RefusesSource seen source.now Stage.program refusal ⊎ RefusesReplay seen source.now history.now refusal) }
 {
-    let low = read_low(alloc, texts, source)?;
-    replay_low(alloc, texts, &low, history)
+    match read_low(alloc, texts, source) {
+        Ok(low) => replay_low(alloc, texts, &low, history),
+        Err(refusal) => Err(refusal),
+    }
 }
 
 /// The low program of the source of this name.
@@ -62,10 +64,10 @@ fn read_low<T: Texts>(alloc: Global, texts: &mut T, source: &Word) -> Result<Low
     ensures later { NoneFell (T.faults texts.old) (T.faults texts.new) }
     ensures begins { T.begins texts.new ≤ T.begins texts.old + 1 }
     ensures made { let seen = seen (T.held texts.old) (T.faults texts.old) (T.faults texts.new) (T.taken texts.new) (T.begins texts.old) (T.begins texts.new)
-      in IfOk result (IsLowered seen source.now) }
+        in IfOk result (IsLowered seen source.now) }
     ensures few { IfOk result (λ low. length low.sites < 2 ^ 32) }
     ensures refused { let seen = seen (T.held texts.old) (T.faults texts.old) (T.faults texts.new) (T.taken texts.new) (T.begins texts.old) (T.begins texts.new)
-      in IfErr result (λ refusal. refusal ≢ Refusal.Memory → RefusesSource seen source.now Stage.program refusal) }
+        in IfErr result (λ refusal. refusal ≢ Refusal.Memory → RefusesSource seen source.now Stage.program refusal) }
 {
     let bytes = read_text(alloc, texts, source, LONGEST_SOURCE, Refusal::TooLong)?;
     low_of(alloc, bytes.as_slice())
@@ -81,9 +83,9 @@ fn replay_low<T: Texts>(
     requires { length low.now.sites < 2 ^ 32 }
     ensures begins { T.begins texts.new ≤ T.begins texts.old + 1 }
     ensures made { let seen = seen (T.held texts.old) (T.faults texts.old) (T.faults texts.new) (T.taken texts.new) (T.begins texts.old) (T.begins texts.new)
-      in IfOk result (λ job. OfRun seen history.now low.now job.kept job.high job.text) }
+        in IfOk result (λ job. OfRun seen history.now low.now job.kept job.high job.text) }
     ensures refused { let seen = seen (T.held texts.old) (T.faults texts.old) (T.faults texts.new) (T.taken texts.new) (T.begins texts.old) (T.begins texts.new)
-      in IfErr result (λ refusal. refusal ≢ Refusal.Memory → RefusesRun seen history.now low.now refusal) }
+        in IfErr result (λ refusal. refusal ≢ Refusal.Memory → RefusesRun seen history.now low.now refusal) }
 {
     let bytes = read_text(
         alloc,

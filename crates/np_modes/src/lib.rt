@@ -2,7 +2,7 @@
 #![tactic(auto)]
 
 mod histories;
+mod jobs;
 mod reading;
-mod work;
 
-pub use work::work;
+pub use jobs::work;

@@ -20,9 +20,9 @@ use std::alloc::Global;
 pub fn work<T: Texts>(alloc: Global, words: &[Word], texts: &mut T) -> Result<Job, Refusal>
     ensures begins { T.begins texts.new ≤ T.begins texts.old + texts_read (plan words.now) }
     ensures made { let seen = seen (T.held texts.old) (T.faults texts.old) (T.faults texts.new) (T.taken texts.new) (T.begins texts.old) (T.begins texts.new)
-      in IfOk result (λ job. HasMade words.now seen job.kept job.high job.text) }
+        in IfOk result (λ job. HasMade words.now seen job.kept job.high job.text) }
     ensures refused { let seen = seen (T.held texts.old) (T.faults texts.old) (T.faults texts.new) (T.taken texts.new) (T.begins texts.old) (T.begins texts.new)
-      in IfErr result (λ refusal. refusal ≢ Refusal.Memory → Stands words.now seen refusal) }
+        in IfErr result (λ refusal. refusal ≢ Refusal.Memory → Stands words.now seen refusal) }
 {
     match plan_of(alloc, words) {
         Ok(plan) => done(alloc, texts, &plan),
@@ -36,9 +36,9 @@ fn done<T: Texts>(alloc: Global, texts: &mut T, plan: &Plan) -> Result<Job, Refu
     requires { HasFewAgents plan.now }
     ensures begins { T.begins texts.new ≤ T.begins texts.old + texts_of plan.now }
     ensures made { let seen = seen (T.held texts.old) (T.faults texts.old) (T.faults texts.new) (T.taken texts.new) (T.begins texts.old) (T.begins texts.new)
-      in IfOk result (λ job. Does seen plan.now job.kept job.high job.text) }
+        in IfOk result (λ job. Does seen plan.now job.kept job.high job.text) }
     ensures refused { let seen = seen (T.held texts.old) (T.faults texts.old) (T.faults texts.new) (T.taken texts.new) (T.begins texts.old) (T.begins texts.new)
-      in IfErr result (λ refusal. refusal ≢ Refusal.Memory → RefusesPlan seen plan.now refusal) }
+        in IfErr result (λ refusal. refusal ≢ Refusal.Memory → RefusesPlan seen plan.now refusal) }
 {
     match plan {
         Plan::Source { file, task } => on_source(alloc, texts, file, *task),
@@ -57,9 +57,9 @@ fn on_source<T: Texts>(
 ) -> Result<Job, Refusal>
     ensures begins { T.begins texts.new ≤ T.begins texts.old + 1 }
     ensures made { let seen = seen (T.held texts.old) (T.faults texts.old) (T.faults texts.new) (T.taken texts.new) (T.begins texts.old) (T.begins texts.new)
-      in IfOk result (λ job. OfSource seen file.now task job.kept job.high job.text) }
+        in IfOk result (λ job. OfSource seen file.now task job.kept job.high job.text) }
     ensures refused { let seen = seen (T.held texts.old) (T.faults texts.old) (T.faults texts.new) (T.taken texts.new) (T.begins texts.old) (T.begins texts.new)
-      in IfErr result (λ refusal. refusal ≢ Refusal.Memory → RefusesSource seen file.now (stage_of task) refusal) }
+        in IfErr result (λ refusal. refusal ≢ Refusal.Memory → RefusesSource seen file.now (stage_of task) refusal) }
 {
     let bytes = read_text(alloc, texts, file, LONGEST_SOURCE, Refusal::TooLong)?;
     job_of(alloc, task, bytes.as_slice())
