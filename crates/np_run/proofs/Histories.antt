@@ -1,18 +1,17 @@
 -- What a refusal says of a history that is told, and what is made of one.
-use Rattle.std.proofs.Common.{◌≡◌, ℕ, ◌≤◌, ◌<◌, ◌⊎◌, List, length, Option, None, Some, inl, inr, subst, sym, ap, ◌∙◌, arith}
+use Rattle.std.proofs.Common.{◌≡◌, ℕ, ◌≤◌, ◌<◌, ◌⊎◌, List, length, Option, None, Some, inl, inr, subst, ap, ◌∙◌, arith}
 use Rattle.np_syntax.specs.declared.limits.TheConstants.{LONGEST_SOURCE}
 use Rattle.np_syntax.specs.declared.program.LowProgram.{LowProgram}
 use Rattle.np_syntax.specs.declared.program.Program.{Program}
 use Rattle.daemon_encode.specs.Encoded.{encoded}
 use Rattle.np_words.specs.declared.planning.Plan.{Plan}
-use Rattle.np_words.specs.declared.planning.Plan.TheVariants as plans
 use Rattle.np_serial.specs.declared.serial.SerialRun.{SerialRun}
 use Rattle.np_verdict.specs.Faults.{Stage, IsWellTyped}
 use Rattle.np_verdict.specs.Lines.{status_of}
 use Rattle.np_verdict.specs.declared.refusal.Refusal.{Refusal}
 use Rattle.np_verdict.specs.declared.refusal.Refusal.TheVariants.{HistoryTooLong}
 use Rattle.np_verdict.proofs.Verdicts as verdicts
-use Rattle.np_histories.specs.Histories.{HasEvents, HasRun, IsFaulty}
+use Rattle.np_histories.specs.Histories.{HasEvents, HasRun}
 use Rattle.np_histories.specs.declared.limits.TheConstants.{LONGEST_HISTORY}
 use Rattle.np_histories.proofs.Once as once
 use Rattle.np_sources.specs.declared.record.Record.{Record}

@@ -1,5 +1,5 @@
 -- What an answer can be where no call failed and memory was not wanting.
-use Rattle.std.proofs.Common.{◌≡◌, ◌≢◌, ℕ, List, Option, Some, None, IfSome, inl, inr, subst}
+use Rattle.std.proofs.Common.{◌≡◌, ◌≢◌, ℕ, List, Option, Some, IfSome, inl, inr, subst}
 use Rattle.np_io.specs.Causes.{Rose}
 use Rattle.np_words.specs.Plans.{plan}
 use Rattle.np_words.specs.declared.planning.Plan.{Plan}

@@ -1,18 +1,15 @@
 -- What a refusal says of a source that is told, and what is made of one.
-use Rattle.std.proofs.Common.{◌≡◌, ℕ, ◌≤◌, ◌<◌, ◌⊎◌, List, length, Option, inl, inr, refl, subst, ap, ◌∙◌, arith}
+use Rattle.std.proofs.Common.{◌≡◌, ℕ, ◌≤◌, ◌<◌, ◌⊎◌, List, length, Option, inl, inr, refl, subst, ap, arith}
 use Rattle.np_syntax.specs.declared.limits.TheConstants.{LONGEST_SOURCE}
 use Rattle.np_syntax.specs.declared.program.LowProgram.{LowProgram}
 use Rattle.np_words.specs.declared.planning.Plan.{Plan}
-use Rattle.np_words.specs.declared.planning.Plan.TheVariants as plans
 use Rattle.np_words.specs.declared.planning.Task.{Task}
 use Rattle.np_words.specs.declared.planning.Task.TheVariants as task
 use Rattle.np_serial.specs.declared.serial.SerialRun.{SerialRun}
 use Rattle.np_verdict.specs.Faults.{Stage, Accepted, Faulty}
 use Rattle.np_verdict.specs.Lines.{status_of}
 use Rattle.np_verdict.specs.declared.refusal.Refusal.{Refusal}
-use Rattle.np_verdict.specs.declared.refusal.Refusal.TheVariants.{ReadFault, TooLong, HistoryTooLong}
-use Rattle.np_verdict.proofs.Verdicts.{faulty_status}
-use Rattle.np_histories.specs.declared.limits.TheConstants.{LONGEST_HISTORY}
+use Rattle.np_verdict.specs.declared.refusal.Refusal.TheVariants.{ReadFault, TooLong}
 use Rattle.np_histories.proofs.Once.{run_fault_status}
 use Rattle.np_sources.specs.Makes.{DoesTask, stage_of}
 use Rattle.np_sources.specs.declared.record.Record.{Record}
@@ -55,17 +52,17 @@ of_history call history low refusal (inr s) = inr (run_fault_status low s.bytes 
 
 -- a refusal speaks of the source, or of the history behind it
 pub data Cause (asked : Plan) (stage : Stage) (bytes : List ℕ) (refusal : Refusal) : Type 0 where
-  source : Says stage bytes refusal → Cause asked stage bytes refusal
-  history : Replays asked bytes → length bytes ≤ LONGEST_SOURCE → Accepted stage bytes → IsOfHistory refusal → Cause asked stage bytes refusal
+  of_source : Says stage bytes refusal → Cause asked stage bytes refusal
+  of_later : Replays asked bytes → length bytes ≤ LONGEST_SOURCE → Accepted stage bytes → IsOfHistory refusal → Cause asked stage bytes refusal
 
 by_plan : (call : Call) (asked : Plan) (file : List ℕ) (stage : Stage) (bytes : List ℕ) (refusal : Refusal) → ReadsSource asked file stage → IsTold call file bytes
     → RefusesPlan call.texts asked refusal → Cause asked stage bytes refusal
-by_plan call asked file stage bytes refusal (ReadsSource.alone f task) t r = Cause.source (source_says call f (stage_of task) bytes refusal t r)
-by_plan call asked file stage bytes refusal (ReadsSource.replayed source history) t (inl r) = Cause.source (source_says call source Stage.program bytes refusal t r)
+by_plan call asked file stage bytes refusal (ReadsSource.alone f task) t r = Cause.of_source (source_says call f (stage_of task) bytes refusal t r)
+by_plan call asked file stage bytes refusal (ReadsSource.replayed source history) t (inl r) = Cause.of_source (source_says call source Stage.program bytes refusal t r)
 by_plan call asked file stage bytes refusal (ReadsSource.replayed source history) t (inr r) =
     let same : r.lowered.bytes ≡ bytes = same_text call source bytes r.lowered.bytes LONGEST_SOURCE t r.lowered.read in
     let accepted = subst (λ (b : List ℕ). Accepted Stage.program b) same (r.lowered.lowers.program, r.lowered.lowers.accepted) in
-    Cause.history (record { source = source; history = history; is = refl; program = accepted.0; accepted = accepted.1 })
+    Cause.of_later (record { source = source; history = history; is = refl; program = accepted.0; accepted = accepted.1 })
     (subst (λ (b : List ℕ). length b ≤ LONGEST_SOURCE) same r.lowered.read.short) accepted (of_history call history r.low refusal r.run)
 
 pub stands_cause : (call : Call) (asked : Plan) (stage : Stage) (bytes : List ℕ) (refusal : Refusal) → Reads call asked stage bytes

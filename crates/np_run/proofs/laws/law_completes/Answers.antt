@@ -1,4 +1,4 @@
-use Rattle.std.proofs.Common.{ℕ, ◌≤◌, ◌<◌, List, length, Option, None, Some, inl, inr, refl, subst, sym, arith}
+use Rattle.std.proofs.Common.{ℕ, ◌≤◌, List, length, Option, None, Some, inl, inr, subst, arith}
 use Rattle.np_syntax.specs.declared.limits.TheConstants.{LONGEST_SOURCE}
 use Rattle.np_syntax.specs.declared.program.LowProgram.{LowProgram}
 use Rattle.daemon_encode.specs.Encoded.{encoded}

@@ -15,9 +15,9 @@ use Rattle.np_run.proofs.laws.law_refuses_long.Goals as goal
 -- of a source that is too long no other refusal says anything
 long : (call : Call) (answer : Answer) (asked : Plan) (stage : Stage) (bytes : List ℕ) (refusal : Refusal) → LONGEST_SOURCE < length bytes
     → Cause asked stage bytes refusal → IsRefused call answer refusal → IsRefused call answer TooLong
-long call answer asked stage bytes refusal l (Cause.source (inl s)) is = subst (λ (x : Refusal). IsRefused call answer x) s.0 is
-long call answer asked stage bytes refusal l (Cause.source (inr s)) is = let short = s.0 in absurd (omega arith)
-long call answer asked stage bytes refusal l (Cause.history r small accepted of) is = absurd (omega arith)
+long call answer asked stage bytes refusal l (Cause.of_source (inl s)) is = subst (λ (x : Refusal). IsRefused call answer x) s.0 is
+long call answer asked stage bytes refusal l (Cause.of_source (inr s)) is = let short = s.0 in absurd (omega arith)
+long call answer asked stage bytes refusal l (Cause.of_later r small accepted of) is = absurd (omega arith)
 
 not_later : IsOfHistory TooLong → ⊥
 not_later (inl e) = cc
@@ -25,9 +25,9 @@ not_later (inr e) = omega (arith, e)
 
 -- what says that it is too long
 is_long : (asked : Plan) (stage : Stage) (bytes : List ℕ) → Cause asked stage bytes TooLong → LONGEST_SOURCE < length bytes
-is_long asked stage bytes (Cause.source (inl s)) = s.1
-is_long asked stage bytes (Cause.source (inr s)) = absurd (not_long stage bytes s.1)
-is_long asked stage bytes (Cause.history r small accepted of) = absurd (not_later of)
+is_long asked stage bytes (Cause.of_source (inl s)) = s.1
+is_long asked stage bytes (Cause.of_source (inr s)) = absurd (not_long stage bytes s.1)
+is_long asked stage bytes (Cause.of_later r small accepted of) = absurd (not_later of)
 
 by_outcome : (call : Call) (answer : Answer) (asked : Plan) (stage : Stage) (bytes : List ℕ) → Reads call asked stage bytes → LONGEST_SOURCE < length bytes → Outcome call answer
     → IsRefused call answer TooLong

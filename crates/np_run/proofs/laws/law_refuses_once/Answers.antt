@@ -15,8 +15,8 @@ use Rattle.np_run.proofs.laws.law_refuses_once.Goals as goal
 
 module _ (call : Call) (asked : Plan) (stage : Stage) (bytes : List ℕ) (r : Reads call asked stage bytes) (short : length bytes ≤ LONGEST_SOURCE) where
   by_cause : (refusal other : Refusal) → Faulty stage bytes refusal → Cause asked stage bytes other → other ≡ refusal
-  by_cause refusal other f (Cause.source s) = same_fault stage bytes other refusal (says_faulty stage bytes other short s) f
-  by_cause refusal other f (Cause.history later small accepted of) = absurd (not_both stage bytes refusal accepted f)
+  by_cause refusal other f (Cause.of_source s) = same_fault stage bytes other refusal (says_faulty stage bytes other short s) f
+  by_cause refusal other f (Cause.of_later later small accepted of) = absurd (not_both stage bytes refusal accepted f)
 
   -- what has its cause is what is wrong with the source
   only : (refusal : Refusal) → Faulty stage bytes refusal → (other : Refusal) → Stands call.words call.texts other → other ≡ refusal

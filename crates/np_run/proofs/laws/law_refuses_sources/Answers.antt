@@ -14,13 +14,13 @@ use Rattle.np_run.proofs.laws.law_refuses_sources.Goals as goal
 -- a refusal is the one of the source, or the source is accepted
 by_cause : (asked : Plan) (stage : Stage) (bytes : List ℕ) (refusal : Refusal) → length bytes ≤ LONGEST_SOURCE → Cause asked stage bytes refusal
     → Faulty stage bytes refusal ⊎ Replays asked bytes
-by_cause asked stage bytes refusal short (Cause.source s) = inl (says_faulty stage bytes refusal short s)
-by_cause asked stage bytes refusal short (Cause.history r small accepted of) = inr r
+by_cause asked stage bytes refusal short (Cause.of_source s) = inl (says_faulty stage bytes refusal short s)
+by_cause asked stage bytes refusal short (Cause.of_later r small accepted of) = inr r
 
 first : (asked : Plan) (stage : Stage) (bytes : List ℕ) (refusal other : Refusal) → length bytes ≤ LONGEST_SOURCE → Faulty stage bytes refusal → Cause asked stage bytes other
     → Faulty stage bytes other
-first asked stage bytes refusal other short f (Cause.source s) = says_faulty stage bytes other short s
-first asked stage bytes refusal other short f (Cause.history r small accepted of) = absurd (not_both stage bytes refusal accepted f)
+first asked stage bytes refusal other short f (Cause.of_source s) = says_faulty stage bytes other short s
+first asked stage bytes refusal other short f (Cause.of_later r small accepted of) = absurd (not_both stage bytes refusal accepted f)
 
 by_outcome : (call : Call) (answer : Answer) (asked : Plan) (stage : Stage) (bytes : List ℕ) (refusal : Refusal) → Reads call asked stage bytes → length bytes ≤ LONGEST_SOURCE
     → Faulty stage bytes refusal → Outcome call answer → IsRefused call answer refusal

@@ -1,4 +1,4 @@
-use Rattle.std.proofs.Common.{◌≡◌, ℕ, List, ◌⊎◌, inl, inr, Some, None, arith}
+use Rattle.std.proofs.Common.{◌≡◌, ℕ, List, ◌⊎◌, inl, inr, None, arith}
 use Rattle.np_syntax.specs.declared.limits.TheConstants.{LONGEST_SOURCE}
 use Rattle.np_syntax.specs.declared.program.LowProgram.{LowProgram}
 use Rattle.np_words.specs.Plans.{plan}
@@ -8,7 +8,7 @@ use Rattle.np_sources.specs.Makes.{stage_of}
 use Rattle.np_verdict.specs.Faults.{Stage}
 use Rattle.np_verdict.specs.Lines.{status_of}
 use Rattle.np_verdict.specs.declared.refusal.Refusal.{Refusal}
-use Rattle.np_verdict.specs.declared.refusal.Refusal.TheVariants.{Usage, TooLong, HistoryTooLong}
+use Rattle.np_verdict.specs.declared.refusal.Refusal.TheVariants.{Usage, TooLong}
 use Rattle.np_verdict.proofs.Verdicts.{not_usage}
 use Rattle.np_histories.proofs.Once.{fault_status, run_fault_status}
 use Rattle.np_modes.specs.Readings.{Reading, IsUnread}
