@@ -13,28 +13,8 @@
 # last column is of the rest. At the low level the translation is counted in it.
 set -euo pipefail
 cd "$(dirname "$0")/.."
-set -- "${1:-crates/np_examples/out/np_examples}" "${2:-20}"
+set -- crates/np/out/np "${2:-20}" "${1:-crates/np_examples/out/np_examples}"
 source bench/parts.sh
-
-# examples_of CALL LINE..: a file of so many equal examples as there are rounds, each with this call and these lines
-examples_of() {
-    local call=$1
-    shift
-    for ((round = 0; round < rounds; round++)); do
-        printf '%s\n' "example Round $round" "$call" 'text a' 'file ring.np' "$@" ''
-    done
-}
-
-# tried CALL LINE..: nanoseconds of all rounds of the example with this call and these lines
-tried() {
-    local begin end
-    examples_of "$@" >"$folder/rounds.txt"
-    begin=$(date +%s%N)
-    "$program" "$folder/rounds.txt" >"$folder/told"
-    end=$(date +%s%N)
-    tail -n 1 "$folder/told" | grep -q "^$rounds passed, 0 failed$" || { head -n 5 "$folder/told" >&2; exit 1; }
-    echo $((end - begin))
-}
 
 printf '%5s %8s %8s %12s %14s %26s\n' level agents events 'ms a run' 'of it reading' 'events a second, run alone'
 for agents in 10 30 100; do

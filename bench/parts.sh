@@ -2,6 +2,7 @@
 
 program=${1:-crates/np/out/np}
 rounds=${2:-20}
+examples=${3:-crates/np_examples/out/np_examples}
 folder=$(mktemp -d)
 trap 'rm -r "$folder"' EXIT
 
@@ -36,4 +37,24 @@ row() {
         rest = whole > reading ? whole - reading : 1
         printf "%8d %8d %12.2f %14.2f %26d\n", size, events, whole / rounds / 1e6, reading / rounds / 1e6, events * rounds / rest * 1e9
     }'
+}
+
+# examples_of CALL LINE..: a file of so many equal examples as there are rounds, each of the source ring.np, with this call and these lines
+examples_of() {
+    local call=$1
+    shift
+    for ((round = 0; round < rounds; round++)); do
+        printf '%s\n' "example Round $round" "$call" 'text a' 'file ring.np' "$@" ''
+    done
+}
+
+# tried CALL LINE..: nanoseconds of all rounds of the example with this call and these lines
+tried() {
+    local begin end
+    examples_of "$@" >"$folder/rounds.txt"
+    begin=$(date +%s%N)
+    "$examples" "$folder/rounds.txt" >"$folder/told"
+    end=$(date +%s%N)
+    tail -n 1 "$folder/told" | grep -q "^$rounds passed, 0 failed$" || { head -n 5 "$folder/told" >&2; exit 1; }
+    echo $((end - begin))
 }

@@ -1,3 +1,4 @@
+use super::change::Change;
 use std::alloc::{AllocError, Global};
 
 /// A text of an example, by its name.
@@ -44,6 +45,8 @@ pub struct Example {
     pub runs_low: bool,
     /// Whether that run has to print the lines that a run at the high level prints, in any order.
     pub as_high: bool,
+    /// How the history of the low program's run is changed before it is replayed.
+    pub replays: Vec<Change>,
     /// What stands under the name `a`: each is tried with each call.
     pub sources: Vec<String>,
     pub texts: Vec<NamedText>,
@@ -69,6 +72,7 @@ impl Example {
             calls: Vec::new(alloc),
             runs_low: false,
             as_high: false,
+            replays: Vec::new(alloc),
             sources: Vec::new(alloc),
             texts: Vec::new(alloc),
             devices: Devices {

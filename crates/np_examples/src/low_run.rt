@@ -3,10 +3,13 @@
 use super::example::Example;
 use super::fail::ExampleFail;
 use super::trial::{Came, sink_of};
+use history_text::write_history;
 use np_io::write_all;
 use np_run::{BUDGET_SPENT, DONE, Record, Refusal, line, run_low, status};
 use np_syntax::{End, Event, Kind, LARGEST_BUDGET, LONGEST_SOURCE, List, Memory, Text};
 use std::alloc::Global;
+use std::fs;
+use std::rt::Files;
 
 /// A run with its report, or the line of a refusal.
 #[derive(Drop)]
@@ -64,17 +67,21 @@ fn run_of(alloc: Global, source: &[u8]) -> Result<LowRun, Memory> {
     }
 }
 
+/// The bytes of a source, or of the text `a` where no source is given.
+fn bytes_of<'a>(example: &'a Example, source: Option<&'a str>) -> &'a [u8] {
+    match source {
+        Some(source) => source.as_bytes(),
+        None => example.text("a").unwrap_or(b""),
+    }
+}
+
 /// What comes of the run of the low program of a source, or of the text `a` where no source is given.
 pub(crate) fn came_of_low(
     alloc: Global,
     example: &Example,
     source: Option<&str>,
 ) -> Result<Came, ExampleFail> {
-    let bytes = match source {
-        Some(source) => source.as_bytes(),
-        None => example.text("a").unwrap_or(b""),
-    };
-    let run = run_of(alloc, bytes)?;
+    let run = run_of(alloc, bytes_of(example, source))?;
     let mut out = sink_of(alloc, example.devices.piece, &[])?;
     let mut err = sink_of(alloc, example.devices.piece, &[])?;
     let _ = write_all(&mut out, run.out.as_slice());
@@ -86,4 +93,50 @@ pub(crate) fn came_of_low(
         out,
         err,
     })
+}
+
+/// The events of a run, and its report. There are none where the source is refused.
+#[derive(Drop)]
+pub(crate) struct LowEvents {
+    pub events: List<Event>,
+    pub report: Text,
+}
+
+/// The events of the run of the low program of these bytes.
+fn events_of(alloc: Global, source: &[u8]) -> Result<LowEvents, ExampleFail> {
+    let empty = LowEvents {
+        events: List::new(alloc),
+        report: List::new(alloc),
+    };
+    if source.len() > LONGEST_SOURCE {
+        return Ok(empty);
+    }
+    match run_low(alloc, LARGEST_BUDGET, source) {
+        Ok((Record { events, .. }, report)) => Ok(LowEvents { events, report }),
+        Err(Refusal::Memory) => Err(ExampleFail::Memory),
+        Err(_) => Ok(empty),
+    }
+}
+
+/// The events of the run of the low program of a source, or of the text `a` where no source is given.
+pub(crate) fn events_of_low(
+    alloc: Global,
+    example: &Example,
+    source: Option<&str>,
+) -> Result<LowEvents, ExampleFail> {
+    events_of(alloc, bytes_of(example, source))
+}
+
+/// Prints the history of the run of the low program of the source in a file.
+pub(crate) fn print_history<R: Files + Alloc + Print>(
+    rt: &R,
+    alloc: Global,
+    file: &str,
+) -> Result<(), ExampleFail> {
+    let source = fs::read(rt, file)?;
+    let made = events_of(alloc, source.as_slice())?;
+    let history = write_history(alloc, made.events.as_slice())?;
+    let text = std::str::from_utf8(history.as_slice()).unwrap_or("");
+    print!(rt; "{text}")?;
+    Ok(())
 }

@@ -1,63 +1,57 @@
 //! Runs worked examples: calls of np over texts and sinks in memory, each with what must come of it. The words name the
-//! files of examples. It prints how many calls did as they should, and each one that did not.
+//! files of examples. It prints how many calls did as they should, and each one that did not. With the words `history` and the file of a
+//! source it prints the history of the run of the source's low program instead.
 #![tactic(auto)]
 
+mod change;
 mod example;
 mod fail;
 mod low_run;
 mod number;
 mod pieces;
 mod reader;
+mod replays;
 mod report;
+mod tally;
 mod trial;
 mod verdict;
 
 use example::Example;
 use fail::ExampleFail;
-use low_run::came_of_low;
+use low_run::{came_of_low, print_history};
 use reader::examples_of;
+use replays::try_replays;
 use report::tell_failure;
 use std::alloc::Global;
 use std::rt::Files;
 use std::sync::Wait;
 use std::thread::Threads;
 use std::{env, fs};
-use trial::came_of;
+use tally::Tally;
+use trial::{Call, came_of};
 use verdict::{meets, same_lines};
-
-/// How many calls did as they should, and how many did not.
-#[derive(Clone, Copy)]
-struct Tally {
-    passed: u64,
-    failed: u64,
-}
-
-const NONE: Tally = Tally {
-    passed: 0,
-    failed: 0,
-};
-
-impl Tally {
-    fn count(&mut self, passed: bool) {
-        if passed {
-            self.passed = self.passed.saturating_add(1);
-        } else {
-            self.failed = self.failed.saturating_add(1);
-        }
-    }
-
-    fn add(&mut self, other: Tally) {
-        self.passed = self.passed.saturating_add(other.passed);
-        self.failed = self.failed.saturating_add(other.failed);
-    }
-}
 
 fn main(rt: HostRuntime) -> Result<(), ExampleFail> {
     let alloc = rt.alloc();
     let words: Vec<String> = env::args(&rt)?.collect(alloc)?;
-    let mut all = NONE;
-    for file in words.iter().skip(1) {
-        let of_file = try_file(&rt, alloc, file.as_str())?;
+    match words.as_slice() {
+        [_, word, file] if word.as_str() == "history" => {
+            print_history(&rt, alloc, file.as_str())
+        }
+        [_, files @ ..] => try_files(&rt, alloc, files),
+        [] => Ok(()),
+    }
+}
+
+/// Tries each example of some files.
+fn try_files<R: Files + Alloc + Print + Threads + Wait + Sync>(
+    rt: &R,
+    alloc: Global,
+    files: &[String],
+) -> Result<(), ExampleFail> {
+    let mut all = Tally::new();
+    for file in files {
+        let of_file = try_file(rt, alloc, file.as_str())?;
         let Tally { passed, failed } = of_file;
         println!(rt; "{file}: {passed} calls passed, {failed} failed")?;
         all.add(of_file);
@@ -83,7 +77,7 @@ fn try_file<R: Files + Alloc + Print + Threads + Wait + Sync>(
 ) -> Result<Tally, ExampleFail> {
     let text = fs::read_to_string(rt, file)?;
     let examples = examples_of(rt, alloc, folder_of(file), text.as_str())?;
-    let mut tally = NONE;
+    let mut tally = Tally::new();
     for example in examples.iter() {
         let of_example = try_example(rt, alloc, file, example)?;
         tally.add(of_example);
@@ -91,56 +85,63 @@ fn try_file<R: Files + Alloc + Print + Threads + Wait + Sync>(
     Ok(tally)
 }
 
-/// Tries each call of an example, and the runs of its low programs.
+/// Tries each call of an example, the runs of its low programs, and their histories.
 fn try_example<R: Print + Threads + Wait + Sync>(
     rt: &R,
     alloc: Global,
     file: &str,
     example: &Example,
 ) -> Result<Tally, ExampleFail> {
-    let mut tally = try_calls(rt, alloc, file, example)?;
-    if example.runs_low {
-        tally.add(try_low_runs(rt, alloc, file, example)?);
+    let mut tally = Tally::new();
+    if example.sources.is_empty() {
+        tally.add(try_source(rt, alloc, file, example, None)?);
+    }
+    for source in example.sources.iter() {
+        tally.add(try_source(rt, alloc, file, example, Some(source.as_str()))?);
     }
     Ok(tally)
 }
 
-/// Tries each call of an example with each of its sources.
+/// Tries an example with one of its sources, or with its text `a` where it has no sources.
+fn try_source<R: Print + Threads + Wait + Sync>(
+    rt: &R,
+    alloc: Global,
+    file: &str,
+    example: &Example,
+    source: Option<&str>,
+) -> Result<Tally, ExampleFail> {
+    let mut tally = try_calls(rt, alloc, file, example, source)?;
+    if example.runs_low {
+        tally.count(try_low_run(rt, alloc, file, example, source)?);
+    }
+    if !example.replays.is_empty() {
+        tally.add(try_replays(rt, alloc, file, example, source)?);
+    }
+    Ok(tally)
+}
+
+/// Tries each call of an example with a source.
 fn try_calls<R: Print + Threads + Wait + Sync>(
     rt: &R,
     alloc: Global,
     file: &str,
     example: &Example,
+    source: Option<&str>,
 ) -> Result<Tally, ExampleFail> {
-    let mut tally = NONE;
+    let mut tally = Tally::new();
     for words in example.calls.iter() {
-        let words = words.as_str();
-        if example.sources.is_empty() {
-            tally.count(try_call(rt, alloc, file, example, words, None)?);
-        }
-        for source in example.sources.iter() {
-            let source = Some(source.as_str());
-            tally.count(try_call(rt, alloc, file, example, words, source)?);
-        }
+        let call = call_of(words.as_str(), source);
+        tally.count(try_call(rt, alloc, file, example, &call)?);
     }
     Ok(tally)
 }
 
-/// Tries the run of the low program of each source.
-fn try_low_runs<R: Print + Threads + Wait + Sync>(
-    rt: &R,
-    alloc: Global,
-    file: &str,
-    example: &Example,
-) -> Result<Tally, ExampleFail> {
-    let mut tally = NONE;
-    if example.sources.is_empty() {
-        tally.count(try_low_run(rt, alloc, file, example, None)?);
+fn call_of<'a>(words: &'a str, source: Option<&'a str>) -> Call<'a> {
+    Call {
+        words,
+        source,
+        history: None,
     }
-    for source in example.sources.iter() {
-        tally.count(try_low_run(rt, alloc, file, example, Some(source.as_str()))?);
-    }
-    Ok(tally)
 }
 
 /// Whether a run of a low program does what the example wants.
@@ -154,11 +155,13 @@ fn try_low_run<R: Print + Threads + Wait + Sync>(
     let came = came_of_low(alloc, example, source)?;
     let mut passed = meets(example, &came);
     if example.as_high {
-        let high = came_of(rt, alloc, example, "high a --budget 200000", source)?;
+        let call = call_of("high a --budget 200000", source);
+        let high = came_of(rt, alloc, example, &call)?;
         passed = passed && same_lines(alloc, came.out.bytes(), high.out.bytes())?;
     }
     if !passed {
-        tell_failure(rt, file, example, "low run", source, &came)?;
+        let call = call_of("low run", source);
+        tell_failure(rt, file, example, &call, &came)?;
     }
     Ok(passed)
 }
@@ -169,13 +172,12 @@ fn try_call<R: Print + Threads + Wait + Sync>(
     alloc: Global,
     file: &str,
     example: &Example,
-    words: &str,
-    source: Option<&str>,
+    call: &Call<'_>,
 ) -> Result<bool, ExampleFail> {
-    let came = came_of(rt, alloc, example, words, source)?;
+    let came = came_of(rt, alloc, example, call)?;
     let passed = meets(example, &came);
     if !passed {
-        tell_failure(rt, file, example, words, source, &came)?;
+        tell_failure(rt, file, example, call, &came)?;
     }
     Ok(passed)
 }

@@ -1,4 +1,4 @@
-//! The pieces that make up a text: lines, quoted texts, repetitions, trees, bytes by their numbers and files.
+//! The pieces that make up a text: lines, quoted texts, repetitions, trees, bytes by their numbers, files and lines of files.
 
 use super::fail::ExampleFail;
 use super::number::{byte_of, count_of};
@@ -22,6 +22,7 @@ pub(crate) fn is_piece(line: &str) -> bool {
                 || line.starts_with("tree ")
                 || line.starts_with("bytes ")
                 || line.starts_with("file ")
+                || line.starts_with("part ")
         }
         None => false,
     }
@@ -46,6 +47,7 @@ pub(crate) fn add_piece<R: Files + Alloc>(
         "tree" => add_tree(alloc, bytes, rest, number),
         "bytes" => add_bytes(bytes, rest, number),
         "file" => add_file(rt, bytes, format!(in alloc; "{folder}{rest}")?.as_str()),
+        "part" => add_part(rt, alloc, folder, bytes, rest, number),
         _ if line.starts_with('"') => {
             bytes.extend_from_slice(quoted(line, number)?.as_bytes())?;
             Ok(())
@@ -93,5 +95,40 @@ fn add_bytes(bytes: &mut Vec<u8>, rest: &str, number: u32) -> Result<(), Example
 fn add_file<R: Files + Alloc>(rt: &R, bytes: &mut Vec<u8>, path: &str) -> Result<(), ExampleFail> {
     let held = fs::read(rt, path)?;
     bytes.extend_from_slice(held.as_slice())?;
+    Ok(())
+}
+
+/// Which lines of which file: the first and the last, counted from 1, and the name.
+fn part_of(rest: &str, number: u32) -> Result<(usize, usize, &str), ExampleFail> {
+    let (first, rest) = rest.split_once(' ').ok_or(ExampleFail::Line(number))?;
+    let (last, name) = rest.split_once(' ').ok_or(ExampleFail::Line(number))?;
+    Ok((count_of(first, number)?, count_of(last, number)?, name))
+}
+
+fn add_part<R: Files + Alloc>(
+    rt: &R,
+    alloc: Global,
+    folder: &str,
+    bytes: &mut Vec<u8>,
+    rest: &str,
+    number: u32,
+) -> Result<(), ExampleFail> {
+    let (first, last, name) = part_of(rest, number)?;
+    let path = format!(in alloc; "{folder}{name}")?;
+    let held = fs::read_to_string(rt, path.as_str())?;
+    add_lines(bytes, held.as_str(), first, last)
+}
+
+/// The lines of a text from the first to the last, counted from 1.
+fn add_lines(
+    bytes: &mut Vec<u8>,
+    text: &str,
+    first: usize,
+    last: usize,
+) -> Result<(), ExampleFail> {
+    for line in text.lines().take(last).skip(first.saturating_sub(1)) {
+        bytes.extend_from_slice(line.as_bytes())?;
+        bytes.push(b'\n')?;
+    }
     Ok(())
 }

@@ -1,5 +1,6 @@
 //! From the lines of a file to its examples.
 
+use super::change::Change;
 use super::example::{Example, NamedText, Outcome};
 use super::fail::ExampleFail;
 use super::number::{byte_of, count_of, number_of};
@@ -53,6 +54,7 @@ fn read_line<R: Files + Alloc>(
     match key {
         "words" | "main" | "source" | "text" => read_call(alloc, example, key, rest),
         "low" => read_low(example, rest, number),
+        "replays" => read_replay(example, rest, number),
         "fail" | "piece" => read_device(example, key, rest, number),
         _ => read_wanted(alloc, example, key, rest, number),
     }
@@ -88,6 +90,20 @@ fn read_low(example: &mut Example, rest: &str, number: u32) -> Result<(), Exampl
         }
         _ => return Err(ExampleFail::Line(number)),
     }
+    Ok(())
+}
+
+/// How the history of the low program's run is changed before it is replayed.
+fn read_replay(example: &mut Example, rest: &str, number: u32) -> Result<(), ExampleFail> {
+    let change = match rest {
+        "whole" => Change::Whole,
+        "cut" => Change::Cut,
+        "without one" => Change::Without,
+        "swapped" => Change::Swapped,
+        "early" => Change::Early,
+        _ => return Err(ExampleFail::Line(number)),
+    };
+    example.replays.push(change)?;
     Ok(())
 }
 

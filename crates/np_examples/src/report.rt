@@ -1,7 +1,8 @@
 //! What is printed of a call that did not do what was wanted.
 
+use super::change::Change;
 use super::example::{Example, Outcome};
-use super::trial::Came;
+use super::trial::{Call, Came};
 use std::io;
 
 /// The most bytes of a text that are printed.
@@ -12,14 +13,14 @@ pub(crate) fn tell_failure(
     rt: &impl Print,
     file: &str,
     example: &Example,
-    words: &str,
-    source: Option<&str>,
+    call: &Call<'_>,
     came: &Came,
 ) -> io::Result<()> {
     let (line, title) = (example.line, example.title.as_str());
     println!(rt; "FAILED {file}:{line} {title}")?;
+    let words = call.words;
     println!(rt; "  words: {words}")?;
-    if let Some(source) = source {
+    if let Some(source) = call.source {
         tell_bytes(rt, "source", source.as_bytes())?;
     }
     println!(rt; "  wanted status {}, came {}", example.status, came.status)?;
@@ -27,6 +28,29 @@ pub(crate) fn tell_failure(
     tell_wanted(rt, example)?;
     tell_bytes(rt, "out", came.out.bytes())?;
     tell_bytes(rt, "err", came.err.bytes())
+}
+
+/// Prints where the example stands, and at which place of the history a change was not answered as it has to be.
+pub(crate) fn tell_replay(
+    rt: &impl Print,
+    file: &str,
+    example: &Example,
+    change: Change,
+    place: usize,
+) -> io::Result<()> {
+    let (line, title) = (example.line, example.title.as_str());
+    println!(rt; "FAILED {file}:{line} {title}")?;
+    println!(rt; "  replays {}: wrong at {place}", word_of(change))
+}
+
+fn word_of(change: Change) -> &'static str {
+    match change {
+        Change::Whole => "whole",
+        Change::Cut => "cut",
+        Change::Without => "without one",
+        Change::Swapped => "swapped",
+        Change::Early => "early",
+    }
 }
 
 fn tell_events(rt: &impl Print, example: &Example, came: &Came) -> io::Result<()> {

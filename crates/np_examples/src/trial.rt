@@ -12,6 +12,16 @@ use std::thread::Threads;
 /// How many bytes may be written to a sink.
 const ROOM: usize = 2_097_152;
 
+/// A call of np.
+#[derive(Clone, Copy)]
+pub struct Call<'a> {
+    pub words: &'a str,
+    /// The text `a`, where it is none of the example's texts.
+    pub source: Option<&'a str>,
+    /// The text `h`, where it is none of the example's texts.
+    pub history: Option<&'a [u8]>,
+}
+
 /// What came of a call.
 #[derive(Drop)]
 pub struct Came {
@@ -41,18 +51,21 @@ fn hold(alloc: Global, texts: &mut MemTexts, name: &str, bytes: &[u8]) -> Result
     texts.add(name, bytes)
 }
 
-/// The texts of an example, and the source under the name `a`.
+/// The texts of an example and of a call.
 fn hold_all(
     alloc: Global,
     texts: &mut MemTexts,
     example: &Example,
-    source: Option<&str>,
+    call: &Call<'_>,
 ) -> Result<(), Memory> {
     for text in example.texts.iter() {
         hold(alloc, texts, text.name.as_str(), text.bytes.as_slice())?;
     }
-    if let Some(source) = source {
+    if let Some(source) = call.source {
         hold(alloc, texts, "a", source.as_bytes())?;
+    }
+    if let Some(history) = call.history {
+        hold(alloc, texts, "h", history)?;
     }
     for call in example.devices.texts.iter() {
         texts.fail(*call)?;
@@ -74,17 +87,16 @@ pub(crate) fn sink_of(
     Ok(sink)
 }
 
-/// What comes of the call with these words and this source.
+/// What comes of a call.
 pub(crate) fn came_of<R: Threads + Wait + Sync>(
     rt: &R,
     alloc: Global,
     example: &Example,
-    words: &str,
-    source: Option<&str>,
+    call: &Call<'_>,
 ) -> Result<Came, ExampleFail> {
-    let words = words_of(alloc, words)?;
+    let words = words_of(alloc, call.words)?;
     let mut texts = MemTexts::new(alloc);
-    hold_all(alloc, &mut texts, example, source)?;
+    hold_all(alloc, &mut texts, example, call)?;
     let devices = &example.devices;
     let mut out = sink_of(alloc, devices.piece, devices.out.as_slice())?;
     let mut err = sink_of(alloc, devices.piece, devices.err.as_slice())?;
