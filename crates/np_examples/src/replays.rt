@@ -8,13 +8,11 @@ use super::report::tell_replay;
 use super::tally::Tally;
 use super::trial::{Call, Came, came_of};
 use history_text::write_history;
+use np_run::{BAD_HISTORY, DONE};
 use np_syntax::{Event, Kind};
 use std::alloc::{AllocError, Global};
 use std::sync::Wait;
 use std::thread::Threads;
-
-/// The exit status where a history is refused.
-const BAD_HISTORY: u8 = 7;
 
 /// The run of the low program of a source.
 #[derive(Clone, Copy)]
@@ -122,7 +120,7 @@ fn follows_cut<R: Threads + Wait + Sync>(
     let events = between(run.events, 0, place);
     let came = replayed(rt, alloc, run, events)?;
     let wanted = text_of(alloc, run.report, events)?;
-    Ok(came.status == 0 && came.out.bytes() == wanted.as_bytes() && came.err.bytes().is_empty())
+    Ok(came.status == DONE && came.out.bytes() == wanted.as_bytes() && came.err.bytes().is_empty())
 }
 
 /// What is written of events that are a run: a line of the report for each Print, and how many they are.
@@ -154,7 +152,7 @@ fn judgement_of<R: Threads + Wait + Sync>(
 fn judged(came: &Came) -> Judgement {
     let out = std::str::from_utf8(came.out.bytes()).unwrap_or("");
     let err = std::str::from_utf8(came.err.bytes()).unwrap_or("");
-    let found = if came.status == 0 && came.err.bytes().is_empty() {
+    let found = if came.status == DONE && came.err.bytes().is_empty() {
         run_of(out)
     } else if came.status == BAD_HISTORY && came.out.bytes().is_empty() {
         stop_of(err)
