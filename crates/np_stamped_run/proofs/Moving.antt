@@ -1,0 +1,146 @@
+-- What flows between sites that run alone is moves of all of them.
+use Rattle.std.proofs.Common.{◌≡◌, ◌<◌, ◌≤◌, ◌==◌, ◌⊎◌, ⊎_elim, ℕ, Bool, true, false, cond, nat_eq, ◌&&◌, List, [], ◌∷◌, ◌++◌, length, drop, map, Option, None, Some, IfSome, option_to_list, filter, refl, sym, ap, ap₂, subst, ◌∙◌, append-nil, arith}
+use mathlib.Core.Path.{fun_ext}
+use Rattle.std.proofs.Math.Seq.{drop-nil}
+use Rattle.std.proofs.lemmas.Bool.{eqb-true}
+use Rattle.std.proofs.lemmas.Bool.Decides.{nat_tests}
+use Rattle.std.proofs.lemmas.List.{map-append}
+use Rattle.std.specs.List.{AllByRecursion}
+use Rattle.np_calculus.specs.Config.{Config}
+use Rattle.np_merged_run.specs.Links.{Item, Linked, Links, Move, Moves, Puts, Takes, with_link}
+use Rattle.np_merged_run.specs.Steps.{with_site}
+use Rattle.np_merged_run.proofs.Steps.{with-site-same, false_eq}
+use Rattle.np_stamped_run.specs.Deeds.{Deed, Leads, StampedItem, plain}
+use Rattle.np_stamped_run.proofs.Flowing.{Flows, Waiting, each_site, moved, own, own-here, own-there, puts_at, takes, takes-here, takes_at, without}
+
+abbrev pub move_of : Deed → Move
+move_of d = record { event = d.event.event; taken = plain d.taken; put = plain d.put }
+
+abbrev pub items_of : List StampedItem → List Item
+items_of = map (λ x. x.item)
+
+-- the event is of one of n sites, and puts nothing on its way to another
+pub record IsAmong (n : ℕ) (d : Deed) : Type 0 where
+  pub at : d.event.event.site < n
+  pub to : IfSome d.put (λ x. x.item.receiver < n)
+
+abbrev Shows : Links → Waiting → Type 0
+Shows link w = (u v : ℕ) → link u v ≡ items_of (w u v)
+
+-- ---- tests of two numbers
+
+turned : (a b : ℕ) → nat_eq a b ≡ nat_eq b a
+turned a b = grind (arith, nat_tests)
+
+pub below_or_not : (a n : ℕ) → (a < n) ⊎ (n ≤ a)
+below_or_not a n = grind arith
+
+either_way : {A : Type 0} (t : Bool) (x : A) → cond t x x ≡ x
+either_way true x = refl
+either_way false x = refl
+
+module _ {A : Type 0} where
+  inner_first : (p q : Bool) (xs : List A) → cond q (cond p xs []) [] ≡ cond (p && q) xs []
+  inner_first true q xs = refl
+  inner_first false q xs = either_way q []
+
+  outer_first : (p q : Bool) (xs : List A) → cond p (cond q xs []) [] ≡ cond (p && q) xs []
+  outer_first true q xs = refl
+  outer_first false q xs = refl
+
+both_true : (p q : Bool) → (p && q) ≡ true → (p ≡ true) × (q ≡ true)
+both_true true q h = (refl, h)
+both_true false q h = absurd cc
+
+-- ---- what is taken
+
+takes-one : (u v s : ℕ) (x : StampedItem) → takes_at u v s (Some x) ≡ cond (nat_eq u x.item.sender && nat_eq v s) (x ∷ []) []
+takes-one u v s x =
+    ap₂ (λ p q. cond q (cond p (x ∷ []) []) []) (turned x.item.sender u) (turned s v) ∙ inner_first (nat_eq u x.item.sender) (nat_eq v s) (x ∷ [])
+
+took : (n s : ℕ) (o : Option StampedItem) (link : Links) (w : Waiting) → Shows link w → ((u v : ℕ) → n ≤ u → w u v ≡ [])
+    → ((u v : ℕ) → w u v ≡ takes_at u v s o ++ drop (length (takes_at u v s o)) (w u v))
+    → (between : Links) × Takes n link s (plain o) between × Shows between (λ u v. drop (length (takes_at u v s o)) (w u v))
+took n s None link w shows none front = (
+  link,
+  refl,
+  λ u v. shows u v ∙ ap (λ ts. items_of (drop (length ts) (w u v))) (sym (either_way (s == v) [])),
+)
+took n s (Some x) link w shows none front =
+    let a = x.item.sender in
+    let here : takes_at a s s (Some x) ≡ x ∷ [] = takes-here s x in
+    let ys = drop 1 (w a s) in
+    let is : w a s ≡ x ∷ ys = subst (λ ts. w a s ≡ ts ++ drop (length ts) (w a s)) here (front a s) in
+    let within : a < n = ⊎_elim (λ h. h) (λ h. let e : w a s ≡ [] = none a s h in absurd cc) (below_or_not a n) in
+    (with_link link a s (items_of ys), (items_of ys, within, shows a s ∙ ap items_of is, refl), λ u v. at u v)
+  where
+    at : (u v : ℕ) → with_link link x.item.sender s (items_of (drop 1 (w x.item.sender s))) u v ≡ items_of (drop (length (takes_at u v s (Some x))) (w u v))
+    at u v = on (nat_eq u x.item.sender && nat_eq v s) refl ∙ ap (λ ts. items_of (drop (length ts) (w u v))) (sym (takes-one u v s x))
+      where
+        on : (t : Bool) → (nat_eq u x.item.sender && nat_eq v s) ≡ t
+            → cond t (items_of (drop 1 (w x.item.sender s))) (link u v) ≡ items_of (drop (length (cond t (x ∷ []) [])) (w u v))
+        on true h =
+            let both = both_true (nat_eq u x.item.sender) (nat_eq v s) h in
+            ap₂ (λ u v. items_of (drop 1 (w u v))) (sym (eqb-true u x.item.sender both.0)) (sym (eqb-true v s both.1))
+        on false h = shows u v
+
+-- ---- what is put
+
+puts-one : (u v s : ℕ) (x : StampedItem) → puts_at u v s (Some x) ≡ cond (nat_eq u s && nat_eq v x.item.receiver) (x ∷ []) []
+puts-one u v s x =
+    ap₂ (λ p q. cond p (cond q (x ∷ []) []) []) (turned s u) (turned x.item.receiver v) ∙ outer_first (nat_eq u s) (nat_eq v x.item.receiver) (x ∷ [])
+
+sent : (n s : ℕ) (o : Option StampedItem) (link : Links) (w : Waiting) → Shows link w → IfSome o (λ x. x.item.receiver < n)
+    → (after : Links) × Puts n link s (plain o) after × Shows after (λ u v. w u v ++ puts_at u v s o)
+sent n s None link w shows to = (
+  link,
+  refl,
+  λ u v. shows u v ∙ ap items_of (sym (append-nil (w u v)) ∙ ap (λ xs. w u v ++ xs) (sym (either_way (s == u) []))),
+)
+sent n s (Some x) link w shows to =
+    (with_link link s x.item.receiver (link s x.item.receiver ++ x.item ∷ []), (to, refl), λ u v. at u v)
+  where
+    at : (u v : ℕ) → with_link link s x.item.receiver (link s x.item.receiver ++ x.item ∷ []) u v ≡ items_of (w u v ++ puts_at u v s (Some x))
+    at u v = on (nat_eq u s && nat_eq v x.item.receiver) refl ∙ ap (λ xs. items_of (w u v ++ xs)) (sym (puts-one u v s x))
+      where
+        on : (t : Bool) → (nat_eq u s && nat_eq v x.item.receiver) ≡ t
+            → cond t (link s x.item.receiver ++ x.item ∷ []) (link u v) ≡ items_of (w u v ++ cond t (x ∷ []) [])
+        on true h =
+            let both = both_true (nat_eq u s) (nat_eq v x.item.receiver) h in
+            ap (λ xs. xs ++ x.item ∷ []) (ap₂ link (sym (eqb-true u s both.0)) (sym (eqb-true v x.item.receiver both.1)) ∙ shows u v)
+            ∙ sym (map-append (λ (x : StampedItem). x.item) (w u v) (x ∷ []))
+        on false h = shows u v ∙ ap items_of (sym (append-nil (w u v)))
+
+-- ---- all moves
+
+with-site-other : (here : ℕ → Config) (s u : ℕ) (l : Config) → (u ≡ s → ⊥) → with_site here s l u ≡ here u
+with-site-other here s u l apart = rw (false_eq u s apart) refl
+
+none-moved : (n : ℕ) (w : Waiting) (d : Deed) → d.event.event.site < n → ((u v : ℕ) → n ≤ u → w u v ≡ []) → (u v : ℕ) → n ≤ u → moved w d u v ≡ []
+none-moved n w d at none u v above =
+    let apart : d.event.event.site ≡ u → ⊥ = λ e. omega arith in
+    ap₂ (λ xs t. drop (length (takes u v d)) xs ++ cond t (filter (λ x. x.item.receiver == v) (option_to_list d.put)) []) (none u v above) (false_eq d.event.event.site u apart)
+    ∙ append-nil (drop (length (takes u v d)) [])
+    ∙ drop-nil (length (takes u v d))
+
+pub moves : (n : ℕ) (ds : List Deed) (here end : ℕ → Config) (link : Links) (w rest : Waiting) → AllByRecursion (IsAmong n) ds
+    → ((s : ℕ) → Leads (here s) (own s ds) (end s)) → Shows link w → ((u v : ℕ) → n ≤ u → w u v ≡ []) → Flows w ds rest
+    → Moves n (record { here = here; link = link }) (map move_of ds) (record { here = end; link = λ u v. items_of (rest u v) })
+moves n [] here end link w rest are leads shows none flow =
+    ap₂ (λ h l. record { here = h; link = l }) (fun_ext leads) (fun_ext (λ u. fun_ext (λ v. shows u v ∙ ap items_of (flow u v))))
+moves n (d ∷ ds) here end link w rest are leads shows none flow =
+    let s = d.event.event.site in
+    let own_run = subst (λ es. Leads (here d.event.event.site) es (end d.event.event.site)) (own-here d.event.event.site d ds refl) (leads d.event.event.site) in
+    let t = took n d.event.event.site d.taken link w shows none flow.0 in
+    let p = sent n d.event.event.site d.put t.0 (without w d) t.2 are.0.to in
+    let f : Linked = record { here = with_site here d.event.event.site own_run.0; link = p.0 } in (
+      f,
+      (record { within = are.0.at; between = t.0; takes = t.1; now = own_run.0; step = own_run.1; here = refl; puts = p.1 }),
+      moves n ds (with_site here d.event.event.site own_run.0) end p.0 (moved w d) rest are.1
+          (each_site (λ u. Leads (with_site here d.event.event.site own_run.0 u) (own u ds) (end u)) d.event.event.site
+          (subst (λ l. Leads l (own d.event.event.site ds) (end d.event.event.site)) (sym (with-site-same d.event.event.site here own_run.0)) own_run.2)
+          (λ u apart.
+          subst (λ l. Leads l (own u ds) (end u)) (sym (with-site-other here d.event.event.site u own_run.0 apart))
+          (subst (λ es. Leads (here u) es (end u)) (own-there d.event.event.site d ds refl u apart) (leads u))))
+          p.2 (none-moved n w d are.0.at none) flow.1,
+    )

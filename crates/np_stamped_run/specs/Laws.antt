@@ -1,0 +1,40 @@
+-- The merged histories of sites are a run of the whole (docs/LANGUAGE.md, "History text").
+use Rattle.std.specs.Prelude.{◌≡◌, ◌≢◌, ◌≤◌, ℕ, List, [], map, length, Some}
+use Rattle.std.specs.List.{AllByRecursion}
+use Rattle.np_calculus.specs.Config.{Config}
+use Rattle.np_calculus.specs.Reductions.{run}
+use Rattle.np_merged_run.specs.Steps.{IsSpread}
+use Rattle.stamp_history.specs.Histories.{Recorded}
+use Rattle.run_merge.specs.Laws.{AreHistories}
+use Rattle.run_merge.specs.Merged.{merged, items, said}
+use Rattle.np_stamped_run.specs.Deeds.{SiteRuns, AreSiteRuns, at_start, at_end}
+
+-- the histories have just what the sites did
+pub record AreRecorded (hs : List Recorded) (r : SiteRuns) : Type 0 where
+  pub histories : AreHistories hs
+  pub events : AllByRecursion (λ h. h.events ≡ map (λ d. d.event) (r.deeds h.site)) hs
+  pub others : (s : ℕ) → AllByRecursion (λ h. h.site ≢ s) hs → r.deeds s ≡ []
+
+-- the merged history is a run of the whole, from what the sites have at first to what they and the links have at the end
+abbrev pub MergedIsRun : Type 0
+MergedIsRun = (n : ℕ) (r : SiteRuns) (hs : List Recorded) (c : Config) → AreSiteRuns n r → AreRecorded hs r → IsSpread n (at_start r) c
+    → (d : Config) × (run c (items (merged hs)) ≡ Some d) × IsSpread n (at_end n r) d
+
+-- no stamp is above this number
+pub record AreAtMost (m : ℕ) (hs : List Recorded) (r : SiteRuns) : Type 0 where
+  pub events : AllByRecursion (λ e. e.rank.stamp ≤ m) (merged hs)
+  pub items : (s t : ℕ) → AllByRecursion (λ x. x.stamp ≤ m) (r.rest s t)
+
+-- the stamps of the events, and of the items that are left, are at most the number of all events
+abbrev pub StampsAreFew : Type 0
+StampsAreFew = (n : ℕ) (r : SiteRuns) (hs : List Recorded) → AreSiteRuns n r → AreRecorded hs r → AreAtMost (length (merged hs)) hs r
+
+-- at first nothing is said, and at the end each site has said the values of its history
+pub record IsSaid (hs : List Recorded) (r : SiteRuns) : Type 0 where
+  pub silent : (s : ℕ) → (r.start s).said ≡ []
+  pub values : AllByRecursion (λ h. (r.end h.site).said ≡ map (λ v. (h.site, v)) h.said) hs
+
+-- what is said in the run of the whole is what the histories have as printed, in the order of the merged history
+abbrev pub SaidInOrder : Type 0
+SaidInOrder = (n : ℕ) (r : SiteRuns) (hs : List Recorded) (c d : Config) → AreSiteRuns n r → AreRecorded hs r → IsSaid hs r
+    → IsSpread n (at_start r) c → run c (items (merged hs)) ≡ Some d → IsSpread n (at_end n r) d → d.said ≡ said hs

@@ -1,0 +1,6 @@
+//! Laws of the merged histories of sites that keep clocks: they are a run of the whole.
+#![tactic(auto)]
+
+mod laws;
+
+pub use laws::{law_merged_is_run, law_said_in_order, law_stamps_are_few};
