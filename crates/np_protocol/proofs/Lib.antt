@@ -1,0 +1,10 @@
+pub mod Gives
+pub mod Keeps
+pub mod Kept
+pub mod Moves
+pub mod Phases
+pub mod Places
+pub mod Registers
+pub mod Starts
+pub mod Steps
+pub mod Tallies

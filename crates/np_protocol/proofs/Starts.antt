@@ -1,0 +1,72 @@
+-- The protocol holds of the start.
+use Rattle.std.proofs.Common.{◌≡◌, ◌+◌, ◌≤◌, ℕ, Bool, true, false, cond, None, Some, [], ◌∷◌, is_some, refl, sym, ap, ◌∙◌, arith}
+use Rattle.std.specs.List.{count_by}
+use Rattle.std.proofs.lemmas.List.Elements.{All-from_recursion}
+use Rattle.np_syntax.specs.declared.value.Name.{Name}
+use Rattle.np_tables.specs.Names.{same_name}
+use Rattle.np_tables.proofs.Tables.{same_name-is, same_name-itself}
+use Rattle.np_protocol.specs.Chips.{Service, is_lock, does}
+use Rattle.np_protocol.specs.Columns.{Column, times}
+use Rattle.np_protocol.specs.Laws.{StartsInOrder}
+use Rattle.np_protocol.specs.Phases.{Phase, line, is_present, is_registered, is_moving}
+use Rattle.np_protocol.specs.Protocol.{IsTrueOf, one_if}
+use Rattle.np_protocol.specs.Scenes.{Whereabouts, is_there}
+use Rattle.np_protocol.specs.Starts.{first_scene, first_phase, first_chips}
+use Rattle.np_protocol.proofs.Tallies.{only, tally}
+
+module _ (main lock : Name) (site : ℕ) where
+  row : (t : Bool) (c : Column) → only t (times c (Column.token ∷ [])) ≡ times c (line (cond t Phase.resting Phase.absent))
+  row true c = refl
+  row false c = refl
+
+  placed : (t : Bool) → is_there (cond t (Whereabouts.at site) Whereabouts.nowhere) ≡ is_present (cond t Phase.resting Phase.absent)
+  placed true = refl
+  placed false = refl
+
+  registered : (t : Bool) → is_some (cond t (Some lock) None) ≡ is_registered (cond t Phase.resting Phase.absent)
+  registered true = refl
+  registered false = refl
+
+  its : (l : Name) (t : Bool) → cond t (Some lock) None ≡ Some l → t ≡ true
+  its l true h = refl
+  its l false h = absurd cc
+
+  one_lock : (x : Name) (t : Bool) → one_if (is_lock (cond t (Some lock) None) lock) + one_if (is_moving (cond t Phase.resting Phase.absent)) ≡ one_if (is_registered (cond t Phase.resting Phase.absent))
+  one_lock x true = ap (λ s. one_if s + 0) (same_name-itself lock)
+  one_lock x false = refl
+
+  reports : (t : Bool) (u : ℕ) → cond t Phase.resting Phase.absent ≡ Phase.reporting u → ⊥
+  reports true u h = cc
+  reports false u h = cc
+
+  taken_in : (t : Bool) → is_there (cond t (Whereabouts.at site) Whereabouts.nowhere) ≡ true → 1 ≤ one_if t
+  taken_in true h = omega arith
+  taken_in false h = absurd cc
+
+  serves : (k : Service) → 1 ≤ count_by (does k) (first_chips main lock site)
+  serves Service.registers = omega arith
+  serves Service.grants = omega arith
+  serves Service.notes_moves = omega arith
+  serves Service.passes_on = omega arith
+  serves Service.ends_deliveries = omega arith
+
+  here : cond (same_name main main) (Whereabouts.at site) Whereabouts.nowhere ≡ Whereabouts.at site
+  here = rw (same_name-itself main) refl
+
+  its_lock : cond (same_name main main) (Some lock) None ≡ Some lock
+  its_lock = rw (same_name-itself main) refl
+
+pub starts-in-order : StartsInOrder
+starts-in-order main lock site = record {
+  rows = λ x c. tally (first_chips main lock site) main (Column.token ∷ []) refl x c ∙ row main lock site (same_name x main) c;
+  placed = λ x. placed main lock site (same_name x main);
+  registered = λ x. registered main lock site (same_name x main);
+  apart = λ x y l h i. same_name-is x main (its main lock site l (same_name x main) h) ∙ sym (same_name-is y main (its main lock site l (same_name y main) i));
+  one_map = refl;
+  one_lock = λ x. omega (arith, one_lock main lock site x (same_name x main));
+  travels = λ x u r. absurd (reports main lock site (same_name x main) u r);
+  letters = λ x h. omega (arith, taken_in main lock site (same_name x main) h);
+  services = serves main lock site;
+  true_chips = All-from_recursion (IsTrueOf (first_scene main lock site) (first_phase main)) (first_chips main lock site)
+      (here main lock site, (tt, ((λ a. refl), ((main, its_lock main lock site, here main lock site), (tt, (tt, (tt, (tt, (tt, tt)))))))));
+}

@@ -1,0 +1,9 @@
+pub mod Chips
+pub mod Columns
+pub mod Laws
+pub mod Phases
+pub mod Protocol
+pub mod Rules
+pub mod Scenes
+pub mod Starts
+pub mod Steps
