@@ -5,6 +5,7 @@ pub mod Moves
 pub mod Phases
 pub mod Places
 pub mod Registers
+pub mod Scenes
 pub mod Starts
 pub mod Steps
 pub mod Tallies

@@ -10,7 +10,7 @@ use Rattle.np_protocol.specs.Columns.{Column, times}
 use Rattle.np_protocol.specs.Laws.{StartsInOrder}
 use Rattle.np_protocol.specs.Phases.{Phase, line, is_present, is_registered, is_moving}
 use Rattle.np_protocol.specs.Protocol.{IsTrueOf, one_if}
-use Rattle.np_protocol.specs.Scenes.{Whereabouts, is_there}
+use Rattle.np_protocol.specs.Scenes.{Locks, Whereabouts, is_there}
 use Rattle.np_protocol.specs.Starts.{first_scene, first_phase, first_chips}
 use Rattle.np_protocol.proofs.Tallies.{only, tally}
 
@@ -43,12 +43,12 @@ module _ (main lock : Name) (site : ℕ) where
   taken_in true h = omega arith
   taken_in false h = absurd cc
 
-  serves : (k : Service) → 1 ≤ count_by (does k) (first_chips main lock site)
-  serves Service.registers = omega arith
-  serves Service.grants = omega arith
-  serves Service.notes_moves = omega arith
-  serves Service.passes_on = omega arith
-  serves Service.ends_deliveries = omega arith
+  serves : (map : Locks) (k : Service) → 1 ≤ count_by (does k) (first_chips main lock site map)
+  serves map Service.registers = omega arith
+  serves map Service.grants = omega arith
+  serves map Service.notes_moves = omega arith
+  serves map Service.passes_on = omega arith
+  serves map Service.ends_deliveries = omega arith
 
   here : cond (same_name main main) (Whereabouts.at site) Whereabouts.nowhere ≡ Whereabouts.at site
   here = rw (same_name-itself main) refl
@@ -57,8 +57,8 @@ module _ (main lock : Name) (site : ℕ) where
   its_lock = rw (same_name-itself main) refl
 
 pub starts-in-order : StartsInOrder
-starts-in-order main lock site = record {
-  rows = λ x c. tally (first_chips main lock site) main (Column.token ∷ []) refl x c ∙ row main lock site (same_name x main) c;
+starts-in-order main lock site map same = record {
+  rows = λ x c. tally (first_chips main lock site map) main (Column.token ∷ []) refl x c ∙ row main lock site (same_name x main) c;
   placed = λ x. placed main lock site (same_name x main);
   registered = λ x. registered main lock site (same_name x main);
   apart = λ x y l h i. same_name-is x main (its main lock site l (same_name x main) h) ∙ sym (same_name-is y main (its main lock site l (same_name y main) i));
@@ -66,7 +66,7 @@ starts-in-order main lock site = record {
   one_lock = λ x. omega (arith, one_lock main lock site x (same_name x main));
   travels = λ x u r. absurd (reports main lock site (same_name x main) u r);
   letters = λ x h. omega (arith, taken_in main lock site (same_name x main) h);
-  services = serves main lock site;
-  true_chips = All-from_recursion (IsTrueOf (first_scene main lock site) (first_phase main)) (first_chips main lock site)
-      (here main lock site, (tt, ((λ a. refl), ((main, its_lock main lock site, here main lock site), (tt, (tt, (tt, (tt, (tt, tt)))))))));
+  services = serves main lock site map;
+  true_chips = All-from_recursion (IsTrueOf (first_scene main lock site) (first_phase main)) (first_chips main lock site map)
+      (here main lock site, (tt, (same, ((main, its_lock main lock site, here main lock site), (tt, (tt, (tt, (tt, (tt, tt)))))))));
 }

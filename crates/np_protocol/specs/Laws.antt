@@ -7,8 +7,8 @@ use Rattle.np_protocol.specs.Columns.{Column}
 use Rattle.np_protocol.specs.Phases.{Phase}
 use Rattle.np_protocol.specs.Protocol.{Protocol}
 use Rattle.np_protocol.specs.Rules.{Rule}
-use Rattle.np_protocol.specs.Scenes.{Scene, Whereabouts}
-use Rattle.np_protocol.specs.Starts.{first_scene, first_phase, first_chips}
+use Rattle.np_protocol.specs.Scenes.{Locks, Scene, Whereabouts}
+use Rattle.np_protocol.specs.Starts.{first_chips, first_locks, first_phase, first_scene}
 use Rattle.np_protocol.specs.Steps.{Step}
 
 -- a step that a rule allows keeps the protocol, in the phases that it leads to
@@ -17,7 +17,8 @@ KeepsProtocol = (w next : Scene) (phase : Name → Phase) (before after take giv
     → Protocol w phase before → (then : Name → Phase) × Protocol next then after
 
 abbrev pub StartsInOrder : Type 0
-StartsInOrder = (main lock : Name) (site : ℕ) → Protocol (first_scene main lock site) (first_phase main) (first_chips main lock site)
+StartsInOrder = (main lock : Name) (site : ℕ) (map : Locks) → ((a : Name) → map a ≡ first_locks main lock a)
+    → Protocol (first_scene main lock site) (first_phase main) (first_chips main lock site map)
 
 -- in how many affairs an agent is, its free `currentloc` counted as one
 abbrev pub affairs : Name → List Chip → ℕ

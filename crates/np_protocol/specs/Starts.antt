@@ -17,7 +17,7 @@ abbrev pub first_phase : Name → Name → Phase
 first_phase main q = cond (same_name q main) Phase.resting Phase.absent
 
 -- main's `currentloc` and lock are free, and it takes letters; the daemon has its map and serves
-abbrev pub first_chips : Name → Name → ℕ → List Chip
-first_chips main lock site =
-    Chip.token main site ∷ Chip.takes_letters main ∷ Chip.locks (first_locks main lock) ∷ Chip.free lock site ∷ Chip.serves Service.registers ∷ Chip.serves Service.grants
+abbrev pub first_chips : Name → Name → ℕ → Locks → List Chip
+first_chips main lock site map =
+    Chip.token main site ∷ Chip.takes_letters main ∷ Chip.locks map ∷ Chip.free lock site ∷ Chip.serves Service.registers ∷ Chip.serves Service.grants
     ∷ Chip.serves Service.notes_moves ∷ Chip.serves Service.passes_on ∷ Chip.serves Service.ends_deliveries ∷ []

@@ -1,0 +1,289 @@
+-- The two starts are coupled.
+use Rattle.std.proofs.Common.{◌≡◌, ◌⊎◌, inl, inr, ℕ, Bool, true, false, cond, Option, None, Some, IsSome, List, [], ◌∷◌, length, map as names, refl, sym, ap, subst, ◌∙◌, arith}
+use Rattle.std.specs.List.{All, flat_map}
+use Rattle.std.specs.List.Sorted.{IsPermutation}
+use Rattle.std.proofs.lemmas.List.Sorted.{IsPermutation-refl}
+use Rattle.std.proofs.lemmas.List.Elements.{All-from_recursion, All-nil}
+use Rattle.std.specs.FinMap as map
+use Rattle.std.specs.FinMap.{get-empty, len-empty, len-entries}
+use Rattle.std.specs.Ordering.{nat_cmp}
+use Rattle.std.specs.FinSet as set
+use Rattle.np_syntax.specs.declared.value.Name.{Name}
+use Rattle.np_syntax.specs.declared.program.Program.{Program}
+use Rattle.np_syntax.specs.declared.program.LowProgram.{LowProgram}
+use Rattle.np_syntax.specs.Options.{◌>>=◌}
+use Rattle.np_tables.specs.Names.{NameMap, name_cmp, same_name}
+use Rattle.np_tables.proofs.Tables.{get-none, get-put, put_cases, put_here, born_here, same_name-is, same_name-itself, same_name-swap}
+use Rattle.np_calculus.specs.declared.config.Atom.{Atom}
+use Rattle.np_calculus.specs.declared.config.Packet.{Packet}
+use Rattle.np_calculus.specs.declared.config.Place.{Place}
+use Rattle.np_calculus.specs.declared.config.Place.TheVariants as place
+use Rattle.np_calculus.specs.Config.{Config}
+use Rattle.np_calculus.specs.Parts.{IsMark}
+use Rattle.np_calculus.specs.Sight.{inside}
+use Rattle.np_calculus.specs.Starts.{daemon_agent, daemon_mark, first_atom, main_agent, main_mark, names_alone, own, own_names, start_high, start_low, with_agent}
+use Rattle.np_calculus.proofs.OwnNames.{daemon_mark-born, mark-born, with_all-keeps}
+use Rattle.np_protocol.specs.Chips.{Chip, Service}
+use Rattle.np_protocol.specs.Phases.{Phase}
+use Rattle.np_protocol.specs.Protocol.{Protocol}
+use Rattle.np_protocol.specs.Rules.{IsKnowledge, IsLearnt, Rule}
+use Rattle.np_protocol.specs.Scenes.{Scene, Whereabouts}
+use Rattle.np_protocol.specs.Starts.{first_chips, first_locks, first_phase, first_scene}
+use Rattle.np_protocol.proofs.Keeps.{keeps-protocol}
+use Rattle.np_protocol.proofs.Scenes.{same_scene}
+use Rattle.np_protocol.proofs.Starts.{starts-in-order}
+use Rattle.np_eval.specs.Eval.{find_place}
+use Rattle.np_scope.specs.Sound.{IsSound}
+use Rattle.daemon_encode.specs.Translates.{IsLowOf}
+use Rattle.np_things.specs.Laws.{HasStartThings}
+use Rattle.np_things.specs.Shapes.{Are}
+use Rattle.np_things.specs.Starts.{daemon_things, main_things}
+use Rattle.np_things.specs.Things.{Thing, first_atom_of, first_packet_of, IsHeaded, high_atom, show_all}
+use Rattle.np_things.proofs.Starts.{own-apart, starts-with-things}
+use Rattle.np_levels.specs.Coupled.{Coupled, HasThings, KnowsOnly, View, chips, is_channel, may_know, whereabouts}
+use Rattle.np_levels.specs.Laws.{StartsCoupled}
+use Rattle.np_levels.proofs.Orders.{Reordered, and_then, behind, entries_new, flat, past, permuted}
+
+-- the protocol does not see the order of chips
+pub any_order : (w : Scene) (phase : Name → Phase) (xs ys : List Chip) → IsPermutation ys xs → Protocol w phase xs → (then : Name → Phase) × Protocol w then ys
+any_order w phase xs ys order p =
+    keeps-protocol w w phase xs ys [] [] (Rule.knows (All-nil IsKnowledge) (All-nil (IsLearnt w))) (record { rest = xs; taken = IsPermutation-refl xs; given = order }) p
+
+no_entries : {X : Type 0} → map.entries (map.empty {X = X} {R = name_cmp}) ≡ []
+no_entries {X} = none (map.entries (map.empty {X = X} {R = name_cmp})) (sym (len-entries (map.empty {X = X} {R = name_cmp})) ∙ len-empty name_cmp X)
+  where
+    none : {A : Type 0} (xs : List A) → length xs ≡ 0 → xs ≡ []
+    none [] e = refl
+    none (x ∷ xs) e = absurd (omega arith)
+
+no_value : {A : Type 0} {x : A} → None ≡ Some x → ⊥
+no_value e = cc
+
+module _ (p : Program) (q : LowProgram) (low : IsLowOf p q) (sound : IsSound p) where
+  abbrev n : ℕ
+  n = length p.sites
+
+  abbrev main : Name
+  main = main_agent n
+
+  abbrev daemon : Name
+  daemon = daemon_agent n
+
+  abbrev here : Name
+  here = own n 13
+
+  abbrev things : NameMap (List Thing)
+  things = map.insert (map.insert map.empty (main_mark n) (main_things n p.at p.main)) (daemon_mark n) (daemon_things n p.at)
+
+  -- the starts, with the sites of the program
+  abbrev low_start : Config
+  low_start = with_agent (with_agent (names_alone n) main p.at (main_mark n) q.main) daemon 0 (daemon_mark n) q.daemon
+
+  abbrev high_start : Config
+  high_start = with_agent (names_alone n) main p.at (main_mark n) p.main
+
+  marks-apart : same_name (daemon_mark n) (main_mark n) ≡ false
+  marks-apart = own-apart n 12 11 (λ e. cc)
+
+  daemon-apart : same_name daemon main ≡ false
+  daemon-apart = own-apart n 1 0 (λ e. cc)
+
+  map-is : (a : Name) → find_place ((main, here) ∷ []) a ≡ first_locks main here a
+  map-is a = ap (λ t. cond t (Some here) None) (same_name-swap main a)
+
+  in-order : Reordered (chips things) (first_chips main here p.at (find_place ((main, here) ∷ [])))
+  in-order =
+      let entries = and_then (entries_new (map.insert map.empty (main_mark n) (main_things n p.at p.main)) (daemon_mark n) (daemon_things n p.at) absent)
+      (behind (entries_new map.empty (main_mark n) (main_things n p.at p.main) (get-none (main_mark n)))) in
+      let shown = flat (λ (e : Name × List Thing). show_all e.1) entries in
+      and_then (subst (λ es. Reordered (chips things) (flat_map (λ (e : Name × List Thing). show_all e.1) ((daemon_mark n, daemon_things n p.at) ∷ (main_mark n, main_things n p.at p.main) ∷ es))) no_entries shown)
+      (past (show_all (daemon_things n p.at)) (show_all (main_things n p.at p.main)) [])
+    where
+      absent : map.get (map.insert (map.empty {X = List Thing} {R = name_cmp}) (main_mark n) (main_things n p.at p.main)) (daemon_mark n) ≡ None
+      absent = rw (get-put (map.empty {X = List Thing} {R = name_cmp}) (main_mark n) (main_things n p.at p.main) (daemon_mark n), marks-apart, get-none {X = List Thing} (daemon_mark n)) refl
+
+  -- what the protocol sees of the high start
+  places-are : (x : Name) → cond (same_name x main) (Whereabouts.at p.at) Whereabouts.nowhere ≡ whereabouts (map.get (map.insert (map.empty {X = Place} {R = name_cmp}) main (place.At p.at)) x)
+  places-are x = go (same_name x main) ∙ sym (ap whereabouts (get-put (map.empty {X = Place} {R = name_cmp}) main (place.At p.at) x ∙ ap (cond (same_name x main) (Some (place.At p.at))) (get-none {X = Place} x)))
+    where
+      go : (t : Bool) → cond t (Whereabouts.at p.at) Whereabouts.nowhere ≡ whereabouts (cond t (Some (place.At p.at)) None)
+      go true = refl
+      go false = refl
+
+  abbrev Ordered : Type 0
+  Ordered = (then : Name → Phase) × Protocol (record { place = λ x. whereabouts (map.get high_start.places x); lock = first_locks main here }) then (chips things)
+
+  ordered : Ordered
+  ordered = any_order _ (first_phase main) (first_chips main here p.at (find_place ((main, here) ∷ []))) (chips things) (permuted in-order)
+      (same_scene (first_scene main here p.at) _ (first_phase main) _ places-are (λ x. refl) (starts-in-order main here p.at (find_place ((main, here) ∷ [])) map-is))
+
+  abbrev view : View
+  view = record { things = things; stands_for = λ m. m; lock = first_locks main here; phase = ordered.0 }
+
+  -- ---- what stands under which name
+
+  its-place : (x : Name) (t u : Bool) → same_name x daemon ≡ t → same_name x main ≡ u → IsSome (cond t (Some (place.At 0)) (cond u (Some (place.At p.at)) None)) → set.contains (own_names n) x ≡ true
+  its-place x true u e f h = ap (set.contains (own_names n)) (same_name-is x daemon e) ∙ own-born 1 refl
+    where
+      own-born : (i : ℕ) → i ≡ 1 → set.contains (own_names n) (own n 1) ≡ true
+      own-born i e = with_all-keeps _ (names (own n) (2 ∷ 3 ∷ 4 ∷ 5 ∷ 6 ∷ 7 ∷ 8 ∷ 9 ∷ 10 ∷ 11 ∷ 12 ∷ 13 ∷ 14 ∷ 15 ∷ 16 ∷ [])) (own n 1) (born_here _ (own n 1))
+  its-place x false true e f h = ap (set.contains (own_names n)) (same_name-is x main f) ∙ own-born
+    where
+      own-born : set.contains (own_names n) (own n 0) ≡ true
+      own-born = with_all-keeps _ (names (own n) (1 ∷ 2 ∷ 3 ∷ 4 ∷ 5 ∷ 6 ∷ 7 ∷ 8 ∷ 9 ∷ 10 ∷ 11 ∷ 12 ∷ 13 ∷ 14 ∷ 15 ∷ 16 ∷ [])) (own n 0) (born_here _ (own n 0))
+  its-place x false false e f h = absurd cc
+
+  -- a name in the table of low atoms, and its things
+  data AtStart (m : Name) (x : Atom) : Type 0 where
+    at_main : m ≡ main_mark n → x ≡ first_atom main q.main → AtStart m x
+    at_daemon : m ≡ daemon_mark n → x ≡ first_atom daemon q.daemon → AtStart m x
+
+  low-atom : (m : Name) (x : Atom) → map.get low_start.atoms m ≡ Some x → AtStart m x
+  low-atom m x h = first (put_cases (map.insert (map.empty {X = Atom} {R = name_cmp}) (main_mark n) (first_atom main q.main)) (daemon_mark n) (first_atom daemon q.daemon) m x h)
+    where
+      second : ((m ≡ main_mark n) × (x ≡ first_atom main q.main)) ⊎ (map.get (map.empty {X = Atom} {R = name_cmp}) m ≡ Some x) → AtStart m x
+      second (inl e) = AtStart.at_main e.0 e.1
+      second (inr h) = absurd (no_value (sym (get-none m) ∙ h))
+
+      first : ((m ≡ daemon_mark n) × (x ≡ first_atom daemon q.daemon)) ⊎ (map.get (map.insert (map.empty {X = Atom} {R = name_cmp}) (main_mark n) (first_atom main q.main)) m ≡ Some x) → AtStart m x
+      first (inl e) = AtStart.at_daemon e.0 e.1
+      first (inr h) = second (put_cases (map.empty {X = Atom} {R = name_cmp}) (main_mark n) (first_atom main q.main) m x h)
+
+  data ThingsAtStart (m : Name) (ts : List Thing) : Type 0 where
+    of_main : m ≡ main_mark n → ts ≡ main_things n p.at p.main → ThingsAtStart m ts
+    of_daemon : m ≡ daemon_mark n → ts ≡ daemon_things n p.at → ThingsAtStart m ts
+
+  its-things : (m : Name) (ts : List Thing) → map.get things m ≡ Some ts → ThingsAtStart m ts
+  its-things m ts h = first (put_cases (map.insert (map.empty {X = List Thing} {R = name_cmp}) (main_mark n) (main_things n p.at p.main)) (daemon_mark n) (daemon_things n p.at) m ts h)
+    where
+      second : ((m ≡ main_mark n) × (ts ≡ main_things n p.at p.main)) ⊎ (map.get (map.empty {X = List Thing} {R = name_cmp}) m ≡ Some ts) → ThingsAtStart m ts
+      second (inl e) = ThingsAtStart.of_main e.0 e.1
+      second (inr h) = absurd (no_value (sym (get-none m) ∙ h))
+
+      first : ((m ≡ daemon_mark n) × (ts ≡ daemon_things n p.at)) ⊎ (map.get (map.insert (map.empty {X = List Thing} {R = name_cmp}) (main_mark n) (main_things n p.at p.main)) m ≡ Some ts) → ThingsAtStart m ts
+      first (inl e) = ThingsAtStart.of_daemon e.0 e.1
+      first (inr h) = second (put_cases (map.empty {X = List Thing} {R = name_cmp}) (main_mark n) (main_things n p.at p.main) m ts h)
+
+  abbrev two : {X : Type 0} → X → X → NameMap X
+  two x y = map.insert (map.insert map.empty (main_mark n) x) (daemon_mark n) y
+
+  at-daemon : {X : Type 0} (x y : X) → map.get (two x y) (daemon_mark n) ≡ Some y
+  at-daemon x y = put_here (map.insert map.empty (main_mark n) x) (daemon_mark n) y
+
+  at-main : {X : Type 0} (x y : X) → map.get (two x y) (main_mark n) ≡ Some x
+  at-main {X} x y = rw (get-put (map.insert (map.empty {X = X} {R = name_cmp}) (main_mark n) x) (daemon_mark n) y (main_mark n), same_name-swap (main_mark n) (daemon_mark n), marks-apart, put_here (map.empty {X = X} {R = name_cmp}) (main_mark n) x) refl
+
+  are : HasStartThings p q low.first
+  are = starts-with-things p q low sound
+
+  has-things : (m : Name) (x : Atom) → AtStart m x → HasThings n p.binders low.first things m x
+  has-things m x (AtStart.at_main e f) = record {
+    its = main_things n p.at p.main;
+    there = ap (map.get things) e ∙ at-main (main_things n p.at p.main) (daemon_things n p.at);
+    are = subst (λ a. Are n p.binders low.first a (main_things n p.at p.main)) (sym f) are.main;
+  }
+  has-things m x (AtStart.at_daemon e f) = record {
+    its = daemon_things n p.at;
+    there = ap (map.get things) e ∙ at-daemon (main_things n p.at p.main) (daemon_things n p.at);
+    are = subst (λ a. Are n p.binders low.first a (daemon_things n p.at)) (sym f) are.daemon;
+  }
+
+  some-at : {X : Type 0} (o : Option X) (x : X) → o ≡ Some x → IsSome o
+  some-at o x e = rw e refl
+
+  has-mark : (m : Name) (ts : List Thing) → ThingsAtStart m ts → IsMark (inside low_start) m
+  has-mark m ts (ThingsAtStart.of_main e f) = inl (some-at _ (first_atom main q.main) (ap (map.get low_start.atoms) e ∙ at-main (first_atom main q.main) (first_atom daemon q.daemon)))
+  has-mark m ts (ThingsAtStart.of_daemon e f) = inl (some-at _ (first_atom daemon q.daemon) (ap (map.get low_start.atoms) e ∙ at-daemon (first_atom main q.main) (first_atom daemon q.daemon)))
+
+  is-headed : (m : Name) (ts : List Thing) → ThingsAtStart m ts → IsHeaded ts
+  is-headed m ts (ThingsAtStart.of_main e f) = subst IsHeaded (sym f) (All-from_recursion (λ u. high_atom u ≡ None) (Thing.token main p.at ∷ Thing.letters main ∷ []) (refl, (refl, tt)))
+  is-headed m ts (ThingsAtStart.of_daemon e f) = subst IsHeaded (sym f) (All-from_recursion (λ u. high_atom u ≡ None)
+      (Thing.free here p.at ∷ Thing.serving Service.registers ∷ Thing.serving Service.grants ∷ Thing.serving Service.notes_moves ∷ Thing.serving Service.passes_on ∷ Thing.serving Service.ends_deliveries ∷ [])
+      (refl, (refl, (refl, (refl, (refl, (refl, tt)))))))
+
+  up : (m : Name) (o : Option (List Thing)) (x : Atom) → map.get things m ≡ o → (o >>= first_atom_of) ≡ Some x → map.get high_start.atoms m ≡ Some x
+  up m None x e h = absurd (no_value h)
+  up m (Some ts) x e h = go (its-things m ts e)
+    where
+      go : ThingsAtStart m ts → map.get high_start.atoms m ≡ Some x
+      go (ThingsAtStart.of_main e f) = ap (map.get high_start.atoms) e ∙ put_here (map.empty {X = Atom} {R = name_cmp}) (main_mark n) (first_atom main p.main) ∙ ap first_atom_of (sym f) ∙ h
+      go (ThingsAtStart.of_daemon e f) = absurd (no_value (ap first_atom_of (sym f) ∙ h))
+
+  down : (k : Name) (x : Atom) → map.get high_start.atoms k ≡ Some x → (m : Name) × (m ≡ k) × ((map.get things m >>= first_atom_of) ≡ Some x)
+  down k x h = go (put_cases (map.empty {X = Atom} {R = name_cmp}) (main_mark n) (first_atom main p.main) k x h)
+    where
+      go : ((k ≡ main_mark n) × (x ≡ first_atom main p.main)) ⊎ (map.get (map.empty {X = Atom} {R = name_cmp}) k ≡ Some x) → (m : Name) × (m ≡ k) × ((map.get things m >>= first_atom_of) ≡ Some x)
+      go (inl e) = (k, refl, ap (λ m. map.get things m >>= first_atom_of) e.0 ∙ ap (λ o. o >>= first_atom_of) (at-main (main_things n p.at p.main) (daemon_things n p.at)) ∙ ap Some (sym e.1))
+      go (inr h) = absurd (no_value (sym (get-none k) ∙ h))
+
+  no-packet : (m : Name) (o : Option (List Thing)) (k : Packet) → map.get things m ≡ o → (o >>= first_packet_of) ≡ Some k → ⊥
+  no-packet m None k e h = no_value h
+  no-packet m (Some ts) k e h = go (its-things m ts e)
+    where
+      go : ThingsAtStart m ts → ⊥
+      go (ThingsAtStart.of_main e f) = no_value (ap first_packet_of (sym f) ∙ h)
+      go (ThingsAtStart.of_daemon e f) = no_value (ap first_packet_of (sym f) ∙ h)
+
+  is-known : (m : Name) (ts : List Thing) → ThingsAtStart m ts → All (λ t. KnowsOnly (may_know (first_locks main here) (chips things) t) (is_channel n high_start.born) p.binders t) ts
+  is-known m ts (ThingsAtStart.of_main e f) = subst (All (λ t. KnowsOnly (may_know (first_locks main here) (chips things) t) (is_channel n high_start.born) p.binders t)) (sym f)
+      (All-from_recursion (λ t. KnowsOnly (may_know (first_locks main here) (chips things) t) (is_channel n high_start.born) p.binders t) (main_things n p.at p.main)
+      (record { each = λ x v b h. absurd (no_value (sym (get-empty nat_cmp x) ∙ h)) }, (tt, (tt, tt))))
+  is-known m ts (ThingsAtStart.of_daemon e f) = subst (All (λ t. KnowsOnly (may_know (first_locks main here) (chips things) t) (is_channel n high_start.born) p.binders t)) (sym f)
+      (All-from_recursion (λ t. KnowsOnly (may_know (first_locks main here) (chips things) t) (is_channel n high_start.born) p.binders t) (daemon_things n p.at)
+      (tt, (tt, (tt, (tt, (tt, (tt, (tt, tt))))))))
+
+  its-lock : (a l : Name) (t : Bool) → cond t (Some here) None ≡ Some l → l ≡ here
+  its-lock a l true h = cc
+  its-lock a l false h = absurd cc
+
+  here-born : set.contains (own_names n) here ≡ true
+  here-born = with_all-keeps _ (names (own n) (14 ∷ 15 ∷ 16 ∷ [])) here (born_here _ here)
+
+  coupled : Coupled n p.binders low.first low_start high_start view
+  coupled = record {
+    low_sites = refl;
+    high_sites = refl;
+    daemon = put_here (map.insert (map.empty {X = Place} {R = name_cmp}) main (place.At p.at)) daemon (place.At 0);
+    no_daemon = rw (get-put (map.empty {X = Place} {R = name_cmp}) main (place.At p.at) daemon, daemon-apart, get-none {X = Place} daemon) refl;
+    places = λ x e. rw (get-put (map.insert (map.empty {X = Place} {R = name_cmp}) main (place.At p.at)) daemon (place.At 0) x, e) refl;
+    said = refl;
+    born = λ x h. h;
+    own_born = λ x h. h;
+    stand_born = record { agents = born-agents; marks = born-marks };
+    atoms = λ m x h. has-things m x (low-atom m x h);
+    packets = λ m k h. absurd (no_value (sym (get-none m) ∙ h));
+    marks = λ m ts h. has-mark m ts (its-things m ts h);
+    headed = λ m ts h. is-headed m ts (its-things m ts h);
+    mirrored = record { up = λ m x h. up m (map.get things m) x refl h; down = down };
+    mirrored_packets = record { up = λ m k h. absurd (no-packet m (map.get things m) k refl h); down = λ m k h. absurd (no_value (sym (get-none m) ∙ h)) };
+    distinct = λ m k ts us h i e. e;
+    protocol = ordered.1;
+    locks_born = λ a l h. ap (set.contains (own_names n)) (its-lock a l (same_name a main) h) ∙ here-born;
+    locks_apart = λ a i h. ap (λ (x : Name). x.n) (its-lock a (own n i) (same_name a main) h);
+    main = rw (same_name-itself main) refl;
+    known = λ m ts h. is-known m ts (its-things m ts h);
+  }
+    where
+      born-agents : (x : Name) → IsSome (map.get low_start.places x) → set.contains (own_names n) x ≡ true
+      born-agents x h = its-place x (same_name x daemon) (same_name x main) refl refl
+          (subst IsSome (get-put (map.insert (map.empty {X = Place} {R = name_cmp}) main (place.At p.at)) daemon (place.At 0) x
+          ∙ ap (cond (same_name x daemon) (Some (place.At 0))) (get-put (map.empty {X = Place} {R = name_cmp}) main (place.At p.at) x ∙ ap (cond (same_name x main) (Some (place.At p.at))) (get-none x))) h)
+
+      at-start : (m : Name) (o : Option Atom) → map.get low_start.atoms m ≡ o → IsSome o → set.contains (own_names n) m ≡ true
+      at-start m None e h = absurd cc
+      at-start m (Some x) e h = go (low-atom m x e)
+        where
+          go : AtStart m x → set.contains (own_names n) m ≡ true
+          go (AtStart.at_main e f) = ap (set.contains (own_names n)) e ∙ mark-born n
+          go (AtStart.at_daemon e f) = ap (set.contains (own_names n)) e ∙ daemon_mark-born n
+
+      born-marks : (m : Name) → IsMark (inside low_start) m → set.contains (own_names n) m ≡ true
+      born-marks m (inl h) = at-start m (map.get low_start.atoms m) refl h
+      born-marks m (inr h) = absurd (let none = subst IsSome (get-none {X = Packet} m) h in cc)
+
+pub starts-coupled : StartsCoupled
+unfolding start_low start_high
+starts-coupled p q low sound = (view p q low sound, subst (λ (c : Config). Coupled (length p.sites) p.binders low.first c (start_high p) (view p q low sound)) (sym same) (coupled p q low sound))
+  where
+    same : start_low q ≡ low_start p q low sound
+    same = λ i. let m : ℕ = length (low.sites i) in with_agent (with_agent (names_alone m) (main_agent m) (low.at i) (main_mark m) q.main) (daemon_agent m) 0 (daemon_mark m) q.daemon

@@ -1,0 +1,132 @@
+-- The invariant between the two levels: how a configuration of the low program of a source belongs to one of the source itself
+-- (docs/LANGUAGE.md, "Translation and daemon"). Here n is the number of sites, the source's binders are below `from`, and the daemon's are numbered
+-- from `first`.
+use Rattle.std.specs.Prelude.{◌≡◌, ℕ, Bool, true, false, not, ◌||◌, ◌&&◌, is_some, Option, None, Some, List, [], ◌∷◌}
+use Rattle.std.specs.List.{All, flat_map, list_any}
+use Rattle.std.specs.FinMap as map
+use Rattle.std.specs.FinSet as set
+use Rattle.np_syntax.specs.declared.value.Name.{Name}
+use Rattle.np_syntax.specs.Options.{◌>>=◌}
+use Rattle.np_tables.specs.Names.{NameMap, NameSet, same_name}
+use Rattle.np_calculus.specs.declared.config.Atom.{Atom}
+use Rattle.np_calculus.specs.declared.config.Packet.{Packet}
+use Rattle.np_calculus.specs.declared.config.Place.{Place}
+use Rattle.np_calculus.specs.declared.config.Place.TheVariants as place
+use Rattle.np_calculus.specs.Config.{Config}
+use Rattle.np_calculus.specs.Parts.{AreBorn, IsMark}
+use Rattle.np_calculus.specs.Sight.{inside}
+use Rattle.np_calculus.specs.Starts.{daemon_agent, main_agent, own, own_names}
+use Rattle.np_protocol.specs.Chips.{Chip}
+use Rattle.np_protocol.specs.Phases.{Phase}
+use Rattle.np_protocol.specs.Protocol.{Protocol}
+use Rattle.np_protocol.specs.Scenes.{Locks, Scene, Whereabouts}
+use Rattle.np_source_values.specs.Known.{IsKnown, Knows}
+use Rattle.np_things.specs.Mail.{Posted}
+use Rattle.np_things.specs.Shapes.{Are, IsUnderWay}
+use Rattle.np_things.specs.Things.{Thing, carried, first_atom_of, first_packet_of, IsHeaded, show_all}
+use Rattle.np_levels.specs.Mirrors.{Mirrors}
+
+-- What is told of the two configurations besides: the things under each mark of the low level, the mark of the high level for which each stands
+-- (itself, as long as no infrastructure passes a mark on), the agents' locks, and the phases of their affairs.
+pub record View : Type 0 where
+  pub things : NameMap (List Thing)
+  pub stands_for : Name → Name
+  pub lock : Locks
+  pub phase : Name → Phase
+
+-- ---- what the protocol sees
+
+abbrev pub whereabouts : Option Place → Whereabouts
+whereabouts None = Whereabouts.nowhere
+whereabouts (Some (place.At s)) = Whereabouts.at s
+whereabouts (Some (place.Way s)) = Whereabouts.under_way s
+
+-- the agents' places are those of the high level: the daemon is no agent of the protocol
+abbrev pub scene : View → Config → Scene
+scene v high = record { place = λ q. whereabouts (map.get high.places q); lock = v.lock }
+
+abbrev pub chips : NameMap (List Thing) → List Chip
+chips things = flat_map (λ e. show_all e.1) (map.entries things)
+
+-- ---- what is known
+
+-- the channels of the high level: none of the infrastructure's
+abbrev pub is_channel : ℕ → NameSet → Name → Bool
+is_channel n born c = set.contains born c && not (set.contains (own_names n) c)
+
+abbrev pub is_child_of : Name → Name → Chip → Bool
+is_child_of a b (Chip.child c p s) = same_name c b && same_name p a
+is_child_of a b _ = false
+
+-- The agents that may be known: those in the daemon's map. A new agent knows itself, and one that waits knows the agents that it made and that
+-- have not told it yet: neither goes on before the daemon has them in its map.
+abbrev pub may_know : Locks → List Chip → Thing → Name → Bool
+may_know lock cs (Thing.settling a h s) b = is_some (lock b) || list_any (is_child_of h.agent b) cs
+may_know lock cs (Thing.beginning a h p s) b = is_some (lock b) || same_name b h.agent
+may_know lock cs t b = is_some (lock b)
+
+abbrev pub KnowsLetter : (Name → Bool) → (Name → Bool) → Option Posted → Type 0
+KnowsLetter agents chans None = Unit {0}
+KnowsLetter agents chans (Some p) = (chans p.chan ≡ true) × IsKnown agents chans p.value
+
+-- what a thing has of the high level knows these agents and channels alone
+abbrev pub KnowsOnly : (Name → Bool) → (Name → Bool) → ℕ → Thing → Type 0
+KnowsOnly agents chans from (Thing.source a h) = Knows agents chans from h.env
+KnowsOnly agents chans from (Thing.asking a h) = Knows agents chans from h.env
+KnowsOnly agents chans from (Thing.leaving a h) = Knows agents chans from h.env
+KnowsOnly agents chans from (Thing.settling a h s) = Knows agents chans from h.env
+KnowsOnly agents chans from (Thing.making a h s) = Knows agents chans from h.env
+KnowsOnly agents chans from (Thing.beginning a h p s) = Knows agents chans from h.env
+KnowsOnly agents chans from (Thing.opened p) = KnowsLetter agents chans (Some p)
+KnowsOnly agents chans from (Thing.packet k) = (agents k.agent ≡ true) × (chans k.chan ≡ true) × IsKnown agents chans k.value
+KnowsOnly agents chans from t = KnowsLetter agents chans (carried t)
+
+-- ---- the invariant
+
+-- the things of an atom, and that of a packet
+pub record HasThings (n from first : ℕ) (things : NameMap (List Thing)) (m : Name) (a : Atom) : Type 0 where
+  pub its : List Thing
+  pub there : map.get things m ≡ Some its
+  pub are : Are n from first a its
+
+pub record HasThing (n : ℕ) (things : NameMap (List Thing)) (m : Name) (k : Packet) : Type 0 where
+  pub its : Thing
+  pub there : map.get things m ≡ Some (its ∷ [])
+  pub is : IsUnderWay n its k
+
+pub record Coupled (n from first : ℕ) (low high : Config) (v : View) : Type 0 where
+  -- both are of one program; so the sites that expressions name are the same
+  pub low_sites : low.sites ≡ n
+  pub high_sites : high.sites ≡ n
+  -- agents are at the same places, so what is at a site for the one is so for the other; the daemon stands at site 0, so what is sent to it lands
+  pub daemon : map.get low.places (daemon_agent n) ≡ Some (place.At 0)
+  pub no_daemon : map.get high.places (daemon_agent n) ≡ None
+  pub places : (q : Name) → same_name q (daemon_agent n) ≡ false → map.get low.places q ≡ map.get high.places q
+  -- the same was printed
+  pub said : low.said ≡ high.said
+  -- a name that is new to the low level is new to the high one, and is no own name
+  pub born : (q : Name) → set.contains high.born q ≡ true → set.contains low.born q ≡ true
+  pub own_born : (q : Name) → set.contains (own_names n) q ≡ true → set.contains high.born q ≡ true
+  -- a name that is made is no mark and no agent yet: what is put under it puts nothing else away
+  pub stand_born : AreBorn low
+  -- each atom and each packet is there for something, and nothing else is
+  pub atoms : (m : Name) (a : Atom) → map.get low.atoms m ≡ Some a → HasThings n from first v.things m a
+  pub packets : (m : Name) (k : Packet) → map.get low.packets m ≡ Some k → HasThing n v.things m k
+  pub marks : (m : Name) (ts : List Thing) → map.get v.things m ≡ Some ts → IsMark (inside low) m
+  -- of the things under one mark the first alone may be of the high level: so the atoms of the source keep their marks
+  pub headed : (m : Name) (ts : List Thing) → map.get v.things m ≡ Some ts → IsHeaded ts
+  -- the high level has the atoms and packets that the things are, and no others: so what acts at the low level for the source acts at the high one
+  pub mirrored : Mirrors v.stands_for (λ m. map.get v.things m >>= first_atom_of) (map.get high.atoms)
+  pub mirrored_packets : Mirrors v.stands_for (λ m. map.get v.things m >>= first_packet_of) (map.get high.packets)
+  -- marks that stand for one mark are one: so an event takes from the high level what it takes from the low one
+  pub distinct : (m k : Name) (ts us : List Thing) → map.get v.things m ≡ Some ts → map.get v.things k ≡ Some us → v.stands_for m ≡ v.stands_for k → m ≡ k
+  -- phases, locks, sites that are told, and the map
+  pub protocol : Protocol (scene v high) v.phase (chips v.things)
+  -- a lock is no name of the infrastructure but main's: so nothing else is taken for it; and a new name is no lock
+  pub locks_born : (a l : Name) → v.lock a ≡ Some l → set.contains low.born l ≡ true
+  pub locks_apart : (a : Name) (i : ℕ) → v.lock a ≡ Some (own n i) → i ≡ 13
+  -- main is in the map: it may be known to all
+  pub main : is_some (v.lock (main_agent n)) ≡ true
+  -- the source knows no agent that is not in the map, so each post finds its agent; and no channel of the infrastructure, so none meets the source's
+  pub known : (m : Name) (ts : List Thing) → map.get v.things m ≡ Some ts
+      → All (λ t. KnowsOnly (may_know v.lock (chips v.things) t) (is_channel n high.born) from t) ts

@@ -1,0 +1,3 @@
+pub mod Coupled
+pub mod Laws
+pub mod Mirrors

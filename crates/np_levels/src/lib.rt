@@ -1,0 +1,6 @@
+//! The invariant between the two levels: how a configuration of a low program belongs to one of its source.
+#![tactic(auto)]
+
+mod laws;
+
+pub use laws::law_coupled_starts;

@@ -1,0 +1,6 @@
+pub mod Desks
+pub mod Laws
+pub mod Mail
+pub mod Shapes
+pub mod Starts
+pub mod Things
