@@ -68,23 +68,27 @@ module _ {S : Type 0} where
       at_one true f h = ap (line_of old) (sym (same_errand-is e f h)) ∙ ap (λ o. unwrap_or o set.empty) (sym none) ∙ sym (empty-cut m) ∙ ap (λ o. set.remove (unwrap_or o set.empty) m) none
       at_one false f h = refl
 
-  -- a line whose last mark has left may be given up
-  pub leave_last : (old mid new : IndexMap Errand NameSet S) (e : Errand) (m : Name) (line left : NameSet) → Some line ≡ index_map.get same_errand old e
-      → left ≡ set.remove line m → left ≡ set.empty
-      → (IsSome (index_map.get same_errand old e) → (f : Errand) → index_map.get same_errand mid f ≡ cond (same_errand e f) (Some left) (index_map.get same_errand old f))
-      → ((f : Errand) → index_map.get same_errand new f ≡ cond (same_errand e f) None (index_map.get same_errand mid f))
+  -- a write of the line that a mark has left
+  pub leave_line : (old new : IndexMap Errand NameSet S) (e : Errand) (m : Name) (line left : NameSet) → Some line ≡ index_map.get same_errand old e → left ≡ set.remove line m
+      → (IsSome (index_map.get same_errand old e) → (f : Errand) → index_map.get same_errand new f ≡ cond (same_errand e f) (Some left) (index_map.get same_errand old f))
       → SetsLine old new e (set.remove (line_of old e) m)
-  leave_last old mid new e m line left there is empty write cut = record {
-    at = λ f.
-        ap (λ o. unwrap_or o set.empty) (cut f ∙ ap (cond (same_errand e f) None) (write (subst IsSome there refl) f)) ∙ at_one (same_errand e f) (index_map.get same_errand old f);
+  leave_line old new e m line left there is write = record {
+    at = λ f. ap (λ o. unwrap_or o set.empty) (write (subst IsSome there refl) f) ∙ at_one (same_errand e f) (index_map.get same_errand old f);
   }
     where
-      gone : set.empty ≡ set.remove (line_of old e) m
-      gone = sym empty ∙ is ∙ ap (λ o. set.remove (unwrap_or o set.empty) m) there
-
-      at_one : (t : Bool) (o : Option NameSet) → unwrap_or (cond t None (cond t (Some left) o)) set.empty ≡ cond t (set.remove (line_of old e) m) (unwrap_or o set.empty)
-      at_one true o = gone
+      at_one : (t : Bool) (o : Option NameSet) → unwrap_or (cond t (Some left) o) set.empty ≡ cond t (set.remove (line_of old e) m) (unwrap_or o set.empty)
+      at_one true o = is ∙ ap (λ p. set.remove (unwrap_or p set.empty) m) there
       at_one false o = refl
+
+  -- the line that was written
+  pub line_written : (old new : IndexMap Errand NameSet S) (e : Errand) (line left : NameSet) → Some line ≡ index_map.get same_errand old e
+      → (IsSome (index_map.get same_errand old e) → (f : Errand) → index_map.get same_errand new f ≡ cond (same_errand e f) (Some left) (index_map.get same_errand old f)) → line_of new e ≡ left
+  line_written old new e line left there write =
+      ap (λ o. unwrap_or o set.empty) (write (subst IsSome there refl) e) ∙ ap (λ t. unwrap_or (cond t (Some left) (index_map.get same_errand old e)) set.empty) (same_errand-itself e)
+
+  -- each errand keeps its marks after that
+  pub then_same : (old mid new : IndexMap Errand NameSet S) (e : Errand) (line : NameSet) → SetsLine old mid e line → SameLines mid new → SetsLine old new e line
+  then_same old mid new e line sets same = record { at = λ f. same.same f ∙ sets.at f }
 
 pub some-empty : has_some set.empty ≡ false
 some-empty = ap (λ n. not (nat_eq n 0)) (len-empty name_cmp)
@@ -95,6 +99,15 @@ no_length n e = grind (arith, e)
 -- a set that has none is the empty one
 pub empty_of-some : (s : NameSet) → has_some s ≡ false → s ≡ set.empty
 empty_of-some s e = empty_of_len s (no_length (set.len s) e)
+
+-- a line with no marks may be given up
+pub given_up : {S : Type 0} (old new : IndexMap Errand NameSet S) (e : Errand) → has_some (line_of old e) ≡ false
+    → ((f : Errand) → index_map.get same_errand new f ≡ cond (same_errand e f) None (index_map.get same_errand old f)) → SameLines old new
+given_up old new e none cut = record { same = λ f. ap (λ o. unwrap_or o set.empty) (cut f) ∙ by_case (same_errand e f) f refl }
+  where
+    by_case : (t : Bool) (f : Errand) → same_errand e f ≡ t → unwrap_or (cond t None (index_map.get same_errand old f)) set.empty ≡ line_of old f
+    by_case true f is = sym (empty_of-some (line_of old e) none) ∙ ap (line_of old) (same_errand-is e f is)
+    by_case false f is = refl
 
 -- the test of emptiness, turned round
 pub some-is_empty : (b : Bool) (s : NameSet) → (IsTrue b → s ≡ set.empty) → (s ≡ set.empty → IsTrue b) → not b ≡ has_some s
@@ -127,6 +140,10 @@ module _ {S : Type 0} (lines : IndexMap Errand NameSet S) (e : Errand) where
 
   pub line_has : (line : NameSet) → IsTrue (has_some (line_of lines e)) → Some line ≡ index_map.get same_errand lines e → line ≡ set.empty → ⊥
   line_has line h there none = true_false (sym h ∙ ap has_some (sym (line_there line there) ∙ none) ∙ some-empty)
+
+-- an errand that has no line has no marks
+pub none_left : {S : Type 0} (old new : IndexMap Errand NameSet S) (e : Errand) → None ≡ index_map.get same_errand old e → new ≡ old → false ≡ has_some (line_of new e)
+none_left {S = S} old new e none is = sym (ap (λ (n : IndexMap Errand NameSet S). has_some (line_of n e)) is ∙ none_of-empty _ (sym (no_line old e none)))
 
 pub some_of_member : (s : NameSet) (m : Name) → set.contains s m ≡ true → has_some s ≡ true
 some_of_member s m h = by_case (has_some s) refl
@@ -175,29 +192,17 @@ module _ {S R : Type 0} (lines : IndexMap Errand NameSet S) (e : Errand) (x : Me
       same false true = refl
       same false false = refl
 
-  pub shuts : (old new : IndexSet Meeting R) → false ≡ has_both lines x → ((k : Meeting) → is_busy new k ≡ cond (same_meeting x k) false (is_busy old k))
-      → (k : Meeting) → is_busy new k ≡ (is_busy old k && not (is_at e k && not (has_both lines k)))
-  shuts old new apart write k = write k ∙ put (same_meeting x k) refl
-    where
-      rest : (t : Bool) → same_meeting x k ≡ t → (is_at e k && not (has_both lines k)) ≡ t
-      rest true h = ap (λ b. b && not (has_both lines k)) (here e x there k ∙ h) ∙ ap (λ l. not (has_both lines l)) (sym (same_meeting-is x k h)) ∙ ap not (sym apart)
-      rest false h = ap (λ b. b && not (has_both lines k)) (here e x there k ∙ h)
-
-      cut : (t b : Bool) → cond t false b ≡ (b && not t)
-      cut true true = refl
-      cut true false = refl
-      cut false true = refl
-      cut false false = refl
-
-      put : (t : Bool) → same_meeting x k ≡ t → cond (same_meeting x k) false (is_busy old k) ≡ (is_busy old k && not (is_at e k && not (has_both lines k)))
-      put t h = ap (λ b. cond b false (is_busy old k)) h ∙ cut t (is_busy old k) ∙ ap (λ b. is_busy old k && not b) (sym (rest t h))
-
-  pub stays_open : (busy : IndexSet Meeting R) → true ≡ has_both lines x → (k : Meeting) → is_busy busy k ≡ (is_busy busy k && not (is_at e k && not (has_both lines k)))
-  stays_open busy meets k = sym (and-true _) ∙ ap (λ b. is_busy busy k && not b) (sym (rest (same_meeting x k) refl))
-    where
-      rest : (t : Bool) → same_meeting x k ≡ t → (is_at e k && not (has_both lines k)) ≡ false
-      rest true h = ap (λ b. b && not (has_both lines k)) (here e x there k ∙ h) ∙ ap (λ l. not (has_both lines l)) (sym (same_meeting-is x k h)) ∙ ap not (sym meets)
-      rest false h = ap (λ b. b && not (has_both lines k)) (here e x there k ∙ h)
+-- a meeting whose errand has no marks left
+pub shuts : {R : Type 0} (e : Errand) (x : Meeting) → Some x ≡ meeting_of e → (others : Bool) → others ≡ false → (old new : IndexSet Meeting R)
+    → ((k : Meeting) → is_busy new k ≡ cond (same_meeting x k) false (is_busy old k)) → (k : Meeting) → is_busy new k ≡ (is_busy old k && (others || not (is_at e k)))
+shuts e x there others none old new write k =
+    write k ∙ cut (same_meeting x k) (is_busy old k) ∙ ap (λ b. is_busy old k && not b) (sym (here e x there k)) ∙ ap (λ b. is_busy old k && (b || not (is_at e k))) (sym none)
+  where
+    cut : (t b : Bool) → cond t false b ≡ (b && not t)
+    cut true true = refl
+    cut true false = refl
+    cut false true = refl
+    cut false false = refl
 
 apart_takes : (e : Errand) (k : Meeting) → is_at e k ≡ false → same_errand e (Takes k) ≡ false
 apart_takes Acts k h = refl
@@ -216,12 +221,10 @@ opened at true q grows away = sym (grows refl)
 opened true false q grows away = refl
 opened false false q grows away = sym (away refl)
 
-closed : (at p q : Bool) → (q ≡ true → p ≡ true) → (at ≡ false → q ≡ p) → (p && not (at && not q)) ≡ q
-closed true true true shrinks away = refl
-closed true true false shrinks away = refl
-closed false true q shrinks away = sym (away refl)
-closed at false true shrinks away = shrinks refl
-closed at false false shrinks away = refl
+closed : (at l p q : Bool) → (l ≡ true → q ≡ p) → (at ≡ false → q ≡ p) → (at ≡ true → l ≡ false → q ≡ false) → (p && (l || not at)) ≡ q
+closed at true p q stays away ends = and-true p ∙ sym (stays refl)
+closed true false p q stays away ends = and-false p ∙ sym (ends refl refl)
+closed false false p q stays away ends = and-true p ∙ sym (away refl)
 
 module _ {S : Type 0} (old new : IndexMap Errand NameSet S) (e : Errand) (line : NameSet) (sets : SetsLine old new e line) where
   line_away : (f : Errand) → same_errand e f ≡ false → line_of new f ≡ line_of old f
@@ -250,6 +253,26 @@ module _ {S : Type 0} (old new : IndexMap Errand NameSet S) (e : Errand) (m : Na
       by_case true is h = ap (λ g. has_some (line_of old g)) (sym (same_errand-is e f is)) ∙ some_before (line_of old e) m h
       by_case false is h = h
 
+  -- where the errand has marks left, each errand that had some has some
+  some_kept : SetsLine old new e (set.remove (line_of old e) m) → has_some (line_of new e) ≡ true → (f : Errand) → has_some (line_of new f) ≡ has_some (line_of old f)
+  some_kept sets some f = by_case (same_errand e f) refl
+    where
+      by_case : (t : Bool) → same_errand e f ≡ t → has_some (line_of new f) ≡ has_some (line_of old f)
+      by_case true is =
+          let j = same_errand-is e f is in
+          ap (λ g. has_some (line_of new g)) (sym j) ∙ some ∙ sym (some_fewer sets e some) ∙ ap (λ g. has_some (line_of old g)) j
+      by_case false is = ap has_some (line_away old new e _ sets f is)
+
+  both_kept : SetsLine old new e (set.remove (line_of old e) m) → has_some (line_of new e) ≡ true → (k : Meeting) → has_both new k ≡ has_both old k
+  both_kept sets some k = let t = some_kept sets some (Takes k) in let g = some_kept sets some (Gives k) in λ i. t i && g i
+
+-- where the errand has none left, nothing meets at its meeting
+ended : {S : Type 0} (new : IndexMap Errand NameSet S) (e : Errand) → has_some (line_of new e) ≡ false → (k : Meeting) → is_at e k ≡ true → has_both new k ≡ false
+ended new Acts none k h = absurd (true_false (sym h))
+ended new (Gives l) none k h = ap (λ b. has_some (line_of new (Takes k)) && b) (ap (λ j. has_some (line_of new (Gives j))) (sym (same_meeting-is l k h)) ∙ none) ∙ and-false _
+ended new (Takes l) none k h = ap (λ b. b && has_some (line_of new (Gives k))) (ap (λ j. has_some (line_of new (Takes j))) (sym (same_meeting-is l k h)) ∙ none)
+ended new Stuck none k h = absurd (true_false (sym h))
+
 module _ {S R : Type 0} (old new : IndexMap Errand NameSet S) (busy after : IndexSet Meeting R) where
   both_lines : (k : Meeting) → line_of old (Takes k) ≡ line_of new (Takes k) → line_of old (Gives k) ≡ line_of new (Gives k) → has_both old k ≡ has_both new k
   both_lines k t g = λ i. has_some (t i) && has_some (g i)
@@ -267,11 +290,12 @@ module _ {S R : Type 0} (old new : IndexMap Errand NameSet S) (busy after : Inde
         ∙ opened (is_at e k) (has_both old k) (has_both new k) (and_both _ _ _ _ (some_more old new e m sets (Takes k)) (some_more old new e m sets (Gives k))) (both_away old new e _ sets k);
   }
 
-  pub busy_fewer : (e : Errand) (m : Name) → BusyAt old busy → SetsLine old new e (set.remove (line_of old e) m) → ((k : Meeting) → is_busy after k ≡ (is_busy busy k && not (is_at e k && not (has_both new k)))) → BusyAt new after
-  busy_fewer e m at sets shuts = record {
+  pub busy_fewer : (e : Errand) (m : Name) (others : Bool) → BusyAt old busy → SetsLine old new e (set.remove (line_of old e) m) → others ≡ has_some (line_of new e)
+      → ((k : Meeting) → is_busy after k ≡ (is_busy busy k && (others || not (is_at e k)))) → BusyAt new after
+  busy_fewer e m others at sets are shuts = record {
     at = λ k.
-        shuts k ∙ ap (λ b. b && not (is_at e k && not (has_both new k))) (at.at k)
-        ∙ closed (is_at e k) (has_both old k) (has_both new k) (and_both _ _ _ _ (some_fewer old new e m sets (Takes k)) (some_fewer old new e m sets (Gives k))) (both_away old new e _ sets k);
+        shuts k ∙ ap (λ b. b && (others || not (is_at e k))) (at.at k)
+        ∙ closed (is_at e k) others (has_both old k) (has_both new k) (λ l. both_kept old new e m sets (sym are ∙ l) k) (both_away old new e _ sets k) (λ h l. ended new e (sym are ∙ l) k h);
   }
 
 -- nothing is busy where there are no lines

@@ -44,7 +44,7 @@ pub same_name-swap : (a b : Name) → same_name a b ≡ same_name b a
 same_name-swap a b = (eq_by_cmp_equiv total).symm a b
 
 -- no name is two names
-both_names : (j k q : Name) → same_name j k ≡ false → same_name q j ≡ true → same_name q k ≡ true → ⊥
+pub both_names : (j k q : Name) → same_name j k ≡ false → same_name q j ≡ true → same_name q k ≡ true → ⊥
 both_names j k q apart s t = let e : j ≡ k = sym (same_name-is q j s) ∙ same_name-is q k t in let h = same_name-itself j in cc (ap (same_name j) e)
 
 module _ {X : Type 0} where

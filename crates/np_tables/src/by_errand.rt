@@ -42,15 +42,28 @@ fn enter(
     }
 }
 
-/// A mark leaves the line of an errand. A line with no mark is given up.
-fn leave(lines: &mut IndexMap<Errand, Line>, errand: Errand, mark: Name)
-    ensures { SetsLine lines.old lines.new errand (set.remove (line_of lines.old errand) mark) }
+/// A mark leaves the line of an errand. This tells whether others are in it still.
+fn leave(lines: &mut IndexMap<Errand, Line>, errand: Errand, mark: Name) -> bool
+    ensures lines { SetsLine lines.old lines.new errand (set.remove (line_of lines.old errand) mark) }
+    ensures others { result ≡ has_some (line_of lines.new errand) }
 {
     let Some(line) = lines.get_mut(&errand) else {
-        return;
+        return false;
     };
     line.remove(mark);
-    if line.is_empty() {
+    if !line.is_empty() {
+        return true;
+    }
+    give_up(lines, errand);
+    false
+}
+
+/// The line of an errand that has no mark left is given up if it is an output's or an input's. There are two others.
+fn give_up(lines: &mut IndexMap<Errand, Line>, errand: Errand)
+    requires { has_some (line_of lines.old errand) ≡ false }
+    ensures { SameLines lines.old lines.new }
+{
+    if errand.meeting().is_some() {
         let _ = lines.swap_remove(&errand);
     }
 }
@@ -109,14 +122,14 @@ fn open(lines: &IndexMap<Errand, Line>, busy: &mut IndexSet<Meeting>, errand: Er
     }
 }
 
-/// The meeting of an errand that a mark left is busy no more if it has not both now.
-fn close(lines: &IndexMap<Errand, Line>, busy: &mut IndexSet<Meeting>, errand: Errand)
-    ensures { (meeting : Meeting) → is_busy busy.new meeting ≡ (is_busy busy.old meeting && not (is_at errand meeting && not (has_both lines.now meeting))) }
+/// The meeting of an errand that a mark left is busy no more if the errand has no others.
+fn close(busy: &mut IndexSet<Meeting>, errand: Errand, others: bool)
+    ensures { (meeting : Meeting) → is_busy busy.new meeting ≡ (is_busy busy.old meeting && (others || not (is_at errand meeting))) }
 {
-    let Some(meeting) = errand.meeting() else {
+    if others {
         return;
-    };
-    if !meets(lines, meeting) {
+    }
+    if let Some(meeting) = errand.meeting() {
         let _ = busy.swap_remove(&meeting);
     }
 }
@@ -160,8 +173,8 @@ impl ByErrand {
         ensures lines { SetsLine self.old.lines self.new.lines errand (set.remove (line_of self.old.lines errand) mark) }
         ensures busy { BusyAt self.new.lines self.new.busy }
     {
-        leave(&mut self.lines, errand, mark);
-        close(&self.lines, &mut self.busy, errand);
+        let others = leave(&mut self.lines, errand, mark);
+        close(&mut self.busy, errand, others);
     }
 
     /// Whether there is something to be served in this turn.

@@ -4,6 +4,7 @@
 mod by_errand;
 mod errand;
 mod line;
+mod marks;
 mod names;
 mod table;
 mod turns;

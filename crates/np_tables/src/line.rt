@@ -1,17 +1,18 @@
 ghost use Rattle.std.specs.Prelude.{◌≡◌, ◌↔◌, OnOk, OnErr, IsTrue, IfSome, IfNone};
 ghost use Rattle.std.specs.FinSet as set;
 
-use super::names::Names;
+use super::marks::Marks;
 use np_syntax::{Memory, Name};
 use std::alloc::Global;
 use std::collections::VecDeque;
 use std::marker::Model;
 
 /// Marks that wait for the same. Contracts see the set of them. Beside it stands the order in which they are
-/// served, where a mark may be missing, for want of memory, or stand though it is gone.
+/// served, where a mark may be missing, for want of memory, or stand though it is gone. A mark that is alone needs
+/// no order, so that its line takes no memory.
 #[derive(Drop)]
 pub struct Line {
-    marks: Names,
+    marks: Marks,
     order: VecDeque<Name>,
 }
 
@@ -24,7 +25,7 @@ impl Model for Line {
 
     ghost coded = { set.code name.the_row.coded };
 
-    ghost view = { λ line. line.marks.members };
+    ghost view = { λ line. line.marks };
 }
 
 impl Line {
@@ -32,7 +33,7 @@ impl Line {
         ensures { result ≡ set.empty }
     {
         Line {
-            marks: Names::new(alloc),
+            marks: Marks::new(alloc),
             order: VecDeque::new(alloc),
         }
     }
@@ -54,10 +55,13 @@ impl Line {
         ensures ok { OnOk result (self.new ≡ set.insert self.old mark) }
         ensures err { OnErr result (self.new ≡ self.old) }
     {
-        let comes = !self.marks.has(mark);
+        if self.marks.has(mark) {
+            return Ok(());
+        }
+        let before = self.marks.alone();
         self.marks.insert(mark)?;
-        if comes && served {
-            let _ = self.order.push_back(mark);
+        if served && self.marks.alone().is_none() {
+            queue(&mut self.order, before, mark);
         }
         Ok(())
     }
@@ -85,6 +89,9 @@ impl Line {
         ensures some { IfSome result (λ mark. IsTrue (set.contains self.old mark)) }
         ensures none { IfNone result (self.old ≡ set.empty) }
     {
+        if let Some(mark) = self.marks.alone() {
+            return Some(mark);
+        }
         match longest_waiting(&self.marks, &mut self.order) {
             Some(mark) => {
                 let _ = self.order.push_back(mark);
@@ -95,9 +102,18 @@ impl Line {
     }
 }
 
+/// A mark comes last in the order, which begins with the mark that was alone before, if one was.
+fn queue(order: &mut VecDeque<Name>, alone: Option<Name>, mark: Name) {
+    if let Some(first) = alone {
+        order.clear();
+        let _ = order.push_back(first);
+    }
+    let _ = order.push_back(mark);
+}
+
 /// Takes the first of the order that is still among the marks, and those before it.
-fn longest_waiting(marks: &Names, order: &mut VecDeque<Name>) -> Option<Name>
-    ensures { IfSome result (λ mark. IsTrue (set.contains marks.now.members mark)) }
+fn longest_waiting(marks: &Marks, order: &mut VecDeque<Name>) -> Option<Name>
+    ensures { IfSome result (λ mark. IsTrue (set.contains marks.now mark)) }
 {
     while let Some(mark) = order.pop_front() {
         if marks.has(mark) {
