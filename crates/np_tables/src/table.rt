@@ -138,6 +138,18 @@ impl<V: Drop> Table<V> {
         }
     }
 
+    /// `put` that answers the value that was there.
+    pub(crate) fn exchange(&mut self, key: Name, value: V) -> Option<V>
+        requires { 0 < self.old.spare }
+        ensures before { result ≡ map.get self.old.items key }
+        ensures items { self.new.items ≡ map.insert self.old.items key value }
+    {
+        match self.entries.insert(key, value) {
+            Ok(before) => before,
+            Err(_) => unreachable!(),
+        }
+    }
+
     /// Puts a value in the place of the one that is there.
     pub fn replace(&mut self, key: Name, value: V)
         requires { IsSome (map.get self.old.items key) }

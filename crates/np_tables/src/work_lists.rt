@@ -113,7 +113,8 @@ impl WorkLists {
     }
 }
 
-/// Ends the filing of a mark that has come under its errand: it leaves the errand that it was filed under.
+/// Ends the filing of a mark that has come under its errand: it leaves the errand that it was filed under, if that
+/// is another.
 fn settle(filed: &mut Table<Errand>, marks: &mut ByErrand, mark: Name, errand: Errand)
     requires room { 0 < filed.old.spare }
     requires lines { InLinesAnd filed.old.items marks.old.lines errand mark }
@@ -122,18 +123,7 @@ fn settle(filed: &mut Table<Errand>, marks: &mut ByErrand, mark: Name, errand: E
     ensures lines { InLines filed.new.items marks.new.lines }
     ensures busy { BusyAt marks.new.lines marks.new.busy }
 {
-    uproot(filed, marks, mark, errand);
-    filed.put(mark, errand);
-}
-
-/// A mark leaves the errand that it was filed under, if that is another.
-fn uproot(filed: &Table<Errand>, marks: &mut ByErrand, mark: Name, errand: Errand)
-    requires lines { InLinesAnd filed.now.items marks.old.lines errand mark }
-    requires busy { BusyAt marks.old.lines marks.old.busy }
-    ensures lines { InLines (map.insert filed.now.items mark errand) marks.new.lines }
-    ensures busy { BusyAt marks.new.lines marks.new.busy }
-{
-    let Some(before) = filed.get(mark).copied() else {
+    let Some(before) = filed.exchange(mark, errand) else {
         return;
     };
     if before == errand {
