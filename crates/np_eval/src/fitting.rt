@@ -10,7 +10,7 @@ use np_syntax::{Expr, ExprForm, Op, Pat, PatForm, Value};
 
 /// The forms of values.
 #[derive(Clone, Copy)]
-enum Shape {
+pub enum Shape {
     Int,
     Truth,
     Str,
@@ -70,10 +70,10 @@ fn fits_all(parts: &[Pat], exprs: &[Expr], env: &Frame) -> bool
     true
 }
 
-/// Whether the pattern matches the value, which no environment changes.
+/// Whether the pattern matches the value, which no environment changes. It takes no memory.
 #[tactic(auto, using(crate::proofs::Binds::binds))]
 #[cycle(matches)]
-fn matches(p: &Pat, v: &Value) -> bool
+pub fn matches(p: &Pat, v: &Value) -> bool
     ensures { (env : Env) → result ≡ is_some (bind p.now v.now env) }
 {
     match &p.form {
@@ -118,10 +118,10 @@ fn has_value(e: &Expr, env: &Frame) -> bool
     eval_shape(e, env).is_some()
 }
 
-/// The form of the expression's value, which the forms of its operands' values decide.
+/// The form of the expression's value, which the forms of its operands' values decide. It takes no memory.
 #[tactic(auto, using(crate::proofs::FittingShapes::shapes))]
 #[cycle(eval_shape)]
-fn eval_shape(e: &Expr, env: &Frame) -> Option<Shape>
+pub fn eval_shape(e: &Expr, env: &Frame) -> Option<Shape>
     ensures { result ≡ option_map shape_of (eval e.now env.now) }
 {
     eval_form_shape(&e.form, env)

@@ -8,7 +8,7 @@ mod operands;
 mod patterns;
 mod values;
 
-pub use fitting::fits;
+pub use fitting::{Shape, eval_shape, fits, matches};
 pub use forms::{
     as_agent_form, as_if, as_iflocal, as_inp, as_let, as_lookup, as_migrate, as_new, as_open,
     as_par, as_post, as_print, as_rep, as_send, as_stop,
