@@ -56,7 +56,7 @@ pub true_false : true ≡ false → ⊥
 true_false e = cc
 
 -- no name can be taken out of the empty set
-empty-cut : (m : Name) → set.remove (set.empty {R = name_cmp}) m ≡ set.empty
+pub empty-cut : (m : Name) → set.remove (set.empty {R = name_cmp}) m ≡ set.empty
 empty-cut m = same_names _ _ λ q. born_remove set.empty m q ∙ ap (λ b. not (same_name q m) && b) (contains-none q) ∙ and-false (not (same_name q m)) ∙ sym (contains-none q)
 
 module _ {S : Type 0} where

@@ -4,7 +4,7 @@ use Rattle.std.specs.FinSet as set
 use Rattle.np_syntax.specs.declared.value.Name.{Name}
 use Rattle.np_tables.specs.Names.{NameSet, same_name, with_one, is_one}
 use Rattle.np_tables.proofs.Tables.{same_name-is, same_names, both_names, born_insert, born_remove, born_here, born_swap, contains-none}
-use Rattle.np_tables.proofs.LineLaws.{true_false}
+use Rattle.np_tables.proofs.LineLaws.{true_false, empty-cut}
 
 pub one_has : (one : Option Name) (s : NameSet) (q : Name) → (is_one one q || set.contains s q) ≡ set.contains (with_one one s) q
 one_has None s q = refl
@@ -15,6 +15,13 @@ one_there one s q h = sym (ap (λ b. b || set.contains s q) h) ∙ one_has one s
 
 pub one_away : (one : Option Name) (s : NameSet) (q : Name) → is_one one q ≡ false → set.contains s q ≡ set.contains (with_one one s) q
 one_away one s q h = sym (ap (λ b. b || set.contains s q) h) ∙ one_has one s q
+
+-- in a set with no names nothing is found, and from it nothing is taken out
+pub none_has : (s : NameSet) (q : Name) → s ≡ set.empty → false ≡ set.contains s q
+none_has s q e = sym (ap (λ (t : NameSet). set.contains t q) e ∙ contains-none q)
+
+pub none_cut : (s : NameSet) (q : Name) → s ≡ set.empty → s ≡ set.remove s q
+none_cut s q e = e ∙ sym (ap (λ (t : NameSet). set.remove t q) e ∙ empty-cut q)
 
 -- where one stands in place
 module _ (one : Option Name) (s : NameSet) (n : Name) (there : one ≡ Some n) where

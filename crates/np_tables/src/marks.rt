@@ -36,6 +36,25 @@ fn matches_one(one: Option<Name>, mark: Name) -> bool
     }
 }
 
+/// Whether a name is among the others, of which there are mostly none, so that none is looked up then.
+fn has_other(others: &Names, mark: Name) -> bool
+    ensures { result ≡ set.contains others.now.members mark }
+{
+    if others.is_empty() {
+        return false;
+    }
+    others.has(mark)
+}
+
+/// Takes a name from the others, in the same way.
+fn remove_other(others: &mut Names, mark: Name)
+    ensures { others.new.members ≡ set.remove others.old.members mark }
+{
+    if !others.is_empty() {
+        others.remove(mark);
+    }
+}
+
 impl Marks {
     pub fn new(alloc: Global) -> Marks
         ensures { result ≡ set.empty }
@@ -49,7 +68,7 @@ impl Marks {
     pub fn has(&self, mark: Name) -> bool
         ensures { result ≡ set.contains self.now mark }
     {
-        matches_one(self.one, mark) || self.others.has(mark)
+        matches_one(self.one, mark) || has_other(&self.others, mark)
     }
 
     pub fn is_empty(&self) -> bool
@@ -99,7 +118,7 @@ impl Marks {
     pub fn remove(&mut self, mark: Name)
         ensures { self.new ≡ set.remove self.old mark }
     {
-        self.others.remove(mark);
+        remove_other(&mut self.others, mark);
         if matches_one(self.one, mark) {
             self.one = None;
         }
