@@ -14,7 +14,7 @@ use Rattle.np_tables.specs.declared.errand.Meeting.{Meeting}
 use Rattle.np_tables.specs.declared.errand.Errand.{Errand}
 use Rattle.np_tables.specs.declared.errand.Errand.TheVariants.{Acts, Gives, Takes, Stuck}
 use Rattle.np_tables.specs.Errands.{same_meeting, same_errand, meeting_of}
-use Rattle.np_tables.specs.Lines.{line_of, has_some, has_both, is_here, is_at, is_busy, SetsLine, SameLines, BusyAt}
+use Rattle.np_tables.specs.Lines.{line_of, with_acts, has_some, has_both, is_here, is_at, is_busy, SetsLine, SameLines, BusyAt}
 use Rattle.np_tables.proofs.Keyed.{alike, alike-same}
 use Rattle.np_tables.proofs.Tables.{same_name-is, same_names, born_remove, born_here, contains-none}
 
@@ -68,27 +68,75 @@ module _ {S : Type 0} where
       at_one true f h = ap (line_of old) (sym (same_errand-is e f h)) ∙ ap (λ o. unwrap_or o set.empty) (sym none) ∙ sym (empty-cut m) ∙ ap (λ o. set.remove (unwrap_or o set.empty) m) none
       at_one false f h = refl
 
-  -- a write of the line that a mark has left
-  pub leave_line : (old new : IndexMap Errand NameSet S) (e : Errand) (m : Name) (line left : NameSet) → Some line ≡ index_map.get same_errand old e → left ≡ set.remove line m
-      → (IsSome (index_map.get same_errand old e) → (f : Errand) → index_map.get same_errand new f ≡ cond (same_errand e f) (Some left) (index_map.get same_errand old f))
-      → SetsLine old new e (set.remove (line_of old e) m)
-  leave_line old new e m line left there is write = record {
-    at = λ f. ap (λ o. unwrap_or o set.empty) (write (subst IsSome there refl) f) ∙ at_one (same_errand e f) (index_map.get same_errand old f);
-  }
-    where
-      at_one : (t : Bool) (o : Option NameSet) → unwrap_or (cond t (Some left) o) set.empty ≡ cond t (set.remove (line_of old e) m) (unwrap_or o set.empty)
-      at_one true o = is ∙ ap (λ p. set.remove (unwrap_or p set.empty) m) there
-      at_one false o = refl
-
   -- the line that was written
   pub line_written : (old new : IndexMap Errand NameSet S) (e : Errand) (line left : NameSet) → Some line ≡ index_map.get same_errand old e
       → (IsSome (index_map.get same_errand old e) → (f : Errand) → index_map.get same_errand new f ≡ cond (same_errand e f) (Some left) (index_map.get same_errand old f)) → line_of new e ≡ left
   line_written old new e line left there write =
       ap (λ o. unwrap_or o set.empty) (write (subst IsSome there refl) e) ∙ ap (λ t. unwrap_or (cond t (Some left) (index_map.get same_errand old e)) set.empty) (same_errand-itself e)
 
-  -- each errand keeps its marks after that
-  pub then_same : (old mid new : IndexMap Errand NameSet S) (e : Errand) (line : NameSet) → SetsLine old mid e line → SameLines mid new → SetsLine old new e line
-  then_same old mid new e line sets same = record { at = λ f. same.same f ∙ sets.at f }
+-- the line of the marks that act alone, and the others
+module _ {S : Type 0} where
+  other_line : (a : NameSet) (m : IndexMap Errand NameSet S) (e : Errand) → same_errand e Acts ≡ false → line_of (with_acts a m) e ≡ line_of m e
+  other_line a m e h = ap (λ t. unwrap_or (cond t (Some a) (index_map.get same_errand m e)) set.empty) h
+
+  each_line : (F : NameSet → Type 0) (a : NameSet) (m : IndexMap Errand NameSet S) (e : Errand) → same_errand e Acts ≡ false → F (line_of m e) → F (line_of (with_acts a m) e)
+  each_line F a m e h = subst F (sym (other_line a m e h))
+
+  acts_set : (F : NameSet → NameSet) (a b : NameSet) (m : IndexMap Errand NameSet S) (e : Errand) → e ≡ Acts → b ≡ F a → SetsLine (with_acts a m) (with_acts b m) e (F (line_of (with_acts a m) e))
+  acts_set F a b m e is h = subst (λ f. SetsLine (with_acts a m) (with_acts b m) f (F (line_of (with_acts a m) f))) (sym is) (record { at = at_one })
+    where
+      at_one : (f : Errand) → line_of (with_acts b m) f ≡ cond (same_errand Acts f) (F a) (line_of (with_acts a m) f)
+      at_one Acts = h
+      at_one (Gives k) = refl
+      at_one (Takes k) = refl
+      at_one Stuck = refl
+
+  pub acts_same : (a b : NameSet) (m : IndexMap Errand NameSet S) → b ≡ a → SameLines (with_acts a m) (with_acts b m)
+  acts_same a b m h = record { same = λ f. ap (λ c. line_of (with_acts c m) f) h }
+
+  others_set : (F : NameSet → NameSet) (a : NameSet) (m n : IndexMap Errand NameSet S) (e : Errand) → same_errand e Acts ≡ false → SetsLine m n e (F (line_of m e)) → SetsLine (with_acts a m) (with_acts a n) e (F (line_of (with_acts a m) e))
+  others_set F a m n e h sets = each_line (λ s. SetsLine (with_acts a m) (with_acts a n) e (F s)) a m e h (record { at = at_one })
+    where
+      at_one : (f : Errand) → line_of (with_acts a n) f ≡ cond (same_errand e f) (F (line_of m e)) (line_of (with_acts a m) f)
+      at_one Acts = sym (ap (λ t. cond t (F (line_of m e)) a) h)
+      at_one (Gives k) = sets.at (Gives k)
+      at_one (Takes k) = sets.at (Takes k)
+      at_one Stuck = sets.at Stuck
+
+  pub others_same : (a : NameSet) (m n : IndexMap Errand NameSet S) → SameLines m n → SameLines (with_acts a m) (with_acts a n)
+  others_same a m n same = record { same = at_one }
+    where
+      at_one : (f : Errand) → line_of (with_acts a n) f ≡ line_of (with_acts a m) f
+      at_one Acts = refl
+      at_one (Gives k) = same.same (Gives k)
+      at_one (Takes k) = same.same (Takes k)
+      at_one Stuck = same.same Stuck
+
+  pub acts_enter : (a b : NameSet) (m : IndexMap Errand NameSet S) (e : Errand) (q : Name) → same_errand e Acts ≡ true → b ≡ set.insert a q → SetsLine (with_acts a m) (with_acts b m) e (set.insert (line_of (with_acts a m) e) q)
+  acts_enter a b m e q h = acts_set (λ s. set.insert s q) a b m e (same_errand-is e Acts h)
+
+  pub acts_leave : (a b : NameSet) (m : IndexMap Errand NameSet S) (e : Errand) (q : Name) → same_errand e Acts ≡ true → b ≡ set.remove a q → SetsLine (with_acts a m) (with_acts b m) e (set.remove (line_of (with_acts a m) e) q)
+  acts_leave a b m e q h = acts_set (λ s. set.remove s q) a b m e (same_errand-is e Acts h)
+
+  pub others_enter : (a : NameSet) (m n : IndexMap Errand NameSet S) (e : Errand) (q : Name) → same_errand e Acts ≡ false → SetsLine m n e (set.insert (line_of m e) q) → SetsLine (with_acts a m) (with_acts a n) e (set.insert (line_of (with_acts a m) e) q)
+  others_enter a m n e q = others_set (λ s. set.insert s q) a m n e
+
+  pub others_leave : (a : NameSet) (m n : IndexMap Errand NameSet S) (e : Errand) (q : Name) → same_errand e Acts ≡ false → SetsLine m n e (set.remove (line_of m e) q) → SetsLine (with_acts a m) (with_acts a n) e (set.remove (line_of (with_acts a m) e) q)
+  others_leave a m n e q = others_set (λ s. set.remove s q) a m n e
+
+  -- the line of an errand, where it is known which kind it is
+  pub acts_line : (a : NameSet) (m : IndexMap Errand NameSet S) (e : Errand) → same_errand e Acts ≡ true → a ≡ line_of (with_acts a m) e
+  acts_line a m e h = ap (line_of (with_acts a m)) (sym (same_errand-is e Acts h))
+
+  pub others_line : (a : NameSet) (m : IndexMap Errand NameSet S) (e : Errand) → same_errand e Acts ≡ false → line_of m e ≡ line_of (with_acts a m) e
+  others_line a m e h = sym (other_line a m e h)
+
+  -- no line has marks at first
+  pub none_first : (a : NameSet) (m : IndexMap Errand NameSet S) → a ≡ set.empty → m.entries ≡ [] → (e : Errand) → line_of (with_acts a m) e ≡ set.empty
+  none_first a m none empty Acts = none
+  none_first a m none empty (Gives k) = ap (λ es. unwrap_or (lookup (same_errand (Gives k)) es) set.empty) empty
+  none_first a m none empty (Takes k) = ap (λ es. unwrap_or (lookup (same_errand (Takes k)) es) set.empty) empty
+  none_first a m none empty Stuck = ap (λ es. unwrap_or (lookup (same_errand Stuck) es) set.empty) empty
 
 pub some-empty : has_some set.empty ≡ false
 some-empty = ap (λ n. not (nat_eq n 0)) (len-empty name_cmp)
@@ -127,19 +175,13 @@ if_none None f h = f h
 if_none (Some a) f h = h
 
 module _ {S : Type 0} (lines : IndexMap Errand NameSet S) (e : Errand) where
-  -- the line of an errand that has one, and of one that has none
-  pub line_there : (line : NameSet) → Some line ≡ index_map.get same_errand lines e → line ≡ line_of lines e
-  line_there line h = ap (λ o. unwrap_or o set.empty) h
-
+  -- the line of an errand that has none
   pub no_line : None ≡ index_map.get same_errand lines e → set.empty ≡ line_of lines e
   no_line h = ap (λ o. unwrap_or o set.empty) h
 
-  -- an errand that has marks has a line, which is not empty
+  -- an errand that has marks has a line
   pub has_line : IsTrue (has_some (line_of lines e)) → None ≡ index_map.get same_errand lines e → ⊥
   has_line h n = true_false (sym h ∙ ap has_some (sym (no_line n)) ∙ some-empty)
-
-  pub line_has : (line : NameSet) → IsTrue (has_some (line_of lines e)) → Some line ≡ index_map.get same_errand lines e → line ≡ set.empty → ⊥
-  line_has line h there none = true_false (sym h ∙ ap has_some (sym (line_there line there) ∙ none) ∙ some-empty)
 
 -- an errand that has no line has no marks
 pub none_left : {S : Type 0} (old new : IndexMap Errand NameSet S) (e : Errand) → None ≡ index_map.get same_errand old e → new ≡ old → false ≡ has_some (line_of new e)
@@ -298,12 +340,12 @@ module _ {S R : Type 0} (old new : IndexMap Errand NameSet S) (busy after : Inde
         ∙ closed (is_at e k) others (has_both old k) (has_both new k) (λ l. both_kept old new e m sets (sym are ∙ l) k) (both_away old new e _ sets k) (λ h l. ended new e (sym are ∙ l) k h);
   }
 
--- nothing is busy where there are no lines
-pub busy_none : {S R : Type 0} (lines : IndexMap Errand NameSet S) (busy : IndexSet Meeting R) → lines.entries ≡ [] → busy.keys ≡ [] → BusyAt lines busy
+-- nothing is busy where there are no marks
+pub busy_none : {S R : Type 0} (lines : IndexMap Errand NameSet S) (busy : IndexSet Meeting R) → ((e : Errand) → line_of lines e ≡ set.empty) → busy.keys ≡ [] → BusyAt lines busy
 busy_none lines busy none keys = record { at = λ k. ap (λ ks. list_any (same_meeting k) ks) keys ∙ sym (nowhere k) }
   where
     takes_none : (k : Meeting) → has_some (line_of lines (Takes k)) ≡ false
-    takes_none k = ap (λ es. has_some (unwrap_or (lookup (same_errand (Takes k)) es) set.empty)) none ∙ some-empty
+    takes_none k = ap has_some (none (Takes k)) ∙ some-empty
 
     nowhere : (k : Meeting) → has_both lines k ≡ false
     nowhere k = ap (λ b. b && has_some (line_of lines (Gives k))) (takes_none k)

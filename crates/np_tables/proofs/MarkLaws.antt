@@ -1,5 +1,5 @@
 -- A set of names one of which may stand in place.
-use Rattle.std.proofs.Common.{◌≡◌, Bool, true, false, not, ◌&&◌, ◌||◌, Option, None, Some, Result, Ok, Err, OnOk, IsTrue, refl, sym, ap, subst, ◌∙◌}
+use Rattle.std.proofs.Common.{◌≡◌, Bool, true, false, not, ◌&&◌, ◌||◌, Option, None, Some, Result, Ok, Err, OnOk, OnErr, IsTrue, refl, sym, ap, subst, ◌∙◌}
 use Rattle.std.specs.FinSet as set
 use Rattle.np_syntax.specs.declared.value.Name.{Name}
 use Rattle.np_tables.specs.Names.{NameSet, same_name, with_one, is_one}
@@ -34,10 +34,14 @@ module _ (one : Option Name) (s : NameSet) (n : Name) (there : one ≡ Some n) w
   pub one_put : (t : NameSet) (q : Name) → t ≡ set.insert s q → with_one one t ≡ set.insert (with_one one s) q
   one_put t q h = subst (λ o. with_one o t ≡ set.insert (with_one o s) q) (sym there) (ap (λ u. set.insert u n) h ∙ born_swap s q n)
 
--- what holds where all went well
+-- what holds where all went well, and where it did not
 pub on_ok : {A E P Q : Type 0} (r : Result A E) → (P → Q) → OnOk r P → OnOk r Q
 on_ok (Ok a) f h = f h
 on_ok (Err e) f h = h
+
+pub on_err : {A E P Q : Type 0} (r : Result A E) → (P → Q) → OnErr r P → OnErr r Q
+on_err (Ok a) f h = h
+on_err (Err e) f h = f h
 
 cut_twice : (s t b : Bool) → s ≡ t → (not s && b) ≡ (not s && (t || b))
 cut_twice true t b e = refl

@@ -1,9 +1,10 @@
 -- The marks by their errands, each errand's in a line, and the meetings that have both an input and an output.
-use Rattle.std.specs.Prelude.{◌≡◌, Bool, false, [], not, ◌&&◌, ◌||◌, nat_eq, Option, None, Some, unwrap_or, if◌then◌else◌}
+use Rattle.std.specs.Prelude.{◌≡◌, ℕ, Bool, false, [], ◌∷◌, not, ◌&&◌, ◌||◌, nat_eq, Option, None, Some, unwrap_or, if◌then◌else◌}
 use Rattle.std.specs.FinMap as map
 use Rattle.std.specs.FinSet as set
 use Rattle.indexmap.specs.IndexMap as index_map
 use Rattle.indexmap.specs.IndexMap.{IndexMap}
+use Rattle.indexmap.specs.Layout.{hash_map}
 use Rattle.indexmap.specs.IndexSet as index_set
 use Rattle.indexmap.specs.IndexSet.{IndexSet}
 use Rattle.np_syntax.specs.declared.value.Name.{Name}
@@ -27,10 +28,18 @@ is_here (Some here) meeting = same_meeting here meeting
 abbrev pub is_at : Errand → Meeting → Bool
 is_at e meeting = is_here (meeting_of e) meeting
 
+-- lines as their entries alone
+abbrev pub LineMap : Type 0
+LineMap = IndexMap Errand NameSet ℕ
+
 module _ {S : Type 0} where
   -- the marks under an errand, which are none where it has no line
   abbrev pub line_of : IndexMap Errand NameSet S → Errand → NameSet
   line_of lines e = unwrap_or (index_map.get same_errand lines e) set.empty
+
+  -- lines with one more, of the marks that act alone, whatever the hasher and the room
+  abbrev pub with_acts : NameSet → IndexMap Errand NameSet S → LineMap
+  with_acts acts lines = hash_map ((errand.Acts, acts) ∷ lines.entries) 0 0
 
   -- the meeting has both an input and an output
   abbrev pub has_both : IndexMap Errand NameSet S → Meeting → Bool

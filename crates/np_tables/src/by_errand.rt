@@ -1,6 +1,7 @@
 ghost use Rattle.std.specs.Prelude.{◌≡◌, ◌<◌, ◌&&◌, ◌||◌, ◌↔◌, not, IfSome, IfNone, OnOk, OnErr, IsTrue, false, []};
 ghost use Rattle.std.specs.FinSet as set;
 ghost use Rattle.indexmap.specs.IndexSet as index_set;
+ghost use Rattle.np_tables.specs.declared.errand.Errand.TheVariants as errand;
 ghost use Rattle.np_tables.specs.Lines.{line_of, has_some, has_both, is_at, is_busy, is_due, NoneDue, SameLines, SetsLine, BusyAt};
 
 use super::errand::{Errand, Meeting};
@@ -9,12 +10,35 @@ use super::turns::Turn;
 use indexmap::{IndexMap, IndexSet};
 use np_syntax::{Memory, Name};
 use std::alloc::Global;
+use std::marker::Model;
+
+/// The marks by their errands. Those that act alone have a line of their own, which is never given up.
+#[derive(Drop)]
+pub struct Lines {
+    alloc: Global,
+    acts: Line,
+    others: IndexMap<Errand, Line>,
+}
+
+impl Model for Lines {
+    ghost use Rattle.std.specs.Coded.{coded_ℕ};
+    ghost use Rattle.std.specs.FinSet as set;
+    ghost use Rattle.indexmap.specs.Layout.{hash_map_code};
+    ghost use Rattle.np_syntax.specs.contracts.value.Name as name;
+    ghost use Rattle.np_tables.specs.contracts.errand.Errand as errand;
+    ghost use Rattle.np_tables.specs.Lines.{LineMap, with_acts};
+
+    ghost Value = { LineMap };
+
+    ghost coded = { hash_map_code errand.the_row.coded (set.code name.the_row.coded) coded_ℕ };
+
+    ghost view = { λ lines. with_acts lines.acts lines.others };
+}
 
 /// The marks by their errands, each errand's in a line, and the meetings that have both an input and an output.
 #[derive(Drop)]
 pub struct ByErrand {
-    alloc: Global,
-    lines: IndexMap<Errand, Line>,
+    lines: Lines,
     busy: IndexSet<Meeting>,
 }
 
@@ -58,14 +82,12 @@ fn leave(lines: &mut IndexMap<Errand, Line>, errand: Errand, mark: Name) -> bool
     false
 }
 
-/// The line of an errand that has no mark left is given up if it is an output's or an input's. There are two others.
+/// The line of an errand that has no mark left is given up.
 fn give_up(lines: &mut IndexMap<Errand, Line>, errand: Errand)
     requires { has_some (line_of lines.old errand) ≡ false }
     ensures { SameLines lines.old lines.new }
 {
-    if errand.meeting().is_some() {
-        let _ = lines.swap_remove(&errand);
-    }
+    let _ = lines.swap_remove(&errand);
 }
 
 /// Whether an errand has marks.
@@ -78,27 +100,6 @@ fn has(lines: &IndexMap<Errand, Line>, errand: Errand) -> bool
     }
 }
 
-/// Whether a mark is in the line of an errand.
-fn holds(lines: &IndexMap<Errand, Line>, errand: Errand, mark: Name) -> bool
-    ensures { result ≡ set.contains (line_of lines.now errand) mark }
-{
-    match lines.get(&errand) {
-        Some(line) => line.has(mark),
-        None => false,
-    }
-}
-
-/// One of the marks of an errand, whichever.
-fn any(lines: &IndexMap<Errand, Line>, errand: Errand) -> Option<Name>
-    ensures some { IfSome result (λ mark. IsTrue (set.contains (line_of lines.now errand) mark)) }
-    ensures none { IfNone result (has_some (line_of lines.now errand) ≡ false) }
-{
-    match lines.get(&errand) {
-        Some(line) => line.any(),
-        None => None,
-    }
-}
-
 /// Whether a meeting has both an input and an output.
 fn meets(lines: &IndexMap<Errand, Line>, meeting: Meeting) -> bool
     ensures { result ≡ has_both lines.now meeting }
@@ -106,15 +107,113 @@ fn meets(lines: &IndexMap<Errand, Line>, meeting: Meeting) -> bool
     has(lines, Errand::Takes(meeting)) && has(lines, Errand::Gives(meeting))
 }
 
+/// The mark to be served of a line that has some, which goes to the end of it.
+fn next_of(line: &mut Line) -> Name
+    requires { IsTrue (has_some line.old) }
+    ensures member { IsTrue (set.contains line.old result) }
+    ensures same { line.new ≡ line.old }
+{
+    match line.next() {
+        Some(mark) => mark,
+        None => unreachable!(),
+    }
+}
+
+/// The mark to be served under an errand, which goes to the end of its line.
+fn serve(lines: &mut IndexMap<Errand, Line>, errand: Errand) -> Name
+    requires { IsTrue (has_some (line_of lines.old errand)) }
+    ensures member { IsTrue (set.contains (line_of lines.old errand) result) }
+    ensures lines { SameLines lines.old lines.new }
+{
+    match lines.get_mut(&errand) {
+        Some(line) => next_of(line),
+        None => unreachable!(),
+    }
+}
+
+impl Lines {
+    fn new(alloc: Global) -> Lines
+        ensures { (errand : Errand) → line_of result errand ≡ set.empty }
+    {
+        Lines {
+            alloc,
+            acts: Line::new(alloc),
+            others: IndexMap::new(alloc),
+        }
+    }
+
+    /// Whether a mark is one of those that act alone.
+    fn is_acting(&self, mark: Name) -> bool
+        ensures { result ≡ set.contains (line_of self.now errand.Acts) mark }
+    {
+        self.acts.has(mark)
+    }
+
+    fn has_acting(&self) -> bool
+        ensures { result ≡ has_some (line_of self.now errand.Acts) }
+    {
+        !self.acts.is_empty()
+    }
+
+    /// One of the marks that act alone, whichever.
+    fn any_acting(&self) -> Option<Name>
+        ensures some { IfSome result (λ mark. IsTrue (set.contains (line_of self.now errand.Acts) mark)) }
+        ensures none { IfNone result (has_some (line_of self.now errand.Acts) ≡ false) }
+    {
+        self.acts.any()
+    }
+
+    fn meets(&self, meeting: Meeting) -> bool
+        ensures { result ≡ has_both self.now meeting }
+    {
+        meets(&self.others, meeting)
+    }
+
+    fn enter(&mut self, errand: Errand, mark: Name) -> Result<(), Memory>
+        ensures ok { OnOk result (SetsLine self.old self.new errand (set.insert (line_of self.old errand) mark)) }
+        ensures err { OnErr result (SameLines self.old self.new) }
+    {
+        if errand == Errand::Acts {
+            self.acts.insert(mark, false)
+        } else {
+            enter(self.alloc, &mut self.others, errand, mark)
+        }
+    }
+
+    fn leave(&mut self, errand: Errand, mark: Name) -> bool
+        ensures lines { SetsLine self.old self.new errand (set.remove (line_of self.old errand) mark) }
+        ensures others { result ≡ has_some (line_of self.new errand) }
+    {
+        if errand == Errand::Acts {
+            self.acts.remove(mark);
+            !self.acts.is_empty()
+        } else {
+            leave(&mut self.others, errand, mark)
+        }
+    }
+
+    fn serve(&mut self, errand: Errand) -> Name
+        requires { IsTrue (has_some (line_of self.old errand)) }
+        ensures member { IsTrue (set.contains (line_of self.old errand) result) }
+        ensures lines { SameLines self.old self.new }
+    {
+        if errand == Errand::Acts {
+            next_of(&mut self.acts)
+        } else {
+            serve(&mut self.others, errand)
+        }
+    }
+}
+
 /// The meeting of an errand that a mark came under is busy if it has both now.
-fn open(lines: &IndexMap<Errand, Line>, busy: &mut IndexSet<Meeting>, errand: Errand)
+fn open(lines: &Lines, busy: &mut IndexSet<Meeting>, errand: Errand)
     requires { 0 < index_set.spare busy.old }
     ensures { (meeting : Meeting) → is_busy busy.new meeting ≡ (is_busy busy.old meeting || (is_at errand meeting && has_both lines.now meeting)) }
 {
     let Some(meeting) = errand.meeting() else {
         return;
     };
-    if meets(lines, meeting) {
+    if lines.meets(meeting) {
         match busy.insert(meeting) {
             Ok(_) => {}
             Err(_) => unreachable!(),
@@ -148,8 +247,7 @@ impl ByErrand {
         ensures busy { BusyAt result.lines result.busy }
     {
         ByErrand {
-            alloc,
-            lines: IndexMap::new(alloc),
+            lines: Lines::new(alloc),
             busy: IndexSet::new(alloc),
         }
     }
@@ -162,7 +260,7 @@ impl ByErrand {
         ensures busy { BusyAt self.new.lines self.new.busy }
     {
         self.busy.reserve(1)?;
-        enter(self.alloc, &mut self.lines, errand, mark)?;
+        self.lines.enter(errand, mark)?;
         open(&self.lines, &mut self.busy, errand);
         Ok(())
     }
@@ -173,7 +271,7 @@ impl ByErrand {
         ensures lines { SetsLine self.old.lines self.new.lines errand (set.remove (line_of self.old.lines errand) mark) }
         ensures busy { BusyAt self.new.lines self.new.busy }
     {
-        let others = leave(&mut self.lines, errand, mark);
+        let others = self.lines.leave(errand, mark);
         close(&mut self.busy, errand, others);
     }
 
@@ -182,7 +280,7 @@ impl ByErrand {
         ensures { result ≡ is_due self.now.lines self.now.busy turn }
     {
         match turn {
-            Turn::Alone(mark) => holds(&self.lines, Errand::Acts, mark),
+            Turn::Alone(mark) => self.lines.is_acting(mark),
             Turn::Meets(meeting) => self.busy.contains(&meeting),
         }
     }
@@ -192,7 +290,7 @@ impl ByErrand {
         ensures some { IfSome result (λ turn. IsTrue (is_due self.now.lines self.now.busy turn)) }
         ensures none { IfNone result (NoneDue self.now.lines self.now.busy) }
     {
-        match any(&self.lines, Errand::Acts) {
+        match self.lines.any_acting() {
             Some(mark) => Some(Turn::Alone(mark)),
             None => Some(Turn::Meets(any_busy(&self.busy)?)),
         }
@@ -201,7 +299,7 @@ impl ByErrand {
     pub fn is_quiet(&self) -> bool
         ensures { IsTrue result ↔ NoneDue self.now.lines self.now.busy }
     {
-        !has(&self.lines, Errand::Acts) && self.busy.is_empty()
+        !self.lines.has_acting() && self.busy.is_empty()
     }
 
     /// The mark to be served under an errand, which goes to the end of its line.
@@ -211,12 +309,6 @@ impl ByErrand {
         ensures lines { SameLines self.old.lines self.new.lines }
         ensures busy { self.new.busy ≡ self.old.busy }
     {
-        match self.lines.get_mut(&errand) {
-            Some(line) => match line.next() {
-                Some(mark) => mark,
-                None => unreachable!(),
-            },
-            None => unreachable!(),
-        }
+        self.lines.serve(errand)
     }
 }
