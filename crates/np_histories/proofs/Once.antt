@@ -1,17 +1,17 @@
 -- A history is read or refused, replayed or refused, and refused in one way alone.
-use Rattle.std.proofs.Common.{◌≡◌, ℕ, inl, inr, List, Some, refl, sym, subst, ap, ◌∙◌}
+use Rattle.std.proofs.Common.{◌≡◌, ℕ, inl, inr, List, Some, sym, subst, ap, ◌∙◌}
 use Rattle.np_syntax.specs.declared.event.Event.{Event}
 use Rattle.np_syntax.specs.declared.program.LowProgram.{LowProgram}
 use Rattle.np_calculus.specs.Config.{Config}
 use Rattle.np_calculus.specs.Reductions.{run}
 use Rattle.np_calculus.specs.Starts.{start_low}
-use Rattle.history_text.specs.Laws.{HasOneReading, IsSomeHistory, IsSomewhereRefused}
+use Rattle.history_text.specs.Laws.{IsSomeHistory, IsSomewhereRefused}
 use Rattle.history_text.proofs.Found.{one_reading}
 use Rattle.np_replay.proofs.Runs.{one-end}
 use Rattle.np_verdict.specs.Lines.{status_of}
 use Rattle.np_verdict.specs.declared.refusal.Refusal.{Refusal}
 use Rattle.np_verdict.specs.declared.refusal.Refusal.TheVariants.{HistSyntax, NotARun}
-use Rattle.np_histories.specs.Histories.{IsRead, HasEvents, HasRun, HasNoEvents, Stops, HasNoRun, IsFaulty}
+use Rattle.np_histories.specs.Histories.{IsRead, HasEvents, HasRun, HasNoEvents, Stops, IsFaulty}
 
 abbrev some_history : (bytes : List ℕ) (events : List Event) → IsRead bytes events → IsSomeHistory bytes
 some_history bytes events r = record { format = r.format; events = events; is = r.history }

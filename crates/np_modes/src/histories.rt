@@ -1,6 +1,6 @@
 //! The modes that read a history.
 
-ghost use Rattle.std.specs.Prelude.{◌≡◌, ◌≢◌, ◌+◌, ◌<◌, ◌≤◌, ◌^◌, ◌⊎◌, length, IfOk, IfErr};
+ghost use Rattle.std.specs.Prelude.{◌≢◌, ◌+◌, ◌<◌, ◌≤◌, ◌^◌, ◌⊎◌, length, IfOk, IfErr};
 ghost use Rattle.np_io.specs.Causes.{NoneFell};
 ghost use Rattle.np_io.specs.Bytes.{StayHeld};
 ghost use Rattle.np_verdict.specs.Faults.{Stage};

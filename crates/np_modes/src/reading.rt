@@ -1,6 +1,6 @@
 //! Reading the texts that the words name.
 
-ghost use Rattle.std.specs.Prelude.{◌≡◌, ◌≢◌, ◌+◌, ◌≤◌, IfOk, IfErr};
+ghost use Rattle.std.specs.Prelude.{◌≢◌, ◌+◌, ◌≤◌, IfOk, IfErr};
 ghost use Rattle.np_io.specs.Causes.{NoneFell};
 ghost use Rattle.np_io.specs.Bytes.{StayHeld};
 ghost use Rattle.np_modes.specs.Readings.{IsRead, IsUnread, seen};

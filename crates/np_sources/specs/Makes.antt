@@ -106,7 +106,8 @@ stage_of task.Show = Stage.tree
 stage_of task.Check = Stage.program
 stage_of task.Low = Stage.program
 
--- what is made of a source: a run, which is kept, the canonical text, that it is well typed, or the low text
+-- What is made of a source: a run, which is kept, the canonical text, that it is well typed, or the low text. No words ask for the
+-- other options of `run` yet.
 abbrev pub DoesTask : Task → List ℕ → Option Record → Option SerialRun → List ℕ → Type 0
 DoesTask (task.Run budget history high serial links) bytes kept made text = KeepsRun budget bytes kept made text
 DoesTask (task.High budget history) bytes kept made text = KeepsHigh budget history bytes kept made text

@@ -1,6 +1,6 @@
 //! Runs of a source, with their reports: at the high level, and of its low program.
 
-ghost use Rattle.std.specs.Prelude.{◌≡◌, ◌≢◌, ◌≤◌, Bool, false, length, IfOk, IfErr};
+ghost use Rattle.std.specs.Prelude.{◌≡◌, ◌≢◌, ◌≤◌, false, length, IfOk, IfErr};
 ghost use Rattle.np_calculus.specs.Runs.{RunsWell};
 ghost use Rattle.np_calculus.specs.Starts.{start_high, start_low};
 ghost use Rattle.np_report.specs.Report.{report_text};

@@ -1,6 +1,6 @@
 //! The modes that read one source.
 
-ghost use Rattle.std.specs.Prelude.{◌≡◌, ◌≢◌, ◌≤◌, length, IfOk, IfErr};
+ghost use Rattle.std.specs.Prelude.{◌≢◌, ◌≤◌, length, IfOk, IfErr};
 ghost use Rattle.np_verdict.specs.Faults.{Stage, Faulty};
 ghost use Rattle.np_sources.specs.Makes.{KeepsRun, KeepsHigh, Shows, Checks, Lowers, DoesTask, stage_of};
 

@@ -1,4 +1,4 @@
-ghost use Rattle.std.specs.Prelude.{◌≡◌, ◌++◌, IfOk, codes};
+ghost use Rattle.std.specs.Prelude.{◌≡◌, IfOk};
 ghost use Rattle.np_verdict.specs.Faults.{of_grammar, of_scope, of_tokens};
 ghost use Rattle.np_verdict.specs.Lines.{line_of, placed_line, rule_text, status_of};
 

@@ -17,7 +17,7 @@ use std::alloc::Global;
 /// What is done with a source.
 #[derive(Clone, Copy, Debug, PartialEq, Eq)]
 pub enum Task {
-    /// It is run. Each site makes at most `budget` events. No words ask for the other options yet.
+    /// It is run, with at most `budget` events. No words ask for the other options yet.
     Run {
         budget: u32,
         history: bool,
