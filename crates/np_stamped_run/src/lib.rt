@@ -3,4 +3,4 @@
 
 mod laws;
 
-pub use laws::{law_merged_is_run, law_said_in_order, law_stamps_are_few};
+pub use laws::{law_merged_is_run, law_rest_in_parts, law_said_in_order, law_stamps_are_few};

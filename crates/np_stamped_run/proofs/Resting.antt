@@ -1,0 +1,263 @@
+-- A site can act in the whole just where it can in a part, or an item brings it something.
+use Rattle.std.proofs.Common.{◌≡◌, ◌<◌, ◌⊎◌, inl, inr, ⊎_elim, ℕ, zero, suc, List, [], ◌∷◌, ◌++◌, Option, None, Some, IsSome, refl, sym, ap, subst, ◌∙◌, arith}
+use Rattle.std.proofs.lemmas.Bool.Decides.{nat_tests}
+use Rattle.np_calculus.proofs.Common.{Name, Config, Contents, inside}
+use Rattle.np_calculus.specs.declared.config.Atom.{Atom}
+use Rattle.np_calculus.specs.declared.config.Packet.{Packet}
+use Rattle.np_calculus.specs.declared.config.Place.{Place}
+use Rattle.np_calculus.specs.declared.config.Place.TheVariants as place
+use Rattle.np_calculus.specs.FrameRule.{Every}
+use Rattle.np_calculus.specs.Idle.{Can, HasAgent, HasArrival, HasMeeting, HasPacket, HasWork, Idle}
+use Rattle.np_calculus.specs.Parts.{IsLodged, beside, either, nothing}
+use Rattle.np_calculus.proofs.Fits.{some}
+use Rattle.np_calculus.proofs.FrameRule.{none-some, none_of}
+use Rattle.np_calculus.proofs.Writes.{every-map}
+use Rattle.np_merged_run.specs.Joined.{AreApart, together}
+use Rattle.np_merged_run.specs.Steps.{IsItem, IsSpread, Spread, sites}
+use Rattle.np_merged_run.proofs.Joined.{every-append}
+use Rattle.np_merged_run.proofs.Steps.{together-lodged}
+use Rattle.np_stamped_run.specs.Resting.{Brings, BringsAgent, BringsPacket, CanInParts, IdleInParts, Occurs}
+
+-- ---- what holds of one of the elements
+
+module _ {A : Type 0} where
+  occurs-map : (P Q : A → Type 0) → ((x : A) → P x → Q x) → (xs : List A) → Occurs P xs → Occurs Q xs
+  occurs-map P Q f [] h = h
+  occurs-map P Q f (x ∷ xs) (inl h) = inl (f x h)
+  occurs-map P Q f (x ∷ xs) (inr h) = inr (occurs-map P Q f xs h)
+
+  occurs-first : (P : A → Type 0) (xs ys : List A) → Occurs P xs → Occurs P (xs ++ ys)
+  occurs-first P (x ∷ xs) ys (inl h) = inl h
+  occurs-first P (x ∷ xs) ys (inr h) = inr (occurs-first P xs ys h)
+  occurs-first P [] ys h = absurd h
+
+  occurs-second : (P : A → Type 0) (xs ys : List A) → Occurs P ys → Occurs P (xs ++ ys)
+  occurs-second P [] ys h = h
+  occurs-second P (x ∷ xs) ys h = inr (occurs-second P xs ys h)
+
+  occurs-either : (P : A → Type 0) (xs ys : List A) → Occurs P (xs ++ ys) → Occurs P xs ⊎ Occurs P ys
+  occurs-either P [] ys h = inr h
+  occurs-either P (x ∷ xs) ys (inl h) = inl (inl h)
+  occurs-either P (x ∷ xs) ys (inr h) = ⊎_elim (λ i. inl (inr i)) (λ i. inr i) (occurs-either P xs ys h)
+
+  occurs-not : (P Q : A → Type 0) → ((x : A) → P x → Q x → ⊥) → (xs : List A) → Every P xs → Occurs Q xs → ⊥
+  occurs-not P Q f [] all h = h
+  occurs-not P Q f (x ∷ xs) all (inl h) = f x all.0 h
+  occurs-not P Q f (x ∷ xs) all (inr h) = occurs-not P Q f xs all.1 h
+
+last-or_before : (u n : ℕ) → u < suc n → (u ≡ n) ⊎ (u < n)
+last-or_before u n less = grind (arith, nat_tests)
+
+module _ (P : Contents → Type 0) (here : ℕ → Config) where
+  in_sites : (n u : ℕ) → u < n → P (inside (here u)) → Occurs P (sites n here)
+  in_sites zero u less h = absurd (omega arith)
+  in_sites (suc n) u less h = ⊎_elim (λ same. inl (subst (λ u. P (inside (here u))) same h)) (λ lower. inr (in_sites n u lower h)) (last-or_before u n less)
+
+  of_sites : (n : ℕ) → Occurs P (sites n here) → (u : ℕ) × (u < n) × P (inside (here u))
+  of_sites zero h = absurd h
+  of_sites (suc n) (inl h) = (n, omega arith, h)
+  of_sites (suc n) (inr h) = let t = of_sites n h in let less : t.0 < n = t.1 in (t.0, omega arith, t.2)
+
+-- ---- what is in one of the parts
+
+either-is : {X : Type 0} (o b : Option X) (x : X) → either o b ≡ Some x → (o ≡ Some x) ⊎ (b ≡ Some x)
+either-is (Some y) b x h = inl h
+either-is None b x h = inr h
+
+packet-in : (ps : List Contents) (m : Name) (p : Packet) → (together ps).packet m ≡ Some p → Occurs (λ x. x.packet m ≡ Some p) ps
+packet-in [] m p h = absurd cc
+packet-in (x ∷ ps) m p h = ⊎_elim (λ i. inl i) (λ i. inr (packet-in ps m p i)) (either-is (x.packet m) ((together ps).packet m) p h)
+
+place-in : (ps : List Contents) (a : Name) (p : Place) → (together ps).place a ≡ Some p → Occurs (λ x. x.place a ≡ Some p) ps
+place-in [] a p h = absurd cc
+place-in (x ∷ ps) a p h = ⊎_elim (λ i. inl i) (λ i. inr (place-in ps a p i)) (either-is (x.place a) ((together ps).place a) p h)
+
+-- a part that has the agent, with all the atoms that the whole has of it
+record HasWhole (whole : Contents) (a : Name) (p : Place) (x : Contents) : Type 0 where
+  place : x.place a ≡ Some p
+  atoms : (m : Name) (b : Atom) → whole.atom m ≡ Some b → b.agent ≡ a → x.atom m ≡ Some b
+
+agent-in : (ps : List Contents) (a : Name) (p : Place) → AreApart ps → Every IsLodged ps → (together ps).place a ≡ Some p → Occurs (HasWhole (together ps) a p) ps
+agent-in [] a p apart lodged h = absurd cc
+agent-in (x ∷ ps) a p apart lodged h = ⊎_elim
+    (λ here. inl (record {
+      place = here;
+      atoms = λ m b is of. ⊎_elim (λ i. i)
+          (λ i. absurd (none-some ((together ps).place a) (apart.0.agents a (some (x.place a) p here)) (subst (λ a. IsSome ((together ps).place a)) of ((together-lodged ps lodged.1).each m b i))))
+          (either-is (x.atom m) ((together ps).atom m) b is);
+    }))
+    (λ there. inr (occurs-map (HasWhole (together ps) a p) (HasWhole (together (x ∷ ps)) a p) (λ y has. record {
+      place = has.place;
+      atoms = λ m b is of. ⊎_elim
+          (λ i. absurd (none-some ((together ps).place a) (apart.0.agents a (subst (λ a. IsSome (x.place a)) of (lodged.0.each m b i))) (some ((together ps).place a) p there)))
+          (λ i. has.atoms m b i of)
+          (either-is (x.atom m) ((together ps).atom m) b is);
+    }) ps (agent-in ps a p apart.1 lodged.1 there)))
+    (either-is (x.place a) ((together ps).place a) p h)
+
+-- ---- and what is in a part is in all of them together
+
+atom-out : (ps : List Contents) (m : Name) (b : Atom) → AreApart ps → Occurs (λ x. x.atom m ≡ Some b) ps → (together ps).atom m ≡ Some b
+atom-out [] m b apart h = absurd h
+atom-out (x ∷ ps) m b apart (inl h) = ap (λ o. either o ((together ps).atom m)) h
+atom-out (x ∷ ps) m b apart (inr h) =
+    let more = atom-out ps m b apart.1 h in
+    let none = none_of (x.atom m) (λ is. none-some ((together ps).atom m) (apart.0.marks m (inl is)).atom (some ((together ps).atom m) b more)) in
+    ap (λ o. either o ((together ps).atom m)) none ∙ more
+
+packet-out : (ps : List Contents) (m : Name) (p : Packet) → AreApart ps → Occurs (λ x. x.packet m ≡ Some p) ps → (together ps).packet m ≡ Some p
+packet-out [] m p apart h = absurd h
+packet-out (x ∷ ps) m p apart (inl h) = ap (λ o. either o ((together ps).packet m)) h
+packet-out (x ∷ ps) m p apart (inr h) =
+    let more = packet-out ps m p apart.1 h in
+    let none = none_of (x.packet m) (λ is. none-some ((together ps).packet m) (apart.0.marks m (inr is)).packet (some ((together ps).packet m) p more)) in
+    ap (λ o. either o ((together ps).packet m)) none ∙ more
+
+place-out : (ps : List Contents) (a : Name) (p : Place) → AreApart ps → Occurs (λ x. x.place a ≡ Some p) ps → (together ps).place a ≡ Some p
+place-out [] a p apart h = absurd h
+place-out (x ∷ ps) a p apart (inl h) = ap (λ o. either o ((together ps).place a)) h
+place-out (x ∷ ps) a p apart (inr h) =
+    let more = place-out ps a p apart.1 h in
+    let none = none_of (x.place a) (λ is. none-some ((together ps).place a) (apart.0.agents a is) (some ((together ps).place a) p more)) in
+    ap (λ o. either o ((together ps).place a)) none ∙ more
+
+-- ---- the whole and its parts
+
+module _ (n : ℕ) (g : Spread) (c : Config) (s : ℕ) (i : IsSpread n g c) where
+  abbrev parts : List Contents
+  parts = sites n g.here ++ g.air
+
+  lodged-sites : (n : ℕ) → Every IsLodged (sites n g.here)
+  lodged-sites zero = tt
+  lodged-sites (suc n) = ((i.site n).lodged, lodged-sites n)
+
+  lodged : Every IsLodged (sites n g.here ++ g.air)
+  lodged = every-append IsLodged (sites n g.here) g.air (lodged-sites n) (every-map IsItem IsLodged (λ x is. is.lodged) g.air i.items)
+
+  is-parts : together (sites n g.here ++ g.air) ≡ inside c
+  is-parts = sym i.joined.is
+
+  abbrev InParts : Type 0
+  InParts = ((u : ℕ) × (u < n) × Can (g.here u) s) ⊎ Occurs (Brings s) g.air
+
+  -- where the whole can
+
+  from-packet : HasPacket c s → InParts
+  from-packet p = ⊎_elim
+      (λ h. let t = of_sites (λ x. x.packet p.mark ≡ Some p.packet) g.here n h in inl (t.0, t.1, inl (record { mark = p.mark; packet = p.packet; flies = t.2; to = p.to })))
+      (λ h. inr (occurs-map (λ x. x.packet p.mark ≡ Some p.packet) (Brings s) (λ x is. inl (record { mark = p.mark; packet = p.packet; flies = is; to = p.to })) g.air h))
+      (occurs-either (λ x. x.packet p.mark ≡ Some p.packet) (sites n g.here) g.air
+      (packet-in (sites n g.here ++ g.air) p.mark p.packet (ap (λ (x : Contents). x.packet p.mark) is-parts ∙ p.flies)))
+
+  from-arrival : HasArrival c s → InParts
+  from-arrival a = ⊎_elim
+      (λ h. let t = of_sites (λ x. x.place a.agent ≡ Some (place.Way s)) g.here n h in inl (t.0, t.1, inr (inl (record { agent = a.agent; comes = t.2 }))))
+      (λ h. inr (occurs-map (λ x. x.place a.agent ≡ Some (place.Way s)) (Brings s) (λ x is. inr (record { agent = a.agent; comes = is })) g.air h))
+      (occurs-either (λ x. x.place a.agent ≡ Some (place.Way s)) (sites n g.here) g.air
+      (place-in (sites n g.here ++ g.air) a.agent (place.Way s) (ap (λ (x : Contents). x.place a.agent) is-parts ∙ a.comes)))
+
+  from-agent : HasAgent c s → InParts
+  from-agent a = ⊎_elim
+      (λ h.
+      let t = of_sites (HasWhole (together (sites n g.here ++ g.air)) a.agent (place.At s)) g.here n h in
+      inl (t.0, t.1, inr (inr (record { agent = a.agent; stands = t.2.place; works = works t.0 t.2 }))))
+      (λ h.
+      absurd (occurs-not IsItem (HasWhole (together (sites n g.here ++ g.air)) a.agent (place.At s)) (λ x item has. (item.away s).none a.agent has.place) g.air i.items h))
+      (occurs-either (HasWhole (together (sites n g.here ++ g.air)) a.agent (place.At s)) (sites n g.here) g.air
+      (agent-in (sites n g.here ++ g.air) a.agent (place.At s) i.joined.apart lodged (ap (λ (x : Contents). x.place a.agent) is-parts ∙ a.stands)))
+    where
+      works : (u : ℕ) → HasWhole (together (sites n g.here ++ g.air)) a.agent (place.At s) (inside (g.here u)) → HasWork (g.here u) a.agent ⊎ HasMeeting (g.here u) a.agent
+      works u has = ⊎_elim
+          (λ w. inl (record {
+            mark = w.mark;
+            atom = w.atom;
+            there = has.atoms w.mark w.atom (ap (λ (x : Contents). x.atom w.mark) is-parts ∙ w.there) w.of;
+            of = w.of;
+            acts = w.acts;
+          }))
+          (λ w. inr (record {
+            output = w.output;
+            giver = w.giver;
+            gives = has.atoms w.output w.giver (ap (λ (x : Contents). x.atom w.output) is-parts ∙ w.gives) w.giver_of;
+            giver_of = w.giver_of;
+            input = w.input;
+            taker = w.taker;
+            takes = has.atoms w.input w.taker (ap (λ (x : Contents). x.atom w.input) is-parts ∙ w.takes) w.taker_of;
+            taker_of = w.taker_of;
+            from = w.from;
+            output_form = w.output_form;
+            to = w.to;
+            input_form = w.input_form;
+            chan = w.chan;
+            given = w.given;
+            taken = w.taken;
+          }))
+          a.works
+
+  pub from-whole : Can c s → InParts
+  from-whole (inl p) = from-packet p
+  from-whole (inr (inl a)) = from-arrival a
+  from-whole (inr (inr a)) = from-agent a
+
+  -- where a part can
+
+  whole-packet : (m : Name) (p : Packet) → Occurs (λ x. x.packet m ≡ Some p) (sites n g.here ++ g.air) → (inside c).packet m ≡ Some p
+  whole-packet m p h = ap (λ (x : Contents). x.packet m) i.joined.is ∙ packet-out (sites n g.here ++ g.air) m p i.joined.apart h
+
+  whole-place : (a : Name) (p : Place) → Occurs (λ x. x.place a ≡ Some p) (sites n g.here ++ g.air) → (inside c).place a ≡ Some p
+  whole-place a p h = ap (λ (x : Contents). x.place a) i.joined.is ∙ place-out (sites n g.here ++ g.air) a p i.joined.apart h
+
+  module _ (u : ℕ) (less : u < n) where
+    of-site : (P : Contents → Type 0) → P (inside (g.here u)) → Occurs P (sites n g.here ++ g.air)
+    of-site P h = occurs-first P (sites n g.here) g.air (in_sites P g.here n u less h)
+
+    whole-atom : (m : Name) (b : Atom) → (inside (g.here u)).atom m ≡ Some b → (inside c).atom m ≡ Some b
+    whole-atom m b h = ap (λ (x : Contents). x.atom m) i.joined.is ∙ atom-out (sites n g.here ++ g.air) m b i.joined.apart (of-site (λ x. x.atom m ≡ Some b) h)
+
+    to-whole : Can (g.here u) s → Can c s
+    to-whole (inl p) = inl (record { mark = p.mark; packet = p.packet; flies = whole-packet p.mark p.packet (of-site (λ x. x.packet p.mark ≡ Some p.packet) p.flies); to = p.to })
+    to-whole (inr (inl a)) = inr (inl (record { agent = a.agent; comes = whole-place a.agent (place.Way s) (of-site (λ x. x.place a.agent ≡ Some (place.Way s)) a.comes) }))
+    to-whole (inr (inr a)) = inr (inr (record {
+      agent = a.agent;
+      stands = whole-place a.agent (place.At s) (of-site (λ x. x.place a.agent ≡ Some (place.At s)) a.stands);
+      works = ⊎_elim
+          (λ w. inl (record { mark = w.mark; atom = w.atom; there = whole-atom w.mark w.atom w.there; of = w.of; acts = w.acts }))
+          (λ w. inr (record {
+            output = w.output;
+            giver = w.giver;
+            gives = whole-atom w.output w.giver w.gives;
+            giver_of = w.giver_of;
+            input = w.input;
+            taker = w.taker;
+            takes = whole-atom w.input w.taker w.takes;
+            taker_of = w.taker_of;
+            from = w.from;
+            output_form = w.output_form;
+            to = w.to;
+            input_form = w.input_form;
+            chan = w.chan;
+            given = w.given;
+            taken = w.taken;
+          }))
+          a.works;
+    }))
+
+  -- an item that brings something, and what it brings
+  brought : (xs : List Contents) → Occurs (Brings s) xs → ((P : Contents → Type 0) → Occurs P xs → Occurs P (sites n g.here ++ g.air)) → Can c s
+  brought [] h put = absurd h
+  brought (x ∷ xs) (inl (inl p)) put = inl (record { mark = p.mark; packet = p.packet; flies = whole-packet p.mark p.packet (put (λ x. x.packet p.mark ≡ Some p.packet) (inl p.flies)); to = p.to })
+  brought (x ∷ xs) (inl (inr a)) put = inr (inl (record { agent = a.agent; comes = whole-place a.agent (place.Way s) (put (λ x. x.place a.agent ≡ Some (place.Way s)) (inl a.comes)) }))
+  brought (x ∷ xs) (inr h) put = brought xs h (λ P is. put P (inr is))
+
+  pub from-parts : InParts → Can c s
+  from-parts (inl (u, less, can)) = to-whole u less can
+  from-parts (inr h) = brought g.air h (λ P is. occurs-second P (sites n g.here) g.air is)
+
+pub can_in_parts : CanInParts
+can_in_parts n g c s i = (from-whole n g c s i, from-parts n g c s i)
+
+pub idle_in_parts : IdleInParts
+idle_in_parts n g c i = (
+  λ idle. (λ u less s can. idle s (from-parts n g c s i (inl (u, less, can))), λ s h. idle s (from-parts n g c s i (inr h))),
+  λ (still, none) s can. ⊎_elim (λ (u, less, k). still u less s k) (none s) (from-whole n g c s i can),
+)
