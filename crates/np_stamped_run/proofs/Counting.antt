@@ -15,7 +15,7 @@ lower clock m (Some x) is = omega arith
 
 pub ticks-stamped : (clock : ℕ) (ds : List Deed) → Ticks clock ds → AllByRecursion IsStamped ds
 ticks-stamped clock [] ticks = tt
-ticks-stamped clock (d ∷ ds) ticks = (record { put = ticks.1; taken = lower clock d.event.stamp d.taken ticks.0 }, ticks-stamped d.event.stamp ds ticks.2)
+ticks-stamped clock (d ∷ ds) ticks = (record { put = ticks.0.put; taken = lower clock d.event.stamp d.taken ticks.0.event }, ticks-stamped d.event.stamp ds ticks.1)
 
 -- ---- one event
 
@@ -68,17 +68,17 @@ few m [] clock w rest ticks low waits flow =
 few m (d ∷ ds) clock w rest ticks low waits flow =
     let s = d.event.event.site in
     let t = subst (Ticks (clock d.event.event.site)) (own-here d.event.event.site d ds refl) (ticks d.event.event.site) in
-    let here : d.event.stamp ≤ m + 1 = one_more m (clock d.event.event.site) d.event.stamp d.event.event.site d.taken w (low d.event.event.site) t.0 waits flow.0 in
+    let here : d.event.stamp ≤ m + 1 = one_more m (clock d.event.event.site) d.event.stamp d.event.event.site d.taken w (low d.event.event.site) t.0.event waits flow.0 in
     let more = few (m + 1) ds (clock_at clock d.event.event.site d.event.stamp) (moved w d) rest
     (each_site (λ u. Ticks (clock_at clock d.event.event.site d.event.stamp u) (own u ds)) d.event.event.site
-    (subst (λ k. Ticks k (own d.event.event.site ds)) (sym (clock-here clock d.event.event.site d.event.stamp)) t.2)
+    (subst (λ k. Ticks k (own d.event.event.site ds)) (sym (clock-here clock d.event.event.site d.event.stamp)) t.1)
     (λ u apart.
     subst (λ k. Ticks k (own u ds)) (sym (clock-there clock d.event.event.site d.event.stamp u apart))
     (subst (Ticks (clock u)) (own-there d.event.event.site d ds refl u apart) (ticks u))))
     (each_site (λ u. clock_at clock d.event.event.site d.event.stamp u ≤ m + 1) d.event.event.site
     (subst (λ k. k ≤ m + 1) (sym (clock-here clock d.event.event.site d.event.stamp)) here)
     (λ u apart. subst (λ k. k ≤ m + 1) (sym (clock-there clock d.event.event.site d.event.stamp u apart)) (let k : clock u ≤ m = low u in omega arith)))
-    (waits-after m d w waits here t.1)
+    (waits-after m d w waits here t.0.put)
     flow.1 in (
       (omega arith, all_weaker (λ (e : Deed). e.event.stamp ≤ m + 1 + length ds) (λ (e : Deed). e.event.stamp ≤ m + suc (length ds)) (λ e is. omega arith) ds more.0),
       λ u v. all_weaker (λ x. x.stamp ≤ m + 1 + length ds) (λ x. x.stamp ≤ m + suc (length ds)) (λ x is. omega arith) (rest u v) (more.1 u v),

@@ -1,7 +1,9 @@
 pub mod Counting
 pub mod Flowing
+pub mod Growing
 pub mod Merging
 pub mod Moving
 pub mod Resting
 pub mod Running
 pub mod Saying
+pub mod Shown

@@ -129,7 +129,7 @@ events-joined deeds (h ∷ hs) are =
 
 module _ (n : ℕ) (r : SiteRuns) (hs : List Recorded) (runs : AreSiteRuns n r) (are : AreRecorded hs r) where
   pub all-ranks : AllByRecursion HasItsRank (all_deeds r.deeds hs)
-  all-ranks = all_here HasItsRank r.deeds (λ s. own-ranks n s (r.deeds s) (runs.own s)) hs
+  all-ranks = all_here HasItsRank r.deeds (λ s. own-ranks n s (r.deeds s) (runs.each s).own) hs
 
   pub turns-by_stamp : IsByStamp (in_turn r.deeds hs)
   turns-by_stamp = by_stamp (all_deeds r.deeds hs) all-ranks (ascends-in_order (comes_before {X = Deed}) ranks_order (flat_map (deeds_of r.deeds) hs))

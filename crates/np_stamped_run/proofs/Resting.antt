@@ -1,5 +1,5 @@
 -- A site can act in the whole just where it can in a part, or an item brings it something.
-use Rattle.std.proofs.Common.{◌≡◌, ◌<◌, ◌⊎◌, inl, inr, ⊎_elim, ℕ, zero, suc, List, [], ◌∷◌, ◌++◌, Option, None, Some, IsSome, refl, sym, ap, subst, ◌∙◌, arith}
+use Rattle.std.proofs.Common.{◌≡◌, ◌<◌, ◌⊎◌, inl, inr, ⊎_elim, ℕ, zero, suc, List, [], ◌∷◌, ◌++◌, map, Option, None, Some, IsSome, sym, ap, subst, ◌∙◌, arith}
 use Rattle.std.proofs.lemmas.Bool.Decides.{nat_tests}
 use Rattle.np_calculus.proofs.Common.{Name, Config, Contents, inside}
 use Rattle.np_calculus.specs.declared.config.Atom.{Atom}
@@ -7,16 +7,17 @@ use Rattle.np_calculus.specs.declared.config.Packet.{Packet}
 use Rattle.np_calculus.specs.declared.config.Place.{Place}
 use Rattle.np_calculus.specs.declared.config.Place.TheVariants as place
 use Rattle.np_calculus.specs.FrameRule.{Every}
-use Rattle.np_calculus.specs.Idle.{Can, HasAgent, HasArrival, HasMeeting, HasPacket, HasWork, Idle}
-use Rattle.np_calculus.specs.Parts.{IsLodged, beside, either, nothing}
+use Rattle.np_calculus.specs.Idle.{Can, HasAgent, HasArrival, HasMeeting, HasPacket, HasWork}
+use Rattle.np_calculus.specs.Parts.{IsLodged, either}
 use Rattle.np_calculus.proofs.Fits.{some}
 use Rattle.np_calculus.proofs.FrameRule.{none-some, none_of}
 use Rattle.np_calculus.proofs.Writes.{every-map}
 use Rattle.np_merged_run.specs.Joined.{AreApart, together}
+use Rattle.np_merged_run.specs.Links.{Linked, air, over, spread}
 use Rattle.np_merged_run.specs.Steps.{IsItem, IsSpread, Spread, sites}
 use Rattle.np_merged_run.proofs.Joined.{every-append}
 use Rattle.np_merged_run.proofs.Steps.{together-lodged}
-use Rattle.np_stamped_run.specs.Resting.{Brings, BringsAgent, BringsPacket, CanInParts, IdleInParts, Occurs}
+use Rattle.np_stamped_run.specs.Resting.{Brings, CanInParts, IdleInParts, IsAwaited, Occurs}
 
 -- ---- what holds of one of the elements
 
@@ -253,11 +254,50 @@ module _ (n : ℕ) (g : Spread) (c : Config) (s : ℕ) (i : IsSpread n g c) wher
   from-parts (inl (u, less, can)) = to-whole u less can
   from-parts (inr h) = brought g.air h (λ P is. occurs-second P (sites n g.here) g.air is)
 
+-- ---- what is on links
+
+module _ {A : Type 0} (P : A → Type 0) where
+  occurs-mapped : {B : Type 0} (f : B → A) (xs : List B) → Occurs P (map f xs) → Occurs (λ x. P (f x)) xs
+  occurs-mapped f [] h = h
+  occurs-mapped f (x ∷ xs) (inl h) = inl h
+  occurs-mapped f (x ∷ xs) (inr h) = inr (occurs-mapped f xs h)
+
+  mapped-occurs : {B : Type 0} (f : B → A) (xs : List B) → Occurs (λ x. P (f x)) xs → Occurs P (map f xs)
+  mapped-occurs f [] h = h
+  mapped-occurs f (x ∷ xs) (inl h) = inl h
+  mapped-occurs f (x ∷ xs) (inr h) = inr (mapped-occurs f xs h)
+
+  occurs-over : (n : ℕ) (f : ℕ → List A) → Occurs P (over n f) → (u : ℕ) × (u < n) × Occurs P (f u)
+  occurs-over zero f h = absurd h
+  occurs-over (suc n) f h = ⊎_elim (λ i. (n, omega arith, i)) (λ i. let t = occurs-over n f i in let less : t.0 < n = t.1 in (t.0, omega arith, t.2)) (occurs-either P (f n) (over n f) h)
+
+  over-occurs : (n : ℕ) (f : ℕ → List A) (u : ℕ) → u < n → Occurs P (f u) → Occurs P (over n f)
+  over-occurs zero f u less h = absurd (omega arith)
+  over-occurs (suc n) f u less h = ⊎_elim
+      (λ same. occurs-first P (f n) (over n f) (subst (λ u. Occurs P (f u)) same h))
+      (λ lower. occurs-second P (f n) (over n f) (over-occurs n f u lower h))
+      (last-or_before u n less)
+
+module _ (n : ℕ) (g : Linked) (s : ℕ) where
+  from-air : Occurs (Brings s) (air n g.link) → IsAwaited n g s
+  from-air h =
+      let u = occurs-over (Brings s) n (λ u. over n (λ t. map (λ x. x.load) (g.link u t))) h in
+      let t = occurs-over (Brings s) n (λ t. map (λ x. x.load) (g.link u.0 t)) u.2 in
+      (u.0, t.0, u.1, t.1, occurs-mapped (Brings s) (λ x. x.load) (g.link u.0 t.0) t.2)
+
+  to-air : IsAwaited n g s → Occurs (Brings s) (air n g.link)
+  to-air (u, t, from, to, h) =
+      over-occurs (Brings s) n (λ u. over n (λ t. map (λ x. x.load) (g.link u t))) u from
+      (over-occurs (Brings s) n (λ t. map (λ x. x.load) (g.link u t)) t to (mapped-occurs (Brings s) (λ x. x.load) (g.link u t) h))
+
 pub can_in_parts : CanInParts
-can_in_parts n g c s i = (from-whole n g c s i, from-parts n g c s i)
+can_in_parts n g c s i = (
+  λ can. ⊎_elim (λ part. inl part) (λ h. inr (from-air n g s h)) (from-whole n (spread n g) c s i can),
+  λ h. from-parts n (spread n g) c s i (⊎_elim (λ part. inl part) (λ awaited. inr (to-air n g s awaited)) h),
+)
 
 pub idle_in_parts : IdleInParts
 idle_in_parts n g c i = (
-  λ idle. (λ u less s can. idle s (from-parts n g c s i (inl (u, less, can))), λ s h. idle s (from-parts n g c s i (inr h))),
-  λ (still, none) s can. ⊎_elim (λ (u, less, k). still u less s k) (none s) (from-whole n g c s i can),
+  λ idle. (λ u less s can. idle s ((can_in_parts n g c s i).1 (inl (u, less, can))), λ s awaited. idle s ((can_in_parts n g c s i).1 (inr awaited))),
+  λ (still, none) s can. ⊎_elim (λ (u, less, k). still u less s k) (none s) ((can_in_parts n g c s i).0 can),
 )

@@ -28,24 +28,24 @@ none_waits u v = []
 module _ (n : ℕ) (r : SiteRuns) (hs : List Recorded) (runs : AreSiteRuns n r) (are : AreRecorded hs r) where
   flow : Flows none_waits (in_turn r.deeds hs) r.rest
   flow = flows (in_turn r.deeds hs) none_waits r.rest (turns-by_stamp n r hs runs are)
-      (all_in_turn IsStamped r.deeds (λ s. ticks-stamped 0 (r.deeds s) (runs.ticks s)) hs)
+      (all_in_turn IsStamped r.deeds (λ s. ticks-stamped 0 (r.deeds s) (runs.each s).ticks) hs)
       (λ u v.
       ap (put_for v) (own-turns n r hs runs are u) ∙ runs.links u v ∙ ap (λ ds. taken_from u ds ++ r.rest u v) (sym (own-turns n r hs runs are v)))
 
   among : (s : ℕ) → AllByRecursion (IsAmong n) (r.deeds s)
   among s = ⊎_elim
-      (λ less. all_weaker (IsDeedOf n s) (IsAmong n) (λ d is. record { at = subst (λ u. u < n) (sym is.at) less; to = is.to }) (r.deeds s) (runs.own s))
+      (λ less. all_weaker (IsDeedOf n s) (IsAmong n) (λ d is. record { at = subst (λ u. u < n) (sym is.at) less; to = is.to }) (r.deeds s) (runs.each s).own)
       (λ above. subst (AllByRecursion (IsAmong n)) (sym (runs.others s above)) tt)
       (below_or_not s n)
 
   all-moves : Moves n (record { here = r.start; link = λ u v. [] }) (map move_of (in_turn r.deeds hs)) (record { here = r.end; link = λ u v. map (λ x. x.item) (r.rest u v) })
   all-moves = moves n (in_turn r.deeds hs) r.start r.end (λ u v. []) none_waits r.rest (all_in_turn (IsAmong n) r.deeds among hs)
-      (λ s. subst (λ ds. Leads (r.start s) ds (r.end s)) (sym (own-turns n r hs runs are s)) (runs.leads s))
+      (λ s. subst (λ ds. Leads (r.start s) ds (r.end s)) (sym (own-turns n r hs runs are s)) (runs.each s).leads)
       (λ u v. refl) (λ u v above. refl) flow
 
   stamps : AllByRecursion (λ d. d.event.stamp ≤ 0 + length (in_turn r.deeds hs)) (in_turn r.deeds hs)
       × ((u v : ℕ) → AllByRecursion (λ x. x.stamp ≤ 0 + length (in_turn r.deeds hs)) (r.rest u v))
-  stamps = few 0 (in_turn r.deeds hs) (λ s. 0) none_waits r.rest (λ s. subst (Ticks 0) (sym (own-turns n r hs runs are s)) (runs.ticks s)) (λ s. omega arith) (λ u v. tt) flow
+  stamps = few 0 (in_turn r.deeds hs) (λ s. 0) none_waits r.rest (λ s. subst (Ticks 0) (sym (own-turns n r hs runs are s)) (runs.each s).ticks) (λ s. omega arith) (λ u v. tt) flow
 
 pub merged_is_run : MergedIsRun
 merged_is_run n r hs c runs are shows =

@@ -159,7 +159,7 @@ module _ (n : ℕ) (r : SiteRuns) (hs : List Recorded) (c d : Config) (runs : Ar
     -- a site without a history did nothing
     stays : (s : ℕ) → r.deeds s ≡ [] → (r.end s).said ≡ []
     stays s none =
-        let same : r.start s ≡ r.end s = subst (λ ds. Leads (r.start s) ds (r.end s)) none (runs.leads s) in
+        let same : r.start s ≡ r.end s = subst (λ ds. Leads (r.start s) ds (r.end s)) none (runs.each s).leads in
         ap (λ (l : Config). l.said) (sym same) ∙ said_there.silent s
 
     each-site : (s : ℕ) → said_at s d.said ≡ said_at s (said hs)

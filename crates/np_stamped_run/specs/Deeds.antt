@@ -30,10 +30,19 @@ abbrev pub ticked : ℕ → Option StampedItem → ℕ
 ticked clock None = clock + 1
 ticked clock (Some x) = max clock x.stamp + 1
 
--- each event has as its stamp what the clock is then, and so has the item that it puts on its way
+-- an event has as its stamp what the clock is then, and so has the item that it puts on its way
+pub record HasStamps (clock : ℕ) (d : Deed) : Type 0 where
+  pub event : d.event.stamp ≡ ticked clock d.taken
+  pub put : IfSome d.put (λ x. x.stamp ≡ d.event.stamp)
+
 abbrev pub Ticks : ℕ → List Deed → Type 0
 Ticks clock [] = Unit {0}
-Ticks clock (d ∷ ds) = (d.event.stamp ≡ ticked clock d.taken) × IfSome d.put (λ x. x.stamp ≡ d.event.stamp) × Ticks d.event.stamp ds
+Ticks clock (d ∷ ds) = HasStamps clock d × Ticks d.event.stamp ds
+
+-- the clock after them
+abbrev pub clock_after : ℕ → List Deed → ℕ
+clock_after clock [] = clock
+clock_after clock (d ∷ ds) = clock_after d.event.stamp ds
 
 -- the items that are taken from a site, and those that are put on their way to one
 abbrev pub taken_from : ℕ → List Deed → List StampedItem
@@ -47,6 +56,12 @@ pub record IsDeedOf (n site : ℕ) (d : Deed) : Type 0 where
   pub at : d.event.event.site ≡ site
   pub to : IfSome d.put (λ x. x.item.receiver < n)
 
+-- what a site, one of n, did alone, from one configuration on to another and from a clock that is 0
+pub record IsSiteRun (n site : ℕ) (start : Config) (ds : List Deed) (end : Config) : Type 0 where
+  pub own : AllByRecursion (IsDeedOf n site) ds
+  pub leads : Leads start ds end
+  pub ticks : Ticks 0 ds
+
 -- what each site had at first, did and has at the end, and what is left on the link from one site to another
 pub record SiteRuns : Type 0 where
   pub start : ℕ → Config
@@ -54,13 +69,10 @@ pub record SiteRuns : Type 0 where
   pub end : ℕ → Config
   pub rest : ℕ → ℕ → List StampedItem
 
--- Each of n sites runs alone, from a clock that is 0. On each link what is first in is first out: what is put is what is
--- taken, and then what is left.
+-- Each of n sites ran alone. On each link what is first in is first out: what is put is what is taken, and then what is left.
 pub record AreSiteRuns (n : ℕ) (r : SiteRuns) : Type 0 where
-  pub own : (s : ℕ) → AllByRecursion (IsDeedOf n s) (r.deeds s)
+  pub each : (s : ℕ) → IsSiteRun n s (r.start s) (r.deeds s) (r.end s)
   pub others : (s : ℕ) → n ≤ s → r.deeds s ≡ []
-  pub leads : (s : ℕ) → Leads (r.start s) (r.deeds s) (r.end s)
-  pub ticks : (s : ℕ) → Ticks 0 (r.deeds s)
   pub links : (s t : ℕ) → put_for t (r.deeds s) ≡ taken_from s (r.deeds t) ++ r.rest s t
 
 -- what the sites have at first, when nothing is under way

@@ -1,3 +1,4 @@
 pub mod Deeds
+pub mod Growing
 pub mod Laws
 pub mod Resting

@@ -1,4 +1,4 @@
--- Where sites and items have the parts of a configuration: which of its sites can act, and whether it rests (docs/LANGUAGE.md, "Reductions").
+-- Where sites have the parts of a configuration, and links what is under way: which of its sites can act, and whether it rests (docs/LANGUAGE.md, "Reductions").
 use Rattle.std.specs.Prelude.{◌≡◌, ◌<◌, ◌⊎◌, ◌↔◌, ℕ, List, [], ◌∷◌, Some}
 use Rattle.np_syntax.specs.declared.value.Name.{Name}
 use Rattle.np_calculus.specs.declared.config.Packet.{Packet}
@@ -6,7 +6,8 @@ use Rattle.np_calculus.specs.declared.config.Place.TheVariants as place
 use Rattle.np_calculus.specs.Config.{Config}
 use Rattle.np_calculus.specs.Idle.{Can, Idle}
 use Rattle.np_calculus.specs.Sight.{Contents}
-use Rattle.np_merged_run.specs.Steps.{IsSpread, Spread}
+use Rattle.np_merged_run.specs.Links.{Linked, spread}
+use Rattle.np_merged_run.specs.Steps.{IsSpread}
 
 -- this holds of one of the elements
 abbrev pub Occurs : {A : Type 0} → (A → Type 0) → List A → Type 0
@@ -28,12 +29,19 @@ pub record BringsAgent (x : Contents) (site : ℕ) : Type 0 where
 abbrev pub Brings : ℕ → Contents → Type 0
 Brings site x = BringsPacket x site ⊎ BringsAgent x site
 
--- a site can act in the whole just where it can in what one of the sites has, or an item brings it something
-abbrev pub CanInParts : Type 0
-CanInParts = (n : ℕ) (g : Spread) (c : Config) (site : ℕ) → IsSpread n g c
-    → Can c site ↔ (((u : ℕ) × (u < n) × Can (g.here u) site) ⊎ Occurs (Brings site) g.air)
+-- it can act in what one of n sites has
+abbrev pub ActsInPart : ℕ → Linked → ℕ → Type 0
+ActsInPart n g site = (u : ℕ) × (u < n) × Can (g.here u) site
 
--- the whole rests just where what each site has rests, and no item brings anything
+-- something is under way to it on a link between n sites
+abbrev pub IsAwaited : ℕ → Linked → ℕ → Type 0
+IsAwaited n g site = (u t : ℕ) × (u < n) × (t < n) × Occurs (λ x. Brings site x.load) (g.link u t)
+
+-- a site can act in the whole just where it can in what one of the sites has, or something is under way to it
+abbrev pub CanInParts : Type 0
+CanInParts = (n : ℕ) (g : Linked) (c : Config) (site : ℕ) → IsSpread n (spread n g) c → Can c site ↔ (ActsInPart n g site ⊎ IsAwaited n g site)
+
+-- the whole rests just where what each site has rests, and nothing is under way
 abbrev pub IdleInParts : Type 0
-IdleInParts = (n : ℕ) (g : Spread) (c : Config) → IsSpread n g c
-    → Idle c ↔ (((u : ℕ) → u < n → Idle (g.here u)) × ((site : ℕ) → ¬ Occurs (Brings site) g.air))
+IdleInParts = (n : ℕ) (g : Linked) (c : Config) → IsSpread n (spread n g) c
+    → Idle c ↔ (((u : ℕ) → u < n → Idle (g.here u)) × ((site : ℕ) → ¬ IsAwaited n g site))

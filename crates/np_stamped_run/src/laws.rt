@@ -1,15 +1,23 @@
-ghost use Rattle.np_stamped_run.specs.Laws.{MergedIsRun, SaidInOrder, StampsAreFew};
+ghost use Rattle.np_stamped_run.specs.Growing.{ClockGoesOn, PutsFollow, RunGrows, RunStarts, TakesFollow};
+ghost use Rattle.np_stamped_run.specs.Laws.{EndIsShown, IsToldByParts, MergedIsRun, SaidInOrder, StampsAreFew, StampsRise};
 ghost use Rattle.np_stamped_run.specs.Resting.{CanInParts, IdleInParts};
 
-/// What sites do with stamps by Lamport's rule, and with links on which what is first in is first out, is one run: that of
-/// all their events by stamp and then by site. Its end is what the sites have then, and what is left on the links.
-pub fn law_merged_is_run()
-    ensures { MergedIsRun }
+/// What a site does alone begins with nothing, and goes on with one event more.
+pub fn law_site_run()
+    ensures start { RunStarts }
+    ensures run { RunGrows }
+    ensures clock { ClockGoesOn }
+    ensures put { PutsFollow }
+    ensures taken { TakesFollow }
 {}
 
-/// No stamp is above the number of all events.
-pub fn law_stamps_are_few()
-    ensures { StampsAreFew }
+/// What sites did with stamps by Lamport's rule, and with links on which what is first in is first out, is one run: that of
+/// all their events by stamp and then by site. It ends in the one configuration that the sites, the links and the histories
+/// show.
+pub fn law_merged_is_run()
+    ensures run { MergedIsRun }
+    ensures one { IsToldByParts }
+    ensures shown { EndIsShown }
 {}
 
 /// What that run says is what the histories have as printed, in the order of their merged events.
@@ -17,8 +25,15 @@ pub fn law_said_in_order()
     ensures { SaidInOrder }
 {}
 
-/// A site can act in the whole just where it can in what one of the sites has, or an item under way brings it something. So
-/// the whole rests just where what each site has rests and no item brings anything.
+/// The stamps of a site's events rise, and so do those of the items that it puts on one link. No stamp is above the number
+/// of all events.
+pub fn law_stamps()
+    ensures rise { StampsRise }
+    ensures few { StampsAreFew }
+{}
+
+/// A site can act in the whole just where it can in what one of the sites has, or something is under way to it. So the whole
+/// rests just where what each site has rests and nothing is under way.
 pub fn law_rest_in_parts()
     ensures can { CanInParts }
     ensures idle { IdleInParts }

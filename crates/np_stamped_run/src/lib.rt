@@ -1,6 +1,6 @@
-//! Laws of the merged histories of sites that keep clocks: they are a run of the whole.
+//! Laws of sites that run alone and keep clocks: their merged histories are one run of the whole.
 #![tactic(auto)]
 
 mod laws;
 
-pub use laws::{law_merged_is_run, law_rest_in_parts, law_said_in_order, law_stamps_are_few};
+pub use laws::{law_merged_is_run, law_rest_in_parts, law_said_in_order, law_site_run, law_stamps};

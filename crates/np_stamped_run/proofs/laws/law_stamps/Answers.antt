@@ -1,0 +1,9 @@
+use Rattle.np_stamped_run.proofs.Growing.{stamps_rise}
+use Rattle.np_stamped_run.proofs.Running.{stamps_are_few}
+use Rattle.np_stamped_run.proofs.laws.law_stamps.Goals as goal
+
+pub returns-clause-rise : goal.returns-clause-rise
+returns-clause-rise c = stamps_rise
+
+pub returns-clause-few : goal.returns-clause-few
+returns-clause-few c = stamps_are_few
