@@ -1,4 +1,5 @@
--- What each of many sites did alone: its events with stamps by Lamport's rule, and the items that went between the sites.
+-- What each of many sites did alone: its events with stamps by Lamport's rule, and the items that went between the sites
+-- (docs/LANGUAGE.md, "History text").
 use Rattle.std.specs.Prelude.{◌≡◌, ◌<◌, ◌≤◌, ◌+◌, ◌==◌, max, ℕ, List, [], ◌∷◌, ◌++◌, map, Option, None, Some, IfSome, option_map, option_to_list}
 use Rattle.std.specs.List.{AllByRecursion, filter, flat_map}
 use Rattle.np_calculus.specs.Config.{Config}
@@ -35,6 +36,7 @@ pub record HasStamps (clock : ℕ) (d : Deed) : Type 0 where
   pub event : d.event.stamp ≡ ticked clock d.taken
   pub put : IfSome d.put (λ x. x.stamp ≡ d.event.stamp)
 
+-- so it is with each of them, from a clock on
 abbrev pub Ticks : ℕ → List Deed → Type 0
 Ticks clock [] = Unit {0}
 Ticks clock (d ∷ ds) = HasStamps clock d × Ticks d.event.stamp ds
