@@ -63,7 +63,7 @@ loads-end : (xs : List Item) (x : Item) → Reordered (loads_of (xs ++ x ∷ [])
 loads-end [] x = kept
 loads-end (y ∷ xs) x = and_then (behind (loads-end xs x)) swapped
 
-took : (n s : ℕ) (link after : Links) (o : Option Item) → s < n → Takes n link s o after → Reordered (air n link) (loads o ++ air n after)
+pub took : (n s : ℕ) (link after : Links) (o : Option Item) → s < n → Takes n link s o after → Reordered (air n link) (loads o ++ air n after)
 took n s link after None within h = subst (λ l. Reordered (air n link) (air n l)) h kept
 took n s link after (Some x) within (ys, from, front, is) =
     subst (λ l. Reordered (air n link) (x.load ∷ air n l)) is (link-less n link x.sender s from within x.load ys (subst (λ zs. Reordered (loads_of zs) (x.load ∷ loads_of ys)) (sym front) kept))

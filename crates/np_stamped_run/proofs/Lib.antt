@@ -1,8 +1,10 @@
 pub mod Counting
+pub mod Elements
 pub mod Flowing
 pub mod Growing
 pub mod Merging
 pub mod Moving
+pub mod Passing
 pub mod Resting
 pub mod Running
 pub mod Saying

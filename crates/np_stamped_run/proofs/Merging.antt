@@ -19,10 +19,10 @@ use Rattle.np_stamped_run.specs.Deeds.{AreSiteRuns, Deed, IsDeedOf, SiteRuns}
 use Rattle.np_stamped_run.specs.Laws.{AreRecorded}
 use Rattle.np_stamped_run.proofs.Flowing.{IsByStamp, all_both, own}
 
-abbrev ranked_deed : ℕ → Deed → Ranked Deed
+abbrev pub ranked_deed : ℕ → Deed → Ranked Deed
 ranked_deed s d = record { rank = record { stamp = d.event.stamp; site = s }; item = d }
 
-abbrev deeds_of : (ℕ → List Deed) → Recorded → List (Ranked Deed)
+abbrev pub deeds_of : (ℕ → List Deed) → Recorded → List (Ranked Deed)
 deeds_of deeds h = map (ranked_deed h.site) (deeds h.site)
 
 -- the deeds in the order of their events' ranks
@@ -146,7 +146,7 @@ module _ (n : ℕ) (r : SiteRuns) (hs : List Recorded) (runs : AreSiteRuns n r) 
       ∙ ap items turns-merged
 
   -- and those of a site are what it did
-  of-site : (s : ℕ) → of_site s (all_deeds r.deeds hs) ≡ map (ranked_deed s) (r.deeds s)
+  pub of-site : (s : ℕ) → of_site s (all_deeds r.deeds hs) ≡ map (ranked_deed s) (r.deeds s)
   of-site s = ⊎_elim
       (λ (k, within, is).
       let h = get_or hs k (without_events 0 0) in

@@ -7,7 +7,7 @@ use Rattle.std.proofs.lemmas.Bool.Decides.{nat_tests}
 use Rattle.std.proofs.lemmas.List.{map-append}
 use Rattle.std.specs.List.{AllByRecursion}
 use Rattle.np_calculus.specs.Config.{Config}
-use Rattle.np_merged_run.specs.Links.{Item, Linked, Links, Move, Moves, Puts, Takes, with_link}
+use Rattle.np_merged_run.specs.Links.{Item, Linked, Links, Move, Moves, MovesTo, Puts, Takes, with_link}
 use Rattle.np_merged_run.specs.Steps.{with_site}
 use Rattle.np_merged_run.proofs.Steps.{with-site-same, false_eq}
 use Rattle.np_stamped_run.specs.Deeds.{Deed, Leads, StampedItem, plain}
@@ -24,7 +24,8 @@ pub record IsAmong (n : ℕ) (d : Deed) : Type 0 where
   pub at : d.event.event.site < n
   pub to : IfSome d.put (λ x. x.item.receiver < n)
 
-abbrev Shows : Links → Waiting → Type 0
+-- the links have the items that wait
+abbrev pub Shows : Links → Waiting → Type 0
 Shows link w = (u v : ℕ) → link u v ≡ items_of (w u v)
 
 -- ---- tests of two numbers
@@ -123,24 +124,47 @@ none-moved n w d at none u v above =
     ∙ append-nil (drop (length (takes u v d)) [])
     ∙ drop-nil (length (takes u v d))
 
-pub moves : (n : ℕ) (ds : List Deed) (here end : ℕ → Config) (link : Links) (w rest : Waiting) → AllByRecursion (IsAmong n) ds
-    → ((s : ℕ) → Leads (here s) (own s ds) (end s)) → Shows link w → ((u v : ℕ) → n ≤ u → w u v ≡ []) → Flows w ds rest
-    → Moves n (record { here = here; link = link }) (map move_of ds) (record { here = end; link = λ u v. items_of (rest u v) })
-moves n [] here end link w rest are leads shows none flow =
-    ap₂ (λ h l. record { here = h; link = l }) (fun_ext leads) (fun_ext (λ u. fun_ext (λ v. shows u v ∙ ap items_of (flow u v))))
-moves n (d ∷ ds) here end link w rest are leads shows none flow =
-    let s = d.event.event.site in
-    let own_run = subst (λ es. Leads (here d.event.event.site) es (end d.event.event.site)) (own-here d.event.event.site d ds refl) (leads d.event.event.site) in
-    let t = took n d.event.event.site d.taken link w shows none flow.0 in
-    let p = sent n d.event.event.site d.put t.0 (without w d) t.2 are.0.to in
-    let f : Linked = record { here = with_site here d.event.event.site own_run.0; link = p.0 } in (
-      f,
-      (record { within = are.0.at; between = t.0; takes = t.1; now = own_run.0; step = own_run.1; here = refl; puts = p.1 }),
-      moves n ds (with_site here d.event.event.site own_run.0) end p.0 (moved w d) rest are.1
-          (each_site (λ u. Leads (with_site here d.event.event.site own_run.0 u) (own u ds) (end u)) d.event.event.site
-          (subst (λ l. Leads l (own d.event.event.site ds) (end d.event.event.site)) (sym (with-site-same d.event.event.site here own_run.0)) own_run.2)
-          (λ u apart.
-          subst (λ l. Leads l (own u ds) (end u)) (sym (with-site-other here d.event.event.site u own_run.0 apart))
-          (subst (λ es. Leads (here u) es (end u)) (own-there d.event.event.site d ds refl u apart) (leads u))))
-          p.2 (none-moved n w d are.0.at none) flow.1,
-    )
+-- what holds of sites and links when these deeds are still to come
+pub record Fits (n : ℕ) (ds : List Deed) (g : Linked) (end : ℕ → Config) (w rest : Waiting) : Type 0 where
+  pub among : AllByRecursion (IsAmong n) ds
+  pub leads : (s : ℕ) → Leads (g.here s) (own s ds) (end s)
+  pub shows : Shows g.link w
+  pub none : (u v : ℕ) → n ≤ u → w u v ≡ []
+  pub flow : Flows w ds rest
+
+-- the first deed is a move, and the others are still to come then
+pub record MovesOn (n : ℕ) (d : Deed) (ds : List Deed) (g : Linked) (end : ℕ → Config) (w rest : Waiting) : Type 0 where
+  pub next : Linked
+  pub move : MovesTo n g (move_of d) next
+  pub left : Shows move.between (without w d)
+  pub fits : Fits n ds next end (moved w d) rest
+
+pub moves_on : (n : ℕ) (d : Deed) (ds : List Deed) (g : Linked) (end : ℕ → Config) (w rest : Waiting) → Fits n (d ∷ ds) g end w rest → MovesOn n d ds g end w rest
+moves_on n d ds g end w rest fits =
+    let run = subst (λ es. Leads (g.here d.event.event.site) es (end d.event.event.site)) (own-here d.event.event.site d ds refl) (fits.leads d.event.event.site) in
+    let t = took n d.event.event.site d.taken g.link w fits.shows fits.none fits.flow.0 in
+    let p = sent n d.event.event.site d.put t.0 (without w d) t.2 fits.among.0.to in
+    record {
+      next = record { here = with_site g.here d.event.event.site run.0; link = p.0 };
+      move = record { within = fits.among.0.at; between = t.0; takes = t.1; now = run.0; step = run.1; here = refl; puts = p.1 };
+      left = t.2;
+      fits = record {
+        among = fits.among.1;
+        leads = each_site (λ u. Leads (with_site g.here d.event.event.site run.0 u) (own u ds) (end u)) d.event.event.site
+            (subst (λ l. Leads l (own d.event.event.site ds) (end d.event.event.site)) (sym (with-site-same d.event.event.site g.here run.0)) run.2)
+            (λ u apart.
+            subst (λ l. Leads l (own u ds) (end u)) (sym (with-site-other g.here d.event.event.site u run.0 apart))
+            (subst (λ es. Leads (g.here u) es (end u)) (own-there d.event.event.site d ds refl u apart) (fits.leads u)));
+        shows = p.2;
+        none = none-moved n w d fits.among.0.at fits.none;
+        flow = fits.flow.1;
+      };
+    }
+
+pub moves : (n : ℕ) (ds : List Deed) (g : Linked) (end : ℕ → Config) (w rest : Waiting) → Fits n ds g end w rest
+    → Moves n g (map move_of ds) (record { here = end; link = λ u v. items_of (rest u v) })
+moves n [] g end w rest fits =
+    ap₂ (λ h l. record { here = h; link = l }) (fun_ext fits.leads) (fun_ext (λ u. fun_ext (λ v. fits.shows u v ∙ ap items_of (fits.flow u v))))
+moves n (d ∷ ds) g end w rest fits =
+    let on = moves_on n d ds g end w rest fits in
+    (on.next, on.move, moves n ds on.next end (moved w d) rest on.fits)

@@ -1,6 +1,5 @@
 -- A site can act in the whole just where it can in a part, or an item brings it something.
 use Rattle.std.proofs.Common.{◌≡◌, ◌<◌, ◌⊎◌, inl, inr, ⊎_elim, ℕ, zero, suc, List, [], ◌∷◌, ◌++◌, map, Option, None, Some, IsSome, sym, ap, subst, ◌∙◌, arith}
-use Rattle.std.proofs.lemmas.Bool.Decides.{nat_tests}
 use Rattle.np_calculus.proofs.Common.{Name, Config, Contents, inside}
 use Rattle.np_calculus.specs.declared.config.Atom.{Atom}
 use Rattle.np_calculus.specs.declared.config.Packet.{Packet}
@@ -17,37 +16,9 @@ use Rattle.np_merged_run.specs.Links.{Linked, air, over, spread}
 use Rattle.np_merged_run.specs.Steps.{IsItem, IsSpread, Spread, sites}
 use Rattle.np_merged_run.proofs.Joined.{every-append}
 use Rattle.np_merged_run.proofs.Steps.{together-lodged}
-use Rattle.np_stamped_run.specs.Resting.{Brings, CanInParts, IdleInParts, IsAwaited, Occurs}
-
--- ---- what holds of one of the elements
-
-module _ {A : Type 0} where
-  occurs-map : (P Q : A → Type 0) → ((x : A) → P x → Q x) → (xs : List A) → Occurs P xs → Occurs Q xs
-  occurs-map P Q f [] h = h
-  occurs-map P Q f (x ∷ xs) (inl h) = inl (f x h)
-  occurs-map P Q f (x ∷ xs) (inr h) = inr (occurs-map P Q f xs h)
-
-  occurs-first : (P : A → Type 0) (xs ys : List A) → Occurs P xs → Occurs P (xs ++ ys)
-  occurs-first P (x ∷ xs) ys (inl h) = inl h
-  occurs-first P (x ∷ xs) ys (inr h) = inr (occurs-first P xs ys h)
-  occurs-first P [] ys h = absurd h
-
-  occurs-second : (P : A → Type 0) (xs ys : List A) → Occurs P ys → Occurs P (xs ++ ys)
-  occurs-second P [] ys h = h
-  occurs-second P (x ∷ xs) ys h = inr (occurs-second P xs ys h)
-
-  occurs-either : (P : A → Type 0) (xs ys : List A) → Occurs P (xs ++ ys) → Occurs P xs ⊎ Occurs P ys
-  occurs-either P [] ys h = inr h
-  occurs-either P (x ∷ xs) ys (inl h) = inl (inl h)
-  occurs-either P (x ∷ xs) ys (inr h) = ⊎_elim (λ i. inl (inr i)) (λ i. inr i) (occurs-either P xs ys h)
-
-  occurs-not : (P Q : A → Type 0) → ((x : A) → P x → Q x → ⊥) → (xs : List A) → Every P xs → Occurs Q xs → ⊥
-  occurs-not P Q f [] all h = h
-  occurs-not P Q f (x ∷ xs) all (inl h) = f x all.0 h
-  occurs-not P Q f (x ∷ xs) all (inr h) = occurs-not P Q f xs all.1 h
-
-last-or_before : (u n : ℕ) → u < suc n → (u ≡ n) ⊎ (u < n)
-last-or_before u n less = grind (arith, nat_tests)
+use Rattle.np_stamped_run.specs.Elements.{Occurs}
+use Rattle.np_stamped_run.specs.Resting.{Brings, CanInParts, IdleInParts, IsAwaited}
+use Rattle.np_stamped_run.proofs.Elements.{last-or_before, mapped-occurs, occurs-either, occurs-first, occurs-map, occurs-mapped, occurs-not, occurs-over, occurs-second, over-occurs}
 
 module _ (P : Contents → Type 0) (here : ℕ → Config) where
   in_sites : (n u : ℕ) → u < n → P (inside (here u)) → Occurs P (sites n here)
@@ -98,7 +69,7 @@ agent-in (x ∷ ps) a p apart lodged h = ⊎_elim
 
 -- ---- and what is in a part is in all of them together
 
-atom-out : (ps : List Contents) (m : Name) (b : Atom) → AreApart ps → Occurs (λ x. x.atom m ≡ Some b) ps → (together ps).atom m ≡ Some b
+pub atom-out : (ps : List Contents) (m : Name) (b : Atom) → AreApart ps → Occurs (λ x. x.atom m ≡ Some b) ps → (together ps).atom m ≡ Some b
 atom-out [] m b apart h = absurd h
 atom-out (x ∷ ps) m b apart (inl h) = ap (λ o. either o ((together ps).atom m)) h
 atom-out (x ∷ ps) m b apart (inr h) =
@@ -106,7 +77,7 @@ atom-out (x ∷ ps) m b apart (inr h) =
     let none = none_of (x.atom m) (λ is. none-some ((together ps).atom m) (apart.0.marks m (inl is)).atom (some ((together ps).atom m) b more)) in
     ap (λ o. either o ((together ps).atom m)) none ∙ more
 
-packet-out : (ps : List Contents) (m : Name) (p : Packet) → AreApart ps → Occurs (λ x. x.packet m ≡ Some p) ps → (together ps).packet m ≡ Some p
+pub packet-out : (ps : List Contents) (m : Name) (p : Packet) → AreApart ps → Occurs (λ x. x.packet m ≡ Some p) ps → (together ps).packet m ≡ Some p
 packet-out [] m p apart h = absurd h
 packet-out (x ∷ ps) m p apart (inl h) = ap (λ o. either o ((together ps).packet m)) h
 packet-out (x ∷ ps) m p apart (inr h) =
@@ -114,7 +85,7 @@ packet-out (x ∷ ps) m p apart (inr h) =
     let none = none_of (x.packet m) (λ is. none-some ((together ps).packet m) (apart.0.marks m (inr is)).packet (some ((together ps).packet m) p more)) in
     ap (λ o. either o ((together ps).packet m)) none ∙ more
 
-place-out : (ps : List Contents) (a : Name) (p : Place) → AreApart ps → Occurs (λ x. x.place a ≡ Some p) ps → (together ps).place a ≡ Some p
+pub place-out : (ps : List Contents) (a : Name) (p : Place) → AreApart ps → Occurs (λ x. x.place a ≡ Some p) ps → (together ps).place a ≡ Some p
 place-out [] a p apart h = absurd h
 place-out (x ∷ ps) a p apart (inl h) = ap (λ o. either o ((together ps).place a)) h
 place-out (x ∷ ps) a p apart (inr h) =
@@ -255,28 +226,6 @@ module _ (n : ℕ) (g : Spread) (c : Config) (s : ℕ) (i : IsSpread n g c) wher
   from-parts (inr h) = brought g.air h (λ P is. occurs-second P (sites n g.here) g.air is)
 
 -- ---- what is on links
-
-module _ {A : Type 0} (P : A → Type 0) where
-  occurs-mapped : {B : Type 0} (f : B → A) (xs : List B) → Occurs P (map f xs) → Occurs (λ x. P (f x)) xs
-  occurs-mapped f [] h = h
-  occurs-mapped f (x ∷ xs) (inl h) = inl h
-  occurs-mapped f (x ∷ xs) (inr h) = inr (occurs-mapped f xs h)
-
-  mapped-occurs : {B : Type 0} (f : B → A) (xs : List B) → Occurs (λ x. P (f x)) xs → Occurs P (map f xs)
-  mapped-occurs f [] h = h
-  mapped-occurs f (x ∷ xs) (inl h) = inl h
-  mapped-occurs f (x ∷ xs) (inr h) = inr (mapped-occurs f xs h)
-
-  occurs-over : (n : ℕ) (f : ℕ → List A) → Occurs P (over n f) → (u : ℕ) × (u < n) × Occurs P (f u)
-  occurs-over zero f h = absurd h
-  occurs-over (suc n) f h = ⊎_elim (λ i. (n, omega arith, i)) (λ i. let t = occurs-over n f i in let less : t.0 < n = t.1 in (t.0, omega arith, t.2)) (occurs-either P (f n) (over n f) h)
-
-  over-occurs : (n : ℕ) (f : ℕ → List A) (u : ℕ) → u < n → Occurs P (f u) → Occurs P (over n f)
-  over-occurs zero f u less h = absurd (omega arith)
-  over-occurs (suc n) f u less h = ⊎_elim
-      (λ same. occurs-first P (f n) (over n f) (subst (λ u. Occurs P (f u)) same h))
-      (λ lower. occurs-second P (f n) (over n f) (over-occurs n f u lower h))
-      (last-or_before u n less)
 
 module _ (n : ℕ) (g : Linked) (s : ℕ) where
   from-air : Occurs (Brings s) (air n g.link) → IsAwaited n g s

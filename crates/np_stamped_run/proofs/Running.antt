@@ -3,32 +3,36 @@ use Rattle.std.proofs.Common.{◌≡◌, ◌<◌, ◌≤◌, ◌+◌, ⊎_elim, 
 use Rattle.std.proofs.lemmas.List.{length-map}
 use Rattle.std.proofs.lemmas.Simd.{map-map}
 use Rattle.std.specs.List.{AllByRecursion}
+use Rattle.np_calculus.specs.Config.{Config}
 use Rattle.np_calculus.specs.Reductions.{run}
-use Rattle.np_merged_run.specs.Links.{Move, Moves, air, over, spread}
+use Rattle.np_merged_run.specs.Links.{Move, air, over, spread}
 use Rattle.np_merged_run.specs.Steps.{IsSpread}
 use Rattle.np_merged_run.proofs.Links.{merged_run}
 use Rattle.stamp_history.specs.Histories.{Recorded}
 use Rattle.run_merge.specs.Merged.{merged, items}
 use Rattle.run_merge.proofs.InOrder.{all_map, all_weaker}
-use Rattle.np_stamped_run.specs.Deeds.{AreSiteRuns, IsDeedOf, Leads, SiteRuns, Ticks, put_for, taken_from}
+use Rattle.np_stamped_run.specs.Deeds.{AreSiteRuns, IsDeedOf, Leads, SiteRuns, Ticks, at_start, put_for, taken_from}
 use Rattle.np_stamped_run.specs.Laws.{AreRecorded, MergedIsRun, StampsAreFew}
 use Rattle.np_stamped_run.proofs.Counting.{few, ticks-stamped}
 use Rattle.np_stamped_run.proofs.Flowing.{Flows, IsStamped, Waiting, all_both, flows}
 use Rattle.np_stamped_run.proofs.Merging.{all-ranks, all_deeds, all_in_turn, all_unmap, in_turn, own-turns, turns-by_stamp, turns-events, turns-merged}
-use Rattle.np_stamped_run.proofs.Moving.{IsAmong, below_or_not, move_of, moves}
+use Rattle.np_stamped_run.proofs.Moving.{Fits, IsAmong, below_or_not, move_of, moves}
 
 over-nothing : {A : Type 0} (n : ℕ) (f : ℕ → List A) → ((u : ℕ) → f u ≡ []) → over n f ≡ []
 over-nothing zero f none = refl
 over-nothing (suc n) f none = ap₂ (λ xs ys. xs ++ ys) (none n) (over-nothing n f none)
 
 -- empty links
-abbrev none_waits : Waiting
+abbrev pub none_waits : Waiting
 none_waits u v = []
 
 module _ (n : ℕ) (r : SiteRuns) (hs : List Recorded) (runs : AreSiteRuns n r) (are : AreRecorded hs r) where
+  pub turns-stamped : AllByRecursion IsStamped (in_turn r.deeds hs)
+  turns-stamped = all_in_turn IsStamped r.deeds (λ s. ticks-stamped 0 (r.deeds s) (runs.each s).ticks) hs
+
   flow : Flows none_waits (in_turn r.deeds hs) r.rest
   flow = flows (in_turn r.deeds hs) none_waits r.rest (turns-by_stamp n r hs runs are)
-      (all_in_turn IsStamped r.deeds (λ s. ticks-stamped 0 (r.deeds s) (runs.each s).ticks) hs)
+      turns-stamped
       (λ u v.
       ap (put_for v) (own-turns n r hs runs are u) ∙ runs.links u v ∙ ap (λ ds. taken_from u ds ++ r.rest u v) (sym (own-turns n r hs runs are v)))
 
@@ -38,20 +42,29 @@ module _ (n : ℕ) (r : SiteRuns) (hs : List Recorded) (runs : AreSiteRuns n r) 
       (λ above. subst (AllByRecursion (IsAmong n)) (sym (runs.others s above)) tt)
       (below_or_not s n)
 
-  all-moves : Moves n (record { here = r.start; link = λ u v. [] }) (map move_of (in_turn r.deeds hs)) (record { here = r.end; link = λ u v. map (λ x. x.item) (r.rest u v) })
-  all-moves = moves n (in_turn r.deeds hs) r.start r.end (λ u v. []) none_waits r.rest (all_in_turn (IsAmong n) r.deeds among hs)
-      (λ s. subst (λ ds. Leads (r.start s) ds (r.end s)) (sym (own-turns n r hs runs are s)) (runs.each s).leads)
-      (λ u v. refl) (λ u v above. refl) flow
+  -- what holds before the first of the deeds
+  pub fits : Fits n (in_turn r.deeds hs) (record { here = r.start; link = λ u v. [] }) r.end none_waits r.rest
+  fits = record {
+    among = all_in_turn (IsAmong n) r.deeds among hs;
+    leads = λ s. subst (λ ds. Leads (r.start s) ds (r.end s)) (sym (own-turns n r hs runs are s)) (runs.each s).leads;
+    shows = λ u v. refl;
+    none = λ u v above. refl;
+    flow = flow;
+  }
 
   stamps : AllByRecursion (λ d. d.event.stamp ≤ 0 + length (in_turn r.deeds hs)) (in_turn r.deeds hs)
       × ((u v : ℕ) → AllByRecursion (λ x. x.stamp ≤ 0 + length (in_turn r.deeds hs)) (r.rest u v))
   stamps = few 0 (in_turn r.deeds hs) (λ s. 0) none_waits r.rest (λ s. subst (Ticks 0) (sym (own-turns n r hs runs are s)) (runs.each s).ticks) (λ s. omega arith) (λ u v. tt) flow
 
+-- nothing is on links that are empty
+pub begins : (n : ℕ) (r : SiteRuns) (c : Config) → IsSpread n (at_start r) c → IsSpread n (spread n (record { here = r.start; link = λ u v. [] })) c
+begins n r c shows =
+    let empty : air n (λ u v. []) ≡ [] = over-nothing n (λ u. over n (λ t. [])) (λ u. over-nothing n (λ t. []) (λ t. refl)) in
+    subst (λ xs. IsSpread n (record { here = r.start; air = xs }) c) (sym empty) shows
+
 pub merged_is_run : MergedIsRun
 merged_is_run n r hs c runs are shows =
-    let empty : air n (λ u v. []) ≡ [] = over-nothing n (λ u. over n (λ t. [])) (λ u. over-nothing n (λ t. []) (λ t. refl)) in
-    let begins : IsSpread n (spread n (record { here = r.start; link = λ u v. [] })) c = subst (λ xs. IsSpread n (record { here = r.start; air = xs }) c) (sym empty) shows in
-    let one = merged_run n (map move_of (in_turn r.deeds hs)) _ _ c begins (all-moves n r hs runs are) in
+    let one = merged_run n (map move_of (in_turn r.deeds hs)) _ _ c (begins n r c shows) (moves n (in_turn r.deeds hs) _ r.end none_waits r.rest (fits n r hs runs are)) in
     let events : map (λ (m : Move). m.event) (map move_of (in_turn r.deeds hs)) ≡ items (merged hs) =
     map-map (λ (m : Move). m.event) move_of (in_turn r.deeds hs) ∙ turns-events n r hs runs are in
     (one.0, ap (run c) (sym events) ∙ one.1, one.2)

@@ -1,4 +1,6 @@
 pub mod Deeds
+pub mod Elements
 pub mod Growing
 pub mod Laws
+pub mod Passing
 pub mod Resting

@@ -1,5 +1,5 @@
 -- Where sites have the parts of a configuration, and links what is under way: which of its sites can act, and whether it rests (docs/LANGUAGE.md, "Reductions").
-use Rattle.std.specs.Prelude.{◌≡◌, ◌<◌, ◌⊎◌, ◌↔◌, ℕ, List, [], ◌∷◌, Some}
+use Rattle.std.specs.Prelude.{◌≡◌, ◌<◌, ◌⊎◌, ◌↔◌, ℕ, Some}
 use Rattle.np_syntax.specs.declared.value.Name.{Name}
 use Rattle.np_calculus.specs.declared.config.Packet.{Packet}
 use Rattle.np_calculus.specs.declared.config.Place.TheVariants as place
@@ -8,11 +8,7 @@ use Rattle.np_calculus.specs.Idle.{Can, Idle}
 use Rattle.np_calculus.specs.Sight.{Contents}
 use Rattle.np_merged_run.specs.Links.{Linked, spread}
 use Rattle.np_merged_run.specs.Steps.{IsSpread}
-
--- this holds of one of the elements
-abbrev pub Occurs : {A : Type 0} → (A → Type 0) → List A → Type 0
-Occurs P [] = ⊥
-Occurs P (x ∷ xs) = P x ⊎ Occurs P xs
+use Rattle.np_stamped_run.specs.Elements.{Occurs}
 
 -- a packet to the site
 pub record BringsPacket (x : Contents) (site : ℕ) : Type 0 where

@@ -1,5 +1,6 @@
 ghost use Rattle.np_stamped_run.specs.Growing.{ClockGoesOn, PutsFollow, RunGrows, RunStarts, TakesFollow};
 ghost use Rattle.np_stamped_run.specs.Laws.{EndIsShown, IsToldByParts, MergedIsRun, SaidInOrder, StampsAreFew, StampsRise};
+ghost use Rattle.np_stamped_run.specs.Passing.{TakenLater};
 ghost use Rattle.np_stamped_run.specs.Resting.{CanInParts, IdleInParts};
 
 /// What a site does alone begins with nothing, and goes on with one event more.
@@ -26,10 +27,11 @@ pub fn law_said_in_order()
 {}
 
 /// The stamps of a site's events rise, and so do those of the items that it puts on one link. No stamp is above the number
-/// of all events.
+/// of all events. An event that takes what an earlier one put on its way has a greater stamp.
 pub fn law_stamps()
     ensures rise { StampsRise }
     ensures few { StampsAreFew }
+    ensures taken { TakenLater }
 {}
 
 /// A site can act in the whole just where it can in what one of the sites has, or something is under way to it. So the whole

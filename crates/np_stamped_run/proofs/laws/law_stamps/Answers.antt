@@ -1,4 +1,5 @@
 use Rattle.np_stamped_run.proofs.Growing.{stamps_rise}
+use Rattle.np_stamped_run.proofs.Passing.{taken_later}
 use Rattle.np_stamped_run.proofs.Running.{stamps_are_few}
 use Rattle.np_stamped_run.proofs.laws.law_stamps.Goals as goal
 
@@ -7,3 +8,6 @@ returns-clause-rise c = stamps_rise
 
 pub returns-clause-few : goal.returns-clause-few
 returns-clause-few c = stamps_are_few
+
+pub returns-clause-taken : goal.returns-clause-taken
+returns-clause-taken c = taken_later
