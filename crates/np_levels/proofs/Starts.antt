@@ -40,7 +40,7 @@ use Rattle.np_things.specs.Shapes.{Are}
 use Rattle.np_things.specs.Starts.{daemon_things, main_things}
 use Rattle.np_things.specs.Things.{Thing, first_atom_of, first_packet_of, IsHeaded, high_atom, show_all}
 use Rattle.np_things.proofs.Starts.{own-apart, starts-with-things}
-use Rattle.np_levels.specs.Coupled.{Coupled, HasThings, KnowsOnly, View, chips, is_channel, may_know, whereabouts}
+use Rattle.np_levels.specs.Coupled.{Coupled, IsShaped, KnowsOnly, View, chips, is_channel, may_know, whereabouts}
 use Rattle.np_levels.specs.Laws.{StartsCoupled}
 use Rattle.np_levels.proofs.Orders.{Reordered, and_then, behind, entries_new, flat, past, permuted}
 
@@ -133,22 +133,6 @@ module _ (p : Program) (q : LowProgram) (low : IsLowOf p q) (sound : IsSound p) 
       own-born = with_all-keeps _ (names (own n) (1 ∷ 2 ∷ 3 ∷ 4 ∷ 5 ∷ 6 ∷ 7 ∷ 8 ∷ 9 ∷ 10 ∷ 11 ∷ 12 ∷ 13 ∷ 14 ∷ 15 ∷ 16 ∷ [])) (own n 0) (born_here _ (own n 0))
   its-place x false false e f h = absurd cc
 
-  -- a name in the table of low atoms, and its things
-  data AtStart (m : Name) (x : Atom) : Type 0 where
-    at_main : m ≡ main_mark n → x ≡ first_atom main q.main → AtStart m x
-    at_daemon : m ≡ daemon_mark n → x ≡ first_atom daemon q.daemon → AtStart m x
-
-  low-atom : (m : Name) (x : Atom) → map.get low_start.atoms m ≡ Some x → AtStart m x
-  low-atom m x h = first (put_cases (map.insert (map.empty {X = Atom} {R = name_cmp}) (main_mark n) (first_atom main q.main)) (daemon_mark n) (first_atom daemon q.daemon) m x h)
-    where
-      second : ((m ≡ main_mark n) × (x ≡ first_atom main q.main)) ⊎ (map.get (map.empty {X = Atom} {R = name_cmp}) m ≡ Some x) → AtStart m x
-      second (inl e) = AtStart.at_main e.0 e.1
-      second (inr h) = absurd (no_value (sym (get-none m) ∙ h))
-
-      first : ((m ≡ daemon_mark n) × (x ≡ first_atom daemon q.daemon)) ⊎ (map.get (map.insert (map.empty {X = Atom} {R = name_cmp}) (main_mark n) (first_atom main q.main)) m ≡ Some x) → AtStart m x
-      first (inl e) = AtStart.at_daemon e.0 e.1
-      first (inr h) = second (put_cases (map.empty {X = Atom} {R = name_cmp}) (main_mark n) (first_atom main q.main) m x h)
-
   data ThingsAtStart (m : Name) (ts : List Thing) : Type 0 where
     of_main : m ≡ main_mark n → ts ≡ main_things n p.at p.main → ThingsAtStart m ts
     of_daemon : m ≡ daemon_mark n → ts ≡ daemon_things n p.at → ThingsAtStart m ts
@@ -176,30 +160,28 @@ module _ (p : Program) (q : LowProgram) (low : IsLowOf p q) (sound : IsSound p) 
   are : HasStartThings p q low.first
   are = starts-with-things p q low sound
 
-  has-things : (m : Name) (x : Atom) → AtStart m x → HasThings n p.binders low.first things m x
-  has-things m x (AtStart.at_main e f) = record {
-    its = main_things n p.at p.main;
-    there = ap (map.get things) e ∙ at-main (main_things n p.at p.main) (daemon_things n p.at);
-    are = subst (λ a. Are n p.binders low.first a (main_things n p.at p.main)) (sym f) are.main;
-  }
-  has-things m x (AtStart.at_daemon e f) = record {
-    its = daemon_things n p.at;
-    there = ap (map.get things) e ∙ at-daemon (main_things n p.at p.main) (daemon_things n p.at);
-    are = subst (λ a. Are n p.binders low.first a (daemon_things n p.at)) (sym f) are.daemon;
-  }
+  headed : IsHeaded (main_things n p.at p.main) × IsHeaded (daemon_things n p.at)
+  headed = (
+    All-from_recursion (λ u. high_atom u ≡ None) (Thing.token main p.at ∷ Thing.letters main ∷ []) (refl, (refl, tt)),
+    All-from_recursion (λ u. high_atom u ≡ None)
+        (Thing.free here p.at ∷ Thing.serving Service.registers ∷ Thing.serving Service.grants ∷ Thing.serving Service.notes_moves ∷ Thing.serving Service.passes_on ∷ Thing.serving Service.ends_deliveries ∷ [])
+        (refl, (refl, (refl, (refl, (refl, (refl, tt)))))),
+  )
 
-  some-at : {X : Type 0} (o : Option X) (x : X) → o ≡ Some x → IsSome o
-  some-at o x e = rw e refl
+  neither : {X : Type 0} (x y : X) (m : Name) → same_name m (daemon_mark n) ≡ false → same_name m (main_mark n) ≡ false → map.get (two x y) m ≡ None
+  neither {X} x y m e f = rw (get-put (map.insert (map.empty {X = X} {R = name_cmp}) (main_mark n) x) (daemon_mark n) y m, e, get-put (map.empty {X = X} {R = name_cmp}) (main_mark n) x m, f, get-none {X = X} m) refl
 
-  has-mark : (m : Name) (ts : List Thing) → ThingsAtStart m ts → IsMark (inside low_start) m
-  has-mark m ts (ThingsAtStart.of_main e f) = inl (some-at _ (first_atom main q.main) (ap (map.get low_start.atoms) e ∙ at-main (first_atom main q.main) (first_atom daemon q.daemon)))
-  has-mark m ts (ThingsAtStart.of_daemon e f) = inl (some-at _ (first_atom daemon q.daemon) (ap (map.get low_start.atoms) e ∙ at-daemon (first_atom main q.main) (first_atom daemon q.daemon)))
-
-  is-headed : (m : Name) (ts : List Thing) → ThingsAtStart m ts → IsHeaded ts
-  is-headed m ts (ThingsAtStart.of_main e f) = subst IsHeaded (sym f) (All-from_recursion (λ u. high_atom u ≡ None) (Thing.token main p.at ∷ Thing.letters main ∷ []) (refl, (refl, tt)))
-  is-headed m ts (ThingsAtStart.of_daemon e f) = subst IsHeaded (sym f) (All-from_recursion (λ u. high_atom u ≡ None)
-      (Thing.free here p.at ∷ Thing.serving Service.registers ∷ Thing.serving Service.grants ∷ Thing.serving Service.notes_moves ∷ Thing.serving Service.passes_on ∷ Thing.serving Service.ends_deliveries ∷ [])
-      (refl, (refl, (refl, (refl, (refl, (refl, tt)))))))
+  is-shaped : (m : Name) → IsShaped n p.binders low.first low_start things m
+  is-shaped m = go (same_name m (daemon_mark n)) (same_name m (main_mark n)) refl refl
+    where
+      go : (t u : Bool) → same_name m (daemon_mark n) ≡ t → same_name m (main_mark n) ≡ u → IsShaped n p.binders low.first low_start things m
+      go true u e f =
+          let same = same_name-is m (daemon_mark n) e in
+          IsShaped.atom (ap (map.get low_start.atoms) same ∙ at-daemon (first_atom main q.main) (first_atom daemon q.daemon)) (get-none m) (ap (map.get things) same ∙ at-daemon (main_things n p.at p.main) (daemon_things n p.at)) headed.1 are.daemon
+      go false true e f =
+          let same = same_name-is m (main_mark n) f in
+          IsShaped.atom (ap (map.get low_start.atoms) same ∙ at-main (first_atom main q.main) (first_atom daemon q.daemon)) (get-none m) (ap (map.get things) same ∙ at-main (main_things n p.at p.main) (daemon_things n p.at)) headed.0 are.main
+      go false false e f = IsShaped.nothing (neither (first_atom main q.main) (first_atom daemon q.daemon) m e f) (get-none m) (neither (main_things n p.at p.main) (daemon_things n p.at) m e f)
 
   up : (m : Name) (o : Option (List Thing)) (x : Atom) → map.get things m ≡ o → (o >>= first_atom_of) ≡ Some x → map.get high_start.atoms m ≡ Some x
   up m None x e h = absurd (no_value h)
@@ -250,12 +232,11 @@ module _ (p : Program) (q : LowProgram) (low : IsLowOf p q) (sound : IsSound p) 
     born = λ x h. h;
     own_born = λ x h. h;
     stand_born = record { agents = born-agents; marks = born-marks };
-    atoms = λ m x h. has-things m x (low-atom m x h);
-    packets = λ m k h. absurd (no_value (sym (get-none m) ∙ h));
-    marks = λ m ts h. has-mark m ts (its-things m ts h);
-    headed = λ m ts h. is-headed m ts (its-things m ts h);
+    shaped = is-shaped;
     mirrored = record { up = λ m x h. up m (map.get things m) x refl h; down = down };
     mirrored_packets = record { up = λ m k h. absurd (no-packet m (map.get things m) k refl h); down = λ m k h. absurd (no_value (sym (get-none m) ∙ h)) };
+    new_marks = λ m h. refl;
+    old_marks = λ m h. h;
     distinct = λ m k ts us h i e. e;
     protocol = ordered.1;
     locks_born = λ a l h. ap (set.contains (own_names n)) (its-lock a l (same_name a main) h) ∙ here-born;
@@ -269,17 +250,18 @@ module _ (p : Program) (q : LowProgram) (low : IsLowOf p q) (sound : IsSound p) 
           (subst IsSome (get-put (map.insert (map.empty {X = Place} {R = name_cmp}) main (place.At p.at)) daemon (place.At 0) x
           ∙ ap (cond (same_name x daemon) (Some (place.At 0))) (get-put (map.empty {X = Place} {R = name_cmp}) main (place.At p.at) x ∙ ap (cond (same_name x main) (Some (place.At p.at))) (get-none x))) h)
 
-      at-start : (m : Name) (o : Option Atom) → map.get low_start.atoms m ≡ o → IsSome o → set.contains (own_names n) m ≡ true
-      at-start m None e h = absurd cc
-      at-start m (Some x) e h = go (low-atom m x e)
+      its-mark : (m : Name) → IsShaped n p.binders low.first low_start things m → IsMark (inside low_start) m → set.contains (own_names n) m ≡ true
+      its-mark m (IsShaped.nothing a k t) (inl h) = absurd (let none = subst IsSome a h in cc)
+      its-mark m (IsShaped.nothing a k t) (inr h) = absurd (let none = subst IsSome k h in cc)
+      its-mark m (IsShaped.packet a k t u) h = absurd (no_value (sym (get-none m) ∙ k))
+      its-mark m (IsShaped.atom {ts = ts} a k t u r) h = go (its-things m ts t)
         where
-          go : AtStart m x → set.contains (own_names n) m ≡ true
-          go (AtStart.at_main e f) = ap (set.contains (own_names n)) e ∙ mark-born n
-          go (AtStart.at_daemon e f) = ap (set.contains (own_names n)) e ∙ daemon_mark-born n
+          go : ThingsAtStart m ts → set.contains (own_names n) m ≡ true
+          go (ThingsAtStart.of_main e f) = ap (set.contains (own_names n)) e ∙ mark-born n
+          go (ThingsAtStart.of_daemon e f) = ap (set.contains (own_names n)) e ∙ daemon_mark-born n
 
       born-marks : (m : Name) → IsMark (inside low_start) m → set.contains (own_names n) m ≡ true
-      born-marks m (inl h) = at-start m (map.get low_start.atoms m) refl h
-      born-marks m (inr h) = absurd (let none = subst IsSome (get-none {X = Packet} m) h in cc)
+      born-marks m h = its-mark m (is-shaped m) h
 
 pub starts-coupled : StartsCoupled
 unfolding start_low start_high

@@ -13,8 +13,7 @@ use Rattle.np_calculus.specs.declared.config.Packet.{Packet}
 use Rattle.np_calculus.specs.declared.config.Place.{Place}
 use Rattle.np_calculus.specs.declared.config.Place.TheVariants as place
 use Rattle.np_calculus.specs.Config.{Config}
-use Rattle.np_calculus.specs.Parts.{AreBorn, IsMark}
-use Rattle.np_calculus.specs.Sight.{inside}
+use Rattle.np_calculus.specs.Parts.{AreBorn}
 use Rattle.np_calculus.specs.Starts.{daemon_agent, main_agent, own, own_names}
 use Rattle.np_protocol.specs.Chips.{Chip}
 use Rattle.np_protocol.specs.Phases.{Phase}
@@ -83,16 +82,14 @@ KnowsOnly agents chans from t = KnowsLetter agents chans (carried t)
 
 -- ---- the invariant
 
--- the things of an atom, and that of a packet
-pub record HasThings (n from first : ℕ) (things : NameMap (List Thing)) (m : Name) (a : Atom) : Type 0 where
-  pub its : List Thing
-  pub there : map.get things m ≡ Some its
-  pub are : Are n from first a its
-
-pub record HasThing (n : ℕ) (things : NameMap (List Thing)) (m : Name) (k : Packet) : Type 0 where
-  pub its : Thing
-  pub there : map.get things m ≡ Some (its ∷ [])
-  pub is : IsUnderWay n its k
+-- A mark is that of nothing, of an atom or of a packet, and its things are what that is there for. Of the things of an atom the first alone may be
+-- an atom of the high level: so the atoms of the source keep their marks.
+pub data IsShaped (n from first : ℕ) (low : Config) (things : NameMap (List Thing)) (m : Name) : Type 0 where
+  nothing : map.get low.atoms m ≡ None → map.get low.packets m ≡ None → map.get things m ≡ None → IsShaped n from first low things m
+  atom : {a : Atom} {ts : List Thing} → map.get low.atoms m ≡ Some a → map.get low.packets m ≡ None → map.get things m ≡ Some ts → IsHeaded ts → Are n from first a ts
+      → IsShaped n from first low things m
+  packet : {k : Packet} {t : Thing} → map.get low.atoms m ≡ None → map.get low.packets m ≡ Some k → map.get things m ≡ Some (t ∷ []) → IsUnderWay n t k
+      → IsShaped n from first low things m
 
 pub record Coupled (n from first : ℕ) (low high : Config) (v : View) : Type 0 where
   -- both are of one program; so the sites that expressions name are the same
@@ -109,15 +106,14 @@ pub record Coupled (n from first : ℕ) (low high : Config) (v : View) : Type 0 
   pub own_born : (q : Name) → set.contains (own_names n) q ≡ true → set.contains high.born q ≡ true
   -- a name that is made is no mark and no agent yet: what is put under it puts nothing else away
   pub stand_born : AreBorn low
-  -- each atom and each packet is there for something, and nothing else is
-  pub atoms : (m : Name) (a : Atom) → map.get low.atoms m ≡ Some a → HasThings n from first v.things m a
-  pub packets : (m : Name) (k : Packet) → map.get low.packets m ≡ Some k → HasThing n v.things m k
-  pub marks : (m : Name) (ts : List Thing) → map.get v.things m ≡ Some ts → IsMark (inside low) m
-  -- of the things under one mark the first alone may be of the high level: so the atoms of the source keep their marks
-  pub headed : (m : Name) (ts : List Thing) → map.get v.things m ≡ Some ts → IsHeaded ts
+  -- each atom and each packet is there for something, and nothing else is: so the form of what acts tells what it is there for
+  pub shaped : (m : Name) → IsShaped n from first low v.things m
   -- the high level has the atoms and packets that the things are, and no others: so what acts at the low level for the source acts at the high one
   pub mirrored : Mirrors v.stands_for (λ m. map.get v.things m >>= first_atom_of) (map.get high.atoms)
   pub mirrored_packets : Mirrors v.stands_for (λ m. map.get v.things m >>= first_packet_of) (map.get high.packets)
+  -- a name that is new stands for itself, and what stands for it is new
+  pub new_marks : (m : Name) → set.contains low.born m ≡ false → v.stands_for m ≡ m
+  pub old_marks : (m : Name) → set.contains low.born m ≡ true → set.contains low.born (v.stands_for m) ≡ true
   -- marks that stand for one mark are one: so an event takes from the high level what it takes from the low one
   pub distinct : (m k : Name) (ts us : List Thing) → map.get v.things m ≡ Some ts → map.get v.things k ≡ Some us → v.stands_for m ≡ v.stands_for k → m ≡ k
   -- phases, locks, sites that are told, and the map
