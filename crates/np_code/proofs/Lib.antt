@@ -1,0 +1,3 @@
+pub mod NodeCounts
+pub mod Growth
+pub mod Layers

@@ -1,0 +1,20 @@
+use Rattle.std.proofs.Common.{◌≡◌, ◌+◌, ◌∙◌, length, ap, arith}
+use Rattle.std.proofs.lemmas.List.{length_push}
+use Rattle.std.specs.Option.{option_copied}
+use Rattle.np_code.proofs.Growth.{planted}
+use Rattle.np_code.proofs.NodeCounts.{nodes-parts}
+use Rattle.np_code.proofs.flattening.+laying.Goals as goal
+
+pub lay-returns-clause-process : goal.lay-returns-clause-process
+lay-returns-clause-process t c =
+    planted c.lay_part.new.table c.lay_part-2.new.table c.put.new.self c.args.p.now (option_copied c.parts.result.0) (option_copied c.parts.result.1)
+    c.in_ok-first.first c.in_ok-second.second c.len-id.result c.in_ok-form.form
+    c.parts.ensures.first c.parts.ensures.second c.in_ok-first.ensures.part c.in_ok-second.ensures.grows c.in_ok-second.ensures.part
+    c.in_ok-form.ensures c.len-id.ensures c.in_ok-put.ensures.ok
+
+pub lay-returns-clause-size : goal.lay-returns-clause-size
+lay-returns-clause-size t c =
+    let grown : length c.put.new.self ≡ length c.lay_part-2.new.table + 1 = ap length c.in_ok-put.ensures.ok ∙ length_push _ _ in
+    let first = c.in_ok-first.ensures.size in
+    let second = c.in_ok-second.ensures.size in
+    rw (nodes-parts c.args.p.now, ← c.parts.ensures.first, ← c.parts.ensures.second) (omega arith)
