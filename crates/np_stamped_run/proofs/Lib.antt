@@ -2,6 +2,7 @@ pub mod Counting
 pub mod Elements
 pub mod Flowing
 pub mod Growing
+pub mod Linking
 pub mod Merging
 pub mod Moving
 pub mod Passing
@@ -9,3 +10,4 @@ pub mod Resting
 pub mod Running
 pub mod Saying
 pub mod Shown
+pub mod Starting

@@ -7,7 +7,7 @@ use Rattle.np_merged_run.specs.Steps.{IsSpread, Spread}
 use Rattle.stamp_history.specs.Histories.{Recorded, Rises}
 use Rattle.run_merge.specs.Laws.{AreHistories}
 use Rattle.run_merge.specs.Merged.{merged, items, said}
-use Rattle.np_stamped_run.specs.Deeds.{AreSiteRuns, Deed, IsSiteRun, SiteRuns, StampedItem, at_end, at_start, put_for}
+use Rattle.np_stamped_run.specs.Deeds.{AreSiteRuns, Deed, IsSiteRun, SiteRuns, StampedItem, at_end, at_start, put_for, taken_from}
 
 -- the histories have just what the sites did
 pub record AreRecorded (hs : List Recorded) (r : SiteRuns) : Type 0 where
@@ -19,6 +19,20 @@ pub record AreRecorded (hs : List Recorded) (r : SiteRuns) : Type 0 where
 abbrev pub MergedIsRun : Type 0
 MergedIsRun = (n : ℕ) (r : SiteRuns) (hs : List Recorded) (c : Config) → AreSiteRuns n r → AreRecorded hs r → IsSpread n (at_start r) c
     → (d : Config) × (run c (items (merged hs)) ≡ Some d) × IsSpread n (at_end n r) d
+
+-- ---- links
+
+pub record IsFrom (s t : ℕ) (x : StampedItem) : Type 0 where
+  pub sender : x.item.sender ≡ s
+  pub receiver : x.item.receiver ≡ t
+
+-- what a site takes was put on its way to it, and so was what is left on the links to it
+pub record AreForIt (r : SiteRuns) (s t : ℕ) : Type 0 where
+  pub taken : AllByRecursion (IsFrom s t) (taken_from s (r.deeds t))
+  pub rest : AllByRecursion (λ x. x.item.receiver ≡ t) (r.rest s t)
+
+abbrev pub LinksLead : Type 0
+LinksLead = (n : ℕ) (r : SiteRuns) (s t : ℕ) → AreSiteRuns n r → AreForIt r s t
 
 -- ---- stamps
 

@@ -4,3 +4,4 @@ pub mod Growing
 pub mod Laws
 pub mod Passing
 pub mod Resting
+pub mod Starting

@@ -1,7 +1,8 @@
 ghost use Rattle.np_stamped_run.specs.Growing.{ClockGoesOn, PutsFollow, RunGrows, RunStarts, TakesFollow};
-ghost use Rattle.np_stamped_run.specs.Laws.{EndIsShown, IsToldByParts, MergedIsRun, SaidInOrder, StampsAreFew, StampsRise};
+ghost use Rattle.np_stamped_run.specs.Laws.{EndIsShown, IsToldByParts, LinksLead, MergedIsRun, SaidInOrder, StampsAreFew, StampsRise};
 ghost use Rattle.np_stamped_run.specs.Passing.{TakenLater};
 ghost use Rattle.np_stamped_run.specs.Resting.{CanInParts, IdleInParts};
+ghost use Rattle.np_stamped_run.specs.Starting.{SpreadBySites};
 
 /// What a site does alone begins with nothing, and goes on with one event more.
 pub fn law_site_run()
@@ -10,6 +11,16 @@ pub fn law_site_run()
     ensures clock { ClockGoesOn }
     ensures put { PutsFollow }
     ensures taken { TakesFollow }
+{}
+
+/// A configuration in which nothing is under way is what its sites have.
+pub fn law_spread_by_sites()
+    ensures { SpreadBySites }
+{}
+
+/// What a site takes from a link, and what is left on the link, was put on its way to that site.
+pub fn law_links()
+    ensures { LinksLead }
 {}
 
 /// What sites did with stamps by Lamport's rule, and with links on which what is first in is first out, is one run: that of
