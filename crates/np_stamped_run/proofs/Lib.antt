@@ -3,6 +3,7 @@ pub mod Elements
 pub mod Flowing
 pub mod Growing
 pub mod Linking
+pub mod LowStart
 pub mod Merging
 pub mod Moving
 pub mod Passing

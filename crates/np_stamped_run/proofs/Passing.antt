@@ -1,5 +1,5 @@
 -- An event that takes what an earlier one put on its way has a greater stamp.
-use Rattle.std.proofs.Common.{◌≡◌, ◌==◌, ◌<◌, ◌≤◌, inl, inr, ⊎_elim, ℕ, true, false, List, [], ◌∷◌, ◌++◌, map, Option, None, Some, IfSome, IsSome, option_to_list, filter, flat_map, refl, sym, ap, subst, ◌∙◌, arith}
+use Rattle.std.proofs.Common.{◌≡◌, ◌==◌, ◌<◌, ◌≤◌, inl, inr, ⊎_elim, ℕ, true, false, List, [], ◌∷◌, ◌++◌, map, Option, None, Some, IfSome, option_to_list, filter, flat_map, refl, sym, ap, subst, ◌∙◌, arith}
 use Rattle.std.proofs.lemmas.Bool.{eq-eqb}
 use Rattle.std.specs.List.{AllByRecursion}
 use Rattle.np_calculus.proofs.Common.{Config, Contents}
@@ -19,7 +19,7 @@ use Rattle.run_merge.proofs.Ranks.{ranks_order}
 use Rattle.np_stamped_run.specs.Deeds.{Deed, StampedItem, plain}
 use Rattle.np_stamped_run.specs.Elements.{Occurs}
 use Rattle.np_stamped_run.specs.Passing.{Meets, PassesOn, TakenLater}
-use Rattle.np_stamped_run.proofs.Elements.{every-occurs, mapped-occurs, occurs-either, occurs-filter, occurs-first, occurs-if, occurs-map, occurs-second, over-occurs}
+use Rattle.np_stamped_run.proofs.Elements.{every-occurs, mapped-occurs, occurs-either, occurs-filter, occurs-first, occurs-if, occurs-map, occurs-second, over-occurs, there-is}
 use Rattle.np_stamped_run.proofs.Flowing.{IsByStamp, IsStamped, Waiting, moved, puts, puts_at, takes, without}
 use Rattle.np_stamped_run.proofs.Merging.{all_deeds, all_unmap, deeds_of, in_turn, of-site, ranked_deed, turns-by_stamp}
 use Rattle.np_stamped_run.proofs.Moving.{Fits, MovesOn, Shows, move_of, moves_on}
@@ -27,10 +27,6 @@ use Rattle.np_stamped_run.proofs.Resting.{atom-out, packet-out, place-out}
 use Rattle.np_stamped_run.proofs.Running.{begins, fits, none_waits, turns-stamped}
 
 -- ---- what waits is apart from what is taken
-
-there-is : {X : Type 0} (o : Option X) → IsSome o → (x : X) × (o ≡ Some x)
-there-is None h = absurd cc
-there-is (Some x) h = (x, refl)
 
 -- what is apart from all of these meets none of them
 no-meeting : (ps : List Contents) (x y : Contents) → AreApart ps → IsApart y (together ps) → Occurs (λ p. p ≡ x) ps → Meets x y → ⊥

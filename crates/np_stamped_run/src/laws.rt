@@ -2,7 +2,7 @@ ghost use Rattle.np_stamped_run.specs.Growing.{ClockGoesOn, PutsFollow, RunGrows
 ghost use Rattle.np_stamped_run.specs.Laws.{EndIsShown, IsToldByParts, LinksLead, MergedIsRun, SaidInOrder, StampsAreFew, StampsRise};
 ghost use Rattle.np_stamped_run.specs.Passing.{TakenLater};
 ghost use Rattle.np_stamped_run.specs.Resting.{CanInParts, IdleInParts};
-ghost use Rattle.np_stamped_run.specs.Starting.{SpreadBySites};
+ghost use Rattle.np_stamped_run.specs.Starting.{LowStartIsSettled, SpreadBySites};
 
 /// What a site does alone begins with nothing, and goes on with one event more.
 pub fn law_site_run()
@@ -13,9 +13,10 @@ pub fn law_site_run()
     ensures taken { TakesFollow }
 {}
 
-/// A configuration in which nothing is under way is what its sites have.
+/// A configuration in which nothing is under way is what its sites have; so is the low start.
 pub fn law_spread_by_sites()
-    ensures { SpreadBySites }
+    ensures sites { SpreadBySites }
+    ensures low { LowStartIsSettled }
 {}
 
 /// What a site takes from a link, and what is left on the link, was put on its way to that site.
