@@ -10,7 +10,7 @@ use Rattle.np_code.specs.declared.node.NodeForm.TheVariants as node
 unfoldable use Rattle.np_code.specs.Trees.{nth}
 use Rattle.np_code.specs.Parts.{Layer, first_of, second_of}
 use Rattle.np_code.specs.Trees.{nil, plant, layer_of, with_nodes, Below, BelowForm, AllBelow, Grows, Stands, numbered}
-use Rattle.np_code.proofs.Layers.{plant-numbered}
+use Rattle.np_code.proofs.Layers.{plant-numbered, below-numbered}
 
 -- ---- what stands in a list stays under its number
 
@@ -53,6 +53,16 @@ planted s t u p a b i j k f one two h g m is at put =
     rw (put, is) (
     nth-push t _ k (sym at)
     ∙ plant-numbered t p i j
+    (subst (λ o. Stands t o i) one (stands-on s t a i g h))
+    (subst (λ o. Stands t o j) two m))
+
+-- and its node's parts have smaller numbers
+pub below-planted : (s t : List Proc) (p : Proc) (a b : Option Proc) (i j : ℕ) (f : NodeForm)
+    → a ≡ first_of (out-ProcForm p.form) → b ≡ second_of (out-ProcForm p.form)
+    → Stands s a i → Grows s t → Stands t b j → f ≡ numbered (out-ProcForm p.form) i j → BelowForm (length t) f
+below-planted s t p a b i j f one two h g m is =
+    rw is (
+    below-numbered t (out-ProcForm p.form) i j
     (subst (λ o. Stands t o i) one (stands-on s t a i g h))
     (subst (λ o. Stands t o j) two m))
 

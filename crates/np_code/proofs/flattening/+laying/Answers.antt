@@ -1,9 +1,16 @@
 use Rattle.std.proofs.Common.{◌≡◌, ◌+◌, ◌∙◌, length, ap, arith}
 use Rattle.std.proofs.lemmas.List.{length_push}
 use Rattle.std.specs.Option.{option_copied}
-use Rattle.np_code.proofs.Growth.{planted}
+use Rattle.np_code.proofs.Growth.{planted, below-planted}
 use Rattle.np_code.proofs.NodeCounts.{nodes-parts}
 use Rattle.np_code.proofs.flattening.+laying.Goals as goal
+
+pub lay-put-requires : goal.lay-put-requires
+lay-put-requires t c =
+    below-planted c.lay_part.new.table c.lay_part-2.new.table c.args.p.now (option_copied c.parts.result.0) (option_copied c.parts.result.1)
+    c.in_ok-first.first c.in_ok-second.second c.in_ok-form.form
+    c.parts.ensures.first c.parts.ensures.second c.in_ok-first.ensures.part c.in_ok-second.ensures.grows c.in_ok-second.ensures.part
+    c.in_ok-form.ensures
 
 pub lay-returns-clause-process : goal.lay-returns-clause-process
 lay-returns-clause-process t c =
