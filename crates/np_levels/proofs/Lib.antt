@@ -1,2 +1,11 @@
+pub mod Becomes
+pub mod Born
+pub mod Forks
+pub mod Lands
+pub mod Marks
 pub mod Orders
+pub mod Outputs
+pub mod Quiet
+pub mod Sends
+pub mod Shapes
 pub mod Starts

@@ -1,7 +1,12 @@
 -- What the laws of the invariant between the levels say.
 use Rattle.np_syntax.specs.declared.program.Program.{Program}
 use Rattle.np_syntax.specs.declared.program.LowProgram.{LowProgram}
-use Rattle.std.specs.Prelude.{length}
+use Rattle.std.specs.Prelude.{◌≡◌, ℕ, Some, length}
+use Rattle.np_syntax.specs.declared.event.Event.{Event}
+use Rattle.np_syntax.specs.declared.event.Kind.{Kind}
+use Rattle.np_syntax.specs.declared.process.Role.{Role}
+use Rattle.np_calculus.specs.Config.{Config}
+use Rattle.np_calculus.specs.Reductions.{apply}
 use Rattle.np_calculus.specs.Starts.{start_high, start_low}
 use Rattle.np_scope.specs.Sound.{IsSound}
 use Rattle.daemon_encode.specs.Translates.{IsLowOf}
@@ -10,3 +15,8 @@ use Rattle.np_levels.specs.Coupled.{Coupled, View}
 -- the two starts are coupled
 abbrev pub StartsCoupled : Type 0
 StartsCoupled = (p : Program) (q : LowProgram) (low : IsLowOf p q) → IsSound p → (v : View) × Coupled (length p.sites) p.binders low.first (start_low q) (start_high p) v
+
+-- after an event of this kind and role the low level still belongs to the same configuration of the high level
+abbrev pub IsQuiet : Kind → Role → Type 0
+IsQuiet k r = (n from first : ℕ) (low high : Config) (v : View) → Coupled n from first low high v → (e : Event) (next : Config) → e.kind ≡ k → e.tag.role ≡ r → apply low e ≡ Some next
+    → (w : View) × Coupled n from first next high w

@@ -3,4 +3,4 @@
 
 mod laws;
 
-pub use laws::law_coupled_starts;
+pub use laws::{law_coupled_starts, law_quiet};

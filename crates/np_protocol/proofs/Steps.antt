@@ -8,11 +8,11 @@ use Rattle.np_protocol.specs.Steps.{Step}
 
 module _ {A : Type 0} where
   -- of two lists end to end
-  all_left : (P : A → Type 0) (xs ys : List A) → All P (xs ++ ys) → All P xs
+  pub all_left : (P : A → Type 0) (xs ys : List A) → All P (xs ++ ys) → All P xs
   all_left P [] ys h = All-nil P
   all_left P (x ∷ xs) ys h = All-cons P x xs (All-head P x (xs ++ ys) h) (all_left P xs ys (All-tail P x (xs ++ ys) h))
 
-  all_right : (P : A → Type 0) (xs ys : List A) → All P (xs ++ ys) → All P ys
+  pub all_right : (P : A → Type 0) (xs ys : List A) → All P (xs ++ ys) → All P ys
   all_right P [] ys h = h
   all_right P (x ∷ xs) ys h = all_right P xs ys (All-tail P x (xs ++ ys) h)
 

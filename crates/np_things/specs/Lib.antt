@@ -1,3 +1,4 @@
+pub mod Acting
 pub mod Desks
 pub mod Laws
 pub mod Mail

@@ -1,3 +1,4 @@
+ghost use Rattle.np_things.specs.Acting.{BeginsByThing};
 ghost use Rattle.np_things.specs.Laws.{DaemonByServers, StartsWithThings};
 
 /// The daemon's process is its map, main's lock and its five servers.
@@ -9,4 +10,10 @@ pub fn law_daemon_desks()
 /// lock and its servers.
 pub fn law_start_things()
     ensures { StartsWithThings }
+{}
+
+/// An atom that begins an event of a kind is there for one thing, which begins events of this kind in this role; or it is a
+/// bracket of the infrastructure.
+pub fn law_begins()
+    ensures { BeginsByThing }
 {}

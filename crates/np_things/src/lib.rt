@@ -3,4 +3,4 @@
 
 mod laws;
 
-pub use laws::{law_daemon_desks, law_start_things};
+pub use laws::{law_begins, law_daemon_desks, law_start_things};

@@ -1,0 +1,48 @@
+-- What stands in a configuration stays born.
+use Rattle.std.proofs.Common.{◌≡◌, Bool, true, false, ◌||◌, Option, None, Some, IsSome, refl, sym, ap, subst, ◌∙◌}
+use Rattle.std.specs.FinSet as set
+use mathlib.Core.Path.{fun_ext}
+use Rattle.np_syntax.specs.declared.value.Name.{Name}
+use Rattle.np_syntax.specs.declared.event.Event.{Event}
+use Rattle.np_syntax.specs.declared.event.Made.{Made}
+use Rattle.np_syntax.specs.declared.event.Made.TheVariants as made
+use Rattle.np_syntax.proofs.Options.{done}
+use Rattle.np_tables.specs.Names.{NameSet, same_name}
+use Rattle.np_tables.proofs.Tables.{born_insert}
+use Rattle.np_calculus.specs.Changes.{with_made}
+use Rattle.np_calculus.specs.Config.{Config}
+use Rattle.np_calculus.specs.Parts.{AreBorn, IsWhole, beside, nothing}
+use Rattle.np_calculus.specs.Reductions.{apply}
+use Rattle.np_calculus.specs.Sight.{inside}
+use Rattle.np_calculus.proofs.FrameRule.{frame_rule}
+use Rattle.np_calculus.proofs.OwnNames.{or-second}
+use Rattle.np_calculus.proofs.Steps.{row-step}
+use Rattle.np_calculus.proofs.Writes.{either-none}
+
+no_value : {A : Type 0} {x : A} → None ≡ Some x → ⊥
+no_value e = cc
+
+-- a configuration is one of itself and nothing
+whole : (c : Config) → AreBorn c → IsWhole c c nothing
+whole c born = record {
+  sites = refl;
+  split = record {
+    is = λ i. record {
+      place = fun_ext (λ q. sym (either-none ((inside c).place q))) i;
+      atom = fun_ext (λ q. sym (either-none ((inside c).atom q))) i;
+      packet = fun_ext (λ q. sym (either-none ((inside c).packet q))) i;
+    };
+    apart = record { agents = λ q h. refl; marks = λ q h. record { atom = refl; packet = refl } };
+  };
+  born = born;
+}
+
+pub born-kept : (c d : Config) (e : Event) → AreBorn c → apply c e ≡ Some d → AreBorn d
+born-kept c d e born h =
+    let f = frame_rule c c d nothing e (whole c born) (record { each = λ m a h. absurd (no_value h) }) (record { none = λ a h. no_value h }) (row-step c e d e.kind h).new h in
+    subst AreBorn (sym (done (sym f.applies ∙ h))) f.is.born
+
+pub made-kept : (born : NameSet) (x : Made) (q : Name) → set.contains born q ≡ true → set.contains (with_made born x) q ≡ true
+made-kept born made.Nothing q h = h
+made-kept born (made.One m) q h = born_insert born m q ∙ or-second (same_name q m) _ h
+made-kept born (made.Two m k) q h = born_insert (set.insert born m) k q ∙ or-second (same_name q k) _ (born_insert born m q ∙ or-second (same_name q m) _ h)

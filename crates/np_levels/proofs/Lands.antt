@@ -1,0 +1,162 @@
+-- Mail of the infrastructure lands.
+use Rattle.std.proofs.Common.{◌≡◌, ◌⊎◌, inl, inr, ℕ, Bool, true, false, cond, nat_eq, Option, None, Some, List, [], ◌∷◌, refl, sym, ap, subst, ◌∙◌}
+use Rattle.std.proofs.lemmas.Bool.{eqb-true}
+use Rattle.std.specs.List.{All, list_any}
+use Rattle.std.proofs.lemmas.List.Elements.{All-from_recursion, All-nil, recursion_from_All}
+use Rattle.std.specs.FinMap as map
+use Rattle.np_syntax.specs.declared.value.Name.{Name}
+use Rattle.np_syntax.specs.declared.value.Value.{Value}
+use Rattle.np_syntax.specs.declared.value.Value as value
+use Rattle.np_syntax.specs.declared.value.Value.TheVariants.{outs-Chan}
+use Rattle.np_syntax.specs.declared.expression.ExprForm as expr
+use Rattle.np_syntax.specs.declared.process.Tag.{Tag}
+use Rattle.np_syntax.specs.declared.process.Role.TheVariants as role
+use Rattle.np_syntax.specs.declared.process.ProcForm.TheVariants.{outs-Out}
+use Rattle.np_syntax.specs.declared.event.Event.{Event}
+use Rattle.np_syntax.specs.declared.event.Kind.TheVariants as kind
+use Rattle.np_syntax.specs.declared.event.Made.TheVariants as made
+use Rattle.np_syntax.specs.Options.{◌>>=◌}
+use Rattle.np_syntax.proofs.Options.{then, when, done}
+use Rattle.np_tables.specs.Names.{NameMap, same_name}
+use Rattle.np_tables.proofs.Tables.{cut_here, get-cut, get-put, put_here, same_name-is}
+use Rattle.np_calculus.specs.declared.config.Atom.{Atom}
+use Rattle.np_calculus.specs.declared.config.Packet.{Packet}
+use Rattle.np_calculus.specs.declared.config.Place.{Place}
+use Rattle.np_calculus.specs.declared.config.Place.TheVariants as place
+use Rattle.np_calculus.specs.Changes.{Change, effect, put, cut, still}
+use Rattle.np_calculus.specs.Config.{Config}
+use Rattle.np_calculus.specs.Reductions.{apply, no_other, none_made, output_in, row, same_tag, sends}
+use Rattle.np_calculus.specs.Sight.{at_site}
+use Rattle.np_calculus.specs.Starts.{daemon_agent, own}
+unfoldable use Rattle.np_calculus.proofs.Common.{land_row}
+use Rattle.np_calculus.proofs.Steps.{is-none, row-step, same_site}
+use Rattle.np_protocol.specs.Chips.{Chip}
+use Rattle.np_protocol.specs.Phases.{Phase}
+use Rattle.np_protocol.specs.Protocol.{IsTrueOf, Protocol}
+use Rattle.np_protocol.specs.Rules.{Rule}
+use Rattle.np_protocol.specs.Scenes.{Scene, Whereabouts}
+use Rattle.np_protocol.specs.Steps.{Step}
+use Rattle.np_protocol.proofs.Keeps.{keeps-protocol}
+use Rattle.np_protocol.proofs.Steps.{all_taken}
+use Rattle.np_things.specs.Mail.{Mail, content, on_channel, packet_of, receiver, to_site}
+use Rattle.np_things.specs.Shapes.{Are, IsUnderWay}
+use Rattle.np_things.specs.Things.{Stage, Thing, high_atom, show_all}
+use Rattle.np_things.proofs.Starts.{constant-is}
+use Rattle.np_levels.specs.Coupled.{Coupled, IsShaped, KnowsOnly, View, chips, is_channel, is_child_of, may_know, scene, whereabouts}
+use Rattle.np_levels.proofs.Marks.{at_mark, same_chips, step_at}
+use Rattle.np_levels.proofs.Quiet.{any_kept, quiet}
+use Rattle.np_levels.proofs.Shapes.{of_packet, same_role}
+
+-- a Land of a packet whose agent is at its site
+record IsLanding (low : Config) (e : Event) (packet : Packet) : Type 0 where
+  there : map.get low.packets e.actor ≡ Some packet
+  to : packet.to ≡ e.site
+  tag : same_tag packet.tag e.tag ≡ true
+
+landing : (low : Config) (e : Event) (next : Config) → row kind.Land low e ≡ Some next → (p : Packet) × IsLanding low e p
+unfolding land_row
+landing low e next h =
+    let r = row-step low e next kind.Land h in
+    then (map.get low.packets e.actor) _ r.gives λ p there h. when (nat_eq p.to e.site) _ h λ to h. when (same_tag p.tag e.tag) _ h λ tag h.
+    (p, record { there = there; to = eqb-true p.to e.site to; tag = tag })
+
+-- what it leaves, where its agent is at its site
+landed : (low : Config) (e : Event) (next : Config) (p : Packet) → IsLanding low e p → map.get low.places p.agent ≡ Some (place.At e.site) → row kind.Land low e ≡ Some next
+    → next ≡ effect low e (record still { packets = cut e.actor ∷ []; atoms = put e.actor (output_in p.agent p.chan p.value e.tag) ∷ [] })
+unfolding land_row
+landed low e next p l here h =
+    let r = row-step low e next kind.Land h in
+    then (map.get low.packets e.actor) _ r.gives λ q there h. when (nat_eq q.to e.site) _ h λ to h. when (same_tag q.tag e.tag) _ h λ tag h.
+    then (none_made e.made) _ h λ u none h. then (no_other e.other) _ h λ w other h.
+    let same : q ≡ p = done (sym l.there ∙ there) in
+    let at : at_site (map.get low.places q.agent) e.site ≡ true = ap (λ (k : Packet). at_site (map.get low.places k.agent) e.site) same ∙ ap (λ o. at_site o e.site) here ∙ same_site e.site in
+    r.is ∙ ap (effect low e) (done h ∙ ap (λ t. record still { packets = cut e.actor ∷ []; atoms = cond t (put e.actor (output_in q.agent q.chan q.value e.tag) ∷ []) [] }) at
+        ∙ ap (λ (k : Packet). record still { packets = cut e.actor ∷ []; atoms = put e.actor (output_in k.agent k.chan k.value e.tag) ∷ [] }) same)
+
+-- a made output gives its value on its channel
+pub output-gives : (a c : Name) (v : Value) (tag : Tag) → sends (output_in a c v tag) ≡ Some (c, v)
+output-gives a c v tag = rw (outs-Out _ _, constant-is (value.Chan c) map.empty, outs-Chan c, constant-is v map.empty) refl
+
+-- what lands with another role than Plain is mail
+lands_mail : {R : Type 0} (n : ℕ) (t : Thing) (k : Packet) → IsUnderWay n t k → (k.tag.role ≡ role.Plain → ⊥) → ((m : Mail) → t ≡ Thing.mail m Stage.on_the_way → k ≡ packet_of n m k.tag → R) → R
+lands_mail n (Thing.mail m Stage.on_the_way) k u apart f = f m refl u.0
+lands_mail n (Thing.packet p) k u apart f = absurd (apart u.1)
+lands_mail n _ k u apart f = absurd u
+
+no_child : (a b : Name) (m : Mail) → list_any (is_child_of a b) (show_all (Thing.mail m Stage.on_the_way ∷ [])) ≡ false
+no_child a b (Mail.register y s) = refl
+no_child a b (Mail.migrating y) = refl
+no_child a b (Mail.migrated y t) = refl
+no_child a b (Mail.message p) = refl
+no_child a b (Mail.dack y s) = refl
+no_child a b (Mail.ack y s) = refl
+no_child a b (Mail.deliver p s) = refl
+
+mail_comes : {w : Scene} {phase : Name → Phase} {before after : List Chip} (m : Mail) → Step before after (show_all (Thing.mail m Stage.on_the_way ∷ [])) (show_all (Thing.mail m Stage.there ∷ [])) → Protocol w phase before
+    → (then : Name → Phase) × Protocol w then after
+mail_comes (Mail.register y t) step p = same_chips step p
+mail_comes (Mail.migrating y) step p = same_chips step p
+mail_comes (Mail.migrated y t) step p = same_chips step p
+mail_comes (Mail.message q) step p = same_chips step p
+mail_comes (Mail.dack y t) step p = same_chips step p
+mail_comes {w} {phase} {before} {after} (Mail.ack y t) step p = keeps-protocol w w phase before after _ _ (Rule.comes {a = y} {s = t}) step p
+mail_comes (Mail.deliver q t) step p = same_chips step p
+
+module _ {n from first : ℕ} {low high : Config} {v : View} (c : Coupled n from first low high v) where
+  -- an agent that is at a site for the protocol is there at the low level
+  pub low_place : (a : Name) (s : ℕ) → whereabouts (map.get high.places a) ≡ Whereabouts.at s → map.get low.places a ≡ Some (place.At s)
+  low_place a s h = c.places a (apart (same_name a (daemon_agent n)) refl) ∙ its (map.get high.places a) h
+    where
+      its : (o : Option Place) → whereabouts o ≡ Whereabouts.at s → o ≡ Some (place.At s)
+      its None e = absurd cc
+      its (Some (place.At t)) e = let same : t ≡ s = cc in ap (λ u. Some (place.At u)) same
+      its (Some (place.Way t)) e = absurd cc
+      apart : (u : Bool) → same_name a (daemon_agent n) ≡ u → u ≡ false
+      apart false e = refl
+      apart true e = absurd (let none : Whereabouts.nowhere ≡ Whereabouts.at s = ap whereabouts (sym (ap (map.get high.places) (same_name-is a (daemon_agent n) e) ∙ c.no_daemon)) ∙ h in cc)
+
+  -- mail goes where its receiver is
+  mail_finds : {after give : List Chip} (m : Mail) → Step (chips v.things) after (show_all (Thing.mail m Stage.on_the_way ∷ [])) give → map.get low.places (receiver n m) ≡ Some (place.At (to_site m))
+  mail_finds (Mail.register y t) step = c.daemon
+  mail_finds (Mail.migrating y) step = c.daemon
+  mail_finds (Mail.migrated y t) step = c.daemon
+  mail_finds (Mail.message q) step = c.daemon
+  mail_finds (Mail.dack y t) step = c.daemon
+  mail_finds (Mail.ack y t) step = low_place y t (recursion_from_All (IsTrueOf (scene v high) v.phase) (Chip.ack_sent y t ∷ []) (all_taken step (IsTrueOf (scene v high) v.phase) c.protocol.true_chips)).0
+  mail_finds (Mail.deliver q t) step =
+      low_place q.agent t (recursion_from_All (IsTrueOf (scene v high) v.phase) (Chip.delivery q.agent t ∷ Chip.knows q.agent ∷ []) (all_taken step (IsTrueOf (scene v high) v.phase) c.protocol.true_chips)).0
+
+  pub lands : (e : Event) (next : Config) → e.kind ≡ kind.Land → (e.tag.role ≡ role.Plain → ⊥) → apply low e ≡ Some next → (w : View) × Coupled n from first next high w
+  lands e next is_land apart h =
+      let row_is : row kind.Land low e ≡ Some next = ap (λ k. row k low e) (sym is_land) ∙ h in
+      let l = landing low e next row_is in
+      let o = of_packet c e.actor l.0 l.1.there in
+      lands_mail n o.thing l.0 o.is (λ plain. apart (sym (same_role l.0.tag e.tag l.1.tag) ∙ plain)) λ m thing packet.
+      let there : map.get v.things e.actor ≡ Some (Thing.mail m Stage.on_the_way ∷ []) = o.there ∙ ap (λ t. Some (t ∷ [])) thing in
+      let us : List Thing = Thing.mail m Stage.there ∷ [] in
+      let things : NameMap (List Thing) = map.insert v.things e.actor us in
+      let step = step_at v.things e.actor (Thing.mail m Stage.on_the_way ∷ []) us there in
+      let protocol = mail_comes m step c.protocol in
+      let to : to_site m ≡ e.site = sym (ap (λ (k : Packet). k.to) packet) ∙ l.1.to in
+      let here : map.get low.places l.0.agent ≡ Some (place.At e.site) = ap (λ (k : Packet). map.get low.places k.agent) packet ∙ mail_finds m step ∙ ap (λ s. Some (place.At s)) to in
+      let is = landed low e next l.0 l.1 here row_is in
+      let low_atom : Atom = output_in l.0.agent l.0.chan l.0.value e.tag in
+      let known = recursion_from_All (λ t. KnowsOnly (may_know v.lock (chips v.things) t) (is_channel n high.born) from t) (Thing.mail m Stage.on_the_way ∷ []) (c.known e.actor (Thing.mail m Stage.on_the_way ∷ []) there) in
+      let gives : sends low_atom ≡ Some (own n (on_channel m), content m) =
+          output-gives l.0.agent l.0.chan l.0.value e.tag ∙ ap (λ (k : Packet). Some (k.chan, k.value)) packet in
+      (record v { things = things; phase = protocol.0 }, quiet c next things protocol.0 (at_mark c next e e.actor (Thing.mail m Stage.on_the_way ∷ []) us protocol.0 (record {
+        applies = h;
+        sites = ap (λ (d : Config). d.sites) is;
+        places = ap (λ (d : Config). d.places) is;
+        said = ap (λ (d : Config). d.said) is;
+        born = ap (λ (d : Config). d.born) is;
+        there = there;
+        others = λ q d. (ap (λ (d : Config). map.get d.atoms q) is ∙ get-put low.atoms e.actor low_atom q ∙ ap (λ t. cond t (Some low_atom) (map.get low.atoms q)) d, ap (λ (d : Config). map.get d.packets q) is ∙ get-cut low.packets e.actor q ∙ ap (λ t. cond t None (map.get low.packets q)) d);
+        here = IsShaped.atom (ap (λ (d : Config). map.get d.atoms e.actor) is ∙ put_here low.atoms e.actor low_atom) (ap (λ (d : Config). map.get d.packets e.actor) is ∙ cut_here low.packets e.actor)
+            (put_here v.things e.actor us) (All-nil (λ u. high_atom u ≡ None)) (Are.one (record { agent = ap (λ (k : Packet). k.agent) packet; gives = gives }));
+        atoms = refl;
+        packets = refl;
+        protocol = protocol.1;
+        children = λ a b. any_kept (is_child_of a b) step (λ any. absurd (let none = no_child a b m in cc));
+        known = All-from_recursion (λ t. KnowsOnly (may_know v.lock (chips things) t) (is_channel n high.born) from t) us (known.0, tt);
+      })))

@@ -1,0 +1,192 @@
+-- What an output is there for, by its channel.
+use Rattle.std.proofs.Common.{◌≡◌, ◌⊎◌, inl, inr, ℕ, Bool, true, false, not, ◌&&◌, ◌||◌, Option, None, Some, List, [], ◌∷◌, ◌++◌, refl, sym, ap, subst, ◌∙◌}
+use Rattle.std.specs.List.{All, list_any}
+use Rattle.std.proofs.lemmas.List.Elements.{All-head}
+use Rattle.std.specs.FinMap as map
+use Rattle.std.specs.FinSet as set
+use Rattle.np_syntax.specs.declared.value.Name.{Name}
+use Rattle.np_syntax.specs.declared.value.Value.{Value, out-Value}
+use Rattle.np_syntax.specs.declared.value.Value as value
+use Rattle.np_syntax.specs.declared.value.Value.TheVariants as outs
+use Rattle.np_syntax.specs.declared.expression.Expr.{Expr}
+use Rattle.np_syntax.specs.declared.process.Proc.{Proc}
+use Rattle.np_syntax.specs.declared.process.ProcForm.{ProcForm-F}
+use Rattle.np_syntax.specs.declared.process.ProcForm.TheVariants as forms
+use Rattle.np_syntax.specs.Options.{◌>>=◌}
+use Rattle.np_syntax.proofs.Bools.{and-out}
+use Rattle.np_syntax.proofs.Options.{then, done}
+use Rattle.np_tables.specs.Names.{NameSet}
+use Rattle.np_calculus.specs.declared.config.Atom.{Atom}
+use Rattle.np_calculus.specs.Reductions.{sends}
+use Rattle.np_calculus.specs.Starts.{daemon_agent, main_agent, own, own_names}
+use Rattle.np_eval.specs.Eval.{Env, as_chan, chan_of, eval}
+use Rattle.np_eval.specs.Forms.{Layer, as_out, layer}
+use Rattle.np_scope.specs.Sound.{IsSoundExpr, IsSoundProc}
+use Rattle.daemon_encode.specs.Translates.{Translates}
+use Rattle.np_source_values.specs.Known.{IsKnown, Knows}
+use Rattle.np_source_values.specs.Sources.{IsSource}
+use Rattle.np_source_values.proofs.Known.{value-is-known}
+use Rattle.np_source_values.proofs.Values.{same-value}
+use Rattle.np_things.specs.Mail.{Mail, content, on_channel, receiver}
+use Rattle.np_things.specs.Desks.{desk}
+use Rattle.np_things.specs.Shapes.{Are, Is, IsAgents, IsMail, IsOfSource, WaitsFor}
+use Rattle.np_protocol.specs.Chips.{Service}
+use Rattle.np_tables.specs.Names.{same_name}
+use Rattle.np_things.specs.Things.{Stage, Thing}
+use Rattle.np_things.proofs.Acting.{thing-begins}
+use Rattle.np_scope.specs.Written.{IsLiteral}
+use Rattle.np_scope.proofs.SoundParts.{ProcParts, proc-parts}
+use Rattle.np_syntax.specs.declared.event.Kind.{Kind}
+use Rattle.np_syntax.specs.declared.event.Kind.TheVariants as kind
+use Rattle.np_calculus.specs.Begins.{begun_by}
+use Rattle.np_calculus.specs.Config.{Config}
+use Rattle.np_levels.specs.Coupled.{Coupled, KnowsOnly, View, chips, is_channel, is_child_of, may_know}
+use Rattle.np_levels.proofs.Lands.{output-gives}
+
+-- the parts of an output
+pub record IsOutput (low : Atom) (chan : Name) (v : Value) : Type 0 where
+  pub on : Expr
+  pub sent : Expr
+  pub form : layer low.proc ≡ ProcForm-F.Out on sent
+  pub its_chan : chan_of on low.env ≡ Some chan
+  pub its_value : eval sent low.env ≡ Some v
+
+out_form : (l : Layer) (t : Expr × Expr) → as_out l ≡ Some t → l ≡ ProcForm-F.Out t.0 t.1
+out_form (ProcForm-F.Out c e) t h = ap (λ (x : Expr × Expr). ProcForm-F.Out x.0 x.1) (sym (done h))
+out_form _ t h = absurd cc
+
+pub is_output : (low : Atom) (s : Name × Value) → sends low ≡ Some s → IsOutput low s.0 s.1
+is_output low s h =
+    then (as_out (layer low.proc)) _ h λ t is rest. then (chan_of t.0 low.env) _ rest λ n on rest. then (eval t.1 low.env) _ rest λ v at last.
+    let same : s ≡ (n, v) = done last in
+    record { on = t.0; sent = t.1; form = out_form (layer low.proc) t is; its_chan = on ∙ ap (λ (x : Name × Value). Some x.0) (sym same); its_value = at ∙ ap (λ (x : Name × Value). Some x.1) (sym same) }
+
+-- the channel that a source names is known
+chan-known : (agents chans : Name → Bool) (v : Value) → IsKnown agents chans v → (c : Name) → as_chan (out-Value v) ≡ Some c → chans c ≡ true
+chan-known agents chans v (IsKnown.channel {c = d} k) c h = subst (λ x. chans x ≡ true) (sym (done (sym (ap as_chan (outs.outs-Chan d)) ∙ h))) k
+chan-known agents chans v (IsKnown.literal (IsLiteral.number {n = i})) c h = absurd (let e = ap as_chan (outs.outs-Int i) in cc)
+chan-known agents chans v (IsKnown.literal (IsLiteral.truth {b = b})) c h = absurd (let e = ap as_chan (outs.outs-Truth b) in cc)
+chan-known agents chans v (IsKnown.literal (IsLiteral.string {text = t})) c h = absurd (let e = ap as_chan (outs.outs-Str t) in cc)
+chan-known agents chans v (IsKnown.site {s = s}) c h = absurd (let e = ap as_chan (outs.outs-Site s) in cc)
+chan-known agents chans v (IsKnown.agent {a = a} k) c h = absurd (let e = ap as_chan (outs.outs-Agent a) in cc)
+chan-known agents chans v (IsKnown.tuple {vs = vs} k) c h = absurd (let e = ap as_chan (outs.outs-Tuple vs) in cc)
+
+-- a process that begins an event is no output
+not_out : {A : Type 0} (l : Layer) (k : Kind) (c e : Expr) → begun_by l ≡ Some k → l ≡ ProcForm-F.Out c e → A
+not_out l k c e b h = absurd (let bad : None ≡ Some k = sym (ap begun_by h) ∙ b in cc)
+
+-- what is translated to an output is this output
+translated-out : {n from : ℕ} {a : Expr} {p q : Proc} (c e : Expr) → Translates n from a p q → layer q ≡ ProcForm-F.Out c e → layer p ≡ ProcForm-F.Out c e
+translated-out c e Translates.output h = h
+translated-out c e Translates.stop h = not_out _ kind.Stop c e (ap begun_by forms.outs-Stop) h
+translated-out c e (Translates.parallel t u) h = not_out _ kind.Fork c e (ap begun_by (forms.outs-Par _ _)) h
+translated-out c e (Translates.channel t) h = not_out _ kind.New c e (ap begun_by (forms.outs-New _ _ _)) h
+translated-out c e (Translates.input t) h = not_out _ kind.Comm c e (ap begun_by (forms.outs-Inp _ _ _)) h
+translated-out c e (Translates.replicated t) h = not_out _ kind.Rep c e (ap begun_by (forms.outs-Rep _ _ _)) h
+translated-out c e (Translates.agent s l t d u w) h = not_out _ kind.Comm c e (ap begun_by (forms.outs-Inp _ _ _)) h
+translated-out c e (Translates.migrate t) h = not_out _ kind.Comm c e (ap begun_by (forms.outs-Inp _ _ _)) h
+translated-out c e (Translates.iflocal t u) h = not_out _ kind.Local c e (ap begun_by (forms.outs-IfLocal _ _ _ _ _)) h
+translated-out c e Translates.send h = not_out _ kind.Send c e (ap begun_by (forms.outs-Send _ _ _ _)) h
+translated-out c e Translates.post h = not_out _ kind.Send c e (ap begun_by (forms.outs-Send _ _ _ _)) h
+translated-out c e (Translates.test t u) h = not_out _ kind.If c e (ap begun_by (forms.outs-If _ _ _)) h
+translated-out c e (Translates.bind t) h = not_out _ kind.Let c e (ap begun_by (forms.outs-Let _ _ _)) h
+translated-out c e Translates.print h = not_out _ kind.Print c e (ap begun_by (forms.outs-Print _)) h
+translated-out c e Translates.open_letter h = not_out _ kind.Open c e (ap begun_by (forms.outs-Open _)) h
+translated-out c e (Translates.lookup t u) h = not_out _ kind.Lookup c e (ap begun_by (forms.outs-Lookup _ _ _ _ _)) h
+
+-- what an output on a channel is there for
+pub data Gift (n : ℕ) (low : Atom) (chan : Name) (v : Value) : Thing → Type 0 where
+  of_source : {t : Thing} → set.contains (own_names n) chan ≡ false → IsAgents n low.agent → Gift n low chan v t
+  of_token : {a : Name} {s : ℕ} → low.agent ≡ a → IsAgents n a → chan ≡ own n 9 → v ≡ value.Site s → Gift n low chan v (Thing.token a s)
+  of_mail : {m : Mail} → low.agent ≡ receiver n m → chan ≡ own n (on_channel m) → v ≡ content m → Gift n low chan v (Thing.mail m Stage.there)
+  of_map : {ps : List (Name × Name)} → low.agent ≡ daemon_agent n → chan ≡ own n 10 → v ≡ value.Places ps → Gift n low chan v (Thing.places ps)
+  of_lock : {l : Name} {s : ℕ} → low.agent ≡ daemon_agent n → chan ≡ l → v ≡ value.Site s → Gift n low chan v (Thing.free l s)
+
+not_own : (t u : Bool) → (t && not u) ≡ true → u ≡ false
+not_own true false h = refl
+not_own _ _ h = absurd cc
+
+module _ (n from first : ℕ) (agents : Name → Bool) (born : NameSet) (main : agents (main_agent n) ≡ true) (low : Atom) (chan : Name) (v : Value) (gives : sends low ≡ Some (chan, v)) where
+  o : IsOutput low chan v
+  o = is_output low (chan, v) gives
+
+  given : (c : Name) (w : Value) → sends low ≡ Some (c, w) → (chan ≡ c) × (v ≡ w)
+  given c w h = let same : (chan, v) ≡ (c, w) = done (sym h ∙ gives) in (ap (λ (x : Name × Value). x.0) same, ap (λ (x : Name × Value). x.1) same)
+
+  by_text : {A : Type 0} (p : Proc) (k : Kind) → low.proc ≡ p → begun_by (layer p) ≡ Some k → A
+  by_text p k is b = not_out (layer p) k o.on o.sent b (sym (ap layer is) ∙ o.form)
+
+  source_channel : (a : Expr) (h : Atom) → IsOfSource n from a h low → Knows agents (is_channel n born) from h.env → set.contains (own_names n) chan ≡ false
+  source_channel a h i k =
+      let form : layer h.proc ≡ ProcForm-F.Out o.on o.sent = translated-out o.on o.sent i.translates o.form in
+      let s = i.stands.source in
+      let parts = subst (ProcParts n s.scope s.node s.after s.bound) form (proc-parts n s.sound) in
+      let same : eval o.on low.env ≡ eval o.on h.env = same-value n from s.scope o.on low.env h.env parts.1 s.in_scope i.stands.agrees in
+      then (eval o.on low.env) _ o.its_chan λ w is names.
+      let good : IsKnown agents (is_channel n born) w = value-is-known agents (is_channel n born) n from s.scope o.on h.env w main parts.1 s.in_scope k (sym same ∙ is) in
+      not_own (set.contains born chan) (set.contains (own_names n) chan) (chan-known agents (is_channel n born) w good chan names)
+
+  -- a thing is given by an output, or what it is is no output
+  mail_given : (m : Mail) (stage : Stage) → IsMail n m stage low → Gift n low chan v (Thing.mail m stage)
+  mail_given m (Stage.in_agent x) i = not_out (layer low.proc) kind.Send o.on o.sent (ap begun_by i.0.is) o.form
+  mail_given m Stage.on_the_way i = absurd i
+  mail_given m Stage.there i = let g = given (own n (on_channel m)) (content m) i.gives in Gift.of_mail i.agent g.0 g.1
+
+  looks_given : (m : Mail) (ps : List (Name × Name)) (s : Service) → low.proc ≡ (desk n first s).body → Gift n low chan v (Thing.looking m ps)
+  looks_given m ps Service.registers is = by_text _ kind.New is (ap begun_by (forms.outs-New _ _ _))
+  looks_given m ps Service.grants is = by_text _ kind.Lookup is (ap begun_by (forms.outs-Lookup _ _ _ _ _))
+  looks_given m ps Service.notes_moves is = by_text _ kind.Lookup is (ap begun_by (forms.outs-Lookup _ _ _ _ _))
+  looks_given m ps Service.passes_on is = by_text _ kind.Lookup is (ap begun_by (forms.outs-Lookup _ _ _ _ _))
+  looks_given m ps Service.ends_deliveries is = by_text _ kind.Lookup is (ap begun_by (forms.outs-Lookup _ _ _ _ _))
+
+  wants_given : (m : Mail) (l : Name) → WaitsFor n first m l low → Gift n low chan v (Thing.wanting m l)
+  wants_given (Mail.migrating a) l w = by_text _ kind.Comm w.0 (ap begun_by (forms.outs-Inp _ _ _))
+  wants_given (Mail.message p) l w = by_text _ kind.Comm w.0 (ap begun_by (forms.outs-Inp _ _ _))
+  wants_given _ l w = absurd w
+
+  gift_of : (t : Thing) → Is n from first t low → KnowsOnly agents (is_channel n born) from t → Gift n low chan v t
+  gift_of (Thing.source a h) i k = Gift.of_source (source_channel a h i k) (ap (λ x. same_name x (daemon_agent n)) i.stands.agent ∙ i.stands.apart)
+  gift_of (Thing.asking a h) i k = by_text _ kind.Comm i.is (ap begun_by (forms.outs-Inp _ _ _))
+  gift_of (Thing.leaving a h) i k = by_text _ kind.Depart i.is (ap begun_by (forms.outs-Migrate _ _))
+  gift_of (Thing.settling a h s) i k = by_text _ kind.Comm i.is (ap begun_by (forms.outs-Inp _ _ _))
+  gift_of (Thing.making a h s) i k = by_text _ kind.Agent i.is (ap begun_by (forms.outs-Agent _ _ _))
+  gift_of (Thing.beginning a h p s) i k = by_text _ kind.Comm i.is (ap begun_by (forms.outs-Inp _ _ _))
+  gift_of (Thing.opened p) i k =
+      let g = given p.chan p.value (ap sends i.is ∙ output-gives p.agent p.chan p.value i.tag) in
+      Gift.of_source (ap (set.contains (own_names n)) g.0 ∙ not_own (set.contains born p.chan) (set.contains (own_names n) p.chan) k.0) (ap (λ (a : Atom). same_name a.agent (daemon_agent n)) i.is ∙ i.apart)
+  gift_of (Thing.token a s) i k = let g = given (own n 9) (value.Site s) i.0.gives in Gift.of_token i.0.agent i.1 g.0 g.1
+  gift_of (Thing.letters a) i k = by_text _ kind.Rep i.is (ap begun_by (forms.outs-Rep _ _ _))
+  gift_of (Thing.opening p) i k = not_out (layer low.proc) kind.Open o.on o.sent (ap begun_by i.0.is) o.form
+  gift_of (Thing.mail m stage) i k = mail_given m stage i
+  gift_of (Thing.taken m) i k = by_text _ kind.Comm i.is (ap begun_by (forms.outs-Inp _ _ _))
+  gift_of (Thing.looking m ps) i k = looks_given m ps i.service i.is
+  gift_of (Thing.wanting m l) i k = wants_given m l i.waits
+  gift_of (Thing.serving s) i k = by_text _ kind.Rep i.is (ap begun_by (forms.outs-Rep _ _ _))
+  gift_of (Thing.places ps) i k = let g = given (own n 10) (value.Places ps) i.gives in Gift.of_map i.agent g.0 g.1
+  gift_of (Thing.free l s) i k = let g = given l (value.Site s) i.gives in Gift.of_lock i.agent g.0 g.1
+  gift_of (Thing.packet p) i k = absurd i
+
+-- the one thing of an output
+pub record IsGiven (n from first : ℕ) (low : Atom) (chan : Name) (v : Value) (ts : List Thing) : Type 0 where
+  pub thing : Thing
+  pub alone : ts ≡ thing ∷ []
+  pub is : Is n from first thing low
+  pub gift : Gift n low chan v thing
+
+module _ {n from first : ℕ} {low high : Config} {v : View} (c : Coupled n from first low high v) where
+  may-main : (t : Thing) → may_know v.lock (chips v.things) t (main_agent n) ≡ true
+  may-main (Thing.settling a h s) = ap (λ t. t || list_any (is_child_of h.agent (main_agent n)) (chips v.things)) c.main
+  may-main (Thing.beginning a h p s) = ap (λ t. t || same_name (main_agent n) h.agent) c.main
+  may-main _ = c.main
+
+  pub given_by : (m : Name) (a : Atom) (s : Name × Value) → map.get low.atoms m ≡ Some a → sends a ≡ Some s → (ts : List Thing) → map.get v.things m ≡ Some ts → Are n from first a ts → IsGiven n from first a s.0 s.1 ts
+  given_by m a s there gives ts has (Are.one {t = t} i) = record {
+    thing = t;
+    alone = refl;
+    is = i;
+    gift = gift_of n from first (may_know v.lock (chips v.things) t) high.born (may-main t) a s.0 s.1 gives t i
+        (All-head (λ t. KnowsOnly (may_know v.lock (chips v.things) t) (is_channel n high.born) from t) t [] (c.known m (t ∷ []) has));
+  }
+  given_by m a s there gives ts has (Are.both is left right) =
+      let o = is_output a s gives in
+      not_out _ kind.Fork o.on o.sent (ap begun_by (forms.outs-Par _ _)) (sym (ap layer is) ∙ o.form)

@@ -1,0 +1,156 @@
+-- Events of the low level that are none of the high level: places stay, and the things of the high level keep their marks.
+use Rattle.std.proofs.Common.{◌≡◌, ◌⊎◌, inl, inr, ℕ, Bool, true, false, not, cond, ◌||◌, is_some, Option, None, Some, IsSome, List, [], ◌∷◌, ◌++◌, refl, sym, ap, subst, ◌∙◌}
+use Rattle.std.specs.List.{All, flat_map, list_any}
+use Rattle.std.specs.List.Sorted.{IsPermutation}
+use Rattle.std.proofs.lemmas.List.Sorted.{IsPermutation-append_left, IsPermutation-sym, IsPermutation-trans, list_any-IsPermutation}
+use Rattle.std.proofs.lemmas.List.Elements.{All-weaker}
+use Rattle.std.specs.FinMap as map
+use Rattle.std.specs.FinSet as set
+use Rattle.np_syntax.specs.declared.value.Name.{Name}
+use Rattle.np_syntax.specs.Options.{◌>>=◌}
+use Rattle.np_tables.specs.Names.{NameMap, same_name}
+use Rattle.np_tables.proofs.Tables.{get-cut, get-put, put_here, same_name-is, same_name-itself}
+use Rattle.np_calculus.specs.Config.{Config}
+use Rattle.np_calculus.specs.Parts.{AreBorn}
+use Rattle.np_calculus.specs.Starts.{daemon_agent}
+use Rattle.np_protocol.specs.Chips.{Chip}
+use Rattle.np_protocol.specs.Phases.{Phase}
+use Rattle.np_protocol.specs.Protocol.{Protocol}
+use Rattle.np_protocol.specs.Scenes.{Scene}
+use Rattle.np_protocol.specs.Steps.{Step}
+use Rattle.np_source_values.proofs.Known.{more_known}
+use Rattle.np_things.specs.Things.{Thing, carried, first_atom_of, first_packet_of, show_all}
+use Rattle.np_levels.specs.Coupled.{Coupled, IsShaped, KnowsLetter, KnowsOnly, View, chips, is_channel, is_child_of, may_know, scene}
+use Rattle.np_levels.specs.Mirrors.{Mirrors}
+
+no_value : {A : Type 0} {x : A} → None ≡ Some x → ⊥
+no_value e = cc
+
+-- ---- what is known
+
+module _ (agents more chans : Name → Bool) (f : (a : Name) → agents a ≡ true → more a ≡ true) where
+  knows_letter : (o : Option _) → KnowsLetter agents chans o → KnowsLetter more chans o
+  knows_letter None h = tt
+  knows_letter (Some p) h = (h.0, more_known agents chans more chans f (λ c e. e) h.1)
+
+module _ (agents more chans : Name → Bool) (from : ℕ) (f : (a : Name) → agents a ≡ true → more a ≡ true) where
+  pub knows_more : (t : Thing) → KnowsOnly agents chans from t → KnowsOnly more chans from t
+  knows_more (Thing.source a h) k = record { each = λ x v b e. more_known agents chans more chans f (λ c e. e) (k.each x v b e) }
+  knows_more (Thing.asking a h) k = record { each = λ x v b e. more_known agents chans more chans f (λ c e. e) (k.each x v b e) }
+  knows_more (Thing.leaving a h) k = record { each = λ x v b e. more_known agents chans more chans f (λ c e. e) (k.each x v b e) }
+  knows_more (Thing.settling a h s) k = record { each = λ x v b e. more_known agents chans more chans f (λ c e. e) (k.each x v b e) }
+  knows_more (Thing.making a h s) k = record { each = λ x v b e. more_known agents chans more chans f (λ c e. e) (k.each x v b e) }
+  knows_more (Thing.beginning a h p s) k = record { each = λ x v b e. more_known agents chans more chans f (λ c e. e) (k.each x v b e) }
+  knows_more (Thing.opened p) k = (k.0, more_known agents chans more chans f (λ c e. e) k.1)
+  knows_more (Thing.packet p) k = (f p.agent k.0, k.1, more_known agents chans more chans f (λ c e. e) k.2)
+  knows_more (Thing.token a s) k = tt
+  knows_more (Thing.letters a) k = tt
+  knows_more (Thing.opening p) k = knows_letter agents more chans f (Some p) k
+  knows_more (Thing.mail m stage) k = knows_letter agents more chans f (carried (Thing.mail m stage)) k
+  knows_more (Thing.taken m) k = knows_letter agents more chans f (carried (Thing.taken m)) k
+  knows_more (Thing.looking m ps) k = knows_letter agents more chans f (carried (Thing.looking m ps)) k
+  knows_more (Thing.wanting m l) k = knows_letter agents more chans f (carried (Thing.wanting m l)) k
+  knows_more (Thing.serving s) k = tt
+  knows_more (Thing.places ps) k = tt
+  knows_more (Thing.free l s) k = tt
+
+-- ---- what any of the chips is
+
+pub or_second : (a b : Bool) → b ≡ true → (a || b) ≡ true
+or_second true b h = refl
+or_second false b h = h
+
+pub or_cases : (a b : Bool) → (a || b) ≡ true → (a ≡ true) ⊎ (b ≡ true)
+or_cases true b h = inl refl
+or_cases false b h = inr h
+
+module _ (p : Chip → Bool) where
+  any_out : (xs ys : List Chip) → list_any p (xs ++ ys) ≡ true → (list_any p xs ≡ true) ⊎ (list_any p ys ≡ true)
+  any_out [] ys h = inr h
+  any_out (x ∷ xs) ys h = elim (or_cases (p x) (list_any p (xs ++ ys)) h) [
+    | inl a ↦ inl (ap (λ t. t || list_any p xs) a)
+    | inr b ↦ elim (any_out xs ys b) [ inl c ↦ inl (or_second (p x) _ c) | inr d ↦ inr d ]
+  ]
+
+  any_in : (xs ys : List Chip) → (list_any p xs ≡ true) ⊎ (list_any p ys ≡ true) → list_any p (xs ++ ys) ≡ true
+  any_in [] ys (inl h) = absurd cc
+  any_in [] ys (inr h) = h
+  any_in (x ∷ xs) ys (inl h) = elim (or_cases (p x) (list_any p xs) h) [ inl a ↦ ap (λ t. t || list_any p (xs ++ ys)) a | inr b ↦ or_second (p x) _ (any_in xs ys (inl b)) ]
+  any_in (x ∷ xs) ys (inr h) = or_second (p x) _ (any_in xs ys (inr h))
+
+  -- a chip that is not taken, or given again, is still there
+  pub any_kept : {before after take give : List Chip} → Step before after take give → (list_any p take ≡ true → list_any p give ≡ true) → list_any p before ≡ true → list_any p after ≡ true
+  any_kept {before} {after} {take} {give} step f h =
+      list_any-IsPermutation p after (give ++ step.rest) step.given
+      ∙ any_in give step.rest (elim (any_out take step.rest (sym (list_any-IsPermutation p before (take ++ step.rest) step.taken) ∙ h)) [ inl a ↦ inl (f a) | inr b ↦ inr b ])
+
+-- ---- marks
+
+module _ {n from first : ℕ} {low high : Config} {v : View} (c : Coupled n from first low high v) where
+  -- what has things is born
+  pub things_born : (m : Name) (ts : List Thing) → map.get v.things m ≡ Some ts → set.contains low.born m ≡ true
+  things_born m ts h = go (c.shaped m)
+    where
+      some_of : {A : Type 0} (o : Option A) (x : A) → o ≡ Some x → IsSome o
+      some_of o x e = rw e refl
+      go : IsShaped n from first low v.things m → set.contains low.born m ≡ true
+      go (IsShaped.nothing a k t) = absurd (no_value (sym t ∙ h))
+      go (IsShaped.atom a k t u r) = c.stand_born.marks m (inl (some_of _ _ a))
+      go (IsShaped.packet a k t r) = c.stand_born.marks m (inr (some_of _ _ k))
+
+  -- the next configuration of the low level, with things and phases
+  pub record Next (next : Config) (things : NameMap (List Thing)) (phase : Name → Phase) : Type 0 where
+    pub sites : next.sites ≡ low.sites
+    pub places : next.places ≡ low.places
+    pub said : next.said ≡ low.said
+    pub born : (q : Name) → set.contains low.born q ≡ true → set.contains next.born q ≡ true
+    pub stand_born : AreBorn next
+    pub shaped : (m : Name) → IsShaped n from first next things m
+    pub atoms : (m : Name) → (map.get things m >>= first_atom_of) ≡ (map.get v.things m >>= first_atom_of)
+    pub packets : (m : Name) → (map.get things m >>= first_packet_of) ≡ (map.get v.things m >>= first_packet_of)
+    pub old_or_new : (m : Name) (ts : List Thing) → map.get things m ≡ Some ts → ((us : List Thing) × (map.get v.things m ≡ Some us)) ⊎ (set.contains low.born m ≡ false)
+    pub protocol : Protocol (scene v high) phase (chips things)
+    pub known : (m : Name) (ts : List Thing) → map.get things m ≡ Some ts → All (λ t. KnowsOnly (may_know v.lock (chips things) t) (is_channel n high.born) from t) ts
+
+  truth : (t : Bool) → (t ≡ true) ⊎ (t ≡ false)
+  truth true = inl refl
+  truth false = inr refl
+
+  pub quiet : (next : Config) (things : NameMap (List Thing)) (phase : Name → Phase) → Next next things phase → Coupled n from first next high (record v { things = things; phase = phase })
+  quiet next things phase x = record {
+    low_sites = x.sites ∙ c.low_sites;
+    high_sites = c.high_sites;
+    daemon = ap (λ (p : NameMap _). map.get p (daemon_agent n)) x.places ∙ c.daemon;
+    no_daemon = c.no_daemon;
+    places = λ q e. ap (λ (p : NameMap _). map.get p q) x.places ∙ c.places q e;
+    said = x.said ∙ c.said;
+    born = λ q h. x.born q (c.born q h);
+    own_born = c.own_born;
+    stand_born = x.stand_born;
+    shaped = x.shaped;
+    mirrored = record { up = λ m a h. c.mirrored.up m a (sym (x.atoms m) ∙ h); down = λ k a h. let d = c.mirrored.down k a h in (d.0, d.1, x.atoms d.0 ∙ d.2) };
+    mirrored_packets = record { up = λ m a h. c.mirrored_packets.up m a (sym (x.packets m) ∙ h); down = λ k a h. let d = c.mirrored_packets.down k a h in (d.0, d.1, x.packets d.0 ∙ d.2) };
+    new_marks = λ m h. c.new_marks m (still_new m h);
+    old_marks = λ m h. old m h (truth (set.contains low.born m));
+    distinct = λ m k ts us h i e. one m k e (x.old_or_new m ts h) (x.old_or_new k us i);
+    protocol = x.protocol;
+    locks_born = λ a l h. x.born l (c.locks_born a l h);
+    locks_apart = c.locks_apart;
+    main = c.main;
+    known = x.known;
+  }
+    where
+      still_new : (m : Name) → set.contains next.born m ≡ false → set.contains low.born m ≡ false
+      still_new m h = elim (truth (set.contains low.born m)) [ inl t ↦ absurd (let bad = x.born m t in cc) | inr f ↦ f ]
+      old : (m : Name) → set.contains next.born m ≡ true → (set.contains low.born m ≡ true) ⊎ (set.contains low.born m ≡ false) → set.contains next.born (v.stands_for m) ≡ true
+      old m h (inl t) = x.born (v.stands_for m) (c.old_marks m t)
+      old m h (inr f) = ap (set.contains next.born) (c.new_marks m f) ∙ h
+      -- a new mark stands for no old one
+      apart : (m k : Name) → set.contains low.born m ≡ false → set.contains low.born k ≡ true → v.stands_for m ≡ v.stands_for k → ⊥
+      apart m k f t e = let bad : false ≡ true = sym f ∙ ap (set.contains low.born) (sym (c.new_marks m f) ∙ e) ∙ c.old_marks k t in cc
+      one : (m k : Name) → v.stands_for m ≡ v.stands_for k → ((ts : List Thing) × (map.get v.things m ≡ Some ts)) ⊎ (set.contains low.born m ≡ false)
+          → ((us : List Thing) × (map.get v.things k ≡ Some us)) ⊎ (set.contains low.born k ≡ false) → m ≡ k
+      one m k e (inl a) (inl b) = c.distinct m k a.0 b.0 a.1 b.1 e
+      one m k e (inl a) (inr g) = absurd (apart k m g (things_born m a.0 a.1) (sym e))
+      one m k e (inr f) (inl b) = absurd (apart m k f (things_born k b.0 b.1) e)
+      one m k e (inr f) (inr g) = sym (c.new_marks m f) ∙ e ∙ c.new_marks k g

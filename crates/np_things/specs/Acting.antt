@@ -1,0 +1,45 @@
+-- Which events a thing begins: by the role of its process and the kind of the event (docs/LANGUAGE.md, "Translation and daemon").
+use Rattle.std.specs.Prelude.{◌≡◌, ◌⊎◌, ℕ, Bool, true, false, Some, List, [], ◌∷◌}
+use Rattle.np_syntax.specs.declared.process.Role.{Role}
+use Rattle.np_syntax.specs.declared.process.Role.TheVariants as role
+use Rattle.np_syntax.specs.declared.event.Kind.{Kind}
+use Rattle.np_syntax.specs.declared.event.Kind.TheVariants as kind
+use Rattle.np_calculus.specs.declared.config.Atom.{Atom}
+use Rattle.np_calculus.specs.Begins.{begun_by}
+use Rattle.np_eval.specs.Forms.{layer}
+use Rattle.np_things.specs.Shapes.{Are, Is}
+use Rattle.np_things.specs.Things.{Stage, Thing}
+
+-- an output begins none, and a process of the source may begin each that has the role Plain
+abbrev pub begins : Thing → Role → Kind → Bool
+begins (Thing.source a h) role.Plain k = true
+begins (Thing.source a h) role.Post kind.Send = true
+begins (Thing.source a h) role.Infra kind.Comm = true
+begins (Thing.asking a h) role.Infra kind.Comm = true
+begins (Thing.leaving a h) role.Plain kind.Depart = true
+begins (Thing.settling a h s) role.Infra kind.Comm = true
+begins (Thing.making a h s) role.Plain kind.Agent = true
+begins (Thing.beginning a h p s) role.Infra kind.Comm = true
+begins (Thing.letters a) role.Infra kind.Rep = true
+begins (Thing.opening p) role.Infra kind.Open = true
+begins (Thing.mail m (Stage.in_agent x)) role.Infra kind.Send = true
+begins (Thing.taken m) role.Infra kind.Comm = true
+begins (Thing.looking m ps) role.Infra kind.New = true
+begins (Thing.looking m ps) role.Infra kind.Lookup = true
+begins (Thing.wanting m l) role.Infra kind.Comm = true
+begins (Thing.serving k) role.Infra kind.Rep = true
+begins _ _ _ = false
+
+-- an atom that begins an event of a kind is there for one thing, which begins such events; or it is a bracket of the infrastructure
+pub record BeginsAlone (n from first : ℕ) (low : Atom) (ts : List Thing) (k : Kind) : Type 0 where
+  pub thing : Thing
+  pub alone : ts ≡ thing ∷ []
+  pub is : Is n from first thing low
+  pub its_kind : begins thing low.proc.tag.role k ≡ true
+
+abbrev pub IsBracket : Atom → Kind → Type 0
+IsBracket low k = (k ≡ kind.Fork) × (low.proc.tag.role ≡ role.Infra)
+
+abbrev pub BeginsByThing : Type 0
+BeginsByThing = (n from first : ℕ) (low : Atom) (ts : List Thing) (k : Kind) → Are n from first low ts → begun_by (layer low.proc) ≡ Some k
+    → BeginsAlone n from first low ts k ⊎ IsBracket low k
