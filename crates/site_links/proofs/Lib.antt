@@ -1,0 +1,6 @@
+pub mod Changed
+pub mod Fronts
+pub mod Kept
+pub mod Looks
+pub mod Rows
+pub mod Ties

@@ -1,0 +1,82 @@
+use crate::addressed::Addressed;
+use crate::ends::Ends;
+use crate::making::join_port;
+use crate::port::Port;
+use crate::ring_ends::RingEnds;
+use crate::taking::take_from;
+use crate::tray_ends::TrayEnds;
+use np_syntax::Memory;
+use std::alloc::Global;
+
+/// A port that has ends for each site, in order. `next` is the site from which the next look for an item begins.
+#[derive(Drop)]
+pub struct PortOf<E> {
+    pub(crate) site: u32,
+    pub(crate) ends: Vec<E>,
+    pub(crate) next: usize,
+}
+
+/// A port with a ring for each ordered pair of sites, which carries items while the ports are used.
+pub type Rings<I> = PortOf<RingEnds<I>>;
+
+/// A port whose items stand in lists, which are handed over where it is settled.
+pub type Tray<I> = PortOf<TrayEnds<I>>;
+
+impl<R, I: Addressed, E: Ends<I> + Send> Port<R, I> for PortOf<E> {
+    ghost use Rattle.std.specs.Prelude.{◌≡◌, ◌≢◌, ℕ, ◌+◌, ◌-◌, ◌<◌, ◌≤◌, List, [], ◌∷◌, ◌++◌, length, slice_get, IfOk, IfErr, OnOk, Some, MatchOption};
+    ghost use Rattle.site_links.specs.Seats.{site_of, among_of, sent_at, got_at, known_at, room_at, Linked};
+
+    ghost site = { site_of };
+
+    ghost among = { among_of };
+
+    ghost sent = { sent_at E.Ends };
+
+    ghost got = { got_at E.Ends };
+
+    ghost known = { known_at E.Ends };
+
+    ghost room = { room_at E.Ends };
+
+    ghost linked = { Linked E.Ends };
+
+    fn make(alloc: Global, sites: u32) -> Result<Vec<Self>, Memory> {
+        let mut ports = Vec::new(alloc);
+        for number in 0..sites {
+            join_port(alloc, &mut ports, number)?;
+        }
+        Ok(ports)
+    }
+
+    fn put(&mut self, _rt: &R, to: u32, item: I) -> Result<(), I> {
+        let ends = &mut self.ends[to as usize];
+        match ends.put(item) {
+            Ok(()) => Ok(()),
+            Err(back) => Err(back),
+        }
+    }
+
+    fn take(&mut self, _rt: &R) -> Option<I> {
+        let count = self.ends.len();
+        let start = if self.next < count { self.next } else { 0 };
+        self.next = start + 1;
+        match take_from(self, start, count) {
+            Some(item) => Some(item),
+            None => match take_from(self, 0, start) {
+                Some(item) => Some(item),
+                None => None,
+            },
+        }
+    }
+
+    fn settle(&mut self, _rt: &R, to: &mut Self) {
+        let out = &mut self.ends[to.site as usize];
+        let back = &mut to.ends[self.site as usize];
+        out.settle(back);
+    }
+
+    fn settle_own(&mut self, _rt: &R) {
+        let own = &mut self.ends[self.site as usize];
+        own.settle_own();
+    }
+}
