@@ -2,10 +2,13 @@ pub mod Becomes
 pub mod Born
 pub mod Forks
 pub mod Lands
+pub mod Lookups
 pub mod Marks
 pub mod Orders
 pub mod Outputs
 pub mod Quiet
 pub mod Sends
+pub mod Serves
 pub mod Shapes
 pub mod Starts
+pub mod Values

@@ -1,5 +1,5 @@
 -- What an output is there for, by its channel.
-use Rattle.std.proofs.Common.{◌≡◌, ◌⊎◌, inl, inr, ℕ, Bool, true, false, not, ◌&&◌, ◌||◌, Option, None, Some, List, [], ◌∷◌, ◌++◌, refl, sym, ap, subst, ◌∙◌}
+use Rattle.std.proofs.Common.{◌≡◌, ◌⊎◌, inl, inr, ℕ, Bool, true, false, not, ◌&&◌, ◌||◌, Option, None, Some, List, [], ◌∷◌, ◌++◌, nat_eq, map as each, refl, sym, ap, subst, ◌∙◌}
 use Rattle.std.specs.List.{All, list_any}
 use Rattle.std.proofs.lemmas.List.Elements.{All-head}
 use Rattle.std.specs.FinMap as map
@@ -18,7 +18,11 @@ use Rattle.np_syntax.proofs.Options.{then, done}
 use Rattle.np_tables.specs.Names.{NameSet}
 use Rattle.np_calculus.specs.declared.config.Atom.{Atom}
 use Rattle.np_calculus.specs.Reductions.{sends}
-use Rattle.np_calculus.specs.Starts.{daemon_agent, main_agent, own, own_names}
+use Rattle.np_calculus.specs.Starts.{daemon_agent, main_agent, own, own_names, own_numbers, with_all}
+use Rattle.np_calculus.proofs.OwnNames.{with_all-keeps}
+use Rattle.np_tables.proofs.Tables.{born_here}
+use Rattle.std.proofs.lemmas.Bool.{eqb-true}
+use Rattle.np_levels.proofs.Quiet.{or_cases}
 use Rattle.np_eval.specs.Eval.{Env, as_chan, chan_of, eval}
 use Rattle.np_eval.specs.Forms.{Layer, as_out, layer}
 use Rattle.np_scope.specs.Sound.{IsSoundExpr, IsSoundProc}
@@ -190,3 +194,27 @@ module _ {n from first : ℕ} {low high : Config} {v : View} (c : Coupled n from
   given_by m a s there gives ts has (Are.both is left right) =
       let o = is_output a s gives in
       not_out _ kind.Fork o.on o.sent (ap begun_by (forms.outs-Par _ _)) (sym (ap layer is) ∙ o.form)
+
+-- ---- the channels of the infrastructure
+
+in_all : (names : NameSet) (n : ℕ) (numbers : List ℕ) (i : ℕ) → list_any (nat_eq i) numbers ≡ true → set.contains (with_all names (each (own n) numbers)) (own n i) ≡ true
+in_all names n [] i h = absurd cc
+in_all names n (k ∷ ks) i h = elim (or_cases (nat_eq i k) (list_any (nat_eq i) ks) h) [
+  | inl e ↦ with_all-keeps (set.insert names (own n k)) (each (own n) ks) (own n i) (ap (λ j. set.contains (set.insert names (own n k)) (own n j)) (eqb-true i k e) ∙ born_here names (own n k))
+  | inr l ↦ in_all (set.insert names (own n k)) n ks i l
+]
+
+pub is-own : (n i : ℕ) → list_any (nat_eq i) own_numbers ≡ true → set.contains (own_names n) (own n i) ≡ true
+is-own n i h = in_all set.empty n own_numbers i h
+
+number-of : (n i j : ℕ) → own n i ≡ own n j → i ≡ j
+number-of n i j e = ap (λ (x : Name). x.n) e
+
+-- an output on a channel of the infrastructure that is neither `currentloc` nor a lock is mail
+pub by_number : {R : Type 0} (n i : ℕ) (low : Atom) (chan : Name) (v : Value) (t : Thing) → list_any (nat_eq i) own_numbers ≡ true → (i ≡ 9 → ⊥) → (i ≡ 10 → ⊥) → ((l : Name) (s : ℕ) → t ≡ Thing.free l s → l ≡ own n i → ⊥)
+    → chan ≡ own n i → Gift n low chan v t → ((m : Mail) → t ≡ Thing.mail m Stage.there → on_channel m ≡ i → v ≡ content m → low.agent ≡ receiver n m → R) → R
+by_number n i low chan v t own no_token no_map no_lock on (Gift.of_source f a) r = absurd (let bad : false ≡ true = sym f ∙ ap (set.contains (own_names n)) on ∙ is-own n i own in cc)
+by_number n i low chan v t own no_token no_map no_lock on (Gift.of_token a b g h) r = absurd (no_token (number-of n i 9 (sym on ∙ g)))
+by_number n i low chan v t own no_token no_map no_lock on (Gift.of_mail {m = m} a g h) r = r m refl (number-of n (on_channel m) i (sym g ∙ on)) h a
+by_number n i low chan v t own no_token no_map no_lock on (Gift.of_map a g h) r = absurd (no_map (number-of n i 10 (sym on ∙ g)))
+by_number n i low chan v t own no_token no_map no_lock on (Gift.of_lock {l = l} {s = s} a g h) r = absurd (no_lock l s refl (sym g ∙ on))

@@ -7,12 +7,14 @@ pub fn law_coupled_starts()
     ensures { StartsCoupled }
 {}
 
-/// What the infrastructure sends, lands, opens and splits, and the landing of a post, are nothing at the high level: the two
-/// configurations stay coupled.
+/// What the infrastructure sends, lands, opens, splits, serves and looks up, and the landing of a post, are nothing at the high
+/// level: the two configurations stay coupled.
 pub fn law_quiet()
     ensures sends { IsQuiet kind.Send role.Infra }
     ensures lands { IsQuiet kind.Land role.Infra }
     ensures posts_land { IsQuiet kind.Land role.Post }
     ensures opens { IsQuiet kind.Open role.Infra }
     ensures forks { IsQuiet kind.Fork role.Infra }
+    ensures serves { IsQuiet kind.Rep role.Infra }
+    ensures looks_up { IsQuiet kind.Lookup role.Infra }
 {}

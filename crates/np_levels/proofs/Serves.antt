@@ -1,0 +1,274 @@
+-- The daemon's servers take mail, and an agent's server takes a letter.
+use Rattle.std.proofs.Common.{◌≡◌, ◌⊎◌, inl, inr, ◌+◌, ◌≤◌, ℕ, Bool, true, false, cond, nat_eq, Option, None, Some, List, [], ◌∷◌, ◌++◌, refl, sym, ap, subst, ◌∙◌, arith}
+use Rattle.std.specs.List.{All, list_any}
+use Rattle.std.proofs.lemmas.List.Sorted.{IsPermutation-middle, IsPermutation-refl}
+use Rattle.std.proofs.lemmas.List.Elements.{All-from_recursion, All-nil, recursion_from_All}
+use Rattle.std.specs.FinMap as map
+use Rattle.std.specs.FinSet as set
+use Rattle.np_syntax.specs.declared.value.Name.{Name}
+use Rattle.np_syntax.specs.declared.value.Value.{Value}
+use Rattle.np_syntax.specs.declared.value.Value as value
+use Rattle.np_syntax.specs.declared.value.Value.TheVariants as outs
+use Rattle.np_syntax.specs.declared.expression.Expr.{Expr}
+use Rattle.np_syntax.specs.declared.pattern.Pat.{Pat}
+use Rattle.np_syntax.specs.declared.process.Proc.{Proc}
+use Rattle.np_syntax.specs.declared.process.Role.TheVariants as role
+use Rattle.np_syntax.specs.declared.process.ProcForm.{ProcForm-F}
+use Rattle.np_syntax.specs.declared.process.ProcForm.TheVariants as forms
+use Rattle.np_syntax.specs.declared.event.Event.{Event}
+use Rattle.np_syntax.specs.declared.event.Kind.TheVariants as kind
+use Rattle.np_syntax.specs.Options.{◌>>=◌}
+use Rattle.np_syntax.proofs.Options.{then, when, done}
+use Rattle.np_tables.specs.Names.{NameMap, same_name}
+use Rattle.np_tables.proofs.Tables.{same_name-is}
+use Rattle.np_calculus.specs.declared.config.Atom.{Atom}
+use Rattle.np_calculus.specs.Begins.{begun_by}
+use Rattle.np_calculus.specs.Changes.{Change, effect, put, still}
+use Rattle.np_calculus.specs.Config.{Config}
+use Rattle.np_calculus.specs.Reductions.{apply, goes_under, row}
+use Rattle.np_calculus.specs.Seen.{acting}
+use Rattle.np_calculus.specs.Sight.{inside, sight}
+unfoldable use Rattle.np_calculus.proofs.Common.{act}
+use Rattle.np_calculus.proofs.Rows.{parts, taking}
+use Rattle.np_calculus.proofs.Steps.{Acts, Offers, acting-step, offered-step, row-step, same-offer}
+use Rattle.np_eval.specs.Eval.{Env, bind, chan_of, eval}
+use Rattle.np_eval.specs.Forms.{layer}
+use Rattle.np_syntax.specs.declared.expression.ExprForm as expr
+use Rattle.np_calculus.specs.Starts.{daemon_agent, own, own_numbers}
+use Rattle.np_protocol.specs.Chips.{Chip, Service}
+use Rattle.np_protocol.specs.Phases.{Phase}
+use Rattle.np_protocol.specs.Protocol.{IsTrueOf, Protocol}
+use Rattle.np_protocol.specs.Rules.{IsKnowledge, IsLearnt, Rule}
+use Rattle.np_protocol.proofs.Keeps.{keeps-protocol}
+use Rattle.np_protocol.proofs.Steps.{all_taken}
+use Rattle.daemon_encode.specs.Pieces.{beside, daemon, dack, deliver, expression, infra, name, pair, site, tells, two_names, variable}
+use Rattle.np_syntax.specs.declared.process.ProcForm as form
+use Rattle.np_things.proofs.Starts.{constant-is}
+use Rattle.np_things.specs.Acting.{begins}
+use Rattle.np_things.specs.Desks.{Desk, Took, desk, takes_map}
+use Rattle.np_things.specs.Mail.{Mail, Posted, content as content_of, on_channel, receiver}
+use Rattle.np_things.specs.Shapes.{Are, Is, IsLetters, IsServing}
+use Rattle.np_things.specs.Things.{IsHeaded, Stage, Thing, high_atom, show_all}
+use Rattle.np_levels.specs.Coupled.{Coupled, KnowsOnly, View, chips, is_channel, is_child_of, may_know, scene}
+use Rattle.np_levels.proofs.Becomes.{becomes, cancel}
+use Rattle.np_levels.proofs.Marks.{same_chips, step_at}
+use Rattle.np_levels.proofs.Outputs.{by_number, given_by}
+use Rattle.np_levels.proofs.Shapes.{of_actor, of_atom, same_role}
+use Rattle.np_levels.proofs.Values.{agent-is, bind-one, bind-two, channel-is, here_is, named_kept, pair-is, there_is, variable-is}
+
+-- what a server's event does
+record IsRepeating (low : Config) (e : Event) (next : Config) : Type 0 where
+  atom : Atom
+  acts : Acts low e atom
+  on : Expr
+  pattern : Pat
+  body : Proc
+  form : layer atom.proc ≡ ProcForm-F.Rep on pattern body
+  chan : Name
+  its_chan : chan_of on atom.env ≡ Some chan
+  other : Name
+  value : Value
+  offers : Offers low other atom.agent chan value
+  env : Env
+  binds : bind pattern value atom.env ≡ Some env
+  is : next ≡ effect low e (record still { atoms = put other (goes_under atom body env) ∷ [] })
+
+repeating : (low : Config) (e : Event) (next : Config) → row kind.Rep low e ≡ Some next → IsRepeating low e next
+unfolding act
+repeating low e next h =
+    let r = row-step low e next kind.Rep h in
+    then (acting low e) _ r.gives λ a acts h. parts kind.Rep (sight low.sites (inside low) e.site) e a h λ p form h.
+    taking (sight low.sites (inside low) e.site) e a p.0 p.1 (λ o env. record still { atoms = put o (goes_under a p.2 env) ∷ [] }) h λ n o v env on offer binds h.
+    record {
+      atom = a;
+      acts = acting-step low e a acts;
+      on = p.0;
+      pattern = p.1;
+      body = p.2;
+      form = form;
+      chan = n;
+      its_chan = on;
+      other = o;
+      value = v;
+      offers = offered-step low o a.agent n v (sym (same-offer low e a o n acts) ∙ offer);
+      env = env;
+      binds = binds;
+      is = r.is ∙ ap (effect low e) (done h);
+    }
+
+-- ---- the daemon serves
+
+abbrev number_of : Service → ℕ
+number_of Service.registers = 2
+number_of Service.grants = 3
+number_of Service.notes_moves = 4
+number_of Service.passes_on = 5
+number_of Service.ends_deliveries = 8
+
+desk-chan : (n x : ℕ) (k : Service) → (desk n x k).chan ≡ expression (expr.Val (value.Chan (own n (number_of k))))
+desk-chan n x Service.registers = refl
+desk-chan n x Service.grants = refl
+desk-chan n x Service.notes_moves = refl
+desk-chan n x Service.passes_on = refl
+desk-chan n x Service.ends_deliveries = refl
+
+-- what two binders of the daemon have
+two_there : (x d : ℕ) (u w : Value) (env next : Env) → bind (two_names (x + d) (x + (d + 1))) (value.Tuple (u ∷ w ∷ [])) env ≡ Some next → (map.get next (x + d) ≡ Some u) × (map.get next (x + (d + 1)) ≡ Some w)
+two_there x d u w env next h =
+    let is : next ≡ map.insert (map.insert env (x + d) u) (x + (d + 1)) w = done (sym (bind-two (x + d) (x + (d + 1)) u w env) ∙ h) in
+    (ap (λ (e : Env). map.get e (x + d)) is ∙ there_is (map.insert env (x + d) u) (x + (d + 1)) (x + d) w (λ e. let bad : ⊥ = omega arith in bad) ∙ here_is env (x + d) u,
+     ap (λ (e : Env). map.get e (x + (d + 1))) is ∙ here_is (map.insert env (x + d) u) (x + (d + 1)) w)
+
+took : (n x : ℕ) (k : Service) (m : Mail) (v : Value) (env next : Env) → on_channel m ≡ number_of k → v ≡ content_of m → bind (desk n x k).pattern v env ≡ Some next → Took x k m next
+took n x Service.registers (Mail.register b s) v env next same is h =
+    let g = two_there x 0 (value.Agent b) (value.Site s) env next (let start : x + 0 ≡ x = omega arith in ap (λ y. bind (two_names y (x + 1)) (value.Tuple (value.Agent b ∷ value.Site s ∷ [])) env) start ∙ ap (λ u. bind (two_names x (x + 1)) u env) (sym is) ∙ h) in
+    (let start : x + 0 ≡ x = omega arith in ap (map.get next) (sym start) ∙ g.0, g.1)
+took n x Service.grants (Mail.migrating a) v env next same is h =
+    let e : next ≡ map.insert env (x + 4) (value.Agent a) = done (sym (ap (λ u. bind (name (x + 4)) u env) is ∙ bind-one (x + 4) (value.Agent a) env) ∙ h) in
+    ap (λ (e : Env). map.get e (x + 4)) e ∙ here_is env (x + 4) (value.Agent a)
+took n x Service.notes_moves (Mail.migrated a t) v env next same is h = two_there x 8 (value.Agent a) (value.Site t) env next (ap (λ u. bind (two_names (x + 8) (x + 9)) u env) (sym is) ∙ h)
+took n x Service.passes_on (Mail.message p) v env next same is h = two_there x 12 (value.Agent p.agent) (value.Letter p.chan p.value) env next (ap (λ u. bind (two_names (x + 12) (x + 13)) u env) (sym is) ∙ h)
+took n x Service.ends_deliveries (Mail.dack b s) v env next same is h = two_there x 17 (value.Agent b) (value.Site s) env next (ap (λ u. bind (two_names (x + 17) (x + 18)) u env) (sym is) ∙ h)
+took n x _ _ v env next same is h = absurd (let bad : ⊥ = omega arith in bad)
+
+-- what a replicated input of the infrastructure is
+serves_by : {R : Type 0} (n from first : ℕ) (t : Thing) (a : Atom) → Is n from first t a → begins t role.Infra kind.Rep ≡ true → ((x : Name) → t ≡ Thing.letters x → IsLetters n from x a → R) → ((k : Service) → t ≡ Thing.serving k → IsServing n first k a → R) → R
+serves_by n from first (Thing.letters x) a i h f g = f x refl i
+serves_by n from first (Thing.serving k) a i h f g = g k refl i
+serves_by n from first (Thing.mail m (Stage.in_agent x)) a i h f g = absurd cc
+serves_by n from first _ a i h f g = absurd cc
+
+module _ {n from first : ℕ} {low high : Config} {v : View} (c : Coupled n from first low high v) where
+  -- a lock of an agent is no name of the infrastructure but main's
+  pub no_lock_at : (m : Name) (i : ℕ) (t : Thing) → (i ≡ 13 → ⊥) → map.get v.things m ≡ Some (t ∷ []) → (l : Name) (s : ℕ) → t ≡ Thing.free l s → l ≡ own n i → ⊥
+  no_lock_at m i t other there l s is on =
+      let at : map.get v.things m ≡ Some (Thing.free l s ∷ []) = there ∙ ap (λ t. Some (t ∷ [])) is in
+      let claim = (recursion_from_All (IsTrueOf (scene v high) v.phase) (Chip.free l s ∷ []) (all_taken (step_at v.things m (Thing.free l s ∷ []) [] at) (IsTrueOf (scene v high) v.phase) c.protocol.true_chips)).0 in
+      other (c.locks_apart claim.0 i (claim.1 ∙ ap Some on))
+
+  served : (e : Event) (next : Config) (s : IsRepeating low e next) (k : Service) → IsServing n first k s.atom → apply low e ≡ Some next → (w : View) × Coupled n from first next high w
+  served e next s k i h =
+      let d = desk n first k in
+      let form : ProcForm-F.Rep s.on s.pattern s.body ≡ ProcForm-F.Rep d.chan d.pattern (takes_map n d) = sym s.form ∙ ap layer i.is ∙ forms.outs-Rep d.chan d.pattern (takes_map n d) in
+      let on : s.on ≡ d.chan = cc in
+      let pattern : s.pattern ≡ d.pattern = cc in
+      let body : s.body ≡ takes_map n d = cc in
+      let o = of_atom c s.other s.offers.mate s.offers.waits in
+      let g = given_by c s.other s.offers.mate s.offers.sent s.offers.waits s.offers.sends_it o.things o.there o.are in
+      let there : map.get v.things s.other ≡ Some (g.thing ∷ []) = o.there ∙ ap Some g.alone in
+      let chan : s.chan ≡ own n (number_of k) = done (sym (ap (λ x. chan_of x s.atom.env) (on ∙ desk-chan n first k) ∙ channel-is (own n (number_of k)) s.atom.env) ∙ s.its_chan) in
+      by_number n (number_of k) s.offers.mate s.offers.sent.0 s.offers.sent.1 g.thing (listed k) (not_nine k) (not_ten k) (no_lock_at s.other (number_of k) g.thing (not_thirteen k) there)
+          (sym (same_name-is s.chan s.offers.sent.0 s.offers.agree) ∙ chan) g.gift λ m thing number content for.
+      becomes c next e s.other (goes_under s.atom s.body s.env) (Thing.mail m Stage.there ∷ []) (Thing.taken m ∷ []) (record {
+        applies = h;
+        is = s.is;
+        no_packet = o.no_packet;
+        there = there ∙ ap (λ t. Some (t ∷ [])) thing;
+        headed = All-nil (λ u. high_atom u ≡ None);
+        are = Are.one (record { agent = i.agent; service = k; took = took n first k m s.value s.atom.env s.env number (s.offers.is ∙ content) (ap (λ p. bind p s.value s.atom.env) (sym pattern) ∙ s.binds); is = body });
+        atoms = refl;
+        packets = refl;
+        protocol = λ step. same_chips step c.protocol;
+        children = λ a b any. any;
+        known = λ k. k;
+      })
+    where
+      listed : (k : Service) → list_any (nat_eq (number_of k)) own_numbers ≡ true
+      listed Service.registers = refl
+      listed Service.grants = refl
+      listed Service.notes_moves = refl
+      listed Service.passes_on = refl
+      listed Service.ends_deliveries = refl
+      not_nine : (k : Service) → number_of k ≡ 9 → ⊥
+      not_nine Service.registers e = omega arith
+      not_nine Service.grants e = omega arith
+      not_nine Service.notes_moves e = omega arith
+      not_nine Service.passes_on e = omega arith
+      not_nine Service.ends_deliveries e = omega arith
+      not_ten : (k : Service) → number_of k ≡ 10 → ⊥
+      not_ten Service.registers e = omega arith
+      not_ten Service.grants e = omega arith
+      not_ten Service.notes_moves e = omega arith
+      not_ten Service.passes_on e = omega arith
+      not_ten Service.ends_deliveries e = omega arith
+      not_thirteen : (k : Service) → number_of k ≡ 13 → ⊥
+      not_thirteen Service.registers e = omega arith
+      not_thirteen Service.grants e = omega arith
+      not_thirteen Service.notes_moves e = omega arith
+      not_thirteen Service.passes_on e = omega arith
+      not_thirteen Service.ends_deliveries e = omega arith
+
+-- ---- an agent's server takes a letter
+
+letter_mail : {R : Type 0} (m : Mail) → on_channel m ≡ 6 → ((p : Posted) (s : ℕ) → m ≡ Mail.deliver p s → R) → R
+letter_mail (Mail.deliver p s) e r = r p s refl
+letter_mail _ e r = absurd (let bad : ⊥ = omega arith in bad)
+
+module _ {n from first : ℕ} {low high : Config} {v : View} (c : Coupled n from first low high v) where
+  handed : (e : Event) (next : Config) (s : IsRepeating low e next) (x : Name) → IsLetters n from x s.atom → apply low e ≡ Some next → (w : View) × Coupled n from first next high w
+  handed e next s x i h =
+      let left : Proc = infra i.node (form.Open (variable i.letter)) in
+      let right : Proc = tells n i.node (dack n) (pair i.named (variable i.place)) in
+      let forms_are : ProcForm-F.Rep s.on s.pattern s.body ≡ ProcForm-F.Rep (deliver n) (two_names i.letter i.place) (beside i.node left right) =
+          sym s.form ∙ ap layer i.is ∙ forms.outs-Rep (deliver n) (two_names i.letter i.place) (beside i.node left right) in
+      let on : s.on ≡ deliver n = cc in
+      let pattern : s.pattern ≡ two_names i.letter i.place = cc in
+      let body : s.body ≡ beside i.node left right = cc in
+      let o = of_atom c s.other s.offers.mate s.offers.waits in
+      let g = given_by c s.other s.offers.mate s.offers.sent s.offers.waits s.offers.sends_it o.things o.there o.are in
+      let there : map.get v.things s.other ≡ Some (g.thing ∷ []) = o.there ∙ ap Some g.alone in
+      let chan : s.chan ≡ own n 6 = done (sym (ap (λ x. chan_of x s.atom.env) on ∙ channel-is (own n 6) s.atom.env) ∙ s.its_chan) in
+      by_number n 6 s.offers.mate s.offers.sent.0 s.offers.sent.1 g.thing refl (λ e. let bad : ⊥ = omega arith in bad) (λ e. let bad : ⊥ = omega arith in bad)
+          (no_lock_at c s.other 6 g.thing (λ e. let bad : ⊥ = omega arith in bad) there)
+          (sym (same_name-is s.chan s.offers.sent.0 s.offers.agree) ∙ chan) g.gift λ m thing number content for.
+      letter_mail m number λ p t mail.
+      let agent : s.atom.agent ≡ p.agent = same_name-is s.atom.agent s.offers.mate.agent s.offers.together ∙ for ∙ ap (receiver n) mail in
+      let what : s.value ≡ value.Tuple (value.Letter p.chan p.value ∷ value.Site t ∷ []) = s.offers.is ∙ content ∙ ap content_of mail in
+      let env : s.env ≡ map.insert (map.insert s.atom.env i.letter (value.Letter p.chan p.value)) i.place (value.Site t) =
+          done (sym (ap (λ q. bind q s.value s.atom.env) pattern ∙ ap (λ u. bind (two_names i.letter i.place) u s.atom.env) what ∙ bind-two i.letter i.place (value.Letter p.chan p.value) (value.Site t) s.atom.env) ∙ s.binds) in
+      let letter_is : map.get s.env i.letter ≡ Some (value.Letter p.chan p.value) =
+          ap (λ (e : Env). map.get e i.letter) env ∙ there_is (map.insert s.atom.env i.letter (value.Letter p.chan p.value)) i.place i.letter (value.Site t) i.distinct ∙ here_is s.atom.env i.letter (value.Letter p.chan p.value) in
+      let place_is : map.get s.env i.place ≡ Some (value.Site t) = ap (λ (e : Env). map.get e i.place) env ∙ here_is (map.insert s.atom.env i.letter (value.Letter p.chan p.value)) i.place (value.Site t) in
+      let named_is : eval i.named s.env ≡ Some (value.Agent p.agent) =
+          ap (eval i.named) env ∙ named_kept n from i.named (map.insert s.atom.env i.letter (value.Letter p.chan p.value)) i.place (value.Site t) i.names i.place_above
+          ∙ named_kept n from i.named s.atom.env i.letter (value.Letter p.chan p.value) i.names i.letter_above ∙ i.calls ∙ ap (λ a. Some (value.Agent a)) (sym i.agent ∙ agent) in
+      becomes c next e s.other (goes_under s.atom s.body s.env) (Thing.mail (Mail.deliver p t) Stage.there ∷ []) (Thing.opening p ∷ Thing.mail (Mail.dack p.agent t) (Stage.in_agent x) ∷ []) (record {
+        applies = h;
+        is = s.is;
+        no_packet = o.no_packet;
+        there = there ∙ ap (λ t. Some (t ∷ [])) (thing ∙ ap (λ m. Thing.mail m Stage.there) mail);
+        headed = All-from_recursion (λ u. high_atom u ≡ None) (Thing.mail (Mail.dack p.agent t) (Stage.in_agent x) ∷ []) (refl, tt);
+        are = Are.both {k = i.node} {p = left} {q = right} body
+            (Are.one (record {
+              agent = agent;
+              letter = variable i.letter;
+              role = refl;
+              is = forms.outs-Open (variable i.letter);
+              holds = rw (variable-is i.letter s.env, letter_is, outs.outs-Letter p.chan p.value) refl;
+            }, ap (λ a. same_name a (daemon_agent n)) (sym agent ∙ i.agent) ∙ i.apart))
+            (Are.one (record {
+              agent = i.agent;
+              receiver = daemon n;
+              to = site 0;
+              chan = dack n;
+              sent = pair i.named (variable i.place);
+              role = refl;
+              is = forms.outs-Send (daemon n) (site 0) (dack n) (pair i.named (variable i.place));
+              for_agent = agent-is (daemon_agent n) s.env;
+              for_site = constant-is (value.Site 0) s.env;
+              on = channel-is (own n 8) s.env;
+              holds = pair-is i.named (variable i.place) (value.Agent p.agent) (value.Site t) s.env named_is (variable-is i.place s.env ∙ place_is);
+            }, tt));
+        atoms = refl;
+        packets = refl;
+        protocol = λ step. same_chips (cancel [] [] (Chip.delivery p.agent t ∷ Chip.knows p.agent ∷ []) step (IsPermutation-refl (Chip.delivery p.agent t ∷ Chip.knows p.agent ∷ []))
+            (IsPermutation-middle (Chip.knows p.agent ∷ []) (Chip.delivery p.agent t) [])) c.protocol;
+        children = λ a b any. any;
+        known = λ k. (k.0, (tt, tt));
+      })
+
+  pub serves : (e : Event) (next : Config) → e.kind ≡ kind.Rep → e.tag.role ≡ role.Infra → apply low e ≡ Some next → (w : View) × Coupled n from first next high w
+  serves e next is_rep infra h =
+      let s = repeating low e next (ap (λ k. row k low e) (sym is_rep) ∙ h) in
+      let o = of_actor c e.actor s.atom kind.Rep role.Infra s.acts.there (ap begun_by s.form) (same_role s.atom.proc.tag e.tag s.acts.tag ∙ infra) (λ k r. cc) in
+      serves_by n from first o.thing s.atom o.is o.its_kind (λ x thing i. handed e next s x i h) (λ k thing i. served c e next s k i h)
