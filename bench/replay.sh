@@ -20,7 +20,7 @@ source bench/parts.sh
 
 # rate EVENTS NANOSECONDS: events a second of all rounds
 rate() {
-    awk -v events="$1" -v took="$2" -v rounds="$rounds" 'BEGIN { printf "%d", took > 0 ? events * rounds / took * 1e9 : 0 }'
+    awk -v events="$1" -v took="$2" -v rounds="$rounds" 'BEGIN { printf "%d", events * rounds / (took < 1 ? 1 : took) * 1e9 }'
 }
 
 # ring AGENTS: the source, its history, and the history without its last line
@@ -48,14 +48,15 @@ for agents in 10 30 100; do
         "$(rate "$events" $((replaying - refused)))" "$(rate "$events" $((made - checked)))"
 done
 
-# long BYTES: the events of the last ring again and again, in about so many bytes
+# long BYTES: the events of the last ring again and again, as many whole lines as go into so many bytes
 long() {
     sed -e 1d "$folder/open.history" >"$folder/lines"
-    local times=$(($1 / $(stat -c %s "$folder/lines")))
-    echo 'history 2'
+    local times=$(($1 / $(stat -c %s "$folder/lines") + 1))
     for ((time = 0; time < times; time++)); do
         cat "$folder/lines"
-    done
+    done >"$folder/many"
+    echo 'history 2'
+    head -c "$1" "$folder/many" | sed -e '$d'
 }
 
 # memory NAME WORDS..: the most memory of the program with these words
