@@ -20,12 +20,12 @@ source_of() {
     printf 'sites home ; main at home = %s\n' "$1"
 }
 
-# took WORDS..: nanoseconds of all rounds of the program with these words; a status above 3 ends the script
+# took WORDS..: nanoseconds of all rounds of the program with these words; a status that is no refusal of words, sources or histories ends the script
 took() {
     local begin end
     begin=$(date +%s%N)
     for ((round = 0; round < rounds; round++)); do
-        "$program" "$@" >"$folder/told" 2>&1 || [ $? -le 3 ]
+        "$program" "$@" >"$folder/told" 2>&1 || case $? in 1 | 2 | 3 | 7) ;; *) exit 1 ;; esac
     done
     end=$(date +%s%N)
     echo $((end - begin))
