@@ -1,9 +1,9 @@
 -- One look for an item after another.
-use Rattle.std.proofs.Common.{◌≡◌, ℕ, ◌+◌, ◌<◌, List, [], ◌∷◌, ◌++◌, refl, sym, ◌∙◌, ap, subst, arith, inl, inr}
+use Rattle.std.proofs.Common.{◌≡◌, ℕ, ◌+◌, ◌<◌, List, [], ◌∷◌, ◌++◌, refl, sym, ◌∙◌, ap, subst, arith, inl, inr, Option, Some, None, MatchOption}
 use Rattle.std.proofs.lemmas.Option.{slice_get_within, slice_get_past}
 use Rattle.std.proofs.lemmas.Bool.{cases_lt}
-use Rattle.site_links.specs.Words.{Stays, Begins, only_at}
-use Rattle.site_links.specs.Seats.{read, among_of, got_at, known_at, Looked, Took}
+use Rattle.site_links.specs.Words.{Stays, Begins, only_at, Takes}
+use Rattle.site_links.specs.Seats.{read, among_of, got_at, known_at, Looked, Took, KeepsPort, sent_at, room_at}
 use Rattle.site_links.specs.declared.ends.Ends as Ends
 use Rattle.site_links.specs.declared.port_of.PortOf.{PortOf}
 use Rattle.site_links.proofs.Kept.{Keeps-refl, Keeps-trans, Begins-same}
@@ -34,6 +34,12 @@ module _ {E I : Type 0} (g : Ends.Ghosts E I) where
     known_same = same_everywhere g a b i x y h g.known [] (taken.2 ∙ sym taken.1);
     none_known = λ k lo hi. let is : k ≡ i = omega arith in subst (λ (m : ℕ). known_at g a m ≡ []) (sym is) (read_old g a b i x y h g.known [] ∙ taken.1);
   }
+
+  pub look_changed : (a b : PortOf E) (i : ℕ) (x y : E) (result : Option I) → Changes a b i x y → Stays g.meets x y → (g.sent y ≡ g.sent x) × (g.room y ≡ g.room x)
+      → MatchOption result ((g.got y ≡ g.got x) × (g.known x ≡ []) × (g.known y ≡ [])) (λ item. (g.got y ≡ g.got x ++ item ∷ []) × Begins (item ∷ g.known y) (g.known x))
+      → MatchOption result (Looked g i (i + 1) a b) (λ item. (k : ℕ) × Took g a b k item)
+  look_changed a b i x y None h stays putting taken = looked_changed a b i x y h stays putting taken
+  look_changed a b i x y (Some item) h stays putting taken = (i, took_changed a b i x y item h stays putting taken)
 
   pub Looked-none : (lo : ℕ) (a : PortOf E) → Looked g lo lo a a
   Looked-none lo a = record {
@@ -75,3 +81,15 @@ module _ {E I : Type 0} (g : Ends.Ghosts E I) where
         | inl w ↦ sym (h.known_same k) ∙ l.none_known k (omega arith) w
         | inr w ↦ elim (cases_lt k n) [ inl v ↦ h.none_known k w v | inr v ↦ ap (read g.known []) (slice_get_past a.ends.items k (omega arith)) ]
       ]
+
+  -- a look at the sites below first, after one that took nothing from the others
+  pub look_around : {first n : ℕ} {a b c : PortOf E} (result : Option I) → Looked g first n a b → MatchOption result (Looked g 0 first b c) (λ item. (from : ℕ) × Took g b c from item) → n ≡ among_of a
+      → KeepsPort g a c × ((k : ℕ) → (sent_at g c k ≡ sent_at g a k) × (room_at g c k ≡ room_at g a k))
+      × MatchOption result ((k : ℕ) → (got_at g c k ≡ got_at g a k) × (known_at g a k ≡ []))
+      (λ item. (from : ℕ) × (from < among_of a) × Takes (got_at g a) (known_at g a) (got_at g c) (known_at g c) from item)
+  look_around None h l e = (
+    Keeps-trans h.keeps l.keeps,
+    λ k. (l.sent_same k ∙ h.sent_same k, l.room_same k ∙ h.room_same k),
+    λ k. (l.got_same k ∙ h.got_same k, Looked-all h l e k),
+  )
+  look_around (Some item) h l e = let t = Took-after h l.1 in (t.keeps, λ k. (t.sent_same k, t.room_same k), (l.0, t.within, t.takes))

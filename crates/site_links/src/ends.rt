@@ -33,8 +33,9 @@ pub trait Ends<I>: Sized + Drop {
     fn put(&mut self, item: I) -> Result<(), I>
         ensures stays { Stays meets self.old self.new }
         ensures taking { (got self.new ≡ got self.old) × (known self.new ≡ known self.old) }
-        ensures ok { OnOk result ((sent self.new ≡ sent self.old ++ item ∷ []) × (room self.new ≡ room self.old - 1)) }
-        ensures err { IfErr result (λ back. (back ≡ item) × (sent self.new ≡ sent self.old) × (room self.old ≡ 0) × (room self.new ≡ 0)) };
+        ensures room { room self.new ≡ room self.old - 1 }
+        ensures ok { OnOk result (sent self.new ≡ sent self.old ++ item ∷ []) }
+        ensures err { IfErr result (λ back. (back ≡ item) × (sent self.new ≡ sent self.old) × (room self.old ≡ 0)) };
 
     /// Takes an item, if one is there.
     fn take(&mut self) -> Option<I>

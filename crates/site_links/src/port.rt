@@ -48,8 +48,7 @@ pub trait Port<R, I: Addressed>: Sized + Send + Drop {
         ensures taken { MatchOption result ((k : ℕ) → (got self.new k ≡ got self.old k) × (known self.old k ≡ []))
             (λ item. (from : ℕ) × (from < among self.old) × Takes (got self.old) (known self.old) (got self.new) (known self.new) from item) };
 
-    /// Settles the link from this port to another, whose threads have ended or lent them: what was put and not yet taken
-    /// is known.
+    /// Settles the link from this port to another. What was put and not yet taken is known then.
     fn settle(&mut self, rt: &R, to: &mut Self)
         requires { ∥ linked self.old to.old ∥₁ }
         ensures keeps { KeepsBut site among linked (site to.old) self.old self.new × KeepsBut site among linked (site self.old) to.old to.new }

@@ -49,34 +49,25 @@ impl<R, I: Addressed, E: Ends<I> + Send> Port<R, I> for PortOf<E> {
     }
 
     fn put(&mut self, _rt: &R, to: u32, item: I) -> Result<(), I> {
-        let ends = &mut self.ends[to as usize];
-        match ends.put(item) {
-            Ok(()) => Ok(()),
-            Err(back) => Err(back),
-        }
+        self.ends[to as usize].put(item)
     }
 
     fn take(&mut self, _rt: &R) -> Option<I> {
         let count = self.ends.len();
         let start = if self.next < count { self.next } else { 0 };
         self.next = start + 1;
-        match take_from(self, start, count) {
-            Some(item) => Some(item),
-            None => match take_from(self, 0, start) {
-                Some(item) => Some(item),
-                None => None,
-            },
+        if let Some(item) = take_from(self, start, count) {
+            return Some(item);
         }
+        take_from(self, 0, start)
     }
 
     fn settle(&mut self, _rt: &R, to: &mut Self) {
         let out = &mut self.ends[to.site as usize];
-        let back = &mut to.ends[self.site as usize];
-        out.settle(back);
+        out.settle(&mut to.ends[self.site as usize]);
     }
 
     fn settle_own(&mut self, _rt: &R) {
-        let own = &mut self.ends[self.site as usize];
-        own.settle_own();
+        self.ends[self.site as usize].settle_own();
     }
 }

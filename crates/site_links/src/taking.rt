@@ -23,9 +23,5 @@ fn take_at<I, E: Ends<I>>(port: &mut PortOf<E>, from: usize) -> Option<I>
     requires { from < among_of port.old }
     ensures { MatchOption result (Looked E.Ends from (from + 1) port.old port.new) (λ item. (k : ℕ) × Took E.Ends port.old port.new k item) }
 {
-    let ends = &mut port.ends[from];
-    match ends.take() {
-        Some(item) => Some(item),
-        None => None,
-    }
+    port.ends[from].take()
 }
