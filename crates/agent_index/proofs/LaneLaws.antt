@@ -1,0 +1,306 @@
+-- How one write of the table of lanes shows in the lines, in the rooms and in who waits.
+use Rattle.std.proofs.Common.{◌≡◌, ◌≤◌, ◌<◌, ◌+◌, Bool, true, false, cond, ◌&&◌, List, [], ◌∷◌, ◌++◌, Option, None, Some, Result, Ok, Err, OnOk, refl, sym, ap, subst, ◌∙◌, arith}
+use Rattle.std.specs.FinMap as map
+use Rattle.np_syntax.specs.declared.value.Name.{Name}
+use Rattle.np_syntax.proofs.Options.{done}
+use Rattle.np_tables.specs.Names.{NameMap, same_name}
+use Rattle.np_tables.proofs.Tables.{get-none, get-put, get-cut, same_name-is, same_name-itself, same_name-swap, put-put, cut-put, put_here}
+use Rattle.agent_index.specs.declared.wait.Wait.{Wait}
+use Rattle.agent_index.specs.declared.wait.Wait.TheVariants as wait
+use Rattle.agent_index.specs.Lines.{Waiting, is_none, is_bare, inputs_in, outputs_in, in_line, same_line, SetsLine, SameLines}
+use Rattle.agent_index.specs.Lanes.{free, owes, HasRooms, AreFilled, HadRoom, IsOpened, SameBut, OwesMore, IsGrown, BothGrown, AreGrown, IsPaid}
+
+-- where at least one channel is owed nothing, no channel is owed more than one place
+pub owes-few : (f s : Option Name) (q : Name) → 1 ≤ free f + free s → owes f q + owes s q ≤ 1
+owes-few None None q h = omega arith
+owes-few None (Some d) q h = one (same_name d q)
+  where
+    one : (t : Bool) → 0 + cond t 1 0 ≤ 1
+    one true = omega arith
+    one false = omega arith
+owes-few (Some c) None q h = one (same_name c q)
+  where
+    one : (t : Bool) → cond t 1 0 + 0 ≤ 1
+    one true = omega arith
+    one false = omega arith
+owes-few (Some c) (Some d) q h = absurd (omega (arith, h))
+
+-- what was opened has a place
+pub opened-room : (lanes : NameMap Waiting) (f s : Option Name) (chan : Name) (w : Waiting) → HasRooms lanes f s → 1 ≤ free f + free s → IsOpened (map.get lanes chan) w
+    → 2 ≤ w.room + (owes f chan + owes s chan)
+opened-room lanes f s chan w rooms h opened = by (map.get lanes chan) refl opened.room
+  where
+    by : (o : Option Waiting) → map.get lanes chan ≡ o → HadRoom o w.room → 2 ≤ w.room + (owes f chan + owes s chan)
+    by None is had = omega (arith, had)
+    by (Some v) is had = let r = rooms.each chan v is in omega (arith, had, r)
+
+pub opened-place : (lanes : NameMap Waiting) (f s : Option Name) (chan : Name) (w : Waiting) → HasRooms lanes f s → 1 ≤ free f + free s → IsOpened (map.get lanes chan) w → 0 < w.room
+opened-place lanes f s chan w rooms h opened = let r = opened-room lanes f s chan w rooms h opened in let few = owes-few f s chan h in omega (arith, r, few)
+
+-- the table after a write for a channel: this stands for it, or nothing
+module _ (old after : NameMap Waiting) (chan : Name) (o : Option Waiting) (is : (q : Name) → map.get after q ≡ cond (same_name q chan) o (map.get old q)) where
+  put_line : (side : Option Waiting → List Name) (line : List Name) → side o ≡ line → (c : Name) → side (map.get after c) ≡ cond (same_name chan c) line (side (map.get old c))
+  put_line side line h c = ap side (is c) ∙ by (same_name c chan) ∙ ap (λ t. cond t line (side (map.get old c))) (same_name-swap c chan)
+    where
+      by : (t : Bool) → side (cond t o (map.get old c)) ≡ cond t line (side (map.get old c))
+      by true = h
+      by false = refl
+
+  keep_line : (side : Option Waiting → List Name) → side o ≡ side (map.get old chan) → (c : Name) → side (map.get after c) ≡ side (map.get old c)
+  keep_line side h c = ap side (is c) ∙ by (same_name c chan) refl
+    where
+      by : (t : Bool) → same_name c chan ≡ t → side (cond t o (map.get old c)) ≡ side (map.get old c)
+      by true same = h ∙ ap (λ d. side (map.get old d)) (sym (same_name-is c chan same))
+      by false same = refl
+
+  pub gives-set : (line : List Name) → outputs_in o ≡ line → inputs_in o ≡ inputs_in (map.get old chan) → SetsLine old after (wait.Gives chan) line
+  gives-set line outs ins = record { at = by }
+    where
+      by : (f : Wait) → in_line after f ≡ cond (same_line (wait.Gives chan) f) line (in_line old f)
+      by (wait.Gives c) = put_line outputs_in line outs c
+      by (wait.Takes c) = keep_line inputs_in ins c
+      by wait.Acts = refl
+      by wait.Stuck = refl
+
+  pub takes-set : (line : List Name) → inputs_in o ≡ line → outputs_in o ≡ outputs_in (map.get old chan) → SetsLine old after (wait.Takes chan) line
+  takes-set line ins outs = record { at = by }
+    where
+      by : (f : Wait) → in_line after f ≡ cond (same_line (wait.Takes chan) f) line (in_line old f)
+      by (wait.Takes c) = put_line inputs_in line ins c
+      by (wait.Gives c) = keep_line outputs_in outs c
+      by wait.Acts = refl
+      by wait.Stuck = refl
+
+  pub rooms-set : (f s g t : Option Name) → HasRooms old f s → ((q : Name) → owes f q + owes s q ≤ owes g q + owes t q)
+      → ((w : Waiting) → o ≡ Some w → 2 ≤ w.room + (owes g chan + owes t chan)) → HasRooms after g t
+  rooms-set f s g t rooms more here = record { each = λ q w e. by q w (same_name q chan) refl (sym (is q) ∙ e) }
+    where
+      by : (q : Name) (w : Waiting) (u : Bool) → same_name q chan ≡ u → cond u o (map.get old q) ≡ Some w → 2 ≤ w.room + (owes g q + owes t q)
+      by q w true same e = subst (λ c. 2 ≤ w.room + (owes g c + owes t c)) (sym (same_name-is q chan same)) (here w e)
+      by q w false same e = let r = rooms.each q w e in let m = more q in omega (arith, r, m)
+
+  pub filled-set : AreFilled old → ((w : Waiting) → o ≡ Some w → is_bare w ≡ false) → AreFilled after
+  filled-set filled here = record { each = λ q w e. by q w (same_name q chan) refl (sym (is q) ∙ e) }
+    where
+      by : (q : Name) (w : Waiting) (u : Bool) → same_name q chan ≡ u → cond u o (map.get old q) ≡ Some w → is_bare w ≡ false
+      by q w true same e = here w e
+      by q w false same e = filled.each q w e
+
+-- look-ups after the write
+pub after-put : (old new after : NameMap Waiting) (chan : Name) (w : Waiting) → SameBut old new chan → after ≡ map.insert new chan w
+    → (q : Name) → map.get after q ≡ cond (same_name q chan) (Some w) (map.get old q)
+after-put old new after chan w rest is q = ap (λ m. map.get m q) (is ∙ rest.put w) ∙ get-put old chan w q
+
+-- who waits afterwards, if there is someone
+abbrev pub left : Waiting → Option Waiting
+left w = cond (is_bare w) None (Some w)
+
+pub after-settle : (old new after : NameMap Waiting) (chan : Name) (w : Waiting) → SameBut old new chan → after ≡ cond (is_bare w) (map.remove new chan) (map.insert new chan w)
+    → (q : Name) → map.get after q ≡ cond (same_name q chan) (left w) (map.get old q)
+after-settle old new after chan w rest is q = ap (λ m. map.get m q) is ∙ by (is_bare w)
+  where
+    by : (t : Bool) → map.get (cond t (map.remove new chan) (map.insert new chan w)) q ≡ cond (same_name q chan) (cond t None (Some w)) (map.get old q)
+    by true = ap (λ m. map.get m q) rest.cut ∙ get-cut old chan q
+    by false = ap (λ m. map.get m q) (rest.put w) ∙ get-put old chan w q
+
+none-is : (xs : List Name) → is_none xs ≡ true → xs ≡ []
+none-is [] h = refl
+none-is (x ∷ xs) h = absurd cc
+
+both : (s t : Bool) → (s && t) ≡ true → (s ≡ true) × (t ≡ true)
+both true true h = (refl, refl)
+both true false h = absurd cc
+both false t h = absurd cc
+
+pub left-inputs : (w : Waiting) → inputs_in (left w) ≡ w.inputs
+left-inputs w = by (is_bare w) refl
+  where
+    by : (t : Bool) → is_bare w ≡ t → inputs_in (cond t None (Some w)) ≡ w.inputs
+    by true h = sym (none-is w.inputs (both (is_none w.inputs) (is_none w.outputs) h).0)
+    by false h = refl
+
+pub left-outputs : (w : Waiting) → outputs_in (left w) ≡ w.outputs
+left-outputs w = by (is_bare w) refl
+  where
+    by : (t : Bool) → is_bare w ≡ t → outputs_in (cond t None (Some w)) ≡ w.outputs
+    by true h = sym (none-is w.outputs (both (is_none w.inputs) (is_none w.outputs) h).1)
+    by false h = refl
+
+pub left-filled : (w v : Waiting) → left w ≡ Some v → (v ≡ w) × (is_bare w ≡ false)
+left-filled w v h = by (is_bare w) refl h
+  where
+    by : (t : Bool) → is_bare w ≡ t → cond t None (Some w) ≡ Some v → (v ≡ w) × (is_bare w ≡ false)
+    by true b h = absurd (let x = h in cc)
+    by false b h = (let x = h in cc, b)
+
+some-more : (xs : List Name) (m : Name) → is_none (xs ++ m ∷ []) ≡ false
+some-more [] m = refl
+some-more (x ∷ xs) m = refl
+
+and_false : (t : Bool) → (t && false) ≡ false
+and_false true = refl
+and_false false = refl
+
+pub more-outputs : (w : Waiting) (xs : List Name) (m : Name) → w.outputs ≡ xs ++ m ∷ [] → is_bare w ≡ false
+more-outputs w xs m h = ap (λ ys. is_none w.inputs && is_none ys) h ∙ ap (λ t. is_none w.inputs && t) (some-more xs m) ∙ and_false (is_none w.inputs)
+
+pub more-inputs : (w : Waiting) (xs : List Name) (m : Name) → w.inputs ≡ xs ++ m ∷ [] → is_bare w ≡ false
+more-inputs w xs m h = ap (λ ys. is_none ys && is_none w.outputs) h ∙ ap (λ t. t && is_none w.outputs) (some-more xs m)
+
+-- ---- rooms that grow
+
+module _ (old new : NameMap Waiting) (grown : AreGrown old new) where
+  pub same-lines : SameLines old new
+  same-lines = record { at = by }
+    where
+      ins : (o p : Option Waiting) → BothGrown o p → inputs_in p ≡ inputs_in o
+      ins None None h = refl
+      ins (Some v) (Some w) h = h.inputs
+      ins None (Some w) h = absurd h
+      ins (Some v) None h = absurd h
+
+      outs : (o p : Option Waiting) → BothGrown o p → outputs_in p ≡ outputs_in o
+      outs None None h = refl
+      outs (Some v) (Some w) h = h.outputs
+      outs None (Some w) h = absurd h
+      outs (Some v) None h = absurd h
+
+      by : (f : Wait) → in_line new f ≡ in_line old f
+      by (wait.Takes c) = ins (map.get old c) (map.get new c) (grown.each c)
+      by (wait.Gives c) = outs (map.get old c) (map.get new c) (grown.each c)
+      by wait.Acts = refl
+      by wait.Stuck = refl
+
+  -- what stands there stood there, with no more room
+  pub record Grew (q : Name) (w : Waiting) : Type 0 where
+    pub before : Waiting
+    pub stood : map.get old q ≡ Some before
+    pub grew : IsGrown before w
+
+  pub grown-from : (q : Name) (w : Waiting) → map.get new q ≡ Some w → Grew q w
+  grown-from q w e = by (map.get old q) (map.get new q) refl e (grown.each q)
+    where
+      by : (o p : Option Waiting) → map.get old q ≡ o → p ≡ Some w → BothGrown o p → Grew q w
+      by (Some v) (Some x) is e h = record { before = v; stood = is; grew = subst (IsGrown v) (sym (done e)) h }
+      by None None is e h = absurd (let z = e in cc)
+      by None (Some x) is e h = absurd h
+      by (Some v) None is e h = absurd h
+
+  pub grown-rooms : (f s : Option Name) → HasRooms old f s → HasRooms new f s
+  grown-rooms f s rooms = record { each = λ q w e. let g = grown-from q w e in let r = rooms.each q g.before g.stood in let m = g.grew.room in omega (arith, r, m) }
+
+  pub grown-filled : AreFilled old → AreFilled new
+  grown-filled filled = record { each = λ q w e. let g = grown-from q w e in (λ i. is_none (g.grew.inputs i) && is_none (g.grew.outputs i)) ∙ filled.each q g.before g.stood }
+
+  pub grown-paid : (owed : Option Name) → IsPaid old owed → IsPaid new owed
+  grown-paid owed paid = record { each = λ q w h e. let g = grown-from q w e in let p = paid.each q g.before h g.stood in let m = g.grew.room in omega (arith, p, m) }
+
+-- where what was owed is paid, each channel has two places
+pub all-paid : (lanes : NameMap Waiting) (f s : Option Name) → HasRooms lanes f s → IsPaid lanes f → IsPaid lanes s → HasRooms lanes None None
+all-paid lanes f s rooms first second = record { each = λ q w e. by q w e f s refl refl (rooms.each q w e) }
+  where
+    by : (q : Name) (w : Waiting) → map.get lanes q ≡ Some w → (g t : Option Name) → f ≡ g → s ≡ t → 2 ≤ w.room + (owes g q + owes t q) → 2 ≤ w.room + (0 + 0)
+    by q w e None None fs ss r = r
+    by q w e (Some c) t fs ss r = one (same_name c q) refl r
+      where
+        one : (u : Bool) → same_name c q ≡ u → 2 ≤ w.room + (cond u 1 0 + owes t q) → 2 ≤ w.room + (0 + 0)
+        one true is r = let p = first.each q w (fs ∙ ap Some (same_name-is c q is)) e in omega (arith, p)
+        one false is r = two t ss r
+          where
+            two : (t : Option Name) → s ≡ t → 2 ≤ w.room + (0 + owes t q) → 2 ≤ w.room + (0 + 0)
+            two None ss r = r
+            two (Some d) ss r = last (same_name d q) refl r
+              where
+                last : (u : Bool) → same_name d q ≡ u → 2 ≤ w.room + (0 + cond u 1 0) → 2 ≤ w.room + (0 + 0)
+                last true is r = let p = second.each q w (ss ∙ ap Some (same_name-is d q is)) e in omega (arith, p)
+                last false is r = r
+    by q w e None (Some d) fs ss r = last (same_name d q) refl r
+      where
+        last : (u : Bool) → same_name d q ≡ u → 2 ≤ w.room + (0 + cond u 1 0) → 2 ≤ w.room + (0 + 0)
+        last true is r = let p = second.each q w (ss ∙ ap Some (same_name-is d q is)) e in omega (arith, p)
+        last false is r = r
+
+-- ---- a mark that comes
+
+module _ (old new after : NameMap Waiting) (f s g t : Option Name) (chan : Name) (v w : Waiting) (rest : SameBut old new chan) (is : after ≡ map.insert new chan w) where
+  pub entered-rooms : HasRooms old f s → 1 ≤ free f + free s → IsOpened (map.get old chan) v → v.room ≤ w.room + 1 → OwesMore g t f s chan → HasRooms after g t
+  entered-rooms rooms h opened room owe =
+      rooms-set old after chan (Some w) (after-put old new after chan w rest is) f s g t rooms (λ q. let e = owe.owes q in omega (arith, e))
+      (λ u e. subst (λ (x : Waiting). 2 ≤ x.room + (owes g chan + owes t chan)) (sym (done e)) here)
+    where
+      more : owes g chan + owes t chan ≡ owes f chan + owes s chan + 1
+      more = owe.owes chan ∙ ap (λ u. owes f chan + owes s chan + cond u 1 0) (same_name-itself chan)
+
+      here : 2 ≤ w.room + (owes g chan + owes t chan)
+      here = let r = opened-room old f s chan v rooms h opened in omega (arith, r, room, more)
+
+  pub entered-filled : AreFilled old → is_bare w ≡ false → AreFilled after
+  entered-filled filled full = filled-set old after chan (Some w) (after-put old new after chan w rest is) filled (λ u e. subst (λ x. is_bare x ≡ false) (sym (done e)) full)
+
+-- ---- a mark that goes
+
+module _ (old new after : NameMap Waiting) (f s : Option Name) (chan : Name) (v w : Waiting) (stood : Some v ≡ map.get old chan) (rest : SameBut old new chan)
+    (is : after ≡ cond (is_bare w) (map.remove new chan) (map.insert new chan w)) where
+  pub left-rooms : HasRooms old f s → v.room ≤ w.room → HasRooms after f s
+  left-rooms rooms room =
+      rooms-set old after chan (left w) (after-settle old new after chan w rest is) f s f s rooms (λ q. omega arith)
+      (λ u e. subst (λ (x : Waiting). 2 ≤ x.room + (owes f chan + owes s chan)) (sym (left-filled w u e).0) (let r = rooms.each chan v (sym stood) in omega (arith, r, room)))
+
+  pub left-all : AreFilled old → AreFilled after
+  left-all filled =
+      filled-set old after chan (left w) (after-settle old new after chan w rest is) filled
+      (λ u e. subst (λ x. is_bare x ≡ false) (sym (left-filled w u e).0) (left-filled w u e).1)
+
+-- no one waited there
+pub after-none : (old after : NameMap Waiting) (chan : Name) → None ≡ map.get old chan → after ≡ old → (q : Name) → map.get after q ≡ cond (same_name q chan) None (map.get old q)
+after-none old after chan none is q = ap (λ m. map.get m q) is ∙ by (same_name q chan) refl
+  where
+    by : (t : Bool) → same_name q chan ≡ t → map.get old q ≡ cond t None (map.get old q)
+    by true same = ap (map.get old) (same_name-is q chan same) ∙ sym none
+    by false same = refl
+
+-- ---- what is paid
+
+both-itself : (o : Option Waiting) → BothGrown o o
+both-itself None = tt
+both-itself (Some v) = record { inputs = refl; outputs = refl; room = omega arith }
+
+pub grown-itself : (old new : NameMap Waiting) → new ≡ old → AreGrown old new
+grown-itself old new is = subst (AreGrown old) (sym is) (record { each = λ q. both-itself (map.get old q) })
+
+pub grown-put : (old new after : NameMap Waiting) (chan : Name) (v w : Waiting) → Some v ≡ map.get old chan → SameBut old new chan → after ≡ map.insert new chan w → IsGrown v w → AreGrown old after
+grown-put old new after chan v w stood rest is grew = record { each = λ q. subst (BothGrown (map.get old q)) (sym (after-put old new after chan w rest is q)) (by q (same_name q chan) refl) }
+  where
+    by : (q : Name) (t : Bool) → same_name q chan ≡ t → BothGrown (map.get old q) (cond t (Some w) (map.get old q))
+    by q true same = subst (λ o. BothGrown o (Some w)) (stood ∙ ap (map.get old) (sym (same_name-is q chan same))) grew
+    by q false same = both-itself (map.get old q)
+
+pub paid-put : (old new after : NameMap Waiting) (owed : Option Name) (chan : Name) (w : Waiting) → SameBut old new chan → after ≡ map.insert new chan w → owed ≡ Some chan → 2 ≤ w.room → IsPaid after owed
+paid-put old new after owed chan w rest is owes_it room = record {
+  each = λ q u h e.
+      let here : q ≡ chan = done (sym owes_it ∙ h) in
+      let there : Some w ≡ Some u =
+      sym (after-put old new after chan w rest is chan ∙ ap (λ t. cond t (Some w) (map.get old chan)) (same_name-itself chan)) ∙ ap (map.get after) (sym here) ∙ e in
+      subst (λ (x : Waiting). 2 ≤ x.room) (sym (done there)) room;
+}
+
+pub paid-none : (old new : NameMap Waiting) (owed : Option Name) (chan : Name) → None ≡ map.get old chan → new ≡ old → owed ≡ Some chan → IsPaid new owed
+paid-none old new owed chan none is owes_it = record {
+  each = λ q u h e.
+      let here : q ≡ chan = done (sym owes_it ∙ h) in
+      absurd (let x = none ∙ ap (map.get old) (sym here) ∙ ap (λ m. map.get m q) (sym is) ∙ e in cc);
+}
+
+pub ok-to : {A E P Q : Type 0} (r : Result A E) → (P → Q) → OnOk r P → OnOk r Q
+ok-to (Ok a) f p = f p
+ok-to (Err e) f p = tt
+
+-- no one waits on any channel
+pub no-rooms : (lanes : NameMap Waiting) (f s : Option Name) → lanes ≡ map.empty → HasRooms lanes f s
+no-rooms lanes f s is = record { each = λ q w e. absurd (let x = sym (ap (λ m. map.get m q) is ∙ get-none q) ∙ e in cc) }
+
+pub no-filled : (lanes : NameMap Waiting) → lanes ≡ map.empty → AreFilled lanes
+no-filled lanes is = record { each = λ q w e. absurd (let x = sym (ap (λ m. map.get m q) is ∙ get-none q) ∙ e in cc) }
+
+-- what stands for a channel is written over
+pub ruleset lifts = (put-put, cut-put, put_here)

@@ -1,0 +1,3 @@
+pub mod InSteps
+pub mod LaneLaws
+pub mod Withouts

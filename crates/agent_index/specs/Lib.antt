@@ -1,0 +1,4 @@
+pub mod InStep
+pub mod Lanes
+pub mod Lines
+pub mod Shelves

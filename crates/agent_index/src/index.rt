@@ -1,0 +1,155 @@
+ghost use Rattle.std.specs.Prelude.{◌≡◌, ◌<◌, ◌≤◌, ◌+◌, length, slice_index_or, MatchOption, OnOk, IsOk, IsSome};
+ghost use Rattle.std.specs.Option.{option_copied};
+ghost use Rattle.std.specs.FinMap as map;
+ghost use Rattle.np_tables.specs.Stored.{Covers};
+ghost use Rattle.agent_index.specs.InStep.{Lends, NoneWaits};
+ghost use Rattle.agent_index.specs.Shelves.{value_of, wait_of};
+
+use super::lanes::Lanes;
+use super::turns::Turns;
+use super::wait::Wait;
+use super::waiters::Waiters;
+use np_syntax::{Memory, Name};
+use np_tables::Table;
+use std::alloc::Global;
+use std::marker::Model;
+
+/// For how many new values an index may make room ahead.
+pub const MOST_AHEAD: usize = 2;
+
+/// Values by their marks, each filed under what it waits for. Its `spare` is how many values are sure to find a
+/// place, whatever they wait for. Beside it stands who is to be served next, which contracts do not see.
+#[derive(Drop)]
+pub struct Index<V> {
+    entries: Table<(Wait, V)>,
+    lanes: Lanes,
+    turns: Turns,
+}
+
+impl<V> Model for Index<V> {
+    ghost use Rattle.std.specs.Prelude.{min};
+    ghost use Rattle.agent_index.specs.InStep.{IsInStep};
+    ghost use Rattle.agent_index.specs.Shelves.{Shelf, shelf_code};
+
+    ghost Value = { Shelf V };
+
+    ghost coded = { shelf_code V.code };
+
+    ghost view = { λ index. record { items = index.entries.items; spare = min index.entries.spare index.lanes.spare; keys = index.entries.keys } };
+
+    ghost invariant = { λ index. IsInStep index.entries.items index.lanes.lanes };
+}
+
+impl<V> Index<V> {
+    /// No values, which takes no memory.
+    pub fn new(alloc: Global) -> Index<V>
+        ensures { result.items ≡ map.empty }
+    {
+        Index {
+            entries: Table::new(alloc),
+            lanes: Lanes::new(alloc),
+            turns: Turns::new(alloc),
+        }
+    }
+
+    pub fn get(&self, mark: Name) -> Option<&V>
+        ensures { option_copied result ≡ value_of (map.get self.now.items mark) }
+    {
+        match self.entries.get(mark) {
+            Some(kept) => Some(&kept.1),
+            None => None,
+        }
+    }
+
+    /// What a value waits for.
+    pub fn wait(&self, mark: Name) -> Option<Wait>
+        ensures { result ≡ wait_of (map.get self.now.items mark) }
+    {
+        match self.entries.get(mark) {
+            Some(kept) => Some(kept.0),
+            None => None,
+        }
+    }
+
+    /// How many values there are. A walk over `key` below this number meets the mark of each.
+    pub fn len(&self) -> usize
+        ensures len { result ≡ length self.now.keys }
+        ensures covers { Covers self.now.items self.now.keys }
+    {
+        self.entries.len()
+    }
+
+    /// The mark at an index of the walk.
+    pub fn key(&self, index: usize) -> Name
+        requires { index < length self.now.keys }
+        ensures at { result ≡ slice_index_or self.now.keys index result }
+        ensures there { IsSome (map.get self.now.items result) }
+    {
+        self.entries.key(index)
+    }
+
+    /// Who waits on a channel, and none where no one does.
+    pub fn waiting(&self, chan: Name) -> Option<&Waiters>
+        ensures { MatchOption result (NoneWaits self.now.items chan) (λ waiters. Lends self.now.items chan waiters.now) }
+    {
+        self.lanes.get(chan)
+    }
+
+    /// A mark that is kept under what acts alone, and waits longest. It is a hint: there may be one where none is told.
+    pub fn first_alone(&self) -> Option<Name> {
+        self.turns.alone()
+    }
+
+    /// An input and an output on one channel that wait longest there. It is a hint too.
+    pub fn first_pair(&self) -> Option<(Name, Name)> {
+        let waiters = self.lanes.get(self.turns.busy()?)?;
+        Some((waiters.first_input()?, waiters.first_output()?))
+    }
+
+    /// Makes room for so many more values, whatever they wait for.
+    pub fn reserve(&mut self, more: usize) -> Result<(), Memory>
+        requires { more ≤ MOST_AHEAD }
+        ensures items { self.new.items ≡ self.old.items }
+        ensures keys { self.new.keys ≡ self.old.keys }
+        ensures spare { self.old.spare ≤ self.new.spare }
+        ensures ok { OnOk result (more ≤ self.new.spare) }
+        ensures room { more ≤ self.old.spare → IsOk result }
+    {
+        self.entries.reserve(more)?;
+        self.lanes.reserve(more)
+    }
+
+    /// Takes a value out.
+    pub fn take(&mut self, mark: Name) -> Option<V>
+        ensures value { result ≡ value_of (map.get self.old.items mark) }
+        ensures items { self.new.items ≡ map.remove self.old.items mark }
+        ensures spare { self.old.spare ≤ self.new.spare }
+    {
+        let (wait, value) = self.entries.take(mark)?;
+        self.lanes.leave(wait, mark);
+        self.turns.leave(&self.entries, &self.lanes, wait, mark);
+        Some(value)
+    }
+}
+
+impl<V: Drop> Index<V> {
+    /// Puts a value under a mark, filed under what it waits for. One that is there gives way.
+    #[tactic(auto, using(np_tables::proofs::Tables::puts))]
+    pub fn put(&mut self, mark: Name, value: V, wait: Wait)
+        requires { 1 ≤ self.old.spare }
+        ensures items { self.new.items ≡ map.insert self.old.items mark (wait, value) }
+        ensures spare { self.old.spare ≤ self.new.spare + 1 }
+    {
+        self.remove(mark);
+        self.lanes.enter(wait, mark);
+        self.entries.put(mark, (wait, value));
+        self.turns.enter(&self.lanes, wait, mark);
+    }
+
+    pub fn remove(&mut self, mark: Name)
+        ensures items { self.new.items ≡ map.remove self.old.items mark }
+        ensures spare { self.old.spare ≤ self.new.spare }
+    {
+        let _ = self.take(mark);
+    }
+}

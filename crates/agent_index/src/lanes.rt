@@ -1,0 +1,249 @@
+ghost use Rattle.std.specs.Prelude.{◌≡◌, ◌<◌, ◌≤◌, ◌+◌, ◌++◌, ◌∷◌, [], length, cond, All, OnOk, IsOk, IsSome, IfSome, IfNone, Some, None, false};
+ghost use Rattle.std.specs.Option.{option_copied};
+ghost use Rattle.std.specs.FinMap as map;
+ghost use Rattle.agent_index.specs.Lines.{in_line, without, is_bare, SetsLine, SameLines};
+ghost use Rattle.agent_index.specs.Lanes.{free, owes, AreGrown, IsFree, IsOpened, IsPaid, OwesMore, SameBut};
+
+use super::wait::Wait;
+use super::waiters::Waiters;
+use np_syntax::{List, Memory, Name};
+use np_tables::Table;
+use std::alloc::Global;
+use std::marker::Model;
+
+/// For how many marks a lane has places ahead.
+const MOST_OWED: usize = 2;
+
+/// How many lanes that no channel has are kept for others.
+const MOST_STOCK: usize = 16;
+
+/// Who waits on each channel. A channel on which no one waits has no entry. Its `spare` is how many marks more are sure
+/// to find a place, on whatever channel: each has places ahead, but for the channels to which the last marks came.
+#[derive(Drop)]
+pub struct Lanes {
+    alloc: Global,
+    table: Table<Waiters>,
+    stock: List<Waiters>,
+    first: Option<Name>,
+    second: Option<Name>,
+}
+
+impl Model for Lanes {
+    ghost use Rattle.std.specs.Prelude.{◌+◌};
+    ghost use Rattle.agent_index.specs.Lanes.{Laned, laned_code, free, IsLanes};
+
+    ghost Value = { Laned };
+
+    ghost coded = { laned_code };
+
+    ghost view = { λ lanes. record { lanes = lanes.table.items; spare = free lanes.first + free lanes.second } };
+
+    ghost invariant = { IsLanes };
+}
+
+/// Takes out who waits on a channel, to be put back.
+#[tactic(auto, using(crate::proofs::LaneLaws::lifts))]
+fn lift(alloc: Global, table: &mut Table<Waiters>, chan: Name) -> Option<Waiters>
+    ensures value { result ≡ map.get table.old.items chan }
+    ensures same { IfNone result (table.new.items ≡ table.old.items) }
+    ensures there { IsSome result → IsSome (map.get table.new.items chan) }
+    ensures rest { SameBut table.old.items table.new.items chan }
+    ensures spare { table.old.spare ≤ table.new.spare }
+{
+    if table.has(chan) {
+        Some(table.swap(chan, Waiters::new(alloc)))
+    } else {
+        None
+    }
+}
+
+/// The same, or a free lane where no one waits there.
+fn open(alloc: Global, table: &mut Table<Waiters>, stock: &mut List<Waiters>, chan: Name) -> Waiters
+    requires stock { 1 ≤ length stock.old }
+    requires stocked { All IsFree stock.old }
+    ensures opened { IsOpened (map.get table.old.items chan) result }
+    ensures rest { SameBut table.old.items table.new.items chan }
+    ensures spare { table.old.spare ≤ table.new.spare }
+    ensures stock { length stock.old ≤ length stock.new + 1 }
+    ensures stocked { All IsFree stock.new }
+{
+    match lift(alloc, table, chan) {
+        Some(waiters) => waiters,
+        None => match stock.pop() {
+            Some(waiters) => waiters,
+            None => unreachable!(),
+        },
+    }
+}
+
+/// Puts back who waits on a channel. If there is no one, the lane is kept for others.
+fn settle(table: &mut Table<Waiters>, stock: &mut List<Waiters>, chan: Name, waiters: Waiters)
+    requires there { IsSome (map.get table.old.items chan) }
+    requires stocked { All IsFree stock.old }
+    ensures items { table.new.items ≡ cond (is_bare waiters) (map.remove table.old.items chan) (map.insert table.old.items chan waiters) }
+    ensures spare { table.old.spare ≤ table.new.spare }
+    ensures stock { length stock.old ≤ length stock.new }
+    ensures stocked { All IsFree stock.new }
+{
+    if waiters.is_bare() {
+        table.remove(chan);
+        if waiters.room() >= MOST_OWED && stock.len() < MOST_STOCK {
+            let _ = stock.push(waiters);
+        }
+    } else {
+        table.replace(chan, waiters);
+    }
+}
+
+/// A channel is owed one place more.
+fn owe(first: &mut Option<Name>, second: &mut Option<Name>, chan: Name)
+    requires { 1 ≤ free first.old + free second.old }
+    ensures { OwesMore first.new second.new first.old second.old chan }
+{
+    match *first {
+        None => *first = Some(chan),
+        Some(_) => *second = Some(chan),
+    }
+}
+
+/// Gives a channel that is owed places what it is owed.
+fn pay(alloc: Global, table: &mut Table<Waiters>, owed: Option<Name>) -> Result<(), Memory>
+    ensures grown { AreGrown table.old.items table.new.items }
+    ensures spare { table.old.spare ≤ table.new.spare }
+    ensures ok { OnOk result (IsPaid table.new.items owed) }
+{
+    let Some(chan) = owed else {
+        return Ok(());
+    };
+    let Some(mut waiters) = lift(alloc, table, chan) else {
+        return Ok(());
+    };
+    let paid = waiters.reserve(MOST_OWED);
+    table.replace(chan, waiters);
+    paid
+}
+
+/// One free lane more.
+fn add_free(alloc: Global, stock: &mut List<Waiters>) -> Result<(), Memory>
+    requires { All IsFree stock.old }
+    ensures stocked { All IsFree stock.new }
+    ensures more { length stock.old ≤ length stock.new }
+    ensures ok { OnOk result (length stock.new ≡ length stock.old + 1) }
+{
+    let mut waiters = Waiters::new(alloc);
+    waiters.reserve(MOST_OWED)?;
+    stock.add(waiters)?;
+    Ok(())
+}
+
+/// Makes sure of two free lanes.
+fn fill(alloc: Global, stock: &mut List<Waiters>) -> Result<(), Memory>
+    requires { All IsFree stock.old }
+    ensures stocked { All IsFree stock.new }
+    ensures more { length stock.old ≤ length stock.new }
+    ensures ok { OnOk result (MOST_OWED ≤ length stock.new) }
+{
+    if stock.len() < MOST_OWED {
+        add_free(alloc, stock)?;
+    }
+    if stock.len() < MOST_OWED {
+        add_free(alloc, stock)?;
+    }
+    Ok(())
+}
+
+impl Lanes {
+    /// No one waits. It takes no memory.
+    pub fn new(alloc: Global) -> Lanes
+        ensures { result.lanes ≡ map.empty }
+    {
+        Lanes {
+            alloc,
+            table: Table::new(alloc),
+            stock: List::new(alloc),
+            first: Some(Name { site: 0, n: 0 }),
+            second: Some(Name { site: 0, n: 0 }),
+        }
+    }
+
+    /// Who waits on a channel.
+    pub fn get(&self, chan: Name) -> Option<&Waiters>
+        ensures value { option_copied result ≡ map.get self.now.lanes chan }
+        ensures filled { IfSome result (λ waiters. is_bare waiters.now ≡ false) }
+    {
+        self.table.get(chan)
+    }
+
+    /// Makes room for so many more marks, on whatever channels.
+    pub fn reserve(&mut self, more: usize) -> Result<(), Memory>
+        requires { more ≤ MOST_OWED }
+        ensures lines { SameLines self.old.lanes self.new.lanes }
+        ensures spare { self.old.spare ≤ self.new.spare }
+        ensures ok { OnOk result (more ≤ self.new.spare) }
+        ensures room { more ≤ self.old.spare → IsOk result }
+    {
+        if more <= self.spare() {
+            return Ok(());
+        }
+        self.table.reserve(MOST_OWED)?;
+        fill(self.alloc, &mut self.stock)?;
+        pay(self.alloc, &mut self.table, self.first)?;
+        pay(self.alloc, &mut self.table, self.second)?;
+        self.first = None;
+        self.second = None;
+        Ok(())
+    }
+
+    fn spare(&self) -> usize
+        ensures { result ≡ self.now.spare }
+    {
+        self.first.is_none() as usize + self.second.is_none() as usize
+    }
+
+    /// A mark comes last in the line of what it waits for.
+    pub fn enter(&mut self, wait: Wait, mark: Name)
+        requires { 1 ≤ self.old.spare }
+        ensures lines { SetsLine self.old.lanes self.new.lanes wait (in_line self.old.lanes wait ++ mark ∷ []) }
+        ensures spare { self.old.spare ≤ self.new.spare + 1 }
+    {
+        match wait {
+            Wait::Gives(chan) => {
+                let mut waiters = open(self.alloc, &mut self.table, &mut self.stock, chan);
+                waiters.add_output(mark);
+                self.table.put(chan, waiters);
+                owe(&mut self.first, &mut self.second, chan);
+            }
+            Wait::Takes(chan) => {
+                let mut waiters = open(self.alloc, &mut self.table, &mut self.stock, chan);
+                waiters.add_input(mark);
+                self.table.put(chan, waiters);
+                owe(&mut self.first, &mut self.second, chan);
+            }
+            _ => {}
+        }
+    }
+
+    /// A mark leaves the line of what it waits for.
+    pub fn leave(&mut self, wait: Wait, mark: Name)
+        ensures lines { SetsLine self.old.lanes self.new.lanes wait (without (in_line self.old.lanes wait) mark) }
+        ensures spare { self.old.spare ≤ self.new.spare }
+    {
+        match wait {
+            Wait::Gives(chan) => {
+                let Some(mut waiters) = lift(self.alloc, &mut self.table, chan) else {
+                    return;
+                };
+                waiters.remove_output(mark);
+                settle(&mut self.table, &mut self.stock, chan, waiters);
+            }
+            Wait::Takes(chan) => {
+                let Some(mut waiters) = lift(self.alloc, &mut self.table, chan) else {
+                    return;
+                };
+                waiters.remove_input(mark);
+                settle(&mut self.table, &mut self.stock, chan, waiters);
+            }
+            _ => {}
+        }
+    }
+}

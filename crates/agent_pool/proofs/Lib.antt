@@ -1,0 +1,12 @@
+pub mod Beginnings
+pub mod Calms
+pub mod Files
+pub mod Layers
+pub mod Lending
+pub mod Maps
+pub mod Missing
+pub mod Naming
+pub mod Offers
+pub mod Outputs
+pub mod Showing
+pub mod Walking

@@ -1,0 +1,103 @@
+-- A row that is met has an acting atom of its kind's form.
+use Rattle.std.proofs.Common.{◌≡◌, ℕ, Bool, true, false, List, Option, None, Some, IsSome, refl, ap, subst, ◌∙◌}
+use Rattle.std.specs.Prelude.{option_map}
+use Rattle.std.specs.FinMap as map
+use Rattle.np_syntax.specs.declared.types.Ty.{Ty}
+use Rattle.np_calculus.proofs.Common.{Expr, Pat, Proc, Event, Kind, ◌>>=◌, ◌>>◌, need, layer, Sight, same_tag, act}
+use Rattle.np_eval.specs.Eval.{Env}
+use Rattle.np_eval.specs.FormParts.{as_par, as_new, as_inp, as_rep, as_agent_form, as_migrate, as_iflocal, as_send, as_if, as_let, as_print, as_open, as_lookup}
+use Rattle.np_calculus.specs.declared.config.Atom.{Atom}
+use Rattle.np_calculus.proofs.Rows.{asked, by}
+use Rattle.np_tables.proofs.Mapped.{get-mapped}
+use Rattle.np_code.specs.declared.node.Node.{Node}
+use Rattle.np_code.specs.declared.node.NodeForm.{NodeForm}
+use Rattle.np_code.specs.declared.node.NodeForm.TheVariants as node
+use Rattle.np_code.specs.Programs.{ProgramTable}
+use Rattle.np_code.specs.Trees.{layer_of}
+use Rattle.agent_index.specs.Shelves.{Kept, value_of}
+use Rattle.agent_pool.specs.declared.held.Held.{Held}
+use Rattle.agent_pool.specs.Held.{proc_of, IsNode}
+use Rattle.agent_pool.specs.Pools.{Pool, seen_as}
+use Rattle.agent_pool.specs.Rows.{own_sight, change_in}
+
+none-some : {A : Type 0} (o : Option A) → o ≡ None → IsSome o → ⊥
+none-some None e h = cc
+none-some (Some a) e h = absurd (let x = e in cc)
+
+same-held : (h g : Held) → Some h ≡ Some g → h ≡ g
+same-held h g e = cc
+
+module _ (k : Kind) (code : ProgramTable) (p : Pool) (here : Bool) (e : Event) (h : Held) (n : Node) (env : Env) where
+  abbrev w : Sight
+  w = own_sight code p here
+
+  no_act : (a : Atom) → (asked k).parts (layer a.proc) ≡ None → act k (layer a.proc) w e a ≡ None
+  no_act a none = by k (layer a.proc) w e a ∙ ap (λ o. o >>= λ q. act k ((asked k).form q) w e a) none
+
+  tested : (t : Bool) (a : Atom) → (asked k).parts (layer a.proc) ≡ None → ((need t >> Some a) >>= λ b. act k (layer b.proc) w e b) ≡ None
+  tested true a none = no_act a none
+  tested false a none = refl
+
+  no_change : (o : Option (Kept Held)) → Some h ≡ value_of o → (asked k).parts (layer (proc_of code.processes h)) ≡ None
+      → ((option_map (seen_as code.processes p.name) o >>= λ a. need (same_tag a.proc.tag e.tag) >> Some a) >>= λ a. act k (layer a.proc) w e a) ≡ None
+  no_change None is none = absurd (let x = is in cc)
+  no_change (Some kept) is none =
+      tested (same_tag (proc_of code.processes kept.1).tag e.tag) (seen_as code.processes p.name kept) (subst (λ g. (asked k).parts (layer (proc_of code.processes g)) ≡ None) (same-held h kept.1 is) none)
+
+  pub no-row : Some h ≡ value_of (map.get p.atoms e.actor) → IsNode code.processes h n env → (asked k).parts (layer_of code.processes n.form) ≡ None → IsSome (change_in k w e) → ⊥
+  no-row gets is none met =
+      none-some (change_in k w e)
+      (ap (λ o. (o >>= λ a. need (same_tag a.proc.tag e.tag) >> Some a) >>= λ a. act k (layer a.proc) w e a) (get-mapped (seen_as code.processes p.name) p.atoms e.actor)
+      ∙ no_change (map.get p.atoms e.actor) gets (ap (asked k).parts is.layer ∙ none)) met
+
+pub par-missing : (ts : List Proc) (f : NodeForm) → ((a : ℕ) (b : ℕ) → f ≡ node.Par a b → ⊥) → as_par (layer_of ts f) ≡ None
+par-missing ts (node.Par a b) differs = absurd (differs a b refl)
+par-missing ts _ differs = refl
+
+pub new-missing : (ts : List Proc) (f : NodeForm) → ((a : ℕ) (b : Ty) (c : ℕ) → f ≡ node.New a b c → ⊥) → as_new (layer_of ts f) ≡ None
+new-missing ts (node.New a b c) differs = absurd (differs a b c refl)
+new-missing ts _ differs = refl
+
+pub let-missing : (ts : List Proc) (f : NodeForm) → ((a : Pat) (b : Expr) (c : ℕ) → f ≡ node.Let a b c → ⊥) → as_let (layer_of ts f) ≡ None
+let-missing ts (node.Let a b c) differs = absurd (differs a b c refl)
+let-missing ts _ differs = refl
+
+pub if-missing : (ts : List Proc) (f : NodeForm) → ((a : Expr) (b : ℕ) (c : ℕ) → f ≡ node.If a b c → ⊥) → as_if (layer_of ts f) ≡ None
+if-missing ts (node.If a b c) differs = absurd (differs a b c refl)
+if-missing ts _ differs = refl
+
+pub print-missing : (ts : List Proc) (f : NodeForm) → ((a : Expr) → f ≡ node.Print a → ⊥) → as_print (layer_of ts f) ≡ None
+print-missing ts (node.Print a) differs = absurd (differs a refl)
+print-missing ts _ differs = refl
+
+pub inp-missing : (ts : List Proc) (f : NodeForm) → ((a : Expr) (b : Pat) (c : ℕ) → f ≡ node.Inp a b c → ⊥) → as_inp (layer_of ts f) ≡ None
+inp-missing ts (node.Inp a b c) differs = absurd (differs a b c refl)
+inp-missing ts _ differs = refl
+
+pub rep-missing : (ts : List Proc) (f : NodeForm) → ((a : Expr) (b : Pat) (c : ℕ) → f ≡ node.Rep a b c → ⊥) → as_rep (layer_of ts f) ≡ None
+rep-missing ts (node.Rep a b c) differs = absurd (differs a b c refl)
+rep-missing ts _ differs = refl
+
+pub open-missing : (ts : List Proc) (f : NodeForm) → ((a : Expr) → f ≡ node.Open a → ⊥) → as_open (layer_of ts f) ≡ None
+open-missing ts (node.Open a) differs = absurd (differs a refl)
+open-missing ts _ differs = refl
+
+pub lookup-missing : (ts : List Proc) (f : NodeForm) → ((a : Expr) (b : Expr) (c : ℕ) (d : ℕ) (e : ℕ) → f ≡ node.Lookup a b c d e → ⊥) → as_lookup (layer_of ts f) ≡ None
+lookup-missing ts (node.Lookup a b c d e) differs = absurd (differs a b c d e refl)
+lookup-missing ts _ differs = refl
+
+pub migrate-missing : (ts : List Proc) (f : NodeForm) → ((a : Expr) (b : ℕ) → f ≡ node.Migrate a b → ⊥) → as_migrate (layer_of ts f) ≡ None
+migrate-missing ts (node.Migrate a b) differs = absurd (differs a b refl)
+migrate-missing ts _ differs = refl
+
+pub send-missing : (ts : List Proc) (f : NodeForm) → ((a : Expr) (b : Expr) (c : Expr) (d : Expr) → f ≡ node.Send a b c d → ⊥) → as_send (layer_of ts f) ≡ None
+send-missing ts (node.Send a b c d) differs = absurd (differs a b c d refl)
+send-missing ts _ differs = refl
+
+pub iflocal-missing : (ts : List Proc) (f : NodeForm) → ((a : Expr) (b : Expr) (c : Expr) (d : ℕ) (e : ℕ) → f ≡ node.IfLocal a b c d e → ⊥) → as_iflocal (layer_of ts f) ≡ None
+iflocal-missing ts (node.IfLocal a b c d e) differs = absurd (differs a b c d e refl)
+iflocal-missing ts _ differs = refl
+
+pub agent-missing : (ts : List Proc) (f : NodeForm) → ((a : ℕ) (b : ℕ) (c : ℕ) → f ≡ node.Agent a b c → ⊥) → as_agent_form (layer_of ts f) ≡ None
+agent-missing ts (node.Agent a b c) differs = absurd (differs a b c refl)
+agent-missing ts _ differs = refl

@@ -1,0 +1,5 @@
+use Rattle.agent_pool.proofs.Outputs.{sends-given}
+use Rattle.agent_pool.proofs.meets.taken.Goals as goal
+
+pub returns-in-Given : goal.returns-in-Given
+returns-in-Given c = λ agent. rw (c.in-Given.is, sends-given c.args.code.now.processes agent c.in-Given.field-0 c.in-Given.value c.in-Given.field-2) c.bind-in-Given.ensures

@@ -1,0 +1,9 @@
+pub mod Calm
+pub mod Held
+pub mod Moves
+pub mod Operands
+pub mod Pools
+pub mod Readies
+pub mod Rows
+pub mod Shown
+pub mod Waiting
