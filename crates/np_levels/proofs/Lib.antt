@@ -1,12 +1,16 @@
 pub mod Becomes
 pub mod Born
+pub mod Comms
 pub mod Forks
+pub mod Infrastructure
 pub mod Lands
 pub mod Lookups
 pub mod Marks
+pub mod Meets
 pub mod Orders
 pub mod Outputs
 pub mod Quiet
+pub mod Registers
 pub mod Sends
 pub mod Serves
 pub mod Shapes

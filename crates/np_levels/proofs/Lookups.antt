@@ -113,7 +113,7 @@ finds_text n low e next s a m l p y k ps is agent places found =
     ∙ ap (λ x. effect low e (record still { atoms = put e.actor (goes_under s.atom x (map.insert s.atom.env l (value.Chan k))) ∷ [] })) mets
 
 -- an output of two variables
-gives_two : (a : Name) (k x y : ℕ) (env : Env) (c : Name) (v : Value) → map.get env x ≡ Some (value.Chan c) → map.get env y ≡ Some v → sends (record { agent = a; proc = gives k (variable x) (variable y); env = env }) ≡ Some (c, v)
+pub gives_two : (a : Name) (k x y : ℕ) (env : Env) (c : Name) (v : Value) → map.get env x ≡ Some (value.Chan c) → map.get env y ≡ Some v → sends (record { agent = a; proc = gives k (variable x) (variable y); env = env }) ≡ Some (c, v)
 gives_two a k x y env c v on at = rw (forms.outs-Out (variable x) (variable y), variable-is x env, on, outs.outs-Chan c, variable-is y env, at) refl
 
 -- the map is put back

@@ -1,5 +1,5 @@
 -- What an output is there for, by its channel.
-use Rattle.std.proofs.Common.{◌≡◌, ◌⊎◌, inl, inr, ℕ, Bool, true, false, not, ◌&&◌, ◌||◌, Option, None, Some, List, [], ◌∷◌, ◌++◌, nat_eq, map as each, refl, sym, ap, subst, ◌∙◌}
+use Rattle.std.proofs.Common.{◌≡◌, ◌≤◌, ◌⊎◌, arith, inl, inr, ℕ, Bool, true, false, not, ◌&&◌, ◌||◌, Option, None, Some, List, [], ◌∷◌, ◌++◌, nat_eq, map as each, refl, sym, ap, subst, ◌∙◌}
 use Rattle.std.specs.List.{All, list_any}
 use Rattle.std.proofs.lemmas.List.Elements.{All-head}
 use Rattle.std.specs.FinMap as map
@@ -20,7 +20,7 @@ use Rattle.np_calculus.specs.declared.config.Atom.{Atom}
 use Rattle.np_calculus.specs.Reductions.{sends}
 use Rattle.np_calculus.specs.Starts.{daemon_agent, main_agent, own, own_names, own_numbers, with_all}
 use Rattle.np_calculus.proofs.OwnNames.{with_all-keeps}
-use Rattle.np_tables.proofs.Tables.{born_here}
+use Rattle.np_tables.proofs.Tables.{born_here, same_name-itself}
 use Rattle.std.proofs.lemmas.Bool.{eqb-true}
 use Rattle.np_levels.proofs.Quiet.{or_cases}
 use Rattle.np_eval.specs.Eval.{Env, as_chan, chan_of, eval}
@@ -207,7 +207,7 @@ in_all names n (k ∷ ks) i h = elim (or_cases (nat_eq i k) (list_any (nat_eq i)
 pub is-own : (n i : ℕ) → list_any (nat_eq i) own_numbers ≡ true → set.contains (own_names n) (own n i) ≡ true
 is-own n i h = in_all set.empty n own_numbers i h
 
-number-of : (n i j : ℕ) → own n i ≡ own n j → i ≡ j
+pub number-of : (n i j : ℕ) → own n i ≡ own n j → i ≡ j
 number-of n i j e = ap (λ (x : Name). x.n) e
 
 -- an output on a channel of the infrastructure that is neither `currentloc` nor a lock is mail
@@ -218,3 +218,47 @@ by_number n i low chan v t own no_token no_map no_lock on (Gift.of_token a b g h
 by_number n i low chan v t own no_token no_map no_lock on (Gift.of_mail {m = m} a g h) r = r m refl (number-of n (on_channel m) i (sym g ∙ on)) h a
 by_number n i low chan v t own no_token no_map no_lock on (Gift.of_map a g h) r = absurd (no_map (number-of n i 10 (sym on ∙ g)))
 by_number n i low chan v t own no_token no_map no_lock on (Gift.of_lock {l = l} {s = s} a g h) r = absurd (no_lock l s refl (sym g ∙ on))
+
+mail_number : (m : Mail) (i : ℕ) → 9 ≤ i → on_channel m ≡ i → ⊥
+mail_number (Mail.register b s) i h e = omega arith
+mail_number (Mail.migrating a) i h e = omega arith
+mail_number (Mail.migrated a t) i h e = omega arith
+mail_number (Mail.message p) i h e = omega arith
+mail_number (Mail.dack b s) i h e = omega arith
+mail_number (Mail.ack a s) i h e = omega arith
+mail_number (Mail.deliver p s) i h e = omega arith
+
+-- an output on the daemon's lock is its map, and one on `currentloc` is an agent's
+pub by_map : {R : Type 0} (n : ℕ) (low : Atom) (chan : Name) (v : Value) (t : Thing) → ((l : Name) (s : ℕ) → t ≡ Thing.free l s → l ≡ own n 10 → ⊥) → chan ≡ own n 10 → Gift n low chan v t
+    → ((ps : List (Name × Name)) → t ≡ Thing.places ps → v ≡ value.Places ps → R) → R
+by_map n low chan v t no_lock on (Gift.of_source f a) r = absurd (let bad : false ≡ true = sym f ∙ ap (set.contains (own_names n)) on ∙ is-own n 10 refl in cc)
+by_map n low chan v t no_lock on (Gift.of_token a b g h) r = absurd (let bad = number-of n 10 9 (sym on ∙ g) in let no : ⊥ = omega arith in no)
+by_map n low chan v t no_lock on (Gift.of_mail {m = m} a g h) r = absurd (mail_number m 10 (omega arith) (number-of n (on_channel m) 10 (sym g ∙ on)))
+by_map n low chan v t no_lock on (Gift.of_map {ps = ps} a g h) r = r ps refl h
+by_map n low chan v t no_lock on (Gift.of_lock {l = l} {s = s} a g h) r = absurd (no_lock l s refl (sym g ∙ on))
+
+pub by_token : {R : Type 0} (n : ℕ) (low : Atom) (chan : Name) (v : Value) (t : Thing) → ((l : Name) (s : ℕ) → t ≡ Thing.free l s → l ≡ own n 9 → ⊥) → chan ≡ own n 9 → Gift n low chan v t
+    → ((a : Name) (s : ℕ) → t ≡ Thing.token a s → v ≡ value.Site s → low.agent ≡ a → R) → R
+by_token n low chan v t no_lock on (Gift.of_source f a) r = absurd (let bad : false ≡ true = sym f ∙ ap (set.contains (own_names n)) on ∙ is-own n 9 refl in cc)
+by_token n low chan v t no_lock on (Gift.of_token {a = a} {s = s} x b g h) r = r a s refl h x
+by_token n low chan v t no_lock on (Gift.of_mail {m = m} a g h) r = absurd (mail_number m 9 (omega arith) (number-of n (on_channel m) 9 (sym g ∙ on)))
+by_token n low chan v t no_lock on (Gift.of_map a g h) r = absurd (let bad = number-of n 9 10 (sym on ∙ g) in let no : ⊥ = omega arith in no)
+by_token n low chan v t no_lock on (Gift.of_lock {l = l} {s = s} a g h) r = absurd (no_lock l s refl (sym g ∙ on))
+
+mail_listed : (m : Mail) → list_any (nat_eq (on_channel m)) own_numbers ≡ true
+mail_listed (Mail.register b s) = refl
+mail_listed (Mail.migrating a) = refl
+mail_listed (Mail.migrated a t) = refl
+mail_listed (Mail.message p) = refl
+mail_listed (Mail.dack b s) = refl
+mail_listed (Mail.ack a s) = refl
+mail_listed (Mail.deliver p s) = refl
+
+-- an output in the daemon on a lock of an agent is that lock
+pub by_lock : {R : Type 0} (n : ℕ) (low : Atom) (chan : Name) (v : Value) (t : Thing) → ((i : ℕ) → list_any (nat_eq i) own_numbers ≡ true → chan ≡ own n i → i ≡ 13) → low.agent ≡ daemon_agent n → Gift n low chan v t
+    → ((s : ℕ) → t ≡ Thing.free chan s → v ≡ value.Site s → R) → R
+by_lock n low chan v t apart here (Gift.of_source f a) r = absurd (let bad : false ≡ true = sym a ∙ ap (λ x. same_name x (daemon_agent n)) here ∙ same_name-itself (daemon_agent n) in cc)
+by_lock n low chan v t apart here (Gift.of_token a b g h) r = absurd (let bad = apart 9 refl g in let no : ⊥ = omega arith in no)
+by_lock n low chan v t apart here (Gift.of_mail {m = m} a g h) r = absurd (let bad = apart (on_channel m) (mail_listed m) g in mail_number m 13 (omega arith) bad)
+by_lock n low chan v t apart here (Gift.of_map a g h) r = absurd (let bad = apart 10 refl g in let no : ⊥ = omega arith in no)
+by_lock n low chan v t apart here (Gift.of_lock {l = l} {s = s} a g h) r = r s (ap (λ x. Thing.free x s) (sym g)) h

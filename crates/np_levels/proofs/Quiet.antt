@@ -12,15 +12,15 @@ use Rattle.np_tables.specs.Names.{NameMap, same_name}
 use Rattle.np_tables.proofs.Tables.{get-cut, get-put, put_here, same_name-is, same_name-itself}
 use Rattle.np_calculus.specs.Config.{Config}
 use Rattle.np_calculus.specs.Parts.{AreBorn}
-use Rattle.np_calculus.specs.Starts.{daemon_agent}
+use Rattle.np_calculus.specs.Starts.{daemon_agent, main_agent, own, own_names}
 use Rattle.np_protocol.specs.Chips.{Chip}
 use Rattle.np_protocol.specs.Phases.{Phase}
 use Rattle.np_protocol.specs.Protocol.{Protocol}
-use Rattle.np_protocol.specs.Scenes.{Scene}
+use Rattle.np_protocol.specs.Scenes.{Locks, Scene}
 use Rattle.np_protocol.specs.Steps.{Step}
 use Rattle.np_source_values.proofs.Known.{more_known}
 use Rattle.np_things.specs.Things.{Thing, carried, first_atom_of, first_packet_of, show_all}
-use Rattle.np_levels.specs.Coupled.{Coupled, IsShaped, KnowsLetter, KnowsOnly, View, chips, is_channel, is_child_of, may_know, scene}
+use Rattle.np_levels.specs.Coupled.{Coupled, IsShaped, KnowsLetter, KnowsOnly, View, chips, is_channel, is_child_of, may_know, scene, whereabouts}
 use Rattle.np_levels.specs.Mirrors.{Mirrors}
 
 no_value : {A : Type 0} {x : A} → None ≡ Some x → ⊥
@@ -65,14 +65,14 @@ or_cases true b h = inl refl
 or_cases false b h = inr h
 
 module _ (p : Chip → Bool) where
-  any_out : (xs ys : List Chip) → list_any p (xs ++ ys) ≡ true → (list_any p xs ≡ true) ⊎ (list_any p ys ≡ true)
+  pub any_out : (xs ys : List Chip) → list_any p (xs ++ ys) ≡ true → (list_any p xs ≡ true) ⊎ (list_any p ys ≡ true)
   any_out [] ys h = inr h
   any_out (x ∷ xs) ys h = elim (or_cases (p x) (list_any p (xs ++ ys)) h) [
     | inl a ↦ inl (ap (λ t. t || list_any p xs) a)
     | inr b ↦ elim (any_out xs ys b) [ inl c ↦ inl (or_second (p x) _ c) | inr d ↦ inr d ]
   ]
 
-  any_in : (xs ys : List Chip) → (list_any p xs ≡ true) ⊎ (list_any p ys ≡ true) → list_any p (xs ++ ys) ≡ true
+  pub any_in : (xs ys : List Chip) → (list_any p xs ≡ true) ⊎ (list_any p ys ≡ true) → list_any p (xs ++ ys) ≡ true
   any_in [] ys (inl h) = absurd cc
   any_in [] ys (inr h) = h
   any_in (x ∷ xs) ys (inl h) = elim (or_cases (p x) (list_any p xs) h) [ inl a ↦ ap (λ t. t || list_any p (xs ++ ys)) a | inr b ↦ or_second (p x) _ (any_in xs ys (inl b)) ]
@@ -98,8 +98,8 @@ module _ {n from first : ℕ} {low high : Config} {v : View} (c : Coupled n from
       go (IsShaped.atom a k t u r) = c.stand_born.marks m (inl (some_of _ _ a))
       go (IsShaped.packet a k t r) = c.stand_born.marks m (inr (some_of _ _ k))
 
-  -- the next configuration of the low level, with things and phases
-  pub record Next (next : Config) (things : NameMap (List Thing)) (phase : Name → Phase) : Type 0 where
+  -- the next configuration of the low level, with things, locks and phases
+  pub record NextWith (next : Config) (things : NameMap (List Thing)) (lock : Locks) (phase : Name → Phase) : Type 0 where
     pub sites : next.sites ≡ low.sites
     pub places : next.places ≡ low.places
     pub said : next.said ≡ low.said
@@ -109,15 +109,18 @@ module _ {n from first : ℕ} {low high : Config} {v : View} (c : Coupled n from
     pub atoms : (m : Name) → (map.get things m >>= first_atom_of) ≡ (map.get v.things m >>= first_atom_of)
     pub packets : (m : Name) → (map.get things m >>= first_packet_of) ≡ (map.get v.things m >>= first_packet_of)
     pub old_or_new : (m : Name) (ts : List Thing) → map.get things m ≡ Some ts → ((us : List Thing) × (map.get v.things m ≡ Some us)) ⊎ (set.contains low.born m ≡ false)
-    pub protocol : Protocol (scene v high) phase (chips things)
-    pub known : (m : Name) (ts : List Thing) → map.get things m ≡ Some ts → All (λ t. KnowsOnly (may_know v.lock (chips things) t) (is_channel n high.born) from t) ts
+    pub protocol : Protocol (record { place = λ q. whereabouts (map.get high.places q); lock = lock }) phase (chips things)
+    pub locks_born : (a l : Name) → lock a ≡ Some l → set.contains next.born l ≡ true
+    pub locks_apart : (a l : Name) → lock a ≡ Some l → set.contains (own_names n) l ≡ true → l ≡ own n 13
+    pub main : is_some (lock (main_agent n)) ≡ true
+    pub known : (m : Name) (ts : List Thing) → map.get things m ≡ Some ts → All (λ t. KnowsOnly (may_know lock (chips things) t) (is_channel n high.born) from t) ts
 
   truth : (t : Bool) → (t ≡ true) ⊎ (t ≡ false)
   truth true = inl refl
   truth false = inr refl
 
-  pub quiet : (next : Config) (things : NameMap (List Thing)) (phase : Name → Phase) → Next next things phase → Coupled n from first next high (record v { things = things; phase = phase })
-  quiet next things phase x = record {
+  pub quiet_with : (next : Config) (things : NameMap (List Thing)) (lock : Locks) (phase : Name → Phase) → NextWith next things lock phase → Coupled n from first next high (record v { things = things; lock = lock; phase = phase })
+  quiet_with next things lock phase x = record {
     low_sites = x.sites ∙ c.low_sites;
     high_sites = c.high_sites;
     daemon = ap (λ (p : NameMap _). map.get p (daemon_agent n)) x.places ∙ c.daemon;
@@ -134,9 +137,9 @@ module _ {n from first : ℕ} {low high : Config} {v : View} (c : Coupled n from
     old_marks = λ m h. old m h (truth (set.contains low.born m));
     distinct = λ m k ts us h i e. one m k e (x.old_or_new m ts h) (x.old_or_new k us i);
     protocol = x.protocol;
-    locks_born = λ a l h. x.born l (c.locks_born a l h);
-    locks_apart = c.locks_apart;
-    main = c.main;
+    locks_born = x.locks_born;
+    locks_apart = x.locks_apart;
+    main = x.main;
     known = x.known;
   }
     where
@@ -154,3 +157,35 @@ module _ {n from first : ℕ} {low high : Config} {v : View} (c : Coupled n from
       one m k e (inl a) (inr g) = absurd (apart k m g (things_born m a.0 a.1) (sym e))
       one m k e (inr f) (inl b) = absurd (apart m k f (things_born k b.0 b.1) e)
       one m k e (inr f) (inr g) = sym (c.new_marks m f) ∙ e ∙ c.new_marks k g
+
+  -- the next configuration of the low level, with things and phases
+  pub record Next (next : Config) (things : NameMap (List Thing)) (phase : Name → Phase) : Type 0 where
+    pub sites : next.sites ≡ low.sites
+    pub places : next.places ≡ low.places
+    pub said : next.said ≡ low.said
+    pub born : (q : Name) → set.contains low.born q ≡ true → set.contains next.born q ≡ true
+    pub stand_born : AreBorn next
+    pub shaped : (m : Name) → IsShaped n from first next things m
+    pub atoms : (m : Name) → (map.get things m >>= first_atom_of) ≡ (map.get v.things m >>= first_atom_of)
+    pub packets : (m : Name) → (map.get things m >>= first_packet_of) ≡ (map.get v.things m >>= first_packet_of)
+    pub old_or_new : (m : Name) (ts : List Thing) → map.get things m ≡ Some ts → ((us : List Thing) × (map.get v.things m ≡ Some us)) ⊎ (set.contains low.born m ≡ false)
+    pub protocol : Protocol (scene v high) phase (chips things)
+    pub known : (m : Name) (ts : List Thing) → map.get things m ≡ Some ts → All (λ t. KnowsOnly (may_know v.lock (chips things) t) (is_channel n high.born) from t) ts
+
+  pub quiet : (next : Config) (things : NameMap (List Thing)) (phase : Name → Phase) → Next next things phase → Coupled n from first next high (record v { things = things; phase = phase })
+  quiet next things phase x = quiet_with next things v.lock phase (record {
+    sites = x.sites;
+    places = x.places;
+    said = x.said;
+    born = x.born;
+    stand_born = x.stand_born;
+    shaped = x.shaped;
+    atoms = x.atoms;
+    packets = x.packets;
+    old_or_new = x.old_or_new;
+    protocol = x.protocol;
+    locks_born = λ a l h. x.born l (c.locks_born a l h);
+    locks_apart = c.locks_apart;
+    main = c.main;
+    known = x.known;
+  })

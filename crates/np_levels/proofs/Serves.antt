@@ -52,7 +52,7 @@ use Rattle.np_things.specs.Things.{IsHeaded, Stage, Thing, high_atom, show_all}
 use Rattle.np_levels.specs.Coupled.{Coupled, KnowsOnly, View, chips, is_channel, is_child_of, may_know, scene}
 use Rattle.np_levels.proofs.Becomes.{becomes, cancel}
 use Rattle.np_levels.proofs.Marks.{same_chips, step_at}
-use Rattle.np_levels.proofs.Outputs.{by_number, given_by}
+use Rattle.np_levels.proofs.Outputs.{by_number, given_by, is-own, number-of}
 use Rattle.np_levels.proofs.Shapes.{of_actor, of_atom, same_role}
 use Rattle.np_levels.proofs.Values.{agent-is, bind-one, bind-two, channel-is, here_is, named_kept, pair-is, there_is, variable-is}
 
@@ -140,11 +140,11 @@ serves_by n from first _ a i h f g = absurd cc
 
 module _ {n from first : ℕ} {low high : Config} {v : View} (c : Coupled n from first low high v) where
   -- a lock of an agent is no name of the infrastructure but main's
-  pub no_lock_at : (m : Name) (i : ℕ) (t : Thing) → (i ≡ 13 → ⊥) → map.get v.things m ≡ Some (t ∷ []) → (l : Name) (s : ℕ) → t ≡ Thing.free l s → l ≡ own n i → ⊥
-  no_lock_at m i t other there l s is on =
+  pub no_lock_at : (m : Name) (i : ℕ) (t : Thing) → list_any (nat_eq i) own_numbers ≡ true → (i ≡ 13 → ⊥) → map.get v.things m ≡ Some (t ∷ []) → (l : Name) (s : ℕ) → t ≡ Thing.free l s → l ≡ own n i → ⊥
+  no_lock_at m i t own_one other there l s is on =
       let at : map.get v.things m ≡ Some (Thing.free l s ∷ []) = there ∙ ap (λ t. Some (t ∷ [])) is in
       let claim = (recursion_from_All (IsTrueOf (scene v high) v.phase) (Chip.free l s ∷ []) (all_taken (step_at v.things m (Thing.free l s ∷ []) [] at) (IsTrueOf (scene v high) v.phase) c.protocol.true_chips)).0 in
-      other (c.locks_apart claim.0 i (claim.1 ∙ ap Some on))
+      other (number-of n i 13 (c.locks_apart claim.0 (own n i) (claim.1 ∙ ap Some on) (is-own n i own_one)))
 
   served : (e : Event) (next : Config) (s : IsRepeating low e next) (k : Service) → IsServing n first k s.atom → apply low e ≡ Some next → (w : View) × Coupled n from first next high w
   served e next s k i h =
@@ -157,7 +157,7 @@ module _ {n from first : ℕ} {low high : Config} {v : View} (c : Coupled n from
       let g = given_by c s.other s.offers.mate s.offers.sent s.offers.waits s.offers.sends_it o.things o.there o.are in
       let there : map.get v.things s.other ≡ Some (g.thing ∷ []) = o.there ∙ ap Some g.alone in
       let chan : s.chan ≡ own n (number_of k) = done (sym (ap (λ x. chan_of x s.atom.env) (on ∙ desk-chan n first k) ∙ channel-is (own n (number_of k)) s.atom.env) ∙ s.its_chan) in
-      by_number n (number_of k) s.offers.mate s.offers.sent.0 s.offers.sent.1 g.thing (listed k) (not_nine k) (not_ten k) (no_lock_at s.other (number_of k) g.thing (not_thirteen k) there)
+      by_number n (number_of k) s.offers.mate s.offers.sent.0 s.offers.sent.1 g.thing (listed k) (not_nine k) (not_ten k) (no_lock_at s.other (number_of k) g.thing (listed k) (not_thirteen k) there)
           (sym (same_name-is s.chan s.offers.sent.0 s.offers.agree) ∙ chan) g.gift λ m thing number content for.
       becomes c next e s.other (goes_under s.atom s.body s.env) (Thing.mail m Stage.there ∷ []) (Thing.taken m ∷ []) (record {
         applies = h;
@@ -219,7 +219,7 @@ module _ {n from first : ℕ} {low high : Config} {v : View} (c : Coupled n from
       let there : map.get v.things s.other ≡ Some (g.thing ∷ []) = o.there ∙ ap Some g.alone in
       let chan : s.chan ≡ own n 6 = done (sym (ap (λ x. chan_of x s.atom.env) on ∙ channel-is (own n 6) s.atom.env) ∙ s.its_chan) in
       by_number n 6 s.offers.mate s.offers.sent.0 s.offers.sent.1 g.thing refl (λ e. let bad : ⊥ = omega arith in bad) (λ e. let bad : ⊥ = omega arith in bad)
-          (no_lock_at c s.other 6 g.thing (λ e. let bad : ⊥ = omega arith in bad) there)
+          (no_lock_at c s.other 6 g.thing refl (λ e. let bad : ⊥ = omega arith in bad) there)
           (sym (same_name-is s.chan s.offers.sent.0 s.offers.agree) ∙ chan) g.gift λ m thing number content for.
       letter_mail m number λ p t mail.
       let agent : s.atom.agent ≡ p.agent = same_name-is s.atom.agent s.offers.mate.agent s.offers.together ∙ for ∙ ap (receiver n) mail in

@@ -240,7 +240,7 @@ module _ (p : Program) (q : LowProgram) (low : IsLowOf p q) (sound : IsSound p) 
     distinct = λ m k ts us h i e. e;
     protocol = ordered.1;
     locks_born = λ a l h. ap (set.contains (own_names n)) (its-lock a l (same_name a main) h) ∙ here-born;
-    locks_apart = λ a i h. ap (λ (x : Name). x.n) (its-lock a (own n i) (same_name a main) h);
+    locks_apart = λ a l h o. its-lock a l (same_name a main) h;
     main = rw (same_name-itself main) refl;
     known = λ m ts h. is-known m ts (its-things m ts h);
   }

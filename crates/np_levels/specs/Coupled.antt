@@ -120,7 +120,7 @@ pub record Coupled (n from first : ℕ) (low high : Config) (v : View) : Type 0 
   pub protocol : Protocol (scene v high) v.phase (chips v.things)
   -- a lock is no name of the infrastructure but main's: so nothing else is taken for it; and a new name is no lock
   pub locks_born : (a l : Name) → v.lock a ≡ Some l → set.contains low.born l ≡ true
-  pub locks_apart : (a : Name) (i : ℕ) → v.lock a ≡ Some (own n i) → i ≡ 13
+  pub locks_apart : (a l : Name) → v.lock a ≡ Some l → set.contains (own_names n) l ≡ true → l ≡ own n 13
   -- main is in the map: it may be known to all
   pub main : is_some (v.lock (main_agent n)) ≡ true
   -- the source knows no agent that is not in the map, so each post finds its agent; and no channel of the infrastructure, so none meets the source's

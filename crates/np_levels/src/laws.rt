@@ -1,4 +1,5 @@
 ghost use Rattle.np_levels.specs.Laws.{IsQuiet, StartsCoupled};
+ghost use Rattle.np_syntax.specs.declared.event.Kind.{Kind};
 ghost use Rattle.np_syntax.specs.declared.event.Kind.TheVariants as kind;
 ghost use Rattle.np_syntax.specs.declared.process.Role.TheVariants as role;
 
@@ -7,14 +8,8 @@ pub fn law_coupled_starts()
     ensures { StartsCoupled }
 {}
 
-/// What the infrastructure sends, lands, opens, splits, serves and looks up, and the landing of a post, are nothing at the high
-/// level: the two configurations stay coupled.
+/// Each event of the infrastructure, and the landing of a post, is nothing at the high level: the two configurations stay coupled.
 pub fn law_quiet()
-    ensures sends { IsQuiet kind.Send role.Infra }
-    ensures lands { IsQuiet kind.Land role.Infra }
+    ensures infrastructure { (k : Kind) → IsQuiet k role.Infra }
     ensures posts_land { IsQuiet kind.Land role.Post }
-    ensures opens { IsQuiet kind.Open role.Infra }
-    ensures forks { IsQuiet kind.Fork role.Infra }
-    ensures serves { IsQuiet kind.Rep role.Infra }
-    ensures looks_up { IsQuiet kind.Lookup role.Infra }
 {}

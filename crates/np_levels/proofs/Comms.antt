@@ -1,0 +1,560 @@
+-- The communications of the infrastructure: with the daemon's map and agents' locks, with acknowledgements, and with `currentloc`.
+use Rattle.std.proofs.Common.{◌≡◌, ◌⊎◌, inl, inr, ◌+◌, ◌≤◌, ◌<◌, ℕ, Bool, true, false, cond, ◌||◌, ◌&&◌, is_some, Option, None, Some, List, [], ◌∷◌, ◌++◌, refl, sym, ap, subst, ◌∙◌, arith}
+use Rattle.std.specs.List.{All, AllByRecursion, list_any, sum_by}
+use Rattle.std.proofs.lemmas.List.Sorted.{IsPermutation-refl, list_any-IsPermutation}
+use Rattle.std.proofs.lemmas.List.Sums.{sum_by-cons}
+use Rattle.std.proofs.lemmas.List.Elements.{All-from_recursion, All-nil, recursion_from_All}
+use Rattle.std.specs.FinMap as map
+use Rattle.np_syntax.specs.declared.value.Name.{Name}
+use Rattle.np_syntax.specs.declared.value.Value.{Value}
+use Rattle.np_syntax.specs.declared.value.Value as value
+use Rattle.np_syntax.specs.declared.value.Value.TheVariants as outs
+use Rattle.np_syntax.specs.declared.expression.Expr.{Expr}
+use Rattle.np_syntax.specs.declared.pattern.Pat.{Pat}
+use Rattle.np_syntax.specs.declared.process.Tag.{Tag}
+use Rattle.np_syntax.specs.declared.process.Proc.{Proc}
+use Rattle.np_syntax.specs.declared.process.Role.TheVariants as role
+use Rattle.np_syntax.specs.declared.process.ProcForm.{ProcForm-F}
+use Rattle.np_syntax.specs.declared.process.ProcForm as form
+use Rattle.np_syntax.specs.declared.process.ProcForm.TheVariants as forms
+use Rattle.np_syntax.specs.declared.event.Event.{Event}
+use Rattle.np_syntax.specs.declared.event.Kind.TheVariants as kind
+use Rattle.np_syntax.proofs.Options.{done}
+use Rattle.np_syntax.proofs.Bools.{and-out}
+use Rattle.np_tables.specs.Names.{NameMap, same_name}
+use Rattle.np_tables.proofs.Tables.{same_name-is, same_name-itself}
+use Rattle.np_calculus.specs.declared.config.Atom.{Atom}
+use Rattle.np_calculus.specs.Begins.{begun_by}
+use Rattle.np_calculus.specs.Config.{Config}
+use Rattle.np_calculus.specs.Reductions.{apply, goes, goes_under, row, sends}
+use Rattle.np_calculus.specs.Starts.{daemon_agent, own}
+use Rattle.np_eval.specs.Eval.{Env, agent_of, bind, chan_of, eval, find_place}
+use Rattle.np_eval.specs.Forms.{layer}
+use Rattle.np_eval.proofs.Binds.{bind-any, bind-form}
+use Rattle.np_protocol.specs.Chips.{Chip, Service, counted}
+use Rattle.np_protocol.specs.Columns.{Column}
+use Rattle.np_protocol.specs.Phases.{Phase}
+use Rattle.np_protocol.specs.Protocol.{IsTrueOf, Protocol}
+use Rattle.np_protocol.specs.Rules.{Rule}
+use Rattle.np_protocol.specs.Steps.{Step}
+use Rattle.np_protocol.proofs.Gives.{acknowledged}
+use Rattle.np_protocol.proofs.Keeps.{keeps-protocol}
+use Rattle.np_protocol.proofs.Moves.{only-zero}
+use Rattle.np_protocol.proofs.Tallies.{only}
+use Rattle.np_protocol.proofs.Steps.{all_taken}
+use Rattle.np_syntax.specs.declared.expression.ExprForm as expr
+use Rattle.daemon_encode.specs.Pieces.{ack, beside, currentloc, daemon, deliver, expression, gives, lock, migrating, name, nothing, pair, process, sends as sends_text, site, takes, tells, unit, variable}
+use Rattle.daemon_encode.specs.Texts.{agent_text, child_text, migrate_text, move_text, settles}
+use Rattle.daemon_encode.specs.Daemon.{acks}
+use Rattle.daemon_encode.specs.Translates.{Translates, source}
+use Rattle.np_source_values.specs.Sources.{Agrees, Names}
+use Rattle.np_things.specs.Acting.{begins}
+use Rattle.np_things.specs.Desks.{Took, desk, takes_map}
+use Rattle.np_things.specs.Mail.{Mail, Posted, content, on_channel, receiver}
+use Rattle.np_things.specs.Shapes.{Are, HasTaken, Is, IsAsking, IsBeginning, IsOfSource, IsSettling, IsWanting, StandsFor, WaitsFor}
+use Rattle.np_things.specs.Things.{IsHeaded, Stage, Thing, high_atom, show_all}
+use Rattle.np_things.proofs.Acting.{source-plain}
+use Rattle.np_things.proofs.Starts.{constant-is}
+use Rattle.np_levels.specs.Coupled.{Coupled, KnowsOnly, View, chips, is_channel, is_child_of, may_know, scene}
+use Rattle.np_levels.proofs.Becomes.{cancel}
+use Rattle.np_levels.proofs.Marks.{same_chips, step_at}
+use Rattle.np_levels.proofs.Meets.{IsMeeting, left_things, meeting, meets}
+use Rattle.np_levels.proofs.Orders.{and_then, behind, permuted, swapped}
+use Rattle.np_levels.proofs.Outputs.{IsGiven, by_lock, by_map, by_number, by_token, given_by, is-own, number-of}
+use Rattle.np_levels.proofs.Quiet.{any_in, any_kept, any_out, knows_more, or_cases}
+use Rattle.np_levels.proofs.Serves.{no_lock_at}
+use Rattle.np_levels.proofs.Shapes.{OfAtom, of_actor, of_atom, same_role}
+use Rattle.np_levels.proofs.Values.{agent-is, bind-one, channel-is, here_is, pair-is, there_is, unit-is, variable-is}
+
+-- what a server's copy took it still has when it has the map
+took_kept : (n x : ℕ) (k : Service) (m : Mail) (env : Env) (u : Value) → Took x k m env → Took x k m (map.insert env (desk n x k).map u)
+took_kept n x Service.registers (Mail.register b s) env u t = (there_is env (x + 2) x u (λ e. let bad : ⊥ = omega arith in bad) ∙ t.0, there_is env (x + 2) (x + 1) u (λ e. let bad : ⊥ = omega arith in bad) ∙ t.1)
+took_kept n x Service.grants (Mail.migrating a) env u t = there_is env (x + 5) (x + 4) u (λ e. let bad : ⊥ = omega arith in bad) ∙ t
+took_kept n x Service.notes_moves (Mail.migrated a s) env u t = (there_is env (x + 10) (x + 8) u (λ e. let bad : ⊥ = omega arith in bad) ∙ t.0, there_is env (x + 10) (x + 9) u (λ e. let bad : ⊥ = omega arith in bad) ∙ t.1)
+took_kept n x Service.passes_on (Mail.message p) env u t = (there_is env (x + 14) (x + 12) u (λ e. let bad : ⊥ = omega arith in bad) ∙ t.0, there_is env (x + 14) (x + 13) u (λ e. let bad : ⊥ = omega arith in bad) ∙ t.1)
+took_kept n x Service.ends_deliveries (Mail.dack b s) env u t = (there_is env (x + 19) (x + 17) u (λ e. let bad : ⊥ = omega arith in bad) ∙ t.0, there_is env (x + 19) (x + 18) u (λ e. let bad : ⊥ = omega arith in bad) ∙ t.1)
+took_kept n x _ _ env u t = absurd t
+
+-- an agent to which no other is owed has no child that waits
+no_owed : (a b : Name) (cs : List Chip) → sum_by (counted a Column.owed) cs ≡ 0 → list_any (is_child_of a b) cs ≡ true → ⊥
+no_owed a b [] none h = cc
+no_owed a b (ch ∷ cs) none h =
+    let whole : sum_by (counted a Column.owed) (ch ∷ cs) ≡ counted a Column.owed ch + sum_by (counted a Column.owed) cs = sum_by-cons (counted a Column.owed) ch cs in
+    let rest : sum_by (counted a Column.owed) cs ≡ 0 = omega arith in
+    elim (or_cases (is_child_of a b ch) (list_any (is_child_of a b) cs) h) [
+      | inl i ↦ (let one : 1 ≤ counted a Column.owed ch = counts ch i in let bad : ⊥ = omega arith in bad)
+      | inr j ↦ no_owed a b cs rest j
+    ]
+  where
+    counts : (ch : Chip) → is_child_of a b ch ≡ true → 1 ≤ counted a Column.owed ch
+    counts (Chip.child x p t) i =
+        let both = and-out (same_name x b) (same_name p a) i in
+        let same : only (same_name a p) 1 ≡ 1 = ap (λ y. only (same_name a y) 1) (same_name-is p a both.1) ∙ ap (λ t. only t 1) (same_name-itself a) in
+        let other : only (same_name a x) 0 ≡ 0 = only-zero (same_name a x) in
+        omega arith
+    counts _ i = absurd cc
+
+module _ {n from first : ℕ} {low high : Config} {v : View} (c : Coupled n from first low high v) (e : Event) (next : Config) (s : IsMeeting low e next) (no_packet : map.get low.packets e.actor ≡ None) (h : apply low e ≡ Some next) where
+  abbrev Done : Type 0
+  Done = (w : View) × Coupled n from first next high w
+
+  -- what the text of the input says
+  record Reads (a : Expr) (x : Pat) (p : Proc) : Type 0 where
+    on : s.on ≡ a
+    pattern : s.pattern ≡ x
+    body : s.body ≡ p
+
+  reads : (k : ℕ) (a : Expr) (x : Pat) (p : Proc) → s.atom.proc ≡ takes k a x p → Reads a x p
+  reads k a x p is = let same : ProcForm-F.Inp s.on s.pattern s.body ≡ ProcForm-F.Inp a x p = sym s.form ∙ ap layer is ∙ forms.outs-Inp a x p in record { on = cc; pattern = cc; body = cc }
+
+  chan_at : (i : ℕ) → s.on ≡ expression (expr.Val (value.Chan (own n i))) → s.chan ≡ own n i
+  chan_at i on = done (sym (ap (λ x. chan_of x s.atom.env) on ∙ channel-is (own n i) s.atom.env) ∙ s.its_chan)
+
+  sent-is : (x : Name) → s.chan ≡ x → s.offers.sent.0 ≡ x
+  sent-is x on = sym (same_name-is s.chan s.offers.sent.0 s.offers.agree) ∙ on
+
+  -- ---- a server's copy takes the map
+
+  takes_the_map : (m : Mail) → HasTaken n first m s.atom → map.get v.things e.actor ≡ Some (Thing.taken m ∷ []) → Done
+  takes_the_map m i there =
+      let d = desk n first i.service in
+      let r = reads 0 (lock n) (name d.map) d.body i.is in
+      let o = of_atom c s.other s.offers.mate s.offers.waits in
+      let g = given_by c s.other s.offers.mate s.offers.sent s.offers.waits s.offers.sends_it o.things o.there o.are in
+      let other : map.get v.things s.other ≡ Some (g.thing ∷ []) = o.there ∙ ap Some g.alone in
+      by_map n s.offers.mate s.offers.sent.0 s.offers.sent.1 g.thing (no_lock_at c s.other 10 g.thing refl (λ e. let bad : ⊥ = omega arith in bad) other) (sent-is (own n 10) (chan_at 10 r.on)) g.gift λ ps thing what.
+      let env : s.env ≡ map.insert s.atom.env d.map (value.Places ps) =
+          done (sym (ap (λ q. bind q s.what s.atom.env) r.pattern ∙ ap (λ u. bind (name d.map) u s.atom.env) (s.offers.is ∙ what) ∙ bind-one d.map (value.Places ps) s.atom.env) ∙ s.binds) in
+      meets c next e s (Thing.taken m ∷ []) (Thing.looking m ps ∷ []) (Thing.places ps) (record {
+        applies = h;
+        no_packet = no_packet;
+        no_other_packet = o.no_packet;
+        there = there;
+        other_there = other ∙ ap (λ t. Some (t ∷ [])) thing;
+        headed = All-nil (λ u. high_atom u ≡ None);
+        are = Are.one (record {
+          agent = i.agent;
+          service = i.service;
+          took = subst (Took first i.service m) (sym env) (took_kept n first i.service m s.atom.env (value.Places ps) i.took);
+          map = ap (λ (e : Env). map.get e d.map) env ∙ here_is s.atom.env d.map (value.Places ps);
+          is = r.body;
+        });
+        atoms = refl;
+        packets = refl;
+        no_atom = refl;
+        no_high_packet = refl;
+        protocol = λ step. same_chips step c.protocol;
+        children = λ step a b any. inl (any_kept (is_child_of a b) step (λ x. x) any);
+        known = λ step k. k;
+      })
+
+  -- ---- with an agent's lock
+
+  together : s.atom.agent ≡ s.offers.mate.agent
+  together = same_name-is s.atom.agent s.offers.mate.agent s.offers.together
+
+  -- the site that a lock says is bound
+  bound : (x : ℕ) (u : Value) → s.pattern ≡ name x → s.what ≡ u → s.env ≡ map.insert s.atom.env x u
+  bound x u p w = done (sym (ap (λ q. bind q s.what s.atom.env) p ∙ ap (λ z. bind (name x) z s.atom.env) w ∙ bind-one x u s.atom.env) ∙ s.binds)
+
+  chan_var : (x : ℕ) (l : Name) → s.on ≡ variable x → map.get s.atom.env x ≡ Some (value.Chan l) → s.chan ≡ l
+  chan_var x l on at =
+      let is : chan_of (variable x) s.atom.env ≡ Some l = rw (variable-is x s.atom.env, at, outs.outs-Chan l) refl in
+      done (sym (ap (λ y. chan_of y s.atom.env) on ∙ is) ∙ s.its_chan)
+
+  takes_lock : (m : Mail) (l : Name) → IsWanting n first m l s.atom → map.get v.things e.actor ≡ Some (Thing.wanting m l ∷ []) → Done
+  takes_lock m l i there = go m i.waits there
+    where
+      o : OfAtom c s.other s.offers.mate
+      o = of_atom c s.other s.offers.mate s.offers.waits
+      g : IsGiven n from first s.offers.mate s.offers.sent.0 s.offers.sent.1 o.things
+      g = given_by c s.other s.offers.mate s.offers.sent s.offers.waits s.offers.sends_it o.things o.there o.are
+      other : map.get v.things s.other ≡ Some (g.thing ∷ [])
+      other = o.there ∙ ap Some g.alone
+      here : s.offers.mate.agent ≡ daemon_agent n
+      here = sym together ∙ i.agent
+      go : (m : Mail) → WaitsFor n first m l s.atom → map.get v.things e.actor ≡ Some (Thing.wanting m l ∷ []) → Done
+      go (Mail.migrating a) w there =
+          let told = recursion_from_All (IsTrueOf (scene v high) v.phase) (Chip.request a ∷ Chip.wants a l ∷ []) (all_taken (step_at v.things e.actor (Thing.wanting (Mail.migrating a) l ∷ []) [] there) (IsTrueOf (scene v high) v.phase) c.protocol.true_chips) in
+          let r = reads 0 (variable (first + 6)) (name (first + 7)) (acks n (first + 4) (first + 7)) w.0 in
+          let on : s.offers.sent.0 ≡ l = sent-is l (chan_var (first + 6) l r.on w.2) in
+          by_lock n s.offers.mate s.offers.sent.0 s.offers.sent.1 g.thing (λ i o e. number-of n i 13 (c.locks_apart a (own n i) (told.1.0 ∙ ap Some (sym on ∙ e)) (is-own n i o))) here g.gift λ t thing what.
+          let env = bound (first + 7) (value.Site t) r.pattern (s.offers.is ∙ what) in
+          let agent_is : map.get s.env (first + 4) ≡ Some (value.Agent a) = ap (λ (e : Env). map.get e (first + 4)) env ∙ there_is s.atom.env (first + 7) (first + 4) (value.Site t) (λ e. let bad : ⊥ = omega arith in bad) ∙ w.1 in
+          let site_is : map.get s.env (first + 7) ≡ Some (value.Site t) = ap (λ (e : Env). map.get e (first + 7)) env ∙ here_is s.atom.env (first + 7) (value.Site t) in
+          meets c next e s (Thing.wanting (Mail.migrating a) l ∷ []) (Thing.mail (Mail.ack a t) (Stage.in_agent s.atom.agent) ∷ []) (Thing.free l t) (record {
+            applies = h;
+            no_packet = no_packet;
+            no_other_packet = o.no_packet;
+            there = there;
+            other_there = other ∙ ap (λ t. Some (t ∷ [])) (thing ∙ ap (λ x. Thing.free x t) on);
+            headed = All-nil (λ u. high_atom u ≡ None);
+            are = Are.one (record {
+              agent = refl;
+              receiver = variable (first + 4);
+              to = variable (first + 7);
+              chan = ack n;
+              sent = unit;
+              role = ap (λ (p : Proc). p.tag.role) r.body;
+              is = ap layer r.body ∙ forms.outs-Send (variable (first + 4)) (variable (first + 7)) (ack n) unit;
+              for_agent = rw (variable-is (first + 4) s.env, agent_is, outs.outs-Agent a) refl;
+              for_site = variable-is (first + 7) s.env ∙ site_is;
+              on = channel-is (own n 7) s.env;
+              holds = unit-is s.env;
+            }, tt);
+            atoms = refl;
+            packets = refl;
+            no_atom = refl;
+            no_high_packet = refl;
+            protocol = λ step. keeps-protocol (scene v high) (scene v high) v.phase (chips v.things) _ (Chip.request a ∷ Chip.wants a l ∷ Chip.free l t ∷ []) (Chip.ack_sent a t ∷ []) (Rule.grants {a = a} {l = l} {s = t})
+                (cancel (Chip.request a ∷ Chip.wants a l ∷ Chip.free l t ∷ []) (Chip.ack_sent a t ∷ []) [] step (permuted (and_then swapped (behind swapped))) (IsPermutation-refl (Chip.ack_sent a t ∷ []))) c.protocol;
+            children = λ step a b any. inl (any_kept (is_child_of a b) step (λ x. x) any);
+            known = λ step k. k;
+          })
+      go (Mail.message p) w there =
+          let told = recursion_from_All (IsTrueOf (scene v high) v.phase) (Chip.wants p.agent l ∷ Chip.knows p.agent ∷ []) (all_taken (step_at v.things e.actor (Thing.wanting (Mail.message p) l ∷ []) [] there) (IsTrueOf (scene v high) v.phase) c.protocol.true_chips) in
+          let r = reads 0 (variable (first + 15)) (name (first + 16)) (sends_text 0 (variable (first + 12)) (variable (first + 16)) (deliver n) (pair (variable (first + 13)) (variable (first + 16)))) w.0 in
+          let on : s.offers.sent.0 ≡ l = sent-is l (chan_var (first + 15) l r.on w.2) in
+          by_lock n s.offers.mate s.offers.sent.0 s.offers.sent.1 g.thing (λ i o e. number-of n i 13 (c.locks_apart p.agent (own n i) (told.0 ∙ ap Some (sym on ∙ e)) (is-own n i o))) here g.gift λ t thing what.
+          let env = bound (first + 16) (value.Site t) r.pattern (s.offers.is ∙ what) in
+          let agent_is : map.get s.env (first + 12) ≡ Some (value.Agent p.agent) = ap (λ (e : Env). map.get e (first + 12)) env ∙ there_is s.atom.env (first + 16) (first + 12) (value.Site t) (λ e. let bad : ⊥ = omega arith in bad) ∙ w.1.0 in
+          let letter_is : map.get s.env (first + 13) ≡ Some (value.Letter p.chan p.value) = ap (λ (e : Env). map.get e (first + 13)) env ∙ there_is s.atom.env (first + 16) (first + 13) (value.Site t) (λ e. let bad : ⊥ = omega arith in bad) ∙ w.1.1 in
+          let site_is : map.get s.env (first + 16) ≡ Some (value.Site t) = ap (λ (e : Env). map.get e (first + 16)) env ∙ here_is s.atom.env (first + 16) (value.Site t) in
+          meets c next e s (Thing.wanting (Mail.message p) l ∷ []) (Thing.mail (Mail.deliver p t) (Stage.in_agent s.atom.agent) ∷ []) (Thing.free l t) (record {
+            applies = h;
+            no_packet = no_packet;
+            no_other_packet = o.no_packet;
+            there = there;
+            other_there = other ∙ ap (λ t. Some (t ∷ [])) (thing ∙ ap (λ x. Thing.free x t) on);
+            headed = All-nil (λ u. high_atom u ≡ None);
+            are = Are.one (record {
+              agent = refl;
+              receiver = variable (first + 12);
+              to = variable (first + 16);
+              chan = deliver n;
+              sent = pair (variable (first + 13)) (variable (first + 16));
+              role = ap (λ (p : Proc). p.tag.role) r.body;
+              is = ap layer r.body ∙ forms.outs-Send (variable (first + 12)) (variable (first + 16)) (deliver n) (pair (variable (first + 13)) (variable (first + 16)));
+              for_agent = rw (variable-is (first + 12) s.env, agent_is, outs.outs-Agent p.agent) refl;
+              for_site = variable-is (first + 16) s.env ∙ site_is;
+              on = channel-is (own n 6) s.env;
+              holds = pair-is (variable (first + 13)) (variable (first + 16)) (value.Letter p.chan p.value) (value.Site t) s.env (variable-is (first + 13) s.env ∙ letter_is) (variable-is (first + 16) s.env ∙ site_is);
+            }, tt);
+            atoms = refl;
+            packets = refl;
+            no_atom = refl;
+            no_high_packet = refl;
+            protocol = λ step. keeps-protocol (scene v high) (scene v high) v.phase (chips v.things) _ (Chip.wants p.agent l ∷ Chip.free l t ∷ []) (Chip.delivery p.agent t ∷ []) (Rule.delivers {b = p.agent} {l = l} {s = t})
+                (cancel (Chip.wants p.agent l ∷ Chip.free l t ∷ []) (Chip.delivery p.agent t ∷ []) (Chip.knows p.agent ∷ []) step (permuted swapped) (IsPermutation-refl (Chip.delivery p.agent t ∷ Chip.knows p.agent ∷ []))) c.protocol;
+            children = λ step a b any. inl (any_kept (is_child_of a b) step (λ x. x) any);
+            known = λ step k. k;
+          })
+      go _ w there = absurd w
+
+  -- ---- with an acknowledgement
+
+  -- the acknowledgement is for the agent itself
+  record TakesAck : Type 0 where
+    no_packet_there : map.get low.packets s.other ≡ None
+    site_of : ℕ
+    ack_there : map.get v.things s.other ≡ Some (Thing.mail (Mail.ack s.atom.agent site_of) Stage.there ∷ [])
+
+  takes_ack : s.on ≡ ack n → TakesAck
+  takes_ack on =
+      let o = of_atom c s.other s.offers.mate s.offers.waits in
+      let g = given_by c s.other s.offers.mate s.offers.sent s.offers.waits s.offers.sends_it o.things o.there o.are in
+      let other : map.get v.things s.other ≡ Some (g.thing ∷ []) = o.there ∙ ap Some g.alone in
+      by_number n 7 s.offers.mate s.offers.sent.0 s.offers.sent.1 g.thing refl (λ e. let bad : ⊥ = omega arith in bad) (λ e. let bad : ⊥ = omega arith in bad)
+          (no_lock_at c s.other 7 g.thing refl (λ e. let bad : ⊥ = omega arith in bad) other) (sent-is (own n 7) (chan_at 7 on)) g.gift λ m thing number content for.
+      ack_mail m number λ a t mail.
+      record {
+        no_packet_there = o.no_packet;
+        site_of = t;
+        ack_there = other ∙ ap (λ t. Some (t ∷ [])) (thing ∙ ap (λ m. Thing.mail m Stage.there) mail ∙ ap (λ x. Thing.mail (Mail.ack x t) Stage.there) (sym (together ∙ for ∙ ap (receiver n) mail)));
+      }
+    where
+      ack_mail : {R : Type 0} (m : Mail) → on_channel m ≡ 7 → ((a : Name) (t : ℕ) → m ≡ Mail.ack a t → R) → R
+      ack_mail (Mail.ack a t) e r = r a t refl
+      ack_mail _ e r = absurd (let bad : ⊥ = omega arith in bad)
+
+  nothing_bound : s.pattern ≡ nothing → s.env ≡ s.atom.env
+  nothing_bound p = done (sym (ap (λ q. bind q s.what s.atom.env) p ∙ bind-form nothing s.what s.atom.env ∙ bind-any s.what s.atom.env) ∙ s.binds)
+
+  -- an atom that goes on stands for the same
+  stands_on : {named : Expr} {hi : Atom} (p : Proc) → s.env ≡ s.atom.env → StandsFor n from named hi s.atom → StandsFor n from named hi (record { agent = s.atom.agent; proc = p; env = s.env })
+  stands_on p env i = record { agent = i.agent; apart = i.apart; source = i.source; agrees = record { same = λ x b. ap (λ (e : Env). map.get e x) env ∙ i.agrees.same x b }; called = i.called }
+
+  is_granted : (a : Expr) (hi : Atom) → IsAsking n from a hi s.atom → map.get v.things e.actor ≡ Some (Thing.asking a hi ∷ []) → Done
+  is_granted a hi i there =
+      let r = reads i.migrates.tag.node (ack n) nothing (move_text n i.migrates.tag.node a i.migrates.to i.migrates.low) i.is in
+      let k = takes_ack r.on in
+      let env = nothing_bound r.pattern in
+      let ack_there : map.get v.things s.other ≡ Some (Thing.mail (Mail.ack hi.agent k.site_of) Stage.there ∷ []) = k.ack_there ∙ ap (λ x. Some (Thing.mail (Mail.ack x k.site_of) Stage.there ∷ [])) i.stands.agent in
+      meets c next e s (Thing.asking a hi ∷ []) (Thing.leaving a hi ∷ []) (Thing.mail (Mail.ack hi.agent k.site_of) Stage.there) (record {
+        applies = h;
+        no_packet = no_packet;
+        no_other_packet = k.no_packet_there;
+        there = there;
+        other_there = ack_there;
+        headed = All-nil (λ u. high_atom u ≡ None);
+        are = Are.one (record { stands = stands_on s.body env i.stands; migrates = i.migrates; is = r.body });
+        atoms = refl;
+        packets = refl;
+        no_atom = refl;
+        no_high_packet = refl;
+        protocol = λ step. keeps-protocol (scene v high) (scene v high) v.phase (chips v.things) _ (Chip.mover hi.agent ∷ Chip.ack_here hi.agent ∷ []) (Chip.leaver hi.agent ∷ []) (Rule.is_granted {a = hi.agent})
+            (cancel (Chip.mover hi.agent ∷ Chip.ack_here hi.agent ∷ []) (Chip.leaver hi.agent ∷ []) [] step (permuted swapped) (IsPermutation-refl (Chip.leaver hi.agent ∷ []))) c.protocol;
+        children = λ step a b any. inl (any_kept (is_child_of a b) step (λ x. x) any);
+        known = λ step k. k;
+      })
+
+  -- the token of an agent, given by an expression that tells its site
+  token_given : (k : ℕ) (at : Expr) (t : ℕ) → eval at s.env ≡ Some (value.Site t) → sends (record { agent = s.atom.agent; proc = gives k (currentloc n) at; env = s.env }) ≡ Some (own n 9, value.Site t)
+  token_given k at t tells = rw (forms.outs-Out (currentloc n) at, channel-is (own n 9) s.env, tells) refl
+
+  finishes : (a : Expr) (hi : Atom) (t : ℕ) → IsSettling n from a hi t s.atom → map.get v.things e.actor ≡ Some (Thing.settling a hi t ∷ []) → Done
+  finishes a hi t i there =
+      let r = reads i.node (ack n) nothing (beside i.node i.body (gives i.node (currentloc n) i.at)) i.is in
+      let k = takes_ack r.on in
+      let env = nothing_bound r.pattern in
+      let ack_there : map.get v.things s.other ≡ Some (Thing.mail (Mail.ack hi.agent k.site_of) Stage.there ∷ []) = k.ack_there ∙ ap (λ x. Some (Thing.mail (Mail.ack x k.site_of) Stage.there ∷ [])) i.stands.agent in
+      let us : List Thing = Thing.source a hi ∷ Thing.token hi.agent t ∷ [] in
+      meets c next e s (Thing.settling a hi t ∷ []) us (Thing.mail (Mail.ack hi.agent k.site_of) Stage.there) (record {
+        applies = h;
+        no_packet = no_packet;
+        no_other_packet = k.no_packet_there;
+        there = there;
+        other_there = ack_there;
+        headed = All-from_recursion (λ u. high_atom u ≡ None) (Thing.token hi.agent t ∷ []) (refl, tt);
+        are = Are.both {k = i.node} {p = i.body} {q = gives i.node (currentloc n) i.at} r.body
+            (Are.one (record { stands = stands_on i.body env i.stands; translates = i.translates }))
+            (Are.one (record { agent = i.stands.agent; gives = token_given i.node i.at t (ap (eval i.at) env ∙ i.tells) }, i.stands.apart));
+        atoms = refl;
+        packets = refl;
+        no_atom = refl;
+        no_high_packet = refl;
+        protocol = λ step. keeps-protocol (scene v high) (scene v high) v.phase (chips v.things) _ (Chip.waiter hi.agent t ∷ Chip.ack_here hi.agent ∷ []) (Chip.token hi.agent t ∷ []) (Rule.finishes {a = hi.agent} {s = t}) (alone step) c.protocol;
+        children = λ step a b any. inl (any_kept (is_child_of a b) step (λ x. x) any);
+        known = λ step k. (knows_more (may_know v.lock (chips v.things) (Thing.settling a hi t)) (λ b. is_some (v.lock b)) (is_channel n high.born) from (λ b m. forgets step b (or_cases (is_some (v.lock b)) (list_any (is_child_of hi.agent b) (chips v.things)) m)) (Thing.source a hi) k.0, (tt, tt));
+      })
+    where
+      alone : {after : List Chip} → Step (chips v.things) after (Chip.ack_here hi.agent ∷ Chip.waiter hi.agent t ∷ []) (Chip.token hi.agent t ∷ []) → Step (chips v.things) after (Chip.waiter hi.agent t ∷ Chip.ack_here hi.agent ∷ []) (Chip.token hi.agent t ∷ [])
+      alone step = cancel (Chip.waiter hi.agent t ∷ Chip.ack_here hi.agent ∷ []) (Chip.token hi.agent t ∷ []) [] step (permuted swapped) (IsPermutation-refl (Chip.token hi.agent t ∷ []))
+      -- who is told waits for no agent that it made
+      forgets : {after : List Chip} → Step (chips v.things) after (Chip.ack_here hi.agent ∷ Chip.waiter hi.agent t ∷ []) (Chip.token hi.agent t ∷ []) → (b : Name) → (is_some (v.lock b) ≡ true) ⊎ (list_any (is_child_of hi.agent b) (chips v.things) ≡ true)
+          → is_some (v.lock b) ≡ true
+      forgets step b (inl known) = known
+      forgets {after} step b (inr child) = absurd (no_owed hi.agent b (chips v.things) ((acknowledged (scene v high)).finishes v.phase (chips v.things) after (Chip.token hi.agent t ∷ []) hi.agent t (alone step) c.protocol) child)
+
+  starts : (a : Expr) (hi : Atom) (p : Name) (t : ℕ) → IsBeginning n from a hi p t s.atom → map.get v.things e.actor ≡ Some (Thing.beginning a hi p t ∷ []) → Done
+  starts a hi p t i there =
+      let tell : Proc = sends_text i.node i.maker (variable i.binder) (ack n) unit in
+      let r = reads i.node (ack n) nothing (beside i.node (beside i.node i.body tell) (gives i.node (currentloc n) (variable i.binder))) i.is in
+      let k = takes_ack r.on in
+      let env = nothing_bound r.pattern in
+      let ack_there : map.get v.things s.other ≡ Some (Thing.mail (Mail.ack hi.agent k.site_of) Stage.there ∷ []) = k.ack_there ∙ ap (λ x. Some (Thing.mail (Mail.ack x k.site_of) Stage.there ∷ [])) i.stands.agent in
+      let us : List Thing = Thing.source a hi ∷ Thing.mail (Mail.ack p t) (Stage.in_agent s.atom.agent) ∷ Thing.token hi.agent t ∷ [] in
+      let site_is : eval (variable i.binder) s.env ≡ Some (value.Site t) = ap (eval (variable i.binder)) env ∙ variable-is i.binder s.atom.env ∙ i.tells in
+      let maker_is : eval i.maker s.env ≡ Some (value.Agent p) = ap (eval i.maker) env ∙ i.calls in
+      meets c next e s (Thing.beginning a hi p t ∷ []) us (Thing.mail (Mail.ack hi.agent k.site_of) Stage.there) (record {
+        applies = h;
+        no_packet = no_packet;
+        no_other_packet = k.no_packet_there;
+        there = there;
+        other_there = ack_there;
+        headed = All-from_recursion (λ u. high_atom u ≡ None) (Thing.mail (Mail.ack p t) (Stage.in_agent s.atom.agent) ∷ Thing.token hi.agent t ∷ []) (refl, (refl, tt));
+        are = Are.both {k = i.node} {p = beside i.node i.body tell} {q = gives i.node (currentloc n) (variable i.binder)} r.body
+            (Are.both {k = i.node} {p = i.body} {q = tell} refl
+            (Are.one (record { stands = stands_on i.body env i.stands; translates = i.translates }))
+            (Are.one (record {
+              agent = refl;
+              receiver = i.maker;
+              to = variable i.binder;
+              chan = ack n;
+              sent = unit;
+              role = refl;
+              is = forms.outs-Send i.maker (variable i.binder) (ack n) unit;
+              for_agent = rw (maker_is, outs.outs-Agent p) refl;
+              for_site = site_is;
+              on = channel-is (own n 7) s.env;
+              holds = unit-is s.env;
+            }, tt)))
+            (Are.one (record { agent = i.stands.agent; gives = token_given i.node (variable i.binder) t site_is }, i.stands.apart));
+        atoms = refl;
+        packets = refl;
+        no_atom = refl;
+        no_high_packet = refl;
+        protocol = λ step. keeps-protocol (scene v high) (scene v high) v.phase (chips v.things) _ (Chip.ack_here hi.agent ∷ Chip.child hi.agent p t ∷ []) (Chip.token hi.agent t ∷ Chip.ack_sent p t ∷ []) (Rule.starts {b = hi.agent} {p = p} {s = t})
+            (cancel (Chip.ack_here hi.agent ∷ Chip.child hi.agent p t ∷ []) (Chip.token hi.agent t ∷ Chip.ack_sent p t ∷ []) [] step (IsPermutation-refl (Chip.ack_here hi.agent ∷ Chip.child hi.agent p t ∷ [])) (permuted swapped)) c.protocol;
+        children = children;
+        known = λ step k. (knows_more (may_know v.lock (chips v.things) (Thing.beginning a hi p t)) (λ b. is_some (v.lock b)) (is_channel n high.born) from (λ b m. in_map step b (or_cases (is_some (v.lock b)) (same_name b hi.agent) m)) (Thing.source a hi) k.0, (tt, (tt, tt)));
+      })
+    where
+      registered : {after give : List Chip} → Step (chips v.things) after (Chip.ack_here hi.agent ∷ Chip.child hi.agent p t ∷ []) give → is_some (v.lock hi.agent) ≡ true
+      registered {after} {give} step = (acknowledged (scene v high)).starts v.phase (chips v.things) after give hi.agent p t step c.protocol
+      in_map : {after give : List Chip} → Step (chips v.things) after (Chip.ack_here hi.agent ∷ Chip.child hi.agent p t ∷ []) give → (b : Name) → (is_some (v.lock b) ≡ true) ⊎ (same_name b hi.agent ≡ true) → is_some (v.lock b) ≡ true
+      in_map step b (inl known) = known
+      in_map step b (inr itself) = ap (λ x. is_some (v.lock x)) (same_name-is b hi.agent itself) ∙ registered step
+      children : {after give : List Chip} → Step (chips v.things) after (Chip.ack_here hi.agent ∷ Chip.child hi.agent p t ∷ []) give → (x b : Name) → list_any (is_child_of x b) (chips v.things) ≡ true
+          → (list_any (is_child_of x b) after ≡ true) ⊎ (is_some (v.lock b) ≡ true)
+      children {after} {give} step x b any =
+          elim (any_out (is_child_of x b) (Chip.ack_here hi.agent ∷ Chip.child hi.agent p t ∷ []) step.rest (sym (list_any-IsPermutation (is_child_of x b) (chips v.things) ((Chip.ack_here hi.agent ∷ Chip.child hi.agent p t ∷ []) ++ step.rest) step.taken) ∙ any)) [
+            | inl taken ↦ inr (ap (λ y. is_some (v.lock y)) (sym (same_name-is hi.agent b (its (same_name hi.agent b) (same_name p x) taken))) ∙ registered step)
+            | inr rest ↦ inl (list_any-IsPermutation (is_child_of x b) after (give ++ step.rest) step.given ∙ any_in (is_child_of x b) give step.rest (inr rest))
+          ]
+        where
+          its : (y z : Bool) → ((y && z) || false) ≡ true → y ≡ true
+          its true z m = refl
+          its false z m = absurd cc
+
+  -- ---- with `currentloc`
+
+  -- the token is the agent's own
+  record TakesToken : Type 0 where
+    no_packet_there : map.get low.packets s.other ≡ None
+    site_of : ℕ
+    token_there : map.get v.things s.other ≡ Some (Thing.token s.atom.agent site_of ∷ [])
+    what : s.what ≡ value.Site site_of
+
+  takes_token : s.on ≡ currentloc n → TakesToken
+  takes_token on =
+      let o = of_atom c s.other s.offers.mate s.offers.waits in
+      let g = given_by c s.other s.offers.mate s.offers.sent s.offers.waits s.offers.sends_it o.things o.there o.are in
+      let other : map.get v.things s.other ≡ Some (g.thing ∷ []) = o.there ∙ ap Some g.alone in
+      by_token n s.offers.mate s.offers.sent.0 s.offers.sent.1 g.thing (no_lock_at c s.other 9 g.thing refl (λ e. let bad : ⊥ = omega arith in bad) other) (sent-is (own n 9) (chan_at 9 on)) g.gift λ a t thing what for.
+      record {
+        no_packet_there = o.no_packet;
+        site_of = t;
+        token_there = other ∙ ap (λ t. Some (t ∷ [])) (thing ∙ ap (λ x. Thing.token x t) (sym (together ∙ for)));
+        what = s.offers.is ∙ what;
+      }
+
+  -- what names the agent has the same value at both levels
+  named_is : {named : Expr} {hi lo : Atom} → StandsFor n from named hi lo → eval named lo.env ≡ Some (value.Agent hi.agent)
+  named_is {named} {hi} {lo} i = go named i.source.named i.called
+    where
+      go : {bound : List ℕ} (a : Expr) → Names n from bound a → eval a hi.env ≡ Some (value.Agent hi.agent) → eval a lo.env ≡ Some (value.Agent hi.agent)
+      go a Names.as_main called = constant-is (value.Agent (own n 0)) lo.env ∙ sym (constant-is (value.Agent (own n 0)) hi.env) ∙ called
+      go a (Names.as_binder {y = y} below apart) called = variable-is y lo.env ∙ i.agrees.same y below ∙ sym (variable-is y hi.env) ∙ called
+
+  begins_move : (a : Expr) (hi : Atom) (tag : Tag) (at : ℕ) (to : Expr) (body below : Proc) → IsOfSource n from a hi s.atom → hi.proc ≡ source tag at (form.Migrate to body) → s.atom.proc ≡ migrate_text n tag.node a to below
+      → Translates n from a body below → map.get v.things e.actor ≡ Some (Thing.source a hi ∷ []) → Done
+  begins_move a hi tag at to body below i is text translates there =
+      let left : Proc = takes tag.node (ack n) nothing (move_text n tag.node a to below) in
+      let right : Proc = tells n tag.node (migrating n) a in
+      let r = reads tag.node (currentloc n) nothing (beside tag.node left right) text in
+      let k = takes_token r.on in
+      let env = nothing_bound r.pattern in
+      let token_there : map.get v.things s.other ≡ Some (Thing.token hi.agent k.site_of ∷ []) = k.token_there ∙ ap (λ x. Some (Thing.token x k.site_of ∷ [])) i.stands.agent in
+      let us : List Thing = Thing.asking a hi ∷ Thing.mail (Mail.migrating hi.agent) (Stage.in_agent s.atom.agent) ∷ [] in
+      meets c next e s (Thing.source a hi ∷ []) us (Thing.token hi.agent k.site_of) (record {
+        applies = h;
+        no_packet = no_packet;
+        no_other_packet = k.no_packet_there;
+        there = there;
+        other_there = token_there;
+        headed = All-from_recursion (λ u. high_atom u ≡ None) (Thing.mail (Mail.migrating hi.agent) (Stage.in_agent s.atom.agent) ∷ []) (refl, tt);
+        are = Are.both {k = tag.node} {p = left} {q = right} r.body
+            (Are.one (record { stands = stands_on left env i.stands; migrates = record { tag = tag; at = at; to = to; body = body; low = below; is = is; translates = translates }; is = refl }))
+            (Are.one (record {
+              agent = refl;
+              receiver = daemon n;
+              to = site 0;
+              chan = migrating n;
+              sent = a;
+              role = refl;
+              is = forms.outs-Send (daemon n) (site 0) (migrating n) a;
+              for_agent = agent-is (daemon_agent n) s.env;
+              for_site = constant-is (value.Site 0) s.env;
+              on = channel-is (own n 3) s.env;
+              holds = ap (eval a) env ∙ named_is i.stands;
+            }, tt));
+        atoms = refl;
+        packets = refl;
+        no_atom = refl;
+        no_high_packet = refl;
+        protocol = λ step. keeps-protocol (scene v high) (scene v high) v.phase (chips v.things) _ (Chip.token hi.agent k.site_of ∷ []) (Chip.mover hi.agent ∷ Chip.request hi.agent ∷ []) (Rule.begins_move {a = hi.agent} {s = k.site_of}) step c.protocol;
+        children = λ step a b any. inl (any_kept (is_child_of a b) step (λ x. x) any);
+        known = λ step k. (k.0, (tt, tt));
+      })
+
+  begins_creation : (a : Expr) (hi : Atom) (tag : Tag) (at b st l pl : ℕ) (p q lp lq : Proc) → IsOfSource n from a hi s.atom → hi.proc ≡ source tag at (form.Agent b p q) → s.atom.proc ≡ agent_text n tag.node a b st l pl lp lq
+      → from ≤ st → from ≤ l → from ≤ pl → (l ≡ pl → ⊥) → Translates n from (variable b) p lp → Translates n from a q lq → map.get v.things e.actor ≡ Some (Thing.source a hi ∷ []) → Done
+  begins_creation a hi tag at b st l pl p q lp lq i is text above_st above_l above_pl apart tp tq there =
+      let body : Proc = process tag.node role.Plain (form.Agent b (child_text n tag.node a b st l pl lp) (settles n tag.node (variable st) lq)) in
+      let r = reads tag.node (currentloc n) (name st) body text in
+      let k = takes_token r.on in
+      let env = bound st (value.Site k.site_of) r.pattern k.what in
+      let token_there : map.get v.things s.other ≡ Some (Thing.token hi.agent k.site_of ∷ []) = k.token_there ∙ ap (λ x. Some (Thing.token x k.site_of ∷ [])) i.stands.agent in
+      meets c next e s (Thing.source a hi ∷ []) (Thing.making a hi k.site_of ∷ []) (Thing.token hi.agent k.site_of) (record {
+        applies = h;
+        no_packet = no_packet;
+        no_other_packet = k.no_packet_there;
+        there = there;
+        other_there = token_there;
+        headed = All-nil (λ u. high_atom u ≡ None);
+        are = Are.one (record {
+          stands = record {
+            agent = i.stands.agent;
+            apart = i.stands.apart;
+            source = i.stands.source;
+            agrees = record { same = λ x below. ap (λ (e : Env). map.get e x) env ∙ there_is s.atom.env st x (value.Site k.site_of) (λ e. let bad : ⊥ = omega arith in bad) ∙ i.stands.agrees.same x below };
+            called = i.stands.called;
+          };
+          creates = record {
+            tag = tag;
+            at = at;
+            binder = b;
+            body = p;
+            rest = q;
+            site = st;
+            letter = l;
+            place = pl;
+            site_above = above_st;
+            letter_above = above_l;
+            place_above = above_pl;
+            apart = apart;
+            low_body = lp;
+            low_rest = lq;
+            is = is;
+            body_translates = tp;
+            rest_translates = tq;
+          };
+          is = r.body;
+          tells = ap (λ (e : Env). map.get e st) env ∙ here_is s.atom.env st (value.Site k.site_of);
+        });
+        atoms = refl;
+        packets = refl;
+        no_atom = refl;
+        no_high_packet = refl;
+        protocol = λ step. keeps-protocol (scene v high) (scene v high) v.phase (chips v.things) _ (Chip.token hi.agent k.site_of ∷ []) (Chip.maker hi.agent k.site_of ∷ []) (Rule.begins_creation {a = hi.agent} {s = k.site_of}) step c.protocol;
+        children = λ step a b any. inl (any_kept (is_child_of a b) step (λ x. x) any);
+        known = λ step k. k;
+      })
+
+  -- a process of the source that takes `currentloc`
+  of_source : (a : Expr) (hi : Atom) (p q : Proc) → IsOfSource n from a hi s.atom → hi.proc ≡ p → s.atom.proc ≡ q → p.tag.role ≡ role.Plain → q.tag.role ≡ role.Infra → Translates n from a p q → map.get v.things e.actor ≡ Some (Thing.source a hi ∷ []) → Done
+  of_source a hi p q i is text plain infra (Translates.migrate {k = tag} {at = at} {e = to} {p = body} {p' = below} t) there = begins_move a hi tag at to body below i is text t there
+  of_source a hi p q i is text plain infra (Translates.agent {k = tag} {at = at} {b = b} {s = st} {l = l} {t = pl} {p = x} {p' = x'} {q = y} {q' = y'} f g w apart tp tq) there =
+      begins_creation a hi tag at b st l pl x y x' y' i is text f g w apart tp tq there
+  of_source a hi p q i is text plain infra Translates.post there = absurd (let bad : role.Post ≡ role.Infra = infra in cc)
+  of_source a hi p q i is text plain infra _ there = absurd (let bad : role.Plain ≡ role.Infra = sym plain ∙ infra in cc)
+
+  -- ---- all of them
+
+  pub by_thing : (t : Thing) → s.atom.proc.tag.role ≡ role.Infra → Is n from first t s.atom → begins t role.Infra kind.Comm ≡ true → map.get v.things e.actor ≡ Some (t ∷ []) → Done
+  by_thing (Thing.source a hi) infra i b there = of_source a hi hi.proc s.atom.proc i refl refl (source-plain i.stands.source.sound) infra i.translates there
+  by_thing (Thing.asking a hi) infra i b there = is_granted a hi i there
+  by_thing (Thing.settling a hi t) infra i b there = finishes a hi t i there
+  by_thing (Thing.beginning a hi p t) infra i b there = starts a hi p t i there
+  by_thing (Thing.taken m) infra i b there = takes_the_map m i there
+  by_thing (Thing.wanting m l) infra i b there = takes_lock m l i there
+  by_thing (Thing.mail m (Stage.in_agent x)) infra i b there = absurd cc
+  by_thing _ infra i b there = absurd cc
+
+pub communicates : {n from first : ℕ} {low high : Config} {v : View} → Coupled n from first low high v → (e : Event) (next : Config) → e.kind ≡ kind.Comm → e.tag.role ≡ role.Infra → apply low e ≡ Some next → (w : View) × Coupled n from first next high w
+communicates {low = low} c e next is_comm infra h =
+    let s = meeting low e next (ap (λ k. row k low e) (sym is_comm) ∙ h) in
+    let its_role = same_role s.atom.proc.tag e.tag s.acts.tag ∙ infra in
+    let o = of_actor c e.actor s.atom kind.Comm role.Infra s.acts.there (ap begun_by s.form) its_role (λ k r. cc) in
+    by_thing c e next s o.no_packet h o.thing its_role o.is o.its_kind o.there

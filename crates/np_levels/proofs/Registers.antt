@@ -1,0 +1,273 @@
+-- The daemon makes a lock for a new agent, and enters it in its map.
+use Rattle.std.proofs.Common.{◌≡◌, ◌⊎◌, inl, inr, ◌+◌, ℕ, Bool, true, false, cond, not, ◌||◌, is_some, Option, None, Some, List, [], ◌∷◌, ◌++◌, refl, sym, ap, subst, ◌∙◌, arith}
+use Rattle.std.specs.List.{All, AllByRecursion, list_any}
+use Rattle.std.proofs.lemmas.List.Sorted.{IsPermutation-refl}
+use Rattle.std.proofs.lemmas.List.Elements.{All-from_recursion, All-weaker, recursion_from_All}
+use Rattle.std.specs.FinMap as map
+use Rattle.std.specs.FinSet as set
+use Rattle.np_syntax.specs.declared.value.Name.{Name}
+use Rattle.np_syntax.specs.declared.value.Value.{Value}
+use Rattle.np_syntax.specs.declared.value.Value as value
+use Rattle.np_syntax.specs.declared.value.Value.TheVariants as outs
+use Rattle.np_syntax.specs.declared.types.Ty.{Ty}
+use Rattle.np_syntax.specs.declared.expression.Expr.{Expr}
+use Rattle.np_syntax.specs.declared.process.Proc.{Proc}
+use Rattle.np_syntax.specs.declared.process.Role.TheVariants as role
+use Rattle.np_syntax.specs.declared.process.ProcForm.{ProcForm-F}
+use Rattle.np_syntax.specs.declared.process.ProcForm.TheVariants as forms
+use Rattle.np_syntax.specs.declared.event.Event.{Event}
+use Rattle.np_syntax.specs.declared.event.Kind.TheVariants as kind
+use Rattle.np_syntax.specs.declared.event.Made.TheVariants as made
+use Rattle.np_syntax.specs.Options.{◌>>=◌}
+use Rattle.np_syntax.proofs.Options.{then, done}
+use Rattle.np_tables.specs.Names.{NameMap, same_name}
+use Rattle.np_tables.proofs.Tables.{born_here, get-put, put_here, same_name-is, same_name-itself, same_name-swap}
+use Rattle.np_calculus.specs.declared.config.Atom.{Atom}
+use Rattle.np_calculus.specs.Begins.{begun_by}
+use Rattle.np_calculus.specs.Changes.{Change, effect, put, still, with_made}
+use Rattle.np_calculus.specs.Config.{Config}
+use Rattle.np_calculus.specs.Reductions.{apply, goes_under, no_other, one_made, row, sends}
+use Rattle.np_calculus.specs.Seen.{acting}
+use Rattle.np_calculus.specs.Sight.{inside, sight}
+use Rattle.np_calculus.specs.Starts.{daemon_agent, main_agent, own, own_names}
+unfoldable use Rattle.np_calculus.proofs.Common.{act}
+use Rattle.np_calculus.proofs.Rows.{parts}
+use Rattle.np_calculus.proofs.Steps.{Acts, acting-step, is-one, one-new, row-step}
+use Rattle.np_eval.specs.Eval.{Env, eval, find_place, put_place}
+use Rattle.np_eval.specs.Forms.{Layer, layer}
+use Rattle.np_eval.proofs.Evals.{eval-form, eval-with}
+use Rattle.np_check.specs.Faults.{lock_type}
+use Rattle.np_protocol.specs.Chips.{Chip, Service}
+use Rattle.np_protocol.specs.Phases.{Phase}
+use Rattle.np_protocol.specs.Protocol.{IsTrueOf, Protocol}
+use Rattle.np_protocol.specs.Rules.{Rule}
+use Rattle.np_protocol.specs.Scenes.{Locks, changed, with_lock}
+use Rattle.np_protocol.specs.Steps.{Step}
+use Rattle.np_protocol.proofs.Keeps.{keeps-protocol}
+use Rattle.np_protocol.proofs.Steps.{all_taken}
+use Rattle.daemon_encode.specs.Pieces.{ack, beside, gives, lock, unit, variable}
+use Rattle.daemon_encode.specs.Daemon.{acks, enters, with_lock as with_text}
+use Rattle.np_things.specs.Acting.{begins}
+use Rattle.np_things.specs.Desks.{Took, desk}
+use Rattle.np_things.specs.Mail.{Mail}
+use Rattle.np_things.specs.Shapes.{Are, Is, IsLooking}
+use Rattle.np_things.specs.Things.{IsHeaded, Stage, Thing, first_atom_of, first_packet_of, high_atom, show_all}
+use Rattle.np_levels.specs.Coupled.{Coupled, IsShaped, KnowsOnly, View, chips, is_channel, is_child_of, may_know, scene, whereabouts}
+use Rattle.np_levels.proofs.Becomes.{cancel}
+use Rattle.np_levels.proofs.Born.{born-kept, made-kept}
+use Rattle.np_levels.proofs.Lookups.{gives_two}
+use Rattle.np_levels.proofs.Marks.{may_know_more, reshape, step_at}
+use Rattle.np_levels.proofs.Orders.{and_then, behind, permuted, swapped}
+use Rattle.np_levels.proofs.Quiet.{any_kept, knows_more, or_cases, or_second, quiet_with}
+use Rattle.np_levels.proofs.Shapes.{of_actor, same_role}
+use Rattle.np_levels.proofs.Values.{channel-is, here_is, there_is, unit-is, variable-is}
+
+record IsNaming (low : Config) (e : Event) (next : Config) : Type 0 where
+  atom : Atom
+  acts : Acts low e atom
+  binder : ℕ
+  type : Ty
+  body : Proc
+  form : layer atom.proc ≡ ProcForm-F.New binder type body
+  new : Name
+  made_one : e.made ≡ made.One new
+  is_new : set.contains low.born new ≡ false
+  is : next ≡ effect low e (record still { atoms = put e.actor (goes_under atom body (map.insert atom.env binder (value.Chan new))) ∷ [] })
+
+naming : (low : Config) (e : Event) (next : Config) → row kind.New low e ≡ Some next → IsNaming low e next
+unfolding act
+naming low e next h =
+    let r = row-step low e next kind.New h in
+    then (acting low e) _ r.gives λ a acts h. parts kind.New (sight low.sites (inside low) e.site) e a h λ p form h.
+    then (one_made e.made) _ h λ m one h. then (no_other e.other) _ h λ w other h.
+    record {
+      atom = a;
+      acts = acting-step low e a acts;
+      binder = p.0;
+      type = p.1;
+      body = p.2;
+      form = form;
+      new = m;
+      made_one = is-one e.made m one;
+      is_new = not_one (set.contains low.born m) (sym (one-new low.born e.made m one) ∙ r.new);
+      is = r.is ∙ ap (effect low e) (done h);
+    }
+  where
+    not_one : (t : Bool) → not t ≡ true → t ≡ false
+    not_one true h = absurd cc
+    not_one false h = refl
+
+new_parts : (x y : ℕ) (t u : Ty) (p q : Proc) → ◌≡◌ {A = Layer} (ProcForm-F.New x t p) (ProcForm-F.New y u q) → (p ≡ q) × (x ≡ y)
+new_parts x y t u p q same = (cc, cc)
+
+-- the map with an agent entered
+find-put : (ps : List (Name × Name)) (b l a : Name) → find_place (put_place ps b l) a ≡ cond (same_name a b) (Some l) (find_place ps a)
+find-put [] b l a = ap (λ t. cond t (Some l) None) (same_name-swap b a)
+find-put (p ∷ ps) b l a = go (same_name p.0 b) refl (find-put ps b l a)
+  where
+    go : (t : Bool) → same_name p.0 b ≡ t → find_place (put_place ps b l) a ≡ cond (same_name a b) (Some l) (find_place ps a)
+        → find_place (cond t ((b, l) ∷ ps) (p ∷ put_place ps b l)) a ≡ cond (same_name a b) (Some l) (cond (same_name p.0 a) (Some p.1) (find_place ps a))
+    go true e rest = ap (λ t. cond t (Some l) (find_place ps a)) (same_name-swap b a) ∙ at (same_name a b) refl
+      where
+        at : (u : Bool) → same_name a b ≡ u → cond u (Some l) (find_place ps a) ≡ cond u (Some l) (cond (same_name p.0 a) (Some p.1) (find_place ps a))
+        at true f = refl
+        at false f = sym (ap (λ t. cond t (Some p.1) (find_place ps a)) (ap (λ x. same_name x a) (same_name-is p.0 b e) ∙ same_name-swap b a ∙ f))
+    go false e rest = ap (λ o. cond (same_name p.0 a) (Some p.1) o) rest ∙ at (same_name p.0 a) (same_name a b) refl refl
+      where
+        at : (t u : Bool) → same_name p.0 a ≡ t → same_name a b ≡ u → cond t (Some p.1) (cond u (Some l) (find_place ps a)) ≡ cond u (Some l) (cond t (Some p.1) (find_place ps a))
+        at true true f g = absurd (let bad : false ≡ true = sym e ∙ ap (λ x. same_name x b) (same_name-is p.0 a f) ∙ g in cc)
+        at true false f g = refl
+        at false u f g = refl
+
+-- the value of (m with a -> l)
+with-is : (m a l : ℕ) (env : Env) (ps : List (Name × Name)) (b k : Name) → map.get env m ≡ Some (value.Places ps) → map.get env a ≡ Some (value.Agent b) → map.get env l ≡ Some (value.Chan k)
+    → eval (with_text m a l) env ≡ Some (value.Places (put_place ps b k))
+with-is m a l env ps b k x y z =
+    rw (eval-form (with_text m a l) env, eval-with (variable m) (variable a) (variable l) env, variable-is m env, x, variable-is a env, y, variable-is l env, z, outs.outs-Places ps, outs.outs-Agent b, outs.outs-Chan k) refl
+
+names_by : {R : Type 0} (n from first : ℕ) (t : Thing) (a : Atom) → Is n from first t a → begins t role.Infra kind.New ≡ true → ((m : Mail) (ps : List (Name × Name)) → t ≡ Thing.looking m ps → IsLooking n first m ps a → R) → R
+names_by n from first (Thing.looking m ps) a i h f = f m ps refl i
+names_by n from first (Thing.mail m (Stage.in_agent x)) a i h f = absurd cc
+names_by n from first _ a i h f = absurd cc
+
+module _ {n from first : ℕ} {low high : Config} {v : View} (c : Coupled n from first low high v) where
+  entered : (e : Event) (next : Config) (s : IsNaming low e next) (b : Name) (t : ℕ) (ps : List (Name × Name)) → IsLooking n first (Mail.register b t) ps s.atom → s.atom.proc ≡ (desk n first Service.registers).body → Took first Service.registers (Mail.register b t) s.atom.env
+      → map.get s.atom.env (first + 2) ≡ Some (value.Places ps) → map.get low.packets e.actor ≡ None → map.get v.things e.actor ≡ Some (Thing.looking (Mail.register b t) ps ∷ []) → apply low e ≡ Some next → (w : View) × Coupled n from first next high w
+  entered e next s b t ps i text took map_is no_packet there h =
+      (record v { things = things; lock = lock_now; phase = protocol.0 }, quiet_with c next things lock_now protocol.0 (record {
+        sites = ap (λ (d : Config). d.sites) s.is;
+        places = ap (λ (d : Config). d.places) s.is;
+        said = ap (λ (d : Config). d.said) s.is;
+        born = still_born;
+        stand_born = born-kept low next e c.stand_born h;
+        shaped = λ q. shaped q (same_name q e.actor) refl;
+        atoms = λ q. atoms q (same_name q e.actor) refl;
+        packets = λ q. packets q (same_name q e.actor) refl;
+        old_or_new = λ q vs j. inl (old q vs (same_name q e.actor) refl j);
+        protocol = protocol.1;
+        locks_born = λ a k j. lock_born a k (same_name a b) j;
+        locks_apart = λ a k j o. lock_apart a k (same_name a b) j o;
+        main = entered_some (main_agent n) c.main;
+        known = λ q vs j. known q vs (same_name q e.actor) refl j;
+      }))
+    where
+      env : Env
+      env = map.insert s.atom.env (first + 3) (value.Chan s.new)
+      texts : ◌≡◌ {A = Layer} (ProcForm-F.New s.binder s.type s.body) (ProcForm-F.New (first + 3) lock_type (enters n first (first + 1) (first + 2) (first + 3)))
+      texts = sym s.form ∙ ap layer text ∙ forms.outs-New (first + 3) lock_type (enters n first (first + 1) (first + 2) (first + 3))
+      body : s.body ≡ enters n first (first + 1) (first + 2) (first + 3)
+      body = (new_parts s.binder (first + 3) s.type lock_type s.body (enters n first (first + 1) (first + 2) (first + 3)) texts).0
+      binder : s.binder ≡ first + 3
+      binder = (new_parts s.binder (first + 3) s.type lock_type s.body (enters n first (first + 1) (first + 2) (first + 3)) texts).1
+      low_atom : Atom
+      low_atom = goes_under s.atom (enters n first (first + 1) (first + 2) (first + 3)) env
+      is : next ≡ effect low e (record still { atoms = put e.actor low_atom ∷ [] })
+      is = s.is ∙ ap (λ x. effect low e (record still { atoms = put e.actor (goes_under s.atom s.body (map.insert s.atom.env x (value.Chan s.new))) ∷ [] })) binder
+          ∙ ap (λ x. effect low e (record still { atoms = put e.actor (goes_under s.atom x env) ∷ [] })) body
+      us : List Thing
+      us = Thing.places (put_place ps b s.new) ∷ Thing.free s.new t ∷ Thing.mail (Mail.ack b t) (Stage.in_agent s.atom.agent) ∷ []
+      things : NameMap (List Thing)
+      things = map.insert v.things e.actor us
+      lock_now : Locks
+      lock_now = changed v.lock b (Some s.new)
+      step : Step (chips v.things) (chips things) (show_all (Thing.looking (Mail.register b t) ps ∷ [])) (show_all us)
+      step = step_at v.things e.actor (Thing.looking (Mail.register b t) ps ∷ []) us there
+      told : AllByRecursion (IsTrueOf (scene v high) v.phase) (Chip.locks (find_place ps) ∷ Chip.registration b t ∷ [])
+      told = recursion_from_All (IsTrueOf (scene v high) v.phase) (Chip.locks (find_place ps) ∷ Chip.registration b t ∷ []) (all_taken step (IsTrueOf (scene v high) v.phase) c.protocol.true_chips)
+      no_such : (a : Name) → v.lock a ≡ Some s.new → ⊥
+      no_such a j = let bad : false ≡ true = sym s.is_new ∙ c.locks_born a s.new j in cc
+      protocol : (then : Name → Phase) × Protocol (with_lock (scene v high) b s.new) then (chips things)
+      protocol = keeps-protocol (scene v high) (with_lock (scene v high) b s.new) v.phase (chips v.things) (chips things) (Chip.registration b t ∷ Chip.locks (find_place ps) ∷ []) (Chip.ack_sent b t ∷ Chip.locks (find_place (put_place ps b s.new)) ∷ Chip.free s.new t ∷ [])
+          (Rule.registers {b = b} {l = s.new} {s = t} {m = find_place ps} {n = find_place (put_place ps b s.new)} no_such (λ a. find-put ps b s.new a ∙ ap (λ o. cond (same_name a b) (Some s.new) o) (told.0 a)))
+          (cancel (Chip.registration b t ∷ Chip.locks (find_place ps) ∷ []) (Chip.ack_sent b t ∷ Chip.locks (find_place (put_place ps b s.new)) ∷ Chip.free s.new t ∷ []) [] step (permuted swapped) (permuted (and_then (behind swapped) swapped))) c.protocol
+      still_born : (q : Name) → set.contains low.born q ≡ true → set.contains next.born q ≡ true
+      still_born q j = ap (λ (d : Config). set.contains d.born q) s.is ∙ made-kept low.born e.made q j
+      new_born : set.contains next.born s.new ≡ true
+      new_born = ap (λ (d : Config). set.contains d.born s.new) s.is ∙ ap (λ m. set.contains (with_made low.born m) s.new) s.made_one ∙ born_here low.born s.new
+      lock_born : (a k : Name) (u : Bool) → cond u (Some s.new) (v.lock a) ≡ Some k → set.contains next.born k ≡ true
+      lock_born a k true j = ap (set.contains next.born) (done j) ∙ new_born
+      lock_born a k false j = still_born k (c.locks_born a k j)
+      lock_apart : (a k : Name) (u : Bool) → cond u (Some s.new) (v.lock a) ≡ Some k → set.contains (own_names n) k ≡ true → k ≡ own n 13
+      lock_apart a k true j o = absurd (let bad : false ≡ true = sym s.is_new ∙ c.born s.new (c.own_born s.new (ap (set.contains (own_names n)) (sym (done j)) ∙ o)) in cc)
+      lock_apart a k false j o = c.locks_apart a k j o
+      entered_some : (a : Name) → is_some (v.lock a) ≡ true → is_some (lock_now a) ≡ true
+      entered_some a j = go (same_name a b)
+        where
+          go : (u : Bool) → is_some (cond u (Some s.new) (v.lock a)) ≡ true
+          go true = refl
+          go false = j
+      unchanged : (q : Name) → same_name q e.actor ≡ false → map.get things q ≡ map.get v.things q
+      unchanged q f = get-put v.things e.actor us q ∙ ap (λ x. cond x (Some us) (map.get v.things q)) f
+      its : (q : Name) → same_name q e.actor ≡ true → map.get things q ≡ Some us
+      its q f = get-put v.things e.actor us q ∙ ap (λ x. cond x (Some us) (map.get v.things q)) f
+      was : (q : Name) → same_name q e.actor ≡ true → map.get v.things q ≡ Some (Thing.looking (Mail.register b t) ps ∷ [])
+      was q f = ap (map.get v.things) (same_name-is q e.actor f) ∙ there
+      agent_is : map.get env first ≡ Some (value.Agent b)
+      agent_is = there_is s.atom.env (first + 3) first (value.Chan s.new) (λ e. let bad : ⊥ = omega arith in bad) ∙ took.0
+      site_is : map.get env (first + 1) ≡ Some (value.Site t)
+      site_is = there_is s.atom.env (first + 3) (first + 1) (value.Chan s.new) (λ e. let bad : ⊥ = omega arith in bad) ∙ took.1
+      places_is : map.get env (first + 2) ≡ Some (value.Places ps)
+      places_is = there_is s.atom.env (first + 3) (first + 2) (value.Chan s.new) (λ e. let bad : ⊥ = omega arith in bad) ∙ map_is
+      lock_is : map.get env (first + 3) ≡ Some (value.Chan s.new)
+      lock_is = here_is s.atom.env (first + 3) (value.Chan s.new)
+      are : Are n from first low_atom us
+      are = Are.both {k = 0} {p = beside 0 (gives 0 (lock n) (with_text (first + 2) first (first + 3))) (gives 0 (variable (first + 3)) (variable (first + 1)))} {q = acks n first (first + 1)} refl
+          (Are.both {k = 0} {p = gives 0 (lock n) (with_text (first + 2) first (first + 3))} {q = gives 0 (variable (first + 3)) (variable (first + 1))} refl
+          (Are.one (record { agent = i.agent; gives = rw (forms.outs-Out (lock n) (with_text (first + 2) first (first + 3)), channel-is (own n 10) env, with-is (first + 2) first (first + 3) env ps b s.new places_is agent_is lock_is) refl }))
+          (Are.one (record { agent = i.agent; gives = gives_two s.atom.agent 0 (first + 3) (first + 1) env s.new (value.Site t) lock_is site_is })))
+          (Are.one (record {
+            agent = refl;
+            receiver = variable first;
+            to = variable (first + 1);
+            chan = ack n;
+            sent = unit;
+            role = refl;
+            is = forms.outs-Send (variable first) (variable (first + 1)) (ack n) unit;
+            for_agent = rw (variable-is first env, agent_is, outs.outs-Agent b) refl;
+            for_site = variable-is (first + 1) env ∙ site_is;
+            on = channel-is (own n 7) env;
+            holds = unit-is env;
+          }, tt))
+      shaped : (q : Name) (u : Bool) → same_name q e.actor ≡ u → IsShaped n from first next things q
+      shaped q true f = subst (IsShaped n from first next things) (sym (same_name-is q e.actor f))
+          (IsShaped.atom (ap (λ (d : Config). map.get d.atoms e.actor) is ∙ put_here low.atoms e.actor low_atom) (ap (λ (d : Config). map.get d.packets e.actor) is ∙ no_packet) (put_here v.things e.actor us)
+          (All-from_recursion (λ u. high_atom u ≡ None) (Thing.free s.new t ∷ Thing.mail (Mail.ack b t) (Stage.in_agent s.atom.agent) ∷ []) (refl, (refl, tt))) are)
+      shaped q false f = reshape q (ap (λ (d : Config). map.get d.atoms q) is ∙ get-put low.atoms e.actor low_atom q ∙ ap (λ x. cond x (Some low_atom) (map.get low.atoms q)) f) (ap (λ (d : Config). map.get d.packets q) is) (unchanged q f) (c.shaped q)
+      atoms : (q : Name) (u : Bool) → same_name q e.actor ≡ u → (map.get things q >>= first_atom_of) ≡ (map.get v.things q >>= first_atom_of)
+      atoms q true f = ap (λ o. o >>= first_atom_of) (its q f) ∙ sym (ap (λ o. o >>= first_atom_of) (was q f))
+      atoms q false f = ap (λ o. o >>= first_atom_of) (unchanged q f)
+      packets : (q : Name) (u : Bool) → same_name q e.actor ≡ u → (map.get things q >>= first_packet_of) ≡ (map.get v.things q >>= first_packet_of)
+      packets q true f = ap (λ o. o >>= first_packet_of) (its q f) ∙ sym (ap (λ o. o >>= first_packet_of) (was q f))
+      packets q false f = ap (λ o. o >>= first_packet_of) (unchanged q f)
+      old : (q : Name) (vs : List Thing) (u : Bool) → same_name q e.actor ≡ u → map.get things q ≡ Some vs → (ws : List Thing) × (map.get v.things q ≡ Some ws)
+      old q vs true f j = (Thing.looking (Mail.register b t) ps ∷ [], was q f)
+      old q vs false f j = (vs, sym (unchanged q f) ∙ j)
+      lock_more : (x : Thing) (a : Name) → may_know v.lock (chips things) x a ≡ true → may_know lock_now (chips things) x a ≡ true
+      lock_more (Thing.settling y hi u) a k = elim (or_cases _ (list_any (is_child_of hi.agent a) (chips things)) k) [ inl j ↦ ap (λ o. o || list_any (is_child_of hi.agent a) (chips things)) (entered_some a j) | inr j ↦ or_second _ _ j ]
+      lock_more (Thing.beginning y hi p u) a k = elim (or_cases _ (same_name a hi.agent) k) [ inl j ↦ ap (λ o. o || same_name a hi.agent) (entered_some a j) | inr j ↦ or_second _ _ j ]
+      lock_more _ a k = entered_some a k
+      known : (q : Name) (vs : List Thing) (u : Bool) → same_name q e.actor ≡ u → map.get things q ≡ Some vs → All (λ t. KnowsOnly (may_know lock_now (chips things) t) (is_channel n high.born) from t) vs
+      known q vs true f j = subst (All (λ t. KnowsOnly (may_know lock_now (chips things) t) (is_channel n high.born) from t)) (sym (done (sym (its q f) ∙ j)))
+          (All-from_recursion (λ t. KnowsOnly (may_know lock_now (chips things) t) (is_channel n high.born) from t) us (tt, (tt, (tt, tt))))
+      known q vs false f j = All-weaker (λ t. KnowsOnly (may_know v.lock (chips v.things) t) (is_channel n high.born) from t) (λ t. KnowsOnly (may_know lock_now (chips things) t) (is_channel n high.born) from t)
+          (λ x k. knows_more (may_know v.lock (chips v.things) x) (may_know lock_now (chips things) x) (is_channel n high.born) from
+              (λ a m. lock_more x a (may_know_more v.lock (chips v.things) (chips things) (λ y z any. any_kept (is_child_of y z) step (λ w. w) any) x a m)) x k)
+          vs (c.known q vs (sym (unchanged q f) ∙ j))
+
+  pub registers : (e : Event) (next : Config) → e.kind ≡ kind.New → e.tag.role ≡ role.Infra → apply low e ≡ Some next → (w : View) × Coupled n from first next high w
+  registers e next is_new infra h =
+      let s = naming low e next (ap (λ k. row k low e) (sym is_new) ∙ h) in
+      let o = of_actor c e.actor s.atom kind.New role.Infra s.acts.there (ap begun_by s.form) (same_role s.atom.proc.tag e.tag s.acts.tag ∙ infra) (λ k r. cc) in
+      names_by n from first o.thing s.atom o.is o.its_kind λ m ps thing i.
+      by_service e next s m ps i i.service i.took i.map i.is o.no_packet (o.there ∙ ap (λ t. Some (t ∷ [])) thing) h
+    where
+      no_new : {A : Type 0} (e : Event) (next : Config) (s : IsNaming low e next) (a m : Expr) (x : ℕ) (p q : Proc) → layer s.atom.proc ≡ ProcForm-F.Lookup a m x p q → A
+      no_new e next s a m x p q j = absurd (let bad = sym s.form ∙ j in cc)
+      by_service : (e : Event) (next : Config) (s : IsNaming low e next) (m : Mail) (ps : List (Name × Name)) → IsLooking n first m ps s.atom → (k : Service) → Took first k m s.atom.env → map.get s.atom.env (desk n first k).map ≡ Some (value.Places ps)
+          → s.atom.proc ≡ (desk n first k).body → map.get low.packets e.actor ≡ None → map.get v.things e.actor ≡ Some (Thing.looking m ps ∷ []) → apply low e ≡ Some next → (w : View) × Coupled n from first next high w
+      by_service e next s (Mail.register b t) ps i Service.registers took map_is text no_packet there h = entered e next s b t ps i text took map_is no_packet there h
+      by_service e next s m ps i Service.grants took map_is text no_packet there h = no_new e next s _ _ _ _ _ (ap layer text ∙ forms.outs-Lookup _ _ _ _ _)
+      by_service e next s m ps i Service.notes_moves took map_is text no_packet there h = no_new e next s _ _ _ _ _ (ap layer text ∙ forms.outs-Lookup _ _ _ _ _)
+      by_service e next s m ps i Service.passes_on took map_is text no_packet there h = no_new e next s _ _ _ _ _ (ap layer text ∙ forms.outs-Lookup _ _ _ _ _)
+      by_service e next s m ps i Service.ends_deliveries took map_is text no_packet there h = no_new e next s _ _ _ _ _ (ap layer text ∙ forms.outs-Lookup _ _ _ _ _)
+      by_service e next s _ ps i Service.registers took map_is text no_packet there h = absurd took
