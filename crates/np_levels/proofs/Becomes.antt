@@ -73,23 +73,25 @@ module _ {n from first : ℕ} {low high : Config} {v : View} (c : Coupled n from
   becomes next e m x ts us b =
       let things : NameMap (List Thing) = map.insert v.things m us in
       let step = step_at v.things m ts us b.there in
-      let protocol = b.protocol step in
-      (record v { things = things; phase = protocol.0 }, quiet c next things protocol.0 (at_mark c next e m ts us protocol.0 (record {
-        applies = b.applies;
-        sites = ap (λ (d : Config). d.sites) b.is;
-        places = ap (λ (d : Config). d.places) b.is;
-        said = ap (λ (d : Config). d.said) b.is;
-        born = ap (λ (d : Config). d.born) b.is;
-        there = b.there;
-        others = λ q d. (ap (λ (d : Config). map.get d.atoms q) b.is ∙ get-put low.atoms m x q ∙ ap (λ t. cond t (Some x) (map.get low.atoms q)) d, ap (λ (d : Config). map.get d.packets q) b.is);
-        here = IsShaped.atom (ap (λ (d : Config). map.get d.atoms m) b.is ∙ put_here low.atoms m x) (ap (λ (d : Config). map.get d.packets m) b.is ∙ b.no_packet) (put_here v.things m us) b.headed b.are;
-        atoms = b.atoms;
-        packets = b.packets;
-        protocol = protocol.1;
-        children = λ a d. any_kept (is_child_of a d) step (b.children a d);
-        known = All-from_recursion (λ t. KnowsOnly (may_know v.lock (chips things) t) (is_channel n high.born) from t) us
-            (b.known (recursion_from_All (λ t. KnowsOnly (may_know v.lock (chips v.things) t) (is_channel n high.born) from t) ts (c.known m ts b.there)));
-      })))
+      let protocol = b.protocol step in (
+        record v { things = things; phase = protocol.0 },
+        quiet c next things protocol.0 (at_mark c next e m ts us protocol.0 (record {
+          applies = b.applies;
+          sites = ap (λ (d : Config). d.sites) b.is;
+          places = ap (λ (d : Config). d.places) b.is;
+          said = ap (λ (d : Config). d.said) b.is;
+          born = ap (λ (d : Config). d.born) b.is;
+          there = b.there;
+          others = λ q d. (ap (λ (d : Config). map.get d.atoms q) b.is ∙ get-put low.atoms m x q ∙ ap (λ t. cond t (Some x) (map.get low.atoms q)) d, ap (λ (d : Config). map.get d.packets q) b.is);
+          here = IsShaped.atom (ap (λ (d : Config). map.get d.atoms m) b.is ∙ put_here low.atoms m x) (ap (λ (d : Config). map.get d.packets m) b.is ∙ b.no_packet) (put_here v.things m us) b.headed b.are;
+          atoms = b.atoms;
+          packets = b.packets;
+          protocol = protocol.1;
+          children = λ a d. any_kept (is_child_of a d) step (b.children a d);
+          known = All-from_recursion (λ t. KnowsOnly (may_know v.lock (chips things) t) (is_channel n high.born) from t) us
+              (b.known (recursion_from_All (λ t. KnowsOnly (may_know v.lock (chips v.things) t) (is_channel n high.born) from t) ts (c.known m ts b.there)));
+        })),
+      )
 
 -- ---- a letter is opened
 

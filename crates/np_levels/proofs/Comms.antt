@@ -124,7 +124,7 @@ module _ {n from first : ℕ} {low high : Config} {v : View} (c : Coupled n from
       let other : map.get v.things s.other ≡ Some (g.thing ∷ []) = o.there ∙ ap Some g.alone in
       by_map n s.offers.mate s.offers.sent.0 s.offers.sent.1 g.thing (no_lock_at c s.other 10 g.thing refl (λ e. let bad : ⊥ = omega arith in bad) other) (sent-is (own n 10) (chan_at 10 r.on)) g.gift λ ps thing what.
       let env : s.env ≡ map.insert s.atom.env d.map (value.Places ps) =
-          done (sym (ap (λ q. bind q s.what s.atom.env) r.pattern ∙ ap (λ u. bind (name d.map) u s.atom.env) (s.offers.is ∙ what) ∙ bind-one d.map (value.Places ps) s.atom.env) ∙ s.binds) in
+      done (sym (ap (λ q. bind q s.what s.atom.env) r.pattern ∙ ap (λ u. bind (name d.map) u s.atom.env) (s.offers.is ∙ what) ∙ bind-one d.map (value.Places ps) s.atom.env) ∙ s.binds) in
       meets c next e s (Thing.taken m ∷ []) (Thing.looking m ps ∷ []) (Thing.places ps) (record {
         applies = h;
         no_packet = no_packet;
@@ -167,12 +167,16 @@ module _ {n from first : ℕ} {low high : Config} {v : View} (c : Coupled n from
     where
       o : OfAtom c s.other s.offers.mate
       o = of_atom c s.other s.offers.mate s.offers.waits
+
       g : IsGiven n from first s.offers.mate s.offers.sent.0 s.offers.sent.1 o.things
       g = given_by c s.other s.offers.mate s.offers.sent s.offers.waits s.offers.sends_it o.things o.there o.are
+
       other : map.get v.things s.other ≡ Some (g.thing ∷ [])
       other = o.there ∙ ap Some g.alone
+
       here : s.offers.mate.agent ≡ daemon_agent n
       here = sym together ∙ i.agent
+
       go : (m : Mail) → WaitsFor n first m l s.atom → map.get v.things e.actor ≡ Some (Thing.wanting m l ∷ []) → Done
       go (Mail.migrating a) w there =
           let told = recursion_from_All (IsTrueOf (scene v high) v.phase) (Chip.request a ∷ Chip.wants a l ∷ []) (all_taken (step_at v.things e.actor (Thing.wanting (Mail.migrating a) l ∷ []) [] there) (IsTrueOf (scene v high) v.phase) c.protocol.true_chips) in
@@ -189,19 +193,22 @@ module _ {n from first : ℕ} {low high : Config} {v : View} (c : Coupled n from
             there = there;
             other_there = other ∙ ap (λ t. Some (t ∷ [])) (thing ∙ ap (λ x. Thing.free x t) on);
             headed = All-nil (λ u. high_atom u ≡ None);
-            are = Are.one (record {
-              agent = refl;
-              receiver = variable (first + 4);
-              to = variable (first + 7);
-              chan = ack n;
-              sent = unit;
-              role = ap (λ (p : Proc). p.tag.role) r.body;
-              is = ap layer r.body ∙ forms.outs-Send (variable (first + 4)) (variable (first + 7)) (ack n) unit;
-              for_agent = rw (variable-is (first + 4) s.env, agent_is, outs.outs-Agent a) refl;
-              for_site = variable-is (first + 7) s.env ∙ site_is;
-              on = channel-is (own n 7) s.env;
-              holds = unit-is s.env;
-            }, tt);
+            are = Are.one (
+              record {
+                agent = refl;
+                receiver = variable (first + 4);
+                to = variable (first + 7);
+                chan = ack n;
+                sent = unit;
+                role = ap (λ (p : Proc). p.tag.role) r.body;
+                is = ap layer r.body ∙ forms.outs-Send (variable (first + 4)) (variable (first + 7)) (ack n) unit;
+                for_agent = rw (variable-is (first + 4) s.env, agent_is, outs.outs-Agent a) refl;
+                for_site = variable-is (first + 7) s.env ∙ site_is;
+                on = channel-is (own n 7) s.env;
+                holds = unit-is s.env;
+              },
+              tt,
+            );
             atoms = refl;
             packets = refl;
             no_atom = refl;
@@ -227,19 +234,22 @@ module _ {n from first : ℕ} {low high : Config} {v : View} (c : Coupled n from
             there = there;
             other_there = other ∙ ap (λ t. Some (t ∷ [])) (thing ∙ ap (λ x. Thing.free x t) on);
             headed = All-nil (λ u. high_atom u ≡ None);
-            are = Are.one (record {
-              agent = refl;
-              receiver = variable (first + 12);
-              to = variable (first + 16);
-              chan = deliver n;
-              sent = pair (variable (first + 13)) (variable (first + 16));
-              role = ap (λ (p : Proc). p.tag.role) r.body;
-              is = ap layer r.body ∙ forms.outs-Send (variable (first + 12)) (variable (first + 16)) (deliver n) (pair (variable (first + 13)) (variable (first + 16)));
-              for_agent = rw (variable-is (first + 12) s.env, agent_is, outs.outs-Agent p.agent) refl;
-              for_site = variable-is (first + 16) s.env ∙ site_is;
-              on = channel-is (own n 6) s.env;
-              holds = pair-is (variable (first + 13)) (variable (first + 16)) (value.Letter p.chan p.value) (value.Site t) s.env (variable-is (first + 13) s.env ∙ letter_is) (variable-is (first + 16) s.env ∙ site_is);
-            }, tt);
+            are = Are.one (
+              record {
+                agent = refl;
+                receiver = variable (first + 12);
+                to = variable (first + 16);
+                chan = deliver n;
+                sent = pair (variable (first + 13)) (variable (first + 16));
+                role = ap (λ (p : Proc). p.tag.role) r.body;
+                is = ap layer r.body ∙ forms.outs-Send (variable (first + 12)) (variable (first + 16)) (deliver n) (pair (variable (first + 13)) (variable (first + 16)));
+                for_agent = rw (variable-is (first + 12) s.env, agent_is, outs.outs-Agent p.agent) refl;
+                for_site = variable-is (first + 16) s.env ∙ site_is;
+                on = channel-is (own n 6) s.env;
+                holds = pair-is (variable (first + 13)) (variable (first + 16)) (value.Letter p.chan p.value) (value.Site t) s.env (variable-is (first + 13) s.env ∙ letter_is) (variable-is (first + 16) s.env ∙ site_is);
+              },
+              tt,
+            );
             atoms = refl;
             packets = refl;
             no_atom = refl;
@@ -265,7 +275,7 @@ module _ {n from first : ℕ} {low high : Config} {v : View} (c : Coupled n from
       let g = given_by c s.other s.offers.mate s.offers.sent s.offers.waits s.offers.sends_it o.things o.there o.are in
       let other : map.get v.things s.other ≡ Some (g.thing ∷ []) = o.there ∙ ap Some g.alone in
       by_number n 7 s.offers.mate s.offers.sent.0 s.offers.sent.1 g.thing refl (λ e. let bad : ⊥ = omega arith in bad) (λ e. let bad : ⊥ = omega arith in bad)
-          (no_lock_at c s.other 7 g.thing refl (λ e. let bad : ⊥ = omega arith in bad) other) (sent-is (own n 7) (chan_at 7 on)) g.gift λ m thing number content for.
+      (no_lock_at c s.other 7 g.thing refl (λ e. let bad : ⊥ = omega arith in bad) other) (sent-is (own n 7) (chan_at 7 on)) g.gift λ m thing number content for.
       ack_mail m number λ a t mail.
       record {
         no_packet_there = o.no_packet;
@@ -340,6 +350,7 @@ module _ {n from first : ℕ} {low high : Config} {v : View} (c : Coupled n from
     where
       alone : {after : List Chip} → Step (chips v.things) after (Chip.ack_here hi.agent ∷ Chip.waiter hi.agent t ∷ []) (Chip.token hi.agent t ∷ []) → Step (chips v.things) after (Chip.waiter hi.agent t ∷ Chip.ack_here hi.agent ∷ []) (Chip.token hi.agent t ∷ [])
       alone step = cancel (Chip.waiter hi.agent t ∷ Chip.ack_here hi.agent ∷ []) (Chip.token hi.agent t ∷ []) [] step (permuted swapped) (IsPermutation-refl (Chip.token hi.agent t ∷ []))
+
       -- who is told waits for no agent that it made
       forgets : {after : List Chip} → Step (chips v.things) after (Chip.ack_here hi.agent ∷ Chip.waiter hi.agent t ∷ []) (Chip.token hi.agent t ∷ []) → (b : Name) → (is_some (v.lock b) ≡ true) ⊎ (list_any (is_child_of hi.agent b) (chips v.things) ≡ true)
           → is_some (v.lock b) ≡ true
@@ -366,19 +377,22 @@ module _ {n from first : ℕ} {low high : Config} {v : View} (c : Coupled n from
         are = Are.both {k = i.node} {p = beside i.node i.body tell} {q = gives i.node (currentloc n) (variable i.binder)} r.body
             (Are.both {k = i.node} {p = i.body} {q = tell} refl
             (Are.one (record { stands = stands_on i.body env i.stands; translates = i.translates }))
-            (Are.one (record {
-              agent = refl;
-              receiver = i.maker;
-              to = variable i.binder;
-              chan = ack n;
-              sent = unit;
-              role = refl;
-              is = forms.outs-Send i.maker (variable i.binder) (ack n) unit;
-              for_agent = rw (maker_is, outs.outs-Agent p) refl;
-              for_site = site_is;
-              on = channel-is (own n 7) s.env;
-              holds = unit-is s.env;
-            }, tt)))
+            (Are.one (
+              record {
+                agent = refl;
+                receiver = i.maker;
+                to = variable i.binder;
+                chan = ack n;
+                sent = unit;
+                role = refl;
+                is = forms.outs-Send i.maker (variable i.binder) (ack n) unit;
+                for_agent = rw (maker_is, outs.outs-Agent p) refl;
+                for_site = site_is;
+                on = channel-is (own n 7) s.env;
+                holds = unit-is s.env;
+              },
+              tt,
+            )))
             (Are.one (record { agent = i.stands.agent; gives = token_given i.node (variable i.binder) t site_is }, i.stands.apart));
         atoms = refl;
         packets = refl;
@@ -392,9 +406,11 @@ module _ {n from first : ℕ} {low high : Config} {v : View} (c : Coupled n from
     where
       registered : {after give : List Chip} → Step (chips v.things) after (Chip.ack_here hi.agent ∷ Chip.child hi.agent p t ∷ []) give → is_some (v.lock hi.agent) ≡ true
       registered {after} {give} step = (acknowledged (scene v high)).starts v.phase (chips v.things) after give hi.agent p t step c.protocol
+
       in_map : {after give : List Chip} → Step (chips v.things) after (Chip.ack_here hi.agent ∷ Chip.child hi.agent p t ∷ []) give → (b : Name) → (is_some (v.lock b) ≡ true) ⊎ (same_name b hi.agent ≡ true) → is_some (v.lock b) ≡ true
       in_map step b (inl known) = known
       in_map step b (inr itself) = ap (λ x. is_some (v.lock x)) (same_name-is b hi.agent itself) ∙ registered step
+
       children : {after give : List Chip} → Step (chips v.things) after (Chip.ack_here hi.agent ∷ Chip.child hi.agent p t ∷ []) give → (x b : Name) → list_any (is_child_of x b) (chips v.things) ≡ true
           → (list_any (is_child_of x b) after ≡ true) ⊎ (is_some (v.lock b) ≡ true)
       children {after} {give} step x b any =
@@ -456,19 +472,22 @@ module _ {n from first : ℕ} {low high : Config} {v : View} (c : Coupled n from
         headed = All-from_recursion (λ u. high_atom u ≡ None) (Thing.mail (Mail.migrating hi.agent) (Stage.in_agent s.atom.agent) ∷ []) (refl, tt);
         are = Are.both {k = tag.node} {p = left} {q = right} r.body
             (Are.one (record { stands = stands_on left env i.stands; migrates = record { tag = tag; at = at; to = to; body = body; low = below; is = is; translates = translates }; is = refl }))
-            (Are.one (record {
-              agent = refl;
-              receiver = daemon n;
-              to = site 0;
-              chan = migrating n;
-              sent = a;
-              role = refl;
-              is = forms.outs-Send (daemon n) (site 0) (migrating n) a;
-              for_agent = agent-is (daemon_agent n) s.env;
-              for_site = constant-is (value.Site 0) s.env;
-              on = channel-is (own n 3) s.env;
-              holds = ap (eval a) env ∙ named_is i.stands;
-            }, tt));
+            (Are.one (
+              record {
+                agent = refl;
+                receiver = daemon n;
+                to = site 0;
+                chan = migrating n;
+                sent = a;
+                role = refl;
+                is = forms.outs-Send (daemon n) (site 0) (migrating n) a;
+                for_agent = agent-is (daemon_agent n) s.env;
+                for_site = constant-is (value.Site 0) s.env;
+                on = channel-is (own n 3) s.env;
+                holds = ap (eval a) env ∙ named_is i.stands;
+              },
+              tt,
+            ));
         atoms = refl;
         packets = refl;
         no_atom = refl;

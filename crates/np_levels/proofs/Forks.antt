@@ -162,73 +162,93 @@ module _ {n from first : ℕ} {low high : Config} {v : View} (c : Coupled n from
     where
       forked : (e : Event) (next : Config) (s : IsForking low e next) → map.get low.packets e.actor ≡ None → (left right : List Thing) → map.get v.things e.actor ≡ Some (left ++ right)
           → Are n from first (goes s.atom s.left) left → Are n from first (goes s.atom s.right) right → Headed left right → apply low e ≡ Some next → (w : View) × Coupled n from first next high w
-      forked e next s no_packet left right there are_left are_right headed h =
-          (record v { things = things; phase = protocol.0 }, quiet c next things protocol.0 (record {
-            sites = ap (λ (d : Config). d.sites) s.is;
-            places = ap (λ (d : Config). d.places) s.is;
-            said = ap (λ (d : Config). d.said) s.is;
-            born = λ q b. ap (λ (d : Config). set.contains d.born q) s.is ∙ made-kept low.born e.made q b;
-            stand_born = born-kept low next e c.stand_born h;
-            shaped = λ q. shaped q (same_name q s.new) (same_name q e.actor) refl refl;
-            atoms = λ q. atoms q (same_name q s.new) (same_name q e.actor) refl refl;
-            packets = λ q. packets q (same_name q s.new) (same_name q e.actor) refl refl;
-            old_or_new = λ q ts i. old q ts (same_name q s.new) (same_name q e.actor) refl refl i;
-            protocol = protocol.1;
-            known = λ q ts i. known q ts (same_name q s.new) (same_name q e.actor) refl refl i;
-          }))
+      forked e next s no_packet left right there are_left are_right headed h = (
+        record v { things = things; phase = protocol.0 },
+        quiet c next things protocol.0 (record {
+          sites = ap (λ (d : Config). d.sites) s.is;
+          places = ap (λ (d : Config). d.places) s.is;
+          said = ap (λ (d : Config). d.said) s.is;
+          born = λ q b. ap (λ (d : Config). set.contains d.born q) s.is ∙ made-kept low.born e.made q b;
+          stand_born = born-kept low next e c.stand_born h;
+          shaped = λ q. shaped q (same_name q s.new) (same_name q e.actor) refl refl;
+          atoms = λ q. atoms q (same_name q s.new) (same_name q e.actor) refl refl;
+          packets = λ q. packets q (same_name q s.new) (same_name q e.actor) refl refl;
+          old_or_new = λ q ts i. old q ts (same_name q s.new) (same_name q e.actor) refl refl i;
+          protocol = protocol.1;
+          known = λ q ts i. known q ts (same_name q s.new) (same_name q e.actor) refl refl i;
+        }),
+      )
         where
           half : NameMap (List Thing)
           half = map.insert v.things e.actor left
+
           things : NameMap (List Thing)
           things = map.insert half s.new right
+
           other : same_name s.new e.actor ≡ false
           other = not_true _ (λ t. let bad : false ≡ true = sym s.is_new ∙ ap (set.contains low.born) (same_name-is s.new e.actor t) ∙ things_born c e.actor (left ++ right) there in cc)
+
           absent : map.get v.things s.new ≡ None
           absent = none (map.get v.things s.new) refl
             where
               none : (o : Option (List Thing)) → map.get v.things s.new ≡ o → o ≡ None
               none None i = refl
               none (Some ts) i = absurd (let bad : false ≡ true = sym s.is_new ∙ things_born c s.new ts i in cc)
+
           at : (q : Name) → map.get things q ≡ cond (same_name q s.new) (Some right) (cond (same_name q e.actor) (Some left) (map.get v.things q))
           at q = get-put half s.new right q ∙ ap (cond (same_name q s.new) (Some right)) (get-put v.things e.actor left q)
+
           at_atoms : (q : Name) → map.get next.atoms q ≡ cond (same_name q e.actor) (Some (goes s.atom s.left)) (cond (same_name q s.new) (Some (goes s.atom s.right)) (map.get low.atoms q))
           at_atoms q = ap (λ (d : Config). map.get d.atoms q) s.is ∙ get-put (map.insert low.atoms s.new (goes s.atom s.right)) e.actor (goes s.atom s.left) q
               ∙ ap (cond (same_name q e.actor) (Some (goes s.atom s.left))) (get-put low.atoms s.new (goes s.atom s.right) q)
+
           at_packets : (q : Name) → map.get next.packets q ≡ map.get low.packets q
           at_packets q = ap (λ (d : Config). map.get d.packets q) s.is
+
           no_new_packet : map.get low.packets s.new ≡ None
           no_new_packet = none (map.get low.packets s.new) refl
             where
               some_of : {A : Type 0} (o : Option A) (x : A) → o ≡ Some x → IsSome o
               some_of o x i = rw i refl
+
               none : (o : Option _) → map.get low.packets s.new ≡ o → o ≡ None
               none None i = refl
               none (Some k) i = absurd (let bad : false ≡ true = sym s.is_new ∙ c.stand_born.marks s.new (inr (some_of _ k i)) in cc)
+
           step_order : Reordered (chips things) (chips v.things)
           step_order =
               let new = flat (λ (e : Name × List Thing). show_all e.1) (and_then (entries_new half s.new right (get-put v.things e.actor left s.new ∙ ap (λ t. cond t (Some left) (map.get v.things s.new)) other ∙ absent)) (behind (entries_put v.things e.actor left))) in
               let old = flat (λ (e : Name × List Thing). show_all e.1) (entries_at v.things e.actor (left ++ right) there) in
               let middle : Reordered (show_all right ++ (show_all left ++ chips (map.remove v.things e.actor))) (show_all left ++ (show_all right ++ chips (map.remove v.things e.actor))) = past (show_all right) (show_all left) (chips (map.remove v.things e.actor)) in
               let joined : show_all left ++ (show_all right ++ chips (map.remove v.things e.actor)) ≡ show_all (left ++ right) ++ chips (map.remove v.things e.actor) =
-                  sym (append_assoc (show_all left) (show_all right) (chips (map.remove v.things e.actor))) ∙ ap (λ l. l ++ chips (map.remove v.things e.actor)) (sym (flat_map-append shows left right)) in
+              sym (append_assoc (show_all left) (show_all right) (chips (map.remove v.things e.actor))) ∙ ap (λ l. l ++ chips (map.remove v.things e.actor)) (sym (flat_map-append shows left right)) in
               and_then new (and_then middle (subst (λ l. Reordered l (chips v.things)) (sym joined) (backwards old)))
+
           protocol : (then : Name → Phase) × Protocol (scene v high) then (chips things)
           protocol = any_order (scene v high) v.phase (chips v.things) (chips things) (permuted step_order) c.protocol
+
           more : (t : Thing) (b : Name) → may_know v.lock (chips v.things) t b ≡ true → may_know v.lock (chips things) t b ≡ true
           more = may_know_more v.lock (chips v.things) (chips things) (λ a b i. sym (list_any-IsPermutation (is_child_of a b) (chips v.things) (chips things) (permuted (backwards step_order))) ∙ i)
+
           weaker : (ts : List Thing) → All (λ t. KnowsOnly (may_know v.lock (chips v.things) t) (is_channel n high.born) from t) ts → All (λ t. KnowsOnly (may_know v.lock (chips things) t) (is_channel n high.born) from t) ts
           weaker ts k = All-weaker (λ t. KnowsOnly (may_know v.lock (chips v.things) t) (is_channel n high.born) from t) (λ t. KnowsOnly (may_know v.lock (chips things) t) (is_channel n high.born) from t)
               (λ t i. knows_more (may_know v.lock (chips v.things) t) (may_know v.lock (chips things) t) (is_channel n high.born) from (more t) t i) ts k
+
           some_is : {A : Type 0} {a b : A} → Some a ≡ Some b → a ≡ b
           some_is i = cc
+
           new_at : (q : Name) → same_name q s.new ≡ true → map.get things q ≡ Some right
           new_at q a = at q ∙ ap (λ t. cond t (Some right) (cond (same_name q e.actor) (Some left) (map.get v.things q))) a
+
           left_at : (q : Name) → same_name q s.new ≡ false → same_name q e.actor ≡ true → map.get things q ≡ Some left
           left_at q a b = at q ∙ ap (λ t. cond t (Some right) (cond (same_name q e.actor) (Some left) (map.get v.things q))) a ∙ ap (λ t. cond t (Some left) (map.get v.things q)) b
+
           unchanged : (q : Name) → same_name q s.new ≡ false → same_name q e.actor ≡ false → map.get things q ≡ map.get v.things q
           unchanged q a b = at q ∙ ap (λ t. cond t (Some right) (cond (same_name q e.actor) (Some left) (map.get v.things q))) a ∙ ap (λ t. cond t (Some left) (map.get v.things q)) b
+
           not_both : (q : Name) → same_name q s.new ≡ true → same_name q e.actor ≡ false
           not_both q t = ap (λ x. same_name x e.actor) (same_name-is q s.new t) ∙ other
+
           shaped : (q : Name) (t u : Bool) → same_name q s.new ≡ t → same_name q e.actor ≡ u → IsShaped n from first next things q
           shaped q true u a b =
               IsShaped.atom (at_atoms q ∙ ap (λ t. cond t (Some (goes s.atom s.left)) (cond (same_name q s.new) (Some (goes s.atom s.right)) (map.get low.atoms q))) (not_both q a) ∙ ap (λ t. cond t (Some (goes s.atom s.right)) (map.get low.atoms q)) a)
@@ -237,18 +257,22 @@ module _ {n from first : ℕ} {low high : Config} {v : View} (c : Coupled n from
               IsShaped.atom (at_atoms q ∙ ap (λ t. cond t (Some (goes s.atom s.left)) (cond (same_name q s.new) (Some (goes s.atom s.right)) (map.get low.atoms q))) b)
               (at_packets q ∙ ap (map.get low.packets) (same_name-is q e.actor b) ∙ no_packet) (at q ∙ ap (λ t. cond t (Some right) (cond (same_name q e.actor) (Some left) (map.get v.things q))) a ∙ ap (λ t. cond t (Some left) (map.get v.things q)) b) headed.of_left are_left
           shaped q false false a b = reshape q (at_atoms q ∙ ap (λ t. cond t (Some (goes s.atom s.left)) (cond (same_name q s.new) (Some (goes s.atom s.right)) (map.get low.atoms q))) b ∙ ap (λ t. cond t (Some (goes s.atom s.right)) (map.get low.atoms q)) a) (at_packets q) (unchanged q a b) (c.shaped q)
+
           atoms : (q : Name) (t u : Bool) → same_name q s.new ≡ t → same_name q e.actor ≡ u → (map.get things q >>= first_atom_of) ≡ (map.get v.things q >>= first_atom_of)
           atoms q true u a b = ap (λ o. o >>= first_atom_of) (new_at q a) ∙ headed.none ∙ sym (ap (λ o. o >>= first_atom_of) (ap (map.get v.things) (same_name-is q s.new a) ∙ absent))
           atoms q false true a b = ap (λ o. o >>= first_atom_of) (left_at q a b) ∙ headed.first ∙ sym (ap (λ o. o >>= first_atom_of) (ap (map.get v.things) (same_name-is q e.actor b) ∙ there))
           atoms q false false a b = ap (λ o. o >>= first_atom_of) (unchanged q a b)
+
           packets : (q : Name) (t u : Bool) → same_name q s.new ≡ t → same_name q e.actor ≡ u → (map.get things q >>= first_packet_of) ≡ (map.get v.things q >>= first_packet_of)
           packets q true u a b = ap (λ o. o >>= first_packet_of) (new_at q a) ∙ headed.no_packet ∙ sym (ap (λ o. o >>= first_packet_of) (ap (map.get v.things) (same_name-is q s.new a) ∙ absent))
           packets q false true a b = ap (λ o. o >>= first_packet_of) (left_at q a b) ∙ headed.packet ∙ sym (ap (λ o. o >>= first_packet_of) (ap (map.get v.things) (same_name-is q e.actor b) ∙ there))
           packets q false false a b = ap (λ o. o >>= first_packet_of) (unchanged q a b)
+
           old : (q : Name) (ts : List Thing) (t u : Bool) → same_name q s.new ≡ t → same_name q e.actor ≡ u → map.get things q ≡ Some ts → ((us : List Thing) × (map.get v.things q ≡ Some us)) ⊎ (set.contains low.born q ≡ false)
           old q ts true u a b i = inr (ap (set.contains low.born) (same_name-is q s.new a) ∙ s.is_new)
           old q ts false true a b i = inl (left ++ right, ap (map.get v.things) (same_name-is q e.actor b) ∙ there)
           old q ts false false a b i = inl (ts, sym (unchanged q a b) ∙ i)
+
           known : (q : Name) (ts : List Thing) (t u : Bool) → same_name q s.new ≡ t → same_name q e.actor ≡ u → map.get things q ≡ Some ts → All (λ t. KnowsOnly (may_know v.lock (chips things) t) (is_channel n high.born) from t) ts
           known q ts true u a b i = subst (All (λ t. KnowsOnly (may_know v.lock (chips things) t) (is_channel n high.born) from t)) (some_is (sym (new_at q a) ∙ i)) (all_right (λ t. KnowsOnly (may_know v.lock (chips things) t) (is_channel n high.born) from t) left right (weaker (left ++ right) (c.known e.actor (left ++ right) there)))
           known q ts false true a b i = subst (All (λ t. KnowsOnly (may_know v.lock (chips things) t) (is_channel n high.born) from t)) (some_is (sym (left_at q a b) ∙ i)) (all_left (λ t. KnowsOnly (may_know v.lock (chips things) t) (is_channel n high.born) from t) left right (weaker (left ++ right) (c.known e.actor (left ++ right) there)))

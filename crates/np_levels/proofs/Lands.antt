@@ -71,7 +71,7 @@ landed low e next p l here h =
     let same : q ≡ p = done (sym l.there ∙ there) in
     let at : at_site (map.get low.places q.agent) e.site ≡ true = ap (λ (k : Packet). at_site (map.get low.places k.agent) e.site) same ∙ ap (λ o. at_site o e.site) here ∙ same_site e.site in
     r.is ∙ ap (effect low e) (done h ∙ ap (λ t. record still { packets = cut e.actor ∷ []; atoms = cond t (put e.actor (output_in q.agent q.chan q.value e.tag) ∷ []) [] }) at
-        ∙ ap (λ (k : Packet). record still { packets = cut e.actor ∷ []; atoms = put e.actor (output_in k.agent k.chan k.value e.tag) ∷ [] }) same)
+    ∙ ap (λ (k : Packet). record still { packets = cut e.actor ∷ []; atoms = put e.actor (output_in k.agent k.chan k.value e.tag) ∷ [] }) same)
 
 -- a made output gives its value on its channel
 pub output-gives : (a c : Name) (v : Value) (tag : Tag) → sends (output_in a c v tag) ≡ Some (c, v)
@@ -111,6 +111,7 @@ module _ {n from first : ℕ} {low high : Config} {v : View} (c : Coupled n from
       its None e = absurd cc
       its (Some (place.At t)) e = let same : t ≡ s = cc in ap (λ u. Some (place.At u)) same
       its (Some (place.Way t)) e = absurd cc
+
       apart : (u : Bool) → same_name a (daemon_agent n) ≡ u → u ≡ false
       apart false e = refl
       apart true e = absurd (let none : Whereabouts.nowhere ≡ Whereabouts.at s = ap whereabouts (sym (ap (map.get high.places) (same_name-is a (daemon_agent n) e) ∙ c.no_daemon)) ∙ h in cc)
@@ -143,20 +144,22 @@ module _ {n from first : ℕ} {low high : Config} {v : View} (c : Coupled n from
       let low_atom : Atom = output_in l.0.agent l.0.chan l.0.value e.tag in
       let known = recursion_from_All (λ t. KnowsOnly (may_know v.lock (chips v.things) t) (is_channel n high.born) from t) (Thing.mail m Stage.on_the_way ∷ []) (c.known e.actor (Thing.mail m Stage.on_the_way ∷ []) there) in
       let gives : sends low_atom ≡ Some (own n (on_channel m), content m) =
-          output-gives l.0.agent l.0.chan l.0.value e.tag ∙ ap (λ (k : Packet). Some (k.chan, k.value)) packet in
-      (record v { things = things; phase = protocol.0 }, quiet c next things protocol.0 (at_mark c next e e.actor (Thing.mail m Stage.on_the_way ∷ []) us protocol.0 (record {
-        applies = h;
-        sites = ap (λ (d : Config). d.sites) is;
-        places = ap (λ (d : Config). d.places) is;
-        said = ap (λ (d : Config). d.said) is;
-        born = ap (λ (d : Config). d.born) is;
-        there = there;
-        others = λ q d. (ap (λ (d : Config). map.get d.atoms q) is ∙ get-put low.atoms e.actor low_atom q ∙ ap (λ t. cond t (Some low_atom) (map.get low.atoms q)) d, ap (λ (d : Config). map.get d.packets q) is ∙ get-cut low.packets e.actor q ∙ ap (λ t. cond t None (map.get low.packets q)) d);
-        here = IsShaped.atom (ap (λ (d : Config). map.get d.atoms e.actor) is ∙ put_here low.atoms e.actor low_atom) (ap (λ (d : Config). map.get d.packets e.actor) is ∙ cut_here low.packets e.actor)
-            (put_here v.things e.actor us) (All-nil (λ u. high_atom u ≡ None)) (Are.one (record { agent = ap (λ (k : Packet). k.agent) packet; gives = gives }));
-        atoms = refl;
-        packets = refl;
-        protocol = protocol.1;
-        children = λ a b. any_kept (is_child_of a b) step (λ any. absurd (let none = no_child a b m in cc));
-        known = All-from_recursion (λ t. KnowsOnly (may_know v.lock (chips things) t) (is_channel n high.born) from t) us (known.0, tt);
-      })))
+      output-gives l.0.agent l.0.chan l.0.value e.tag ∙ ap (λ (k : Packet). Some (k.chan, k.value)) packet in (
+        record v { things = things; phase = protocol.0 },
+        quiet c next things protocol.0 (at_mark c next e e.actor (Thing.mail m Stage.on_the_way ∷ []) us protocol.0 (record {
+          applies = h;
+          sites = ap (λ (d : Config). d.sites) is;
+          places = ap (λ (d : Config). d.places) is;
+          said = ap (λ (d : Config). d.said) is;
+          born = ap (λ (d : Config). d.born) is;
+          there = there;
+          others = λ q d. (ap (λ (d : Config). map.get d.atoms q) is ∙ get-put low.atoms e.actor low_atom q ∙ ap (λ t. cond t (Some low_atom) (map.get low.atoms q)) d, ap (λ (d : Config). map.get d.packets q) is ∙ get-cut low.packets e.actor q ∙ ap (λ t. cond t None (map.get low.packets q)) d);
+          here = IsShaped.atom (ap (λ (d : Config). map.get d.atoms e.actor) is ∙ put_here low.atoms e.actor low_atom) (ap (λ (d : Config). map.get d.packets e.actor) is ∙ cut_here low.packets e.actor)
+              (put_here v.things e.actor us) (All-nil (λ u. high_atom u ≡ None)) (Are.one (record { agent = ap (λ (k : Packet). k.agent) packet; gives = gives }));
+          atoms = refl;
+          packets = refl;
+          protocol = protocol.1;
+          children = λ a b. any_kept (is_child_of a b) step (λ any. absurd (let none = no_child a b m in cc));
+          known = All-from_recursion (λ t. KnowsOnly (may_know v.lock (chips things) t) (is_channel n high.born) from t) us (known.0, tt);
+        })),
+      )

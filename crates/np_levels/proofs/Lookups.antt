@@ -98,7 +98,7 @@ finds_text : (n : ℕ) (low : Config) (e : Event) (next : Config) (s : IsFinding
     → next ≡ effect low e (record still { atoms = put e.actor (goes_under s.atom (beside 0 p (frees n m)) (map.insert s.atom.env l (value.Chan k))) ∷ [] })
 finds_text n low e next s a m l p y k ps is agent places found =
     let text : ProcForm-F.Lookup s.agent s.among s.binder s.met s.unmet ≡ ProcForm-F.Lookup (variable a) (variable m) l (beside 0 p (frees n m)) (stop 0) =
-        sym s.form ∙ ap layer is ∙ forms.outs-Lookup (variable a) (variable m) l (beside 0 p (frees n m)) (stop 0) in
+    sym s.form ∙ ap layer is ∙ forms.outs-Lookup (variable a) (variable m) l (beside 0 p (frees n m)) (stop 0) in
     let agents : s.agent ≡ variable a = cc in
     let amongs : s.among ≡ variable m = cc in
     let binders : s.binder ≡ l = cc in
@@ -191,8 +191,11 @@ module _ {n from first : ℕ} {low high : Config} {v : View} (c : Coupled n from
             are = Are.both {k = 0} {p = left} {q = frees n (first + 14)} refl
                 (Are.one (record {
                   agent = i.agent;
-                  waits = (refl, (there_is s.atom.env (first + 15) (first + 12) (value.Chan lock.0) (λ e. let bad : ⊥ = omega arith in bad) ∙ took.0, there_is s.atom.env (first + 15) (first + 13) (value.Chan lock.0) (λ e. let bad : ⊥ = omega arith in bad) ∙ took.1),
-                      here_is s.atom.env (first + 15) (value.Chan lock.0));
+                  waits = (
+                    refl,
+                    (there_is s.atom.env (first + 15) (first + 12) (value.Chan lock.0) (λ e. let bad : ⊥ = omega arith in bad) ∙ took.0, there_is s.atom.env (first + 15) (first + 13) (value.Chan lock.0) (λ e. let bad : ⊥ = omega arith in bad) ∙ took.1),
+                    here_is s.atom.env (first + 15) (value.Chan lock.0),
+                  );
                 }))
                 (Are.one (record { agent = i.agent; gives = frees_map n (first + 14) s.atom.agent env ps (there_is s.atom.env (first + 15) (first + 14) (value.Chan lock.0) (λ e. let bad : ⊥ = omega arith in bad) ∙ map_is) }));
             atoms = refl;
@@ -243,19 +246,22 @@ module _ {n from first : ℕ} {low high : Config} {v : View} (c : Coupled n from
             are = Are.both {k = 0} {p = beside 0 one two} {q = frees n (first + 10)} refl
                 (Are.both {k = 0} {p = one} {q = two} refl
                 (Are.one (record { agent = i.agent; gives = gives_two s.atom.agent 0 (first + 11) (first + 9) env lock.0 (value.Site t) (here_is s.atom.env (first + 11) (value.Chan lock.0)) site_is }))
-                (Are.one (record {
-                  agent = refl;
-                  receiver = variable (first + 8);
-                  to = variable (first + 9);
-                  chan = ack n;
-                  sent = unit;
-                  role = refl;
-                  is = forms.outs-Send (variable (first + 8)) (variable (first + 9)) (ack n) unit;
-                  for_agent = rw (variable-is (first + 8) env, agent_is, outs.outs-Agent a) refl;
-                  for_site = variable-is (first + 9) env ∙ site_is;
-                  on = channel-is (own n 7) env;
-                  holds = unit-is env;
-                }, tt)))
+                (Are.one (
+                  record {
+                    agent = refl;
+                    receiver = variable (first + 8);
+                    to = variable (first + 9);
+                    chan = ack n;
+                    sent = unit;
+                    role = refl;
+                    is = forms.outs-Send (variable (first + 8)) (variable (first + 9)) (ack n) unit;
+                    for_agent = rw (variable-is (first + 8) env, agent_is, outs.outs-Agent a) refl;
+                    for_site = variable-is (first + 9) env ∙ site_is;
+                    on = channel-is (own n 7) env;
+                    holds = unit-is env;
+                  },
+                  tt,
+                )))
                 (Are.one (record { agent = i.agent; gives = frees_map n (first + 10) s.atom.agent env ps (there_is s.atom.env (first + 11) (first + 10) (value.Chan lock.0) (λ e. let bad : ⊥ = omega arith in bad) ∙ map_is) }));
             atoms = refl;
             packets = refl;

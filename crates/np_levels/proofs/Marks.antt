@@ -87,24 +87,32 @@ module _ {n from first : ℕ} {low high : Config} {v : View} (c : Coupled n from
     where
       things : NameMap (List Thing)
       things = map.insert v.things m us
+
       unchanged : (q : Name) → same_name q m ≡ false → map.get things q ≡ map.get v.things q
       unchanged q e = rw (get-put v.things m us q, e) refl
+
       changed : (q : Name) → same_name q m ≡ true → map.get things q ≡ Some us
       changed q e = ap (map.get things) (same_name-is q m e) ∙ put_here v.things m us
+
       was : (q : Name) → same_name q m ≡ true → map.get v.things q ≡ Some ts
       was q e = ap (map.get v.things) (same_name-is q m e) ∙ x.there
+
       shaped : (q : Name) (t : Bool) → same_name q m ≡ t → IsShaped n from first next things q
       shaped q true e = subst (IsShaped n from first next things) (sym (same_name-is q m e)) x.here
       shaped q false e = reshape q (x.others q e).0 (x.others q e).1 (unchanged q e) (c.shaped q)
+
       first_atom : (q : Name) (t : Bool) → same_name q m ≡ t → (map.get things q >>= first_atom_of) ≡ (map.get v.things q >>= first_atom_of)
       first_atom q true e = ap (λ o. o >>= first_atom_of) (changed q e) ∙ x.atoms ∙ sym (ap (λ o. o >>= first_atom_of) (was q e))
       first_atom q false e = ap (λ o. o >>= first_atom_of) (unchanged q e)
+
       first_packet : (q : Name) (t : Bool) → same_name q m ≡ t → (map.get things q >>= first_packet_of) ≡ (map.get v.things q >>= first_packet_of)
       first_packet q true e = ap (λ o. o >>= first_packet_of) (changed q e) ∙ x.packets ∙ sym (ap (λ o. o >>= first_packet_of) (was q e))
       first_packet q false e = ap (λ o. o >>= first_packet_of) (unchanged q e)
+
       old : (q : Name) (vs : List Thing) (t : Bool) → same_name q m ≡ t → map.get things q ≡ Some vs → ((us : List Thing) × (map.get v.things q ≡ Some us)) ⊎ (set.contains low.born q ≡ false)
       old q vs true e h = inl (ts, was q e)
       old q vs false e h = inl (vs, sym (unchanged q e) ∙ h)
+
       known : (q : Name) (vs : List Thing) (t : Bool) → same_name q m ≡ t → map.get things q ≡ Some vs → All (λ t. KnowsOnly (may_know v.lock (chips things) t) (is_channel n high.born) from t) vs
       known q vs true e h = subst (All (λ t. KnowsOnly (may_know v.lock (chips things) t) (is_channel n high.born) from t)) (let same : us ≡ vs = some_is (sym (changed q e) ∙ h) in same) x.known
         where

@@ -125,70 +125,90 @@ module _ {n from first : ℕ} {low high : Config} {v : View} (c : Coupled n from
         → AllByRecursion (λ t. KnowsOnly (may_know v.lock (chips (left_things e.actor s.other us)) t) (is_channel n high.born) from t) us
 
   pub meets : (next : Config) (e : Event) (s : IsMeeting low e next) (ts us : List Thing) (u : Thing) → Meets next e s ts us u → (w : View) × Coupled n from first next high w
-  meets next e s ts us u b = (record v { things = things; phase = protocol.0 }, quiet c next things protocol.0 (record {
-    sites = ap (λ (d : Config). d.sites) s.is;
-    places = ap (λ (d : Config). d.places) s.is;
-    said = ap (λ (d : Config). d.said) s.is;
-    born = λ q h. ap (λ (d : Config). set.contains d.born q) s.is ∙ made-kept low.born e.made q h;
-    stand_born = born-kept low next e c.stand_born b.applies;
-    shaped = λ q. shaped q (same_name q s.other) (same_name q e.actor) refl refl;
-    atoms = λ q. atoms q (same_name q s.other) (same_name q e.actor) refl refl;
-    packets = λ q. packets q (same_name q s.other) (same_name q e.actor) refl refl;
-    old_or_new = λ q vs h. inl (old q vs (same_name q s.other) (same_name q e.actor) refl refl h);
-    protocol = protocol.1;
-    known = λ q vs h. known q vs (same_name q s.other) (same_name q e.actor) refl refl h;
-  }))
+  meets next e s ts us u b = (
+    record v { things = things; phase = protocol.0 },
+    quiet c next things protocol.0 (record {
+      sites = ap (λ (d : Config). d.sites) s.is;
+      places = ap (λ (d : Config). d.places) s.is;
+      said = ap (λ (d : Config). d.said) s.is;
+      born = λ q h. ap (λ (d : Config). set.contains d.born q) s.is ∙ made-kept low.born e.made q h;
+      stand_born = born-kept low next e c.stand_born b.applies;
+      shaped = λ q. shaped q (same_name q s.other) (same_name q e.actor) refl refl;
+      atoms = λ q. atoms q (same_name q s.other) (same_name q e.actor) refl refl;
+      packets = λ q. packets q (same_name q s.other) (same_name q e.actor) refl refl;
+      old_or_new = λ q vs h. inl (old q vs (same_name q s.other) (same_name q e.actor) refl refl h);
+      protocol = protocol.1;
+      known = λ q vs h. known q vs (same_name q s.other) (same_name q e.actor) refl refl h;
+    }),
+  )
     where
       things : NameMap (List Thing)
       things = left_things e.actor s.other us
+
       -- an input is no output
       actor_other : same_name e.actor s.other ≡ false
       actor_other = not_true _ (λ t.
           let same : s.atom ≡ s.offers.mate = done (sym s.offers.waits ∙ sym (ap (map.get low.atoms) (same_name-is e.actor s.other t)) ∙ s.acts.there) in
           let o = is_output s.offers.mate s.offers.sent s.offers.sends_it in
           let bad : ProcForm-F.Inp s.on s.pattern s.body ≡ ProcForm-F.Out o.on o.sent = sym s.form ∙ ap (λ (a : Atom). layer a.proc) same ∙ o.form in cc)
+
       still_there : map.get (map.remove v.things s.other) e.actor ≡ Some ts
       still_there = get-cut v.things s.other e.actor ∙ ap (λ t. cond t None (map.get v.things e.actor)) actor_other ∙ b.there
+
       step : Step (chips v.things) (chips things) (show_all (u ∷ []) ++ show_all ts) (show_all us)
       step = step_of_two v.things e.actor s.other ts (u ∷ []) us b.other_there still_there
+
       protocol : (then : Name → Phase) × Protocol (scene v high) then (chips things)
       protocol = b.protocol step
+
       at : (q : Name) → map.get things q ≡ cond (same_name q e.actor) (Some us) (cond (same_name q s.other) None (map.get v.things q))
       at q = get-put (map.remove v.things s.other) e.actor us q ∙ ap (cond (same_name q e.actor) (Some us)) (get-cut v.things s.other q)
+
       at_atoms : (q : Name) → map.get next.atoms q ≡ cond (same_name q s.other) None (cond (same_name q e.actor) (Some (goes_under s.atom s.body s.env)) (map.get low.atoms q))
       at_atoms q = ap (λ (d : Config). map.get d.atoms q) s.is ∙ get-cut (map.insert low.atoms e.actor (goes_under s.atom s.body s.env)) s.other q ∙ ap (cond (same_name q s.other) None) (get-put low.atoms e.actor (goes_under s.atom s.body s.env) q)
+
       at_packets : (q : Name) → map.get next.packets q ≡ map.get low.packets q
       at_packets q = ap (λ (d : Config). map.get d.packets q) s.is
+
       apart : (q : Name) → same_name q s.other ≡ true → same_name q e.actor ≡ false
       apart q t = ap (λ x. same_name x e.actor) (same_name-is q s.other t) ∙ same_name-swap s.other e.actor ∙ actor_other
+
       gone : (q : Name) → same_name q s.other ≡ true → map.get things q ≡ None
       gone q t = at q ∙ ap (λ x. cond x (Some us) (cond (same_name q s.other) None (map.get v.things q))) (apart q t) ∙ ap (λ x. cond x None (map.get v.things q)) t
+
       its : (q : Name) → same_name q e.actor ≡ true → map.get things q ≡ Some us
       its q t = at q ∙ ap (λ x. cond x (Some us) (cond (same_name q s.other) None (map.get v.things q))) t
+
       unchanged : (q : Name) → same_name q s.other ≡ false → same_name q e.actor ≡ false → map.get things q ≡ map.get v.things q
       unchanged q t r = at q ∙ ap (λ x. cond x (Some us) (cond (same_name q s.other) None (map.get v.things q))) r ∙ ap (λ x. cond x None (map.get v.things q)) t
+
       shaped : (q : Name) (t r : Bool) → same_name q s.other ≡ t → same_name q e.actor ≡ r → IsShaped n from first next things q
       shaped q true r x y =
           IsShaped.nothing (at_atoms q ∙ ap (λ t. cond t None (cond (same_name q e.actor) (Some (goes_under s.atom s.body s.env)) (map.get low.atoms q))) x) (at_packets q ∙ ap (map.get low.packets) (same_name-is q s.other x) ∙ b.no_other_packet) (gone q x)
       shaped q false true x y =
           IsShaped.atom (at_atoms q ∙ ap (λ t. cond t None (cond (same_name q e.actor) (Some (goes_under s.atom s.body s.env)) (map.get low.atoms q))) x ∙ ap (λ t. cond t (Some (goes_under s.atom s.body s.env)) (map.get low.atoms q)) y)
-              (at_packets q ∙ ap (map.get low.packets) (same_name-is q e.actor y) ∙ b.no_packet) (its q y) b.headed b.are
+          (at_packets q ∙ ap (map.get low.packets) (same_name-is q e.actor y) ∙ b.no_packet) (its q y) b.headed b.are
       shaped q false false x y =
           reshape q (at_atoms q ∙ ap (λ t. cond t None (cond (same_name q e.actor) (Some (goes_under s.atom s.body s.env)) (map.get low.atoms q))) x ∙ ap (λ t. cond t (Some (goes_under s.atom s.body s.env)) (map.get low.atoms q)) y) (at_packets q) (unchanged q x y) (c.shaped q)
+
       atoms : (q : Name) (t r : Bool) → same_name q s.other ≡ t → same_name q e.actor ≡ r → (map.get things q >>= first_atom_of) ≡ (map.get v.things q >>= first_atom_of)
       atoms q true r x y = ap (λ o. o >>= first_atom_of) (gone q x) ∙ sym b.no_atom ∙ sym (ap (λ o. o >>= first_atom_of) (ap (map.get v.things) (same_name-is q s.other x) ∙ b.other_there))
       atoms q false true x y = ap (λ o. o >>= first_atom_of) (its q y) ∙ b.atoms ∙ sym (ap (λ o. o >>= first_atom_of) (ap (map.get v.things) (same_name-is q e.actor y) ∙ b.there))
       atoms q false false x y = ap (λ o. o >>= first_atom_of) (unchanged q x y)
+
       packets : (q : Name) (t r : Bool) → same_name q s.other ≡ t → same_name q e.actor ≡ r → (map.get things q >>= first_packet_of) ≡ (map.get v.things q >>= first_packet_of)
       packets q true r x y = ap (λ o. o >>= first_packet_of) (gone q x) ∙ sym b.no_high_packet ∙ sym (ap (λ o. o >>= first_packet_of) (ap (map.get v.things) (same_name-is q s.other x) ∙ b.other_there))
       packets q false true x y = ap (λ o. o >>= first_packet_of) (its q y) ∙ b.packets ∙ sym (ap (λ o. o >>= first_packet_of) (ap (map.get v.things) (same_name-is q e.actor y) ∙ b.there))
       packets q false false x y = ap (λ o. o >>= first_packet_of) (unchanged q x y)
+
       no_value : {A B : Type 0} {x : A} → None ≡ Some x → B
       no_value h = absurd cc
+
       old : (q : Name) (vs : List Thing) (t r : Bool) → same_name q s.other ≡ t → same_name q e.actor ≡ r → map.get things q ≡ Some vs → (ws : List Thing) × (map.get v.things q ≡ Some ws)
       old q vs true r x y h = no_value (sym (gone q x) ∙ h)
       old q vs false true x y h = (ts, ap (map.get v.things) (same_name-is q e.actor y) ∙ b.there)
       old q vs false false x y h = (vs, sym (unchanged q x y) ∙ h)
+
       known : (q : Name) (vs : List Thing) (t r : Bool) → same_name q s.other ≡ t → same_name q e.actor ≡ r → map.get things q ≡ Some vs → All (λ t. KnowsOnly (may_know v.lock (chips things) t) (is_channel n high.born) from t) vs
       known q vs true r x y h = no_value (sym (gone q x) ∙ h)
       known q vs false true x y h = subst (All (λ t. KnowsOnly (may_know v.lock (chips things) t) (is_channel n high.born) from t)) (sym (done (sym (its q y) ∙ h)))

@@ -93,6 +93,7 @@ module _ {n from first : ℕ} {low high : Config} {v : View} (c : Coupled n from
     where
       some_of : {A : Type 0} (o : Option A) (x : A) → o ≡ Some x → IsSome o
       some_of o x e = rw e refl
+
       go : IsShaped n from first low v.things m → set.contains low.born m ≡ true
       go (IsShaped.nothing a k t) = absurd (no_value (sym t ∙ h))
       go (IsShaped.atom a k t u r) = c.stand_born.marks m (inl (some_of _ _ a))
@@ -145,12 +146,15 @@ module _ {n from first : ℕ} {low high : Config} {v : View} (c : Coupled n from
     where
       still_new : (m : Name) → set.contains next.born m ≡ false → set.contains low.born m ≡ false
       still_new m h = elim (truth (set.contains low.born m)) [ inl t ↦ absurd (let bad = x.born m t in cc) | inr f ↦ f ]
+
       old : (m : Name) → set.contains next.born m ≡ true → (set.contains low.born m ≡ true) ⊎ (set.contains low.born m ≡ false) → set.contains next.born (v.stands_for m) ≡ true
       old m h (inl t) = x.born (v.stands_for m) (c.old_marks m t)
       old m h (inr f) = ap (set.contains next.born) (c.new_marks m f) ∙ h
+
       -- a new mark stands for no old one
       apart : (m k : Name) → set.contains low.born m ≡ false → set.contains low.born k ≡ true → v.stands_for m ≡ v.stands_for k → ⊥
       apart m k f t e = let bad : false ≡ true = sym f ∙ ap (set.contains low.born) (sym (c.new_marks m f) ∙ e) ∙ c.old_marks k t in cc
+
       one : (m k : Name) → v.stands_for m ≡ v.stands_for k → ((ts : List Thing) × (map.get v.things m ≡ Some ts)) ⊎ (set.contains low.born m ≡ false)
           → ((us : List Thing) × (map.get v.things k ≡ Some us)) ⊎ (set.contains low.born k ≡ false) → m ≡ k
       one m k e (inl a) (inl b) = c.distinct m k a.0 b.0 a.1 b.1 e

@@ -133,125 +133,161 @@ names_by n from first _ a i h f = absurd cc
 module _ {n from first : ℕ} {low high : Config} {v : View} (c : Coupled n from first low high v) where
   entered : (e : Event) (next : Config) (s : IsNaming low e next) (b : Name) (t : ℕ) (ps : List (Name × Name)) → IsLooking n first (Mail.register b t) ps s.atom → s.atom.proc ≡ (desk n first Service.registers).body → Took first Service.registers (Mail.register b t) s.atom.env
       → map.get s.atom.env (first + 2) ≡ Some (value.Places ps) → map.get low.packets e.actor ≡ None → map.get v.things e.actor ≡ Some (Thing.looking (Mail.register b t) ps ∷ []) → apply low e ≡ Some next → (w : View) × Coupled n from first next high w
-  entered e next s b t ps i text took map_is no_packet there h =
-      (record v { things = things; lock = lock_now; phase = protocol.0 }, quiet_with c next things lock_now protocol.0 (record {
-        sites = ap (λ (d : Config). d.sites) s.is;
-        places = ap (λ (d : Config). d.places) s.is;
-        said = ap (λ (d : Config). d.said) s.is;
-        born = still_born;
-        stand_born = born-kept low next e c.stand_born h;
-        shaped = λ q. shaped q (same_name q e.actor) refl;
-        atoms = λ q. atoms q (same_name q e.actor) refl;
-        packets = λ q. packets q (same_name q e.actor) refl;
-        old_or_new = λ q vs j. inl (old q vs (same_name q e.actor) refl j);
-        protocol = protocol.1;
-        locks_born = λ a k j. lock_born a k (same_name a b) j;
-        locks_apart = λ a k j o. lock_apart a k (same_name a b) j o;
-        main = entered_some (main_agent n) c.main;
-        known = λ q vs j. known q vs (same_name q e.actor) refl j;
-      }))
+  entered e next s b t ps i text took map_is no_packet there h = (
+    record v { things = things; lock = lock_now; phase = protocol.0 },
+    quiet_with c next things lock_now protocol.0 (record {
+      sites = ap (λ (d : Config). d.sites) s.is;
+      places = ap (λ (d : Config). d.places) s.is;
+      said = ap (λ (d : Config). d.said) s.is;
+      born = still_born;
+      stand_born = born-kept low next e c.stand_born h;
+      shaped = λ q. shaped q (same_name q e.actor) refl;
+      atoms = λ q. atoms q (same_name q e.actor) refl;
+      packets = λ q. packets q (same_name q e.actor) refl;
+      old_or_new = λ q vs j. inl (old q vs (same_name q e.actor) refl j);
+      protocol = protocol.1;
+      locks_born = λ a k j. lock_born a k (same_name a b) j;
+      locks_apart = λ a k j o. lock_apart a k (same_name a b) j o;
+      main = entered_some (main_agent n) c.main;
+      known = λ q vs j. known q vs (same_name q e.actor) refl j;
+    }),
+  )
     where
       env : Env
       env = map.insert s.atom.env (first + 3) (value.Chan s.new)
+
       texts : ◌≡◌ {A = Layer} (ProcForm-F.New s.binder s.type s.body) (ProcForm-F.New (first + 3) lock_type (enters n first (first + 1) (first + 2) (first + 3)))
       texts = sym s.form ∙ ap layer text ∙ forms.outs-New (first + 3) lock_type (enters n first (first + 1) (first + 2) (first + 3))
+
       body : s.body ≡ enters n first (first + 1) (first + 2) (first + 3)
       body = (new_parts s.binder (first + 3) s.type lock_type s.body (enters n first (first + 1) (first + 2) (first + 3)) texts).0
+
       binder : s.binder ≡ first + 3
       binder = (new_parts s.binder (first + 3) s.type lock_type s.body (enters n first (first + 1) (first + 2) (first + 3)) texts).1
+
       low_atom : Atom
       low_atom = goes_under s.atom (enters n first (first + 1) (first + 2) (first + 3)) env
+
       is : next ≡ effect low e (record still { atoms = put e.actor low_atom ∷ [] })
       is = s.is ∙ ap (λ x. effect low e (record still { atoms = put e.actor (goes_under s.atom s.body (map.insert s.atom.env x (value.Chan s.new))) ∷ [] })) binder
           ∙ ap (λ x. effect low e (record still { atoms = put e.actor (goes_under s.atom x env) ∷ [] })) body
+
       us : List Thing
       us = Thing.places (put_place ps b s.new) ∷ Thing.free s.new t ∷ Thing.mail (Mail.ack b t) (Stage.in_agent s.atom.agent) ∷ []
+
       things : NameMap (List Thing)
       things = map.insert v.things e.actor us
+
       lock_now : Locks
       lock_now = changed v.lock b (Some s.new)
+
       step : Step (chips v.things) (chips things) (show_all (Thing.looking (Mail.register b t) ps ∷ [])) (show_all us)
       step = step_at v.things e.actor (Thing.looking (Mail.register b t) ps ∷ []) us there
+
       told : AllByRecursion (IsTrueOf (scene v high) v.phase) (Chip.locks (find_place ps) ∷ Chip.registration b t ∷ [])
       told = recursion_from_All (IsTrueOf (scene v high) v.phase) (Chip.locks (find_place ps) ∷ Chip.registration b t ∷ []) (all_taken step (IsTrueOf (scene v high) v.phase) c.protocol.true_chips)
+
       no_such : (a : Name) → v.lock a ≡ Some s.new → ⊥
       no_such a j = let bad : false ≡ true = sym s.is_new ∙ c.locks_born a s.new j in cc
+
       protocol : (then : Name → Phase) × Protocol (with_lock (scene v high) b s.new) then (chips things)
       protocol = keeps-protocol (scene v high) (with_lock (scene v high) b s.new) v.phase (chips v.things) (chips things) (Chip.registration b t ∷ Chip.locks (find_place ps) ∷ []) (Chip.ack_sent b t ∷ Chip.locks (find_place (put_place ps b s.new)) ∷ Chip.free s.new t ∷ [])
           (Rule.registers {b = b} {l = s.new} {s = t} {m = find_place ps} {n = find_place (put_place ps b s.new)} no_such (λ a. find-put ps b s.new a ∙ ap (λ o. cond (same_name a b) (Some s.new) o) (told.0 a)))
           (cancel (Chip.registration b t ∷ Chip.locks (find_place ps) ∷ []) (Chip.ack_sent b t ∷ Chip.locks (find_place (put_place ps b s.new)) ∷ Chip.free s.new t ∷ []) [] step (permuted swapped) (permuted (and_then (behind swapped) swapped))) c.protocol
+
       still_born : (q : Name) → set.contains low.born q ≡ true → set.contains next.born q ≡ true
       still_born q j = ap (λ (d : Config). set.contains d.born q) s.is ∙ made-kept low.born e.made q j
+
       new_born : set.contains next.born s.new ≡ true
       new_born = ap (λ (d : Config). set.contains d.born s.new) s.is ∙ ap (λ m. set.contains (with_made low.born m) s.new) s.made_one ∙ born_here low.born s.new
+
       lock_born : (a k : Name) (u : Bool) → cond u (Some s.new) (v.lock a) ≡ Some k → set.contains next.born k ≡ true
       lock_born a k true j = ap (set.contains next.born) (done j) ∙ new_born
       lock_born a k false j = still_born k (c.locks_born a k j)
+
       lock_apart : (a k : Name) (u : Bool) → cond u (Some s.new) (v.lock a) ≡ Some k → set.contains (own_names n) k ≡ true → k ≡ own n 13
       lock_apart a k true j o = absurd (let bad : false ≡ true = sym s.is_new ∙ c.born s.new (c.own_born s.new (ap (set.contains (own_names n)) (sym (done j)) ∙ o)) in cc)
       lock_apart a k false j o = c.locks_apart a k j o
+
       entered_some : (a : Name) → is_some (v.lock a) ≡ true → is_some (lock_now a) ≡ true
       entered_some a j = go (same_name a b)
         where
           go : (u : Bool) → is_some (cond u (Some s.new) (v.lock a)) ≡ true
           go true = refl
           go false = j
+
       unchanged : (q : Name) → same_name q e.actor ≡ false → map.get things q ≡ map.get v.things q
       unchanged q f = get-put v.things e.actor us q ∙ ap (λ x. cond x (Some us) (map.get v.things q)) f
+
       its : (q : Name) → same_name q e.actor ≡ true → map.get things q ≡ Some us
       its q f = get-put v.things e.actor us q ∙ ap (λ x. cond x (Some us) (map.get v.things q)) f
+
       was : (q : Name) → same_name q e.actor ≡ true → map.get v.things q ≡ Some (Thing.looking (Mail.register b t) ps ∷ [])
       was q f = ap (map.get v.things) (same_name-is q e.actor f) ∙ there
+
       agent_is : map.get env first ≡ Some (value.Agent b)
       agent_is = there_is s.atom.env (first + 3) first (value.Chan s.new) (λ e. let bad : ⊥ = omega arith in bad) ∙ took.0
+
       site_is : map.get env (first + 1) ≡ Some (value.Site t)
       site_is = there_is s.atom.env (first + 3) (first + 1) (value.Chan s.new) (λ e. let bad : ⊥ = omega arith in bad) ∙ took.1
+
       places_is : map.get env (first + 2) ≡ Some (value.Places ps)
       places_is = there_is s.atom.env (first + 3) (first + 2) (value.Chan s.new) (λ e. let bad : ⊥ = omega arith in bad) ∙ map_is
+
       lock_is : map.get env (first + 3) ≡ Some (value.Chan s.new)
       lock_is = here_is s.atom.env (first + 3) (value.Chan s.new)
+
       are : Are n from first low_atom us
       are = Are.both {k = 0} {p = beside 0 (gives 0 (lock n) (with_text (first + 2) first (first + 3))) (gives 0 (variable (first + 3)) (variable (first + 1)))} {q = acks n first (first + 1)} refl
           (Are.both {k = 0} {p = gives 0 (lock n) (with_text (first + 2) first (first + 3))} {q = gives 0 (variable (first + 3)) (variable (first + 1))} refl
           (Are.one (record { agent = i.agent; gives = rw (forms.outs-Out (lock n) (with_text (first + 2) first (first + 3)), channel-is (own n 10) env, with-is (first + 2) first (first + 3) env ps b s.new places_is agent_is lock_is) refl }))
           (Are.one (record { agent = i.agent; gives = gives_two s.atom.agent 0 (first + 3) (first + 1) env s.new (value.Site t) lock_is site_is })))
-          (Are.one (record {
-            agent = refl;
-            receiver = variable first;
-            to = variable (first + 1);
-            chan = ack n;
-            sent = unit;
-            role = refl;
-            is = forms.outs-Send (variable first) (variable (first + 1)) (ack n) unit;
-            for_agent = rw (variable-is first env, agent_is, outs.outs-Agent b) refl;
-            for_site = variable-is (first + 1) env ∙ site_is;
-            on = channel-is (own n 7) env;
-            holds = unit-is env;
-          }, tt))
+          (Are.one (
+            record {
+              agent = refl;
+              receiver = variable first;
+              to = variable (first + 1);
+              chan = ack n;
+              sent = unit;
+              role = refl;
+              is = forms.outs-Send (variable first) (variable (first + 1)) (ack n) unit;
+              for_agent = rw (variable-is first env, agent_is, outs.outs-Agent b) refl;
+              for_site = variable-is (first + 1) env ∙ site_is;
+              on = channel-is (own n 7) env;
+              holds = unit-is env;
+            },
+            tt,
+          ))
+
       shaped : (q : Name) (u : Bool) → same_name q e.actor ≡ u → IsShaped n from first next things q
       shaped q true f = subst (IsShaped n from first next things) (sym (same_name-is q e.actor f))
           (IsShaped.atom (ap (λ (d : Config). map.get d.atoms e.actor) is ∙ put_here low.atoms e.actor low_atom) (ap (λ (d : Config). map.get d.packets e.actor) is ∙ no_packet) (put_here v.things e.actor us)
           (All-from_recursion (λ u. high_atom u ≡ None) (Thing.free s.new t ∷ Thing.mail (Mail.ack b t) (Stage.in_agent s.atom.agent) ∷ []) (refl, (refl, tt))) are)
       shaped q false f = reshape q (ap (λ (d : Config). map.get d.atoms q) is ∙ get-put low.atoms e.actor low_atom q ∙ ap (λ x. cond x (Some low_atom) (map.get low.atoms q)) f) (ap (λ (d : Config). map.get d.packets q) is) (unchanged q f) (c.shaped q)
+
       atoms : (q : Name) (u : Bool) → same_name q e.actor ≡ u → (map.get things q >>= first_atom_of) ≡ (map.get v.things q >>= first_atom_of)
       atoms q true f = ap (λ o. o >>= first_atom_of) (its q f) ∙ sym (ap (λ o. o >>= first_atom_of) (was q f))
       atoms q false f = ap (λ o. o >>= first_atom_of) (unchanged q f)
+
       packets : (q : Name) (u : Bool) → same_name q e.actor ≡ u → (map.get things q >>= first_packet_of) ≡ (map.get v.things q >>= first_packet_of)
       packets q true f = ap (λ o. o >>= first_packet_of) (its q f) ∙ sym (ap (λ o. o >>= first_packet_of) (was q f))
       packets q false f = ap (λ o. o >>= first_packet_of) (unchanged q f)
+
       old : (q : Name) (vs : List Thing) (u : Bool) → same_name q e.actor ≡ u → map.get things q ≡ Some vs → (ws : List Thing) × (map.get v.things q ≡ Some ws)
       old q vs true f j = (Thing.looking (Mail.register b t) ps ∷ [], was q f)
       old q vs false f j = (vs, sym (unchanged q f) ∙ j)
+
       lock_more : (x : Thing) (a : Name) → may_know v.lock (chips things) x a ≡ true → may_know lock_now (chips things) x a ≡ true
       lock_more (Thing.settling y hi u) a k = elim (or_cases _ (list_any (is_child_of hi.agent a) (chips things)) k) [ inl j ↦ ap (λ o. o || list_any (is_child_of hi.agent a) (chips things)) (entered_some a j) | inr j ↦ or_second _ _ j ]
       lock_more (Thing.beginning y hi p u) a k = elim (or_cases _ (same_name a hi.agent) k) [ inl j ↦ ap (λ o. o || same_name a hi.agent) (entered_some a j) | inr j ↦ or_second _ _ j ]
       lock_more _ a k = entered_some a k
+
       known : (q : Name) (vs : List Thing) (u : Bool) → same_name q e.actor ≡ u → map.get things q ≡ Some vs → All (λ t. KnowsOnly (may_know lock_now (chips things) t) (is_channel n high.born) from t) vs
       known q vs true f j = subst (All (λ t. KnowsOnly (may_know lock_now (chips things) t) (is_channel n high.born) from t)) (sym (done (sym (its q f) ∙ j)))
           (All-from_recursion (λ t. KnowsOnly (may_know lock_now (chips things) t) (is_channel n high.born) from t) us (tt, (tt, (tt, tt))))
       known q vs false f j = All-weaker (λ t. KnowsOnly (may_know v.lock (chips v.things) t) (is_channel n high.born) from t) (λ t. KnowsOnly (may_know lock_now (chips things) t) (is_channel n high.born) from t)
           (λ x k. knows_more (may_know v.lock (chips v.things) x) (may_know lock_now (chips things) x) (is_channel n high.born) from
-              (λ a m. lock_more x a (may_know_more v.lock (chips v.things) (chips things) (λ y z any. any_kept (is_child_of y z) step (λ w. w) any) x a m)) x k)
+          (λ a m. lock_more x a (may_know_more v.lock (chips v.things) (chips things) (λ y z any. any_kept (is_child_of y z) step (λ w. w) any) x a m)) x k)
           vs (c.known q vs (sym (unchanged q f) ∙ j))
 
   pub registers : (e : Event) (next : Config) → e.kind ≡ kind.New → e.tag.role ≡ role.Infra → apply low e ≡ Some next → (w : View) × Coupled n from first next high w
@@ -263,6 +299,7 @@ module _ {n from first : ℕ} {low high : Config} {v : View} (c : Coupled n from
     where
       no_new : {A : Type 0} (e : Event) (next : Config) (s : IsNaming low e next) (a m : Expr) (x : ℕ) (p q : Proc) → layer s.atom.proc ≡ ProcForm-F.Lookup a m x p q → A
       no_new e next s a m x p q j = absurd (let bad = sym s.form ∙ j in cc)
+
       by_service : (e : Event) (next : Config) (s : IsNaming low e next) (m : Mail) (ps : List (Name × Name)) → IsLooking n first m ps s.atom → (k : Service) → Took first k m s.atom.env → map.get s.atom.env (desk n first k).map ≡ Some (value.Places ps)
           → s.atom.proc ≡ (desk n first k).body → map.get low.packets e.actor ≡ None → map.get v.things e.actor ≡ Some (Thing.looking m ps ∷ []) → apply low e ≡ Some next → (w : View) × Coupled n from first next high w
       by_service e next s (Mail.register b t) ps i Service.registers took map_is text no_packet there h = entered e next s b t ps i text took map_is no_packet there h

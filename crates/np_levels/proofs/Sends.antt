@@ -107,10 +107,10 @@ mail_packet n m x low e next s i =
     let chan : own n (on_channel m) ≡ s.packet.chan = some_is (sym i.on ∙ ap (λ (y : Expr). chan_of y s.atom.env) (sym chans) ∙ s.its_chan) in
     let sent : content m ≡ s.packet.value = some_is (sym i.holds ∙ ap (λ (y : Expr). eval y s.atom.env) (sym sents) ∙ s.its_value) in
     let to : s.packet.to ≡ to_site m =
-        then (eval s.to s.atom.env) _ s.its_site λ v is rest. then (as_site (out-Value v)) _ rest λ t site last. when _ _ last λ below ends.
-        let its : Some (value.Site (to_site m)) ≡ Some v = sym i.for_site ∙ ap (λ (y : Expr). eval y s.atom.env) (sym tos) ∙ is in
-        let same : to_site m ≡ t = some_is (ap as_site (sym (outs-Site (to_site m))) ∙ ap (λ (u : Value). as_site (out-Value u)) (some_is its) ∙ site) in
-        done ends ∙ sym same in
+    then (eval s.to s.atom.env) _ s.its_site λ v is rest. then (as_site (out-Value v)) _ rest λ t site last. when _ _ last λ below ends.
+    let its : Some (value.Site (to_site m)) ≡ Some v = sym i.for_site ∙ ap (λ (y : Expr). eval y s.atom.env) (sym tos) ∙ is in
+    let same : to_site m ≡ t = some_is (ap as_site (sym (outs-Site (to_site m))) ∙ ap (λ (u : Value). as_site (out-Value u)) (some_is its) ∙ site) in
+    done ends ∙ sym same in
     λ j. record { to = to j; agent = sym agent j; chan = sym chan j; value = sym sent j; tag = s.packet.tag }
   where
     some_is : {A : Type 0} {a b : A} → Some a ≡ Some b → a ≡ b
@@ -167,20 +167,22 @@ module _ {n from first : ℕ} {low high : Config} {v : View} (c : Coupled n from
       let protocol = mail_leaves m x e.site own step (λ t r. at_site_of x e.site t r (ap (map.get low.places) (sym mails.agent) ∙ s.acts.stands)) c.protocol in
       let packet = mail_packet n m x low e next s mails in
       let known = recursion_from_All (λ t. KnowsOnly (may_know v.lock (chips v.things) t) (is_channel n high.born) from t) (Thing.mail m (Stage.in_agent x) ∷ []) (c.known e.actor (Thing.mail m (Stage.in_agent x) ∷ []) there) in
-      let things : NameMap (List Thing) = map.insert v.things e.actor us in
-      (record v { things = things; phase = protocol.0 }, quiet c next things protocol.0 (at_mark c next e e.actor (Thing.mail m (Stage.in_agent x) ∷ []) us protocol.0 (record {
-        applies = h;
-        sites = ap (λ (d : Config). d.sites) s.is;
-        places = ap (λ (d : Config). d.places) s.is;
-        said = ap (λ (d : Config). d.said) s.is;
-        born = ap (λ (d : Config). d.born) s.is;
-        there = there;
-        others = λ q d. (ap (λ (d : Config). map.get d.atoms q) s.is ∙ get-cut low.atoms e.actor q ∙ ap (λ t. cond t None (map.get low.atoms q)) d, ap (λ (d : Config). map.get d.packets q) s.is ∙ get-put low.packets e.actor s.packet q ∙ ap (λ t. cond t (Some s.packet) (map.get low.packets q)) d);
-        here = IsShaped.packet (ap (λ (d : Config). map.get d.atoms e.actor) s.is ∙ cut_here low.atoms e.actor) (ap (λ (d : Config). map.get d.packets e.actor) s.is ∙ put_here low.packets e.actor s.packet)
-            (put_here v.things e.actor us) (packet, λ plain. let bad : role.Plain ≡ role.Infra = sym plain ∙ ap (λ (t : Tag). t.role) s.its_tag ∙ infra in cc);
-        atoms = refl;
-        packets = refl;
-        protocol = protocol.1;
-        children = λ a b. any_kept (is_child_of a b) step (λ any. absurd (let none = no_child a b m x in cc));
-        known = All-from_recursion (λ t. KnowsOnly (may_know v.lock (chips things) t) (is_channel n high.born) from t) us (known.0, tt);
-      })))
+      let things : NameMap (List Thing) = map.insert v.things e.actor us in (
+        record v { things = things; phase = protocol.0 },
+        quiet c next things protocol.0 (at_mark c next e e.actor (Thing.mail m (Stage.in_agent x) ∷ []) us protocol.0 (record {
+          applies = h;
+          sites = ap (λ (d : Config). d.sites) s.is;
+          places = ap (λ (d : Config). d.places) s.is;
+          said = ap (λ (d : Config). d.said) s.is;
+          born = ap (λ (d : Config). d.born) s.is;
+          there = there;
+          others = λ q d. (ap (λ (d : Config). map.get d.atoms q) s.is ∙ get-cut low.atoms e.actor q ∙ ap (λ t. cond t None (map.get low.atoms q)) d, ap (λ (d : Config). map.get d.packets q) s.is ∙ get-put low.packets e.actor s.packet q ∙ ap (λ t. cond t (Some s.packet) (map.get low.packets q)) d);
+          here = IsShaped.packet (ap (λ (d : Config). map.get d.atoms e.actor) s.is ∙ cut_here low.atoms e.actor) (ap (λ (d : Config). map.get d.packets e.actor) s.is ∙ put_here low.packets e.actor s.packet)
+              (put_here v.things e.actor us) (packet, λ plain. let bad : role.Plain ≡ role.Infra = sym plain ∙ ap (λ (t : Tag). t.role) s.its_tag ∙ infra in cc);
+          atoms = refl;
+          packets = refl;
+          protocol = protocol.1;
+          children = λ a b. any_kept (is_child_of a b) step (λ any. absurd (let none = no_child a b m x in cc));
+          known = All-from_recursion (λ t. KnowsOnly (may_know v.lock (chips things) t) (is_channel n high.born) from t) us (known.0, tt);
+        })),
+      )

@@ -115,9 +115,10 @@ desk-chan n x Service.ends_deliveries = refl
 -- what two binders of the daemon have
 two_there : (x d : ℕ) (u w : Value) (env next : Env) → bind (two_names (x + d) (x + (d + 1))) (value.Tuple (u ∷ w ∷ [])) env ≡ Some next → (map.get next (x + d) ≡ Some u) × (map.get next (x + (d + 1)) ≡ Some w)
 two_there x d u w env next h =
-    let is : next ≡ map.insert (map.insert env (x + d) u) (x + (d + 1)) w = done (sym (bind-two (x + d) (x + (d + 1)) u w env) ∙ h) in
-    (ap (λ (e : Env). map.get e (x + d)) is ∙ there_is (map.insert env (x + d) u) (x + (d + 1)) (x + d) w (λ e. let bad : ⊥ = omega arith in bad) ∙ here_is env (x + d) u,
-     ap (λ (e : Env). map.get e (x + (d + 1))) is ∙ here_is (map.insert env (x + d) u) (x + (d + 1)) w)
+    let is : next ≡ map.insert (map.insert env (x + d) u) (x + (d + 1)) w = done (sym (bind-two (x + d) (x + (d + 1)) u w env) ∙ h) in (
+      ap (λ (e : Env). map.get e (x + d)) is ∙ there_is (map.insert env (x + d) u) (x + (d + 1)) (x + d) w (λ e. let bad : ⊥ = omega arith in bad) ∙ here_is env (x + d) u,
+      ap (λ (e : Env). map.get e (x + (d + 1))) is ∙ here_is (map.insert env (x + d) u) (x + (d + 1)) w,
+    )
 
 took : (n x : ℕ) (k : Service) (m : Mail) (v : Value) (env next : Env) → on_channel m ≡ number_of k → v ≡ content_of m → bind (desk n x k).pattern v env ≡ Some next → Took x k m next
 took n x Service.registers (Mail.register b s) v env next same is h =
@@ -158,7 +159,7 @@ module _ {n from first : ℕ} {low high : Config} {v : View} (c : Coupled n from
       let there : map.get v.things s.other ≡ Some (g.thing ∷ []) = o.there ∙ ap Some g.alone in
       let chan : s.chan ≡ own n (number_of k) = done (sym (ap (λ x. chan_of x s.atom.env) (on ∙ desk-chan n first k) ∙ channel-is (own n (number_of k)) s.atom.env) ∙ s.its_chan) in
       by_number n (number_of k) s.offers.mate s.offers.sent.0 s.offers.sent.1 g.thing (listed k) (not_nine k) (not_ten k) (no_lock_at s.other (number_of k) g.thing (listed k) (not_thirteen k) there)
-          (sym (same_name-is s.chan s.offers.sent.0 s.offers.agree) ∙ chan) g.gift λ m thing number content for.
+      (sym (same_name-is s.chan s.offers.sent.0 s.offers.agree) ∙ chan) g.gift λ m thing number content for.
       becomes c next e s.other (goes_under s.atom s.body s.env) (Thing.mail m Stage.there ∷ []) (Thing.taken m ∷ []) (record {
         applies = h;
         is = s.is;
@@ -179,18 +180,21 @@ module _ {n from first : ℕ} {low high : Config} {v : View} (c : Coupled n from
       listed Service.notes_moves = refl
       listed Service.passes_on = refl
       listed Service.ends_deliveries = refl
+
       not_nine : (k : Service) → number_of k ≡ 9 → ⊥
       not_nine Service.registers e = omega arith
       not_nine Service.grants e = omega arith
       not_nine Service.notes_moves e = omega arith
       not_nine Service.passes_on e = omega arith
       not_nine Service.ends_deliveries e = omega arith
+
       not_ten : (k : Service) → number_of k ≡ 10 → ⊥
       not_ten Service.registers e = omega arith
       not_ten Service.grants e = omega arith
       not_ten Service.notes_moves e = omega arith
       not_ten Service.passes_on e = omega arith
       not_ten Service.ends_deliveries e = omega arith
+
       not_thirteen : (k : Service) → number_of k ≡ 13 → ⊥
       not_thirteen Service.registers e = omega arith
       not_thirteen Service.grants e = omega arith
@@ -210,7 +214,7 @@ module _ {n from first : ℕ} {low high : Config} {v : View} (c : Coupled n from
       let left : Proc = infra i.node (form.Open (variable i.letter)) in
       let right : Proc = tells n i.node (dack n) (pair i.named (variable i.place)) in
       let forms_are : ProcForm-F.Rep s.on s.pattern s.body ≡ ProcForm-F.Rep (deliver n) (two_names i.letter i.place) (beside i.node left right) =
-          sym s.form ∙ ap layer i.is ∙ forms.outs-Rep (deliver n) (two_names i.letter i.place) (beside i.node left right) in
+      sym s.form ∙ ap layer i.is ∙ forms.outs-Rep (deliver n) (two_names i.letter i.place) (beside i.node left right) in
       let on : s.on ≡ deliver n = cc in
       let pattern : s.pattern ≡ two_names i.letter i.place = cc in
       let body : s.body ≡ beside i.node left right = cc in
@@ -219,19 +223,19 @@ module _ {n from first : ℕ} {low high : Config} {v : View} (c : Coupled n from
       let there : map.get v.things s.other ≡ Some (g.thing ∷ []) = o.there ∙ ap Some g.alone in
       let chan : s.chan ≡ own n 6 = done (sym (ap (λ x. chan_of x s.atom.env) on ∙ channel-is (own n 6) s.atom.env) ∙ s.its_chan) in
       by_number n 6 s.offers.mate s.offers.sent.0 s.offers.sent.1 g.thing refl (λ e. let bad : ⊥ = omega arith in bad) (λ e. let bad : ⊥ = omega arith in bad)
-          (no_lock_at c s.other 6 g.thing refl (λ e. let bad : ⊥ = omega arith in bad) there)
-          (sym (same_name-is s.chan s.offers.sent.0 s.offers.agree) ∙ chan) g.gift λ m thing number content for.
+      (no_lock_at c s.other 6 g.thing refl (λ e. let bad : ⊥ = omega arith in bad) there)
+      (sym (same_name-is s.chan s.offers.sent.0 s.offers.agree) ∙ chan) g.gift λ m thing number content for.
       letter_mail m number λ p t mail.
       let agent : s.atom.agent ≡ p.agent = same_name-is s.atom.agent s.offers.mate.agent s.offers.together ∙ for ∙ ap (receiver n) mail in
       let what : s.value ≡ value.Tuple (value.Letter p.chan p.value ∷ value.Site t ∷ []) = s.offers.is ∙ content ∙ ap content_of mail in
       let env : s.env ≡ map.insert (map.insert s.atom.env i.letter (value.Letter p.chan p.value)) i.place (value.Site t) =
-          done (sym (ap (λ q. bind q s.value s.atom.env) pattern ∙ ap (λ u. bind (two_names i.letter i.place) u s.atom.env) what ∙ bind-two i.letter i.place (value.Letter p.chan p.value) (value.Site t) s.atom.env) ∙ s.binds) in
+      done (sym (ap (λ q. bind q s.value s.atom.env) pattern ∙ ap (λ u. bind (two_names i.letter i.place) u s.atom.env) what ∙ bind-two i.letter i.place (value.Letter p.chan p.value) (value.Site t) s.atom.env) ∙ s.binds) in
       let letter_is : map.get s.env i.letter ≡ Some (value.Letter p.chan p.value) =
-          ap (λ (e : Env). map.get e i.letter) env ∙ there_is (map.insert s.atom.env i.letter (value.Letter p.chan p.value)) i.place i.letter (value.Site t) i.distinct ∙ here_is s.atom.env i.letter (value.Letter p.chan p.value) in
+      ap (λ (e : Env). map.get e i.letter) env ∙ there_is (map.insert s.atom.env i.letter (value.Letter p.chan p.value)) i.place i.letter (value.Site t) i.distinct ∙ here_is s.atom.env i.letter (value.Letter p.chan p.value) in
       let place_is : map.get s.env i.place ≡ Some (value.Site t) = ap (λ (e : Env). map.get e i.place) env ∙ here_is (map.insert s.atom.env i.letter (value.Letter p.chan p.value)) i.place (value.Site t) in
       let named_is : eval i.named s.env ≡ Some (value.Agent p.agent) =
-          ap (eval i.named) env ∙ named_kept n from i.named (map.insert s.atom.env i.letter (value.Letter p.chan p.value)) i.place (value.Site t) i.names i.place_above
-          ∙ named_kept n from i.named s.atom.env i.letter (value.Letter p.chan p.value) i.names i.letter_above ∙ i.calls ∙ ap (λ a. Some (value.Agent a)) (sym i.agent ∙ agent) in
+      ap (eval i.named) env ∙ named_kept n from i.named (map.insert s.atom.env i.letter (value.Letter p.chan p.value)) i.place (value.Site t) i.names i.place_above
+      ∙ named_kept n from i.named s.atom.env i.letter (value.Letter p.chan p.value) i.names i.letter_above ∙ i.calls ∙ ap (λ a. Some (value.Agent a)) (sym i.agent ∙ agent) in
       becomes c next e s.other (goes_under s.atom s.body s.env) (Thing.mail (Mail.deliver p t) Stage.there ∷ []) (Thing.opening p ∷ Thing.mail (Mail.dack p.agent t) (Stage.in_agent x) ∷ []) (record {
         applies = h;
         is = s.is;
@@ -239,26 +243,32 @@ module _ {n from first : ℕ} {low high : Config} {v : View} (c : Coupled n from
         there = there ∙ ap (λ t. Some (t ∷ [])) (thing ∙ ap (λ m. Thing.mail m Stage.there) mail);
         headed = All-from_recursion (λ u. high_atom u ≡ None) (Thing.mail (Mail.dack p.agent t) (Stage.in_agent x) ∷ []) (refl, tt);
         are = Are.both {k = i.node} {p = left} {q = right} body
-            (Are.one (record {
-              agent = agent;
-              letter = variable i.letter;
-              role = refl;
-              is = forms.outs-Open (variable i.letter);
-              holds = rw (variable-is i.letter s.env, letter_is, outs.outs-Letter p.chan p.value) refl;
-            }, ap (λ a. same_name a (daemon_agent n)) (sym agent ∙ i.agent) ∙ i.apart))
-            (Are.one (record {
-              agent = i.agent;
-              receiver = daemon n;
-              to = site 0;
-              chan = dack n;
-              sent = pair i.named (variable i.place);
-              role = refl;
-              is = forms.outs-Send (daemon n) (site 0) (dack n) (pair i.named (variable i.place));
-              for_agent = agent-is (daemon_agent n) s.env;
-              for_site = constant-is (value.Site 0) s.env;
-              on = channel-is (own n 8) s.env;
-              holds = pair-is i.named (variable i.place) (value.Agent p.agent) (value.Site t) s.env named_is (variable-is i.place s.env ∙ place_is);
-            }, tt));
+            (Are.one (
+              record {
+                agent = agent;
+                letter = variable i.letter;
+                role = refl;
+                is = forms.outs-Open (variable i.letter);
+                holds = rw (variable-is i.letter s.env, letter_is, outs.outs-Letter p.chan p.value) refl;
+              },
+              ap (λ a. same_name a (daemon_agent n)) (sym agent ∙ i.agent) ∙ i.apart,
+            ))
+            (Are.one (
+              record {
+                agent = i.agent;
+                receiver = daemon n;
+                to = site 0;
+                chan = dack n;
+                sent = pair i.named (variable i.place);
+                role = refl;
+                is = forms.outs-Send (daemon n) (site 0) (dack n) (pair i.named (variable i.place));
+                for_agent = agent-is (daemon_agent n) s.env;
+                for_site = constant-is (value.Site 0) s.env;
+                on = channel-is (own n 8) s.env;
+                holds = pair-is i.named (variable i.place) (value.Agent p.agent) (value.Site t) s.env named_is (variable-is i.place s.env ∙ place_is);
+              },
+              tt,
+            ));
         atoms = refl;
         packets = refl;
         protocol = λ step. same_chips (cancel [] [] (Chip.delivery p.agent t ∷ Chip.knows p.agent ∷ []) step (IsPermutation-refl (Chip.delivery p.agent t ∷ Chip.knows p.agent ∷ []))

@@ -79,11 +79,11 @@ module _ {n from first : ℕ} {low high : Config} {v : View} (c : Coupled n from
       let o = of_atom m a h in
       elim (begins-by-thing n from first a o.things k o.are begun) [
         | inl b ↦ record {
-            thing = b.thing;
-            no_packet = o.no_packet;
-            there = o.there ∙ ap Some b.alone;
-            is = b.is;
-            its_kind = ap (λ s. begins b.thing s k) (sym its) ∙ b.its_kind;
-          }
+          thing = b.thing;
+          no_packet = o.no_packet;
+          there = o.there ∙ ap Some b.alone;
+          is = b.is;
+          its_kind = ap (λ s. begins b.thing s k) (sym its) ∙ b.its_kind;
+        }
         | inr b ↦ absurd (apart b.0 (sym its ∙ b.1))
       ]
