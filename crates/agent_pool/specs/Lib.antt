@@ -1,5 +1,6 @@
 pub mod Calm
 pub mod Held
+pub mod Idle
 pub mod Moves
 pub mod Operands
 pub mod Pools

@@ -1,14 +1,16 @@
-ghost use Rattle.std.specs.Prelude.{◌≡◌, ◌≤◌, ◌+◌, OnOk, OnErr, IsOk, IfOk, IfErr, IfSome, IfNone, MatchOption};
+ghost use Rattle.std.specs.Prelude.{◌≡◌, ◌≤◌, ◌+◌, ◌↔◌, OnOk, OnErr, IsOk, IfOk, IfErr, IfSome, IfNone, IsTrue, MatchOption};
 ghost use Rattle.std.specs.FinMap as map;
 ghost use Rattle.np_code.specs.Programs.{ProgramTable};
 ghost use Rattle.agent_index.specs.declared.wait.Wait.TheVariants as wait;
 ghost use Rattle.agent_pool.specs.declared.held.Held.TheVariants as held;
 ghost use Rattle.agent_pool.specs.Held.{wait_of};
+ghost use Rattle.agent_pool.specs.Idle.{IsIdle};
 ghost use Rattle.agent_pool.specs.Pools.{Unchanged, IsFiled, atoms_of};
 ghost use Rattle.agent_pool.specs.Readies.{IsReady, NothingReady};
 ghost use Rattle.agent_pool.specs.Waiting.{NoneWaitsOn, WaitOn};
 
 use super::held::{Held, wait_of};
+use super::idle::is_idle;
 use super::ready::Ready;
 use super::search::{likely_in, ready_in};
 use agent_index::{Index, Wait, Waiters};
@@ -122,6 +124,14 @@ impl Agent {
         ensures { IfSome result (IsReady code.now (atoms_of code.now.processes self.now)) }
     {
         likely_in(code, &self.atoms)
+    }
+
+    /// Whether each atom is an output or an input, plain or replicated, and no output and input are on one channel. It
+    /// takes no memory. It walks over the atoms, and once more for each input.
+    pub fn idle(&self, code: &Code) -> bool
+        ensures { IsTrue result ↔ IsIdle code.now.processes self.now.atoms }
+    {
+        is_idle(code, &self.atoms)
     }
 
     /// Who waits on a channel, and none exactly where no one does. It takes no memory.

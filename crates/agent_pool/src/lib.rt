@@ -5,6 +5,7 @@ mod agent;
 mod alone;
 mod begins;
 mod held;
+mod idle;
 mod laws;
 mod letters;
 mod meets;
