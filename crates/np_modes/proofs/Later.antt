@@ -3,10 +3,10 @@ use Rattle.std.proofs.Common.{◌≡◌, ◌≢◌, ℕ, ◌<◌, ◌≤◌, ◌
 use Rattle.np_syntax.specs.declared.program.LowProgram.{LowProgram}
 use Rattle.np_io.specs.Causes.{Counts, Rose, NoneFell}
 use Rattle.np_io.specs.Bytes.{Held, StayHeld}
-use Rattle.np_verdict.specs.Faults.{Stage}
 use Rattle.np_verdict.specs.declared.refusal.Refusal.{Refusal}
 use Rattle.np_verdict.specs.declared.refusal.Refusal.TheVariants.{Memory}
 use Rattle.np_sources.specs.declared.job.Job.{Job}
+use Rattle.np_sources.specs.Reaches.{Reach}
 use Rattle.np_modes.specs.Readings.{IsRead, IsUnread, seen}
 use Rattle.np_modes.specs.Causes.{IsLowered, OfRun, OfReplay, RefusesSource, RefusesRun, RefusesReplay}
 
@@ -51,7 +51,7 @@ module _ (held-0 held-1 : Held) (count-0 count-1 count-2 : Counts) (taken-1 take
 
   pub replay_refused : (source history : List ℕ) (low : LowProgram) → IsLowered (seen held-0 count-0 count-1 taken-1 begun-0 begun-1) source low → (r : Result Job Refusal)
       → IfErr r (λ refusal. refusal ≢ Memory → RefusesRun (seen held-1 count-1 count-2 taken-2 begun-1 begun-2) history low refusal)
-      → IfErr r (λ refusal. refusal ≢ Memory → RefusesSource (seen held-0 count-0 count-2 taken-2 begun-0 begun-2) source Stage.program refusal
+      → IfErr r (λ refusal. refusal ≢ Memory → RefusesSource (seen held-0 count-0 count-2 taken-2 begun-0 begun-2) source Reach.low refusal
       ⊎ RefusesReplay (seen held-0 count-0 count-2 taken-2 begun-0 begun-2) source history refusal)
   replay_refused source history low l (Ok job) h = tt
   replay_refused source history low l (Err e) h =

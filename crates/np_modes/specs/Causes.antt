@@ -6,7 +6,6 @@ use Rattle.np_serial.specs.declared.serial.SerialRun.{SerialRun}
 use Rattle.np_generate.specs.Generated.{generated}
 use Rattle.np_histories.specs.Histories.{HasNoEvents, IsFaulty, Replays, Upgrades}
 use Rattle.np_histories.specs.declared.limits.TheConstants.{LONGEST_HISTORY}
-use Rattle.np_verdict.specs.Faults.{Stage, Faulty}
 use Rattle.np_verdict.specs.declared.refusal.Refusal.{Refusal}
 use Rattle.np_verdict.specs.declared.refusal.Refusal.TheVariants.{Usage, TooLong, HistoryTooLong}
 use Rattle.np_words.specs.Plans.{plan}
@@ -14,7 +13,8 @@ use Rattle.np_words.specs.declared.planning.Plan.{Plan}
 use Rattle.np_words.specs.declared.planning.Plan.TheVariants as plans
 use Rattle.np_words.specs.declared.planning.Task.{Task}
 use Rattle.np_modes.specs.Readings.{Reading, IsText, IsRead, IsUnread}
-use Rattle.np_sources.specs.Makes.{IsLowOf, DoesTask, stage_of}
+use Rattle.np_sources.specs.Reaches.{Reach, FaultyTo, IsLowOf, reach_of}
+use Rattle.np_sources.specs.Makes.{DoesTask}
 use Rattle.np_sources.specs.declared.record.Record.{Record}
 
 -- ---- what is made
@@ -74,14 +74,14 @@ pub record HasMade (words : List (List ℕ)) (texts : Reading) (kept : Option Re
 -- ---- what is refused
 
 -- the source was read, and it is refused so
-pub record IsFaultySource (texts : Reading) (file : List ℕ) (stage : Stage) (refusal : Refusal) : Type 0 where
+pub record IsFaultySource (texts : Reading) (file : List ℕ) (reach : Reach) (refusal : Refusal) : Type 0 where
   pub bytes : List ℕ
   pub read : IsRead texts file LONGEST_SOURCE bytes
-  pub faulty : Faulty stage bytes refusal
+  pub faulty : FaultyTo reach bytes refusal
 
 -- the source was not read, or it is refused; no other text was to begin
-pub record RefusesSource (texts : Reading) (file : List ℕ) (stage : Stage) (refusal : Refusal) : Type 0 where
-  pub cause : IsUnread texts file LONGEST_SOURCE TooLong refusal ⊎ IsFaultySource texts file stage refusal
+pub record RefusesSource (texts : Reading) (file : List ℕ) (reach : Reach) (refusal : Refusal) : Type 0 where
+  pub cause : IsUnread texts file LONGEST_SOURCE TooLong refusal ⊎ IsFaultySource texts file reach refusal
   pub begins : texts.begins ≤ texts.begun + 1
 
 -- the history was read, and it is no history, or not of a run of the low program
@@ -110,8 +110,8 @@ RefusesHistory texts history refusal = IsUnread texts history LONGEST_HISTORY Hi
 
 -- what is asked for is refused so
 abbrev pub RefusesPlan : Reading → Plan → Refusal → Type 0
-RefusesPlan texts (plans.Source file task) refusal = RefusesSource texts file (stage_of task) refusal
-RefusesPlan texts (plans.Replay source history) refusal = RefusesSource texts source Stage.program refusal ⊎ RefusesReplay texts source history refusal
+RefusesPlan texts (plans.Source file task) refusal = RefusesSource texts file (reach_of task) refusal
+RefusesPlan texts (plans.Replay source history) refusal = RefusesSource texts source Reach.low refusal ⊎ RefusesReplay texts source history refusal
 RefusesPlan texts (plans.Upgrade history) refusal = RefusesHistory texts history refusal
 RefusesPlan texts (plans.Generate agents) refusal = ⊥
 

@@ -3,7 +3,7 @@
 ghost use Rattle.std.specs.Prelude.{◌≢◌, ◌+◌, ◌<◌, ◌≤◌, ◌^◌, ◌⊎◌, length, IfOk, IfErr};
 ghost use Rattle.np_io.specs.Causes.{NoneFell};
 ghost use Rattle.np_io.specs.Bytes.{StayHeld};
-ghost use Rattle.np_verdict.specs.Faults.{Stage};
+ghost use Rattle.np_sources.specs.Reaches.{Reach};
 ghost use Rattle.np_modes.specs.Readings.{seen};
 ghost use Rattle.np_modes.specs.Causes.{IsLowered, OfRun, OfReplay, OfUpgrade, RefusesSource, RefusesRun, RefusesReplay, RefusesHistory};
 
@@ -50,7 +50,7 @@ pub(crate) fn replay<T: Texts>(
         in IfOk result (λ job. OfReplay seen source.now history.now job.kept job.high job.text) }
     ensures refused { let seen = seen (T.held texts.old) (T.faults texts.old) (T.faults texts.new) (T.taken texts.new) (T.begins texts.old) (T.begins texts.new)
         in IfErr result (λ refusal. refusal ≢ Refusal.Memory
-        → RefusesSource seen source.now Stage.program refusal ⊎ RefusesReplay seen source.now history.now refusal) }
+        → RefusesSource seen source.now Reach.low refusal ⊎ RefusesReplay seen source.now history.now refusal) }
 {
     match read_low(alloc, texts, source) {
         Ok(low) => replay_low(alloc, texts, &low, history),
@@ -67,7 +67,7 @@ fn read_low<T: Texts>(alloc: Global, texts: &mut T, source: &Word) -> Result<Low
         in IfOk result (IsLowered seen source.now) }
     ensures few { IfOk result (λ low. length low.sites < 2 ^ 32) }
     ensures refused { let seen = seen (T.held texts.old) (T.faults texts.old) (T.faults texts.new) (T.taken texts.new) (T.begins texts.old) (T.begins texts.new)
-        in IfErr result (λ refusal. refusal ≢ Refusal.Memory → RefusesSource seen source.now Stage.program refusal) }
+        in IfErr result (λ refusal. refusal ≢ Refusal.Memory → RefusesSource seen source.now Reach.low refusal) }
 {
     let bytes = read_text(alloc, texts, source, LONGEST_SOURCE, Refusal::TooLong)?;
     low_of(alloc, bytes.as_slice())

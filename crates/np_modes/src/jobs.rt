@@ -3,7 +3,7 @@
 ghost use Rattle.std.specs.Prelude.{◌≡◌, ◌≢◌, ◌+◌, ◌≤◌, IfOk, IfErr};
 ghost use Rattle.np_words.specs.Plans.{HasFewAgents, plan};
 ghost use Rattle.np_modes.specs.Readings.{seen};
-ghost use Rattle.np_sources.specs.Makes.{stage_of};
+ghost use Rattle.np_sources.specs.Reaches.{reach_of};
 ghost use Rattle.np_modes.specs.Causes.{OfSource, OfNumber, RefusesSource, Does, RefusesPlan, HasMade, Stands, texts_of, texts_read};
 
 use super::histories::{replay, upgrade};
@@ -59,7 +59,7 @@ fn on_source<T: Texts>(
     ensures made { let seen = seen (T.held texts.old) (T.faults texts.old) (T.faults texts.new) (T.taken texts.new) (T.begins texts.old) (T.begins texts.new)
         in IfOk result (λ job. OfSource seen file.now task job.kept job.high job.text) }
     ensures refused { let seen = seen (T.held texts.old) (T.faults texts.old) (T.faults texts.new) (T.taken texts.new) (T.begins texts.old) (T.begins texts.new)
-        in IfErr result (λ refusal. refusal ≢ Refusal.Memory → RefusesSource seen file.now (stage_of task) refusal) }
+        in IfErr result (λ refusal. refusal ≢ Refusal.Memory → RefusesSource seen file.now (reach_of task) refusal) }
 {
     let bytes = read_text(alloc, texts, file, LONGEST_SOURCE, Refusal::TooLong)?;
     job_of(alloc, task, bytes.as_slice())

@@ -2,19 +2,17 @@
 use Rattle.std.proofs.Common.{◌≡◌, ℕ, ◌≤◌, ◌<◌, ◌⊎◌, List, length, Option, None, Some, inl, inr, subst, ap, ◌∙◌, arith}
 use Rattle.np_syntax.specs.declared.limits.TheConstants.{LONGEST_SOURCE}
 use Rattle.np_syntax.specs.declared.program.LowProgram.{LowProgram}
-use Rattle.np_syntax.specs.declared.program.Program.{Program}
-use Rattle.daemon_encode.specs.Encoded.{encoded}
 use Rattle.np_words.specs.declared.planning.Plan.{Plan}
 use Rattle.np_serial.specs.declared.serial.SerialRun.{SerialRun}
-use Rattle.np_verdict.specs.Faults.{Stage, IsWellTyped}
 use Rattle.np_verdict.specs.Lines.{status_of}
 use Rattle.np_verdict.specs.declared.refusal.Refusal.{Refusal}
 use Rattle.np_verdict.specs.declared.refusal.Refusal.TheVariants.{HistoryTooLong}
-use Rattle.np_verdict.proofs.Verdicts as verdicts
 use Rattle.np_histories.specs.Histories.{HasEvents, HasRun}
 use Rattle.np_histories.specs.declared.limits.TheConstants.{LONGEST_HISTORY}
 use Rattle.np_histories.proofs.Once as once
+use Rattle.np_sources.specs.Reaches.{Reach, IsLowOf}
 use Rattle.np_sources.specs.declared.record.Record.{Record}
+use Rattle.np_sources.proofs.Once as sources
 use Rattle.np_modes.specs.Readings.{IsUnread}
 use Rattle.np_modes.specs.Causes.{Does, HasMade, IsLowered, RefusesHistory, RefusesRun, RefusesPlan, Stands}
 use Rattle.np_run.specs.Answers.{Call}
@@ -77,21 +75,20 @@ says_faulty_history low bytes refusal short (inr s) = s.1
 -- ---- the source before it
 
 -- a source that is told has one low program
-pub same_low : (call : Call) (source bytes : List ℕ) (program : Program) (low : LowProgram) → IsTold call source bytes → IsWellTyped bytes program
-    → IsLowered call.texts source low → low ≡ encoded program
-same_low call source bytes program low t typed l =
+pub same_low : (call : Call) (source bytes : List ℕ) (low other : LowProgram) → IsTold call source bytes → IsLowOf bytes low
+    → IsLowered call.texts source other → other ≡ low
+same_low call source bytes low other t is l =
     let same : l.bytes ≡ bytes = same_text call source bytes l.bytes LONGEST_SOURCE t l.read in
-    let typed_so : IsWellTyped bytes l.lowers.program = subst (λ (b : List ℕ). IsWellTyped b l.lowers.program) same l.lowers.accepted in
-    l.lowers.is ∙ ap encoded (verdicts.well_typed_once bytes l.lowers.program program typed_so typed)
+    sources.same_low bytes other low (subst (λ (b : List ℕ). IsLowOf b other) same l.lowers) is
 
 by_plan : (call : Call) (asked : Plan) (history : List ℕ) (low : Option LowProgram) (bytes : List ℕ) (refusal : Refusal) → ReadsHistory call asked history low
     → IsTold call history bytes → RefusesPlan call.texts asked refusal → SaysHistory low bytes refusal
 by_plan call asked history low bytes refusal (ReadsHistory.alone h) t r = history_says call h bytes refusal t r
-by_plan call asked history low bytes refusal (ReadsHistory.replayed source h b program told_source short typed) t (inl r) =
-    absurd (verdicts.not_both Stage.program b refusal (program, typed)
-    (says_faulty Stage.program b refusal short (source_says call source Stage.program b refusal told_source r)))
-by_plan call asked history low bytes refusal (ReadsHistory.replayed source h b program told_source short typed) t (inr r) =
-    subst (λ (q : LowProgram). SaysHistory (Some q) bytes refusal) (same_low call source b program r.low told_source typed r.lowered)
+by_plan call asked history low bytes refusal (ReadsHistory.replayed source h b one_low told_source short lowered) t (inl r) =
+    absurd (sources.not_both Reach.low b refusal (one_low, lowered)
+    (says_faulty Reach.low b refusal short (source_says call source Reach.low b refusal told_source r)))
+by_plan call asked history low bytes refusal (ReadsHistory.replayed source h b one_low told_source short lowered) t (inr r) =
+    subst (λ (q : LowProgram). SaysHistory (Some q) bytes refusal) (same_low call source b one_low r.low told_source lowered r.lowered)
     (run_says call h r.low bytes refusal t r.run)
 
 pub stands_says : (call : Call) (low : Option LowProgram) (bytes : List ℕ) (refusal : Refusal) → Follows call low bytes → Stands call.words call.texts refusal
@@ -109,12 +106,12 @@ made_plan : (call : Call) (asked : Plan) (history : List ℕ) (low : Option LowP
 made_plan call asked history low bytes kept high text (ReadsHistory.alone h) t d =
     subst (λ (b : List ℕ). IsTaken None b) (same_text call h bytes d.bytes LONGEST_HISTORY t d.read.text)
     (d.read.text.short, record { events = d.upgrades.events; read = d.upgrades.read })
-made_plan call asked history low bytes kept high text (ReadsHistory.replayed source h b program told_source short typed) t d =
+made_plan call asked history low bytes kept high text (ReadsHistory.replayed source h b one_low told_source short lowered) t d =
     let replays = d.run.replays in
     let run : HasRun d.low d.run.bytes = record { events = replays.events; read = replays.read; last = replays.ends.last; reaches = replays.ends.reaches } in
     let taken : IsTaken (Some d.low) bytes = subst (λ (b : List ℕ). IsTaken (Some d.low) b) (same_text call h bytes d.run.bytes LONGEST_HISTORY t d.run.read.text)
     (d.run.read.text.short, run) in
-    subst (λ (q : LowProgram). IsTaken (Some q) bytes) (same_low call source b program d.low told_source typed d.lowered) taken
+    subst (λ (q : LowProgram). IsTaken (Some q) bytes) (same_low call source b one_low d.low told_source lowered d.lowered) taken
 
 -- what is made is made of an accepted history
 pub made_accepts : (call : Call) (low : Option LowProgram) (bytes : List ℕ) (kept : Option Record) (high : Option SerialRun) (text : List ℕ) → Follows call low bytes

@@ -6,12 +6,12 @@ use Rattle.np_words.specs.declared.planning.Plan.{Plan}
 use Rattle.np_words.specs.declared.planning.Task.{Task}
 use Rattle.np_words.specs.declared.planning.Task.TheVariants as task
 use Rattle.np_serial.specs.declared.serial.SerialRun.{SerialRun}
-use Rattle.np_verdict.specs.Faults.{Stage, Accepted, Faulty}
 use Rattle.np_verdict.specs.Lines.{status_of}
 use Rattle.np_verdict.specs.declared.refusal.Refusal.{Refusal}
 use Rattle.np_verdict.specs.declared.refusal.Refusal.TheVariants.{ReadFault, TooLong}
 use Rattle.np_histories.proofs.Once.{run_fault_status}
-use Rattle.np_sources.specs.Makes.{DoesTask, stage_of}
+use Rattle.np_sources.specs.Makes.{DoesTask}
+use Rattle.np_sources.specs.Reaches.{Reach, TakenTo, FaultyTo, reach_of}
 use Rattle.np_sources.specs.declared.record.Record.{Record}
 use Rattle.np_modes.specs.Readings.{IsUnread}
 use Rattle.np_modes.specs.Causes.{Does, HasMade, IsFaultySource, RefusesSource, RefusesRun, RefusesPlan, Stands}
@@ -21,25 +21,25 @@ use Rattle.np_run.proofs.Outcomes.{one, refused_plan, told, same_text}
 
 -- ---- what a refusal says
 
-abbrev pub Says : Stage → List ℕ → Refusal → Type 0
-Says stage bytes refusal = ((refusal ≡ TooLong) × (LONGEST_SOURCE < length bytes)) ⊎ ((length bytes ≤ LONGEST_SOURCE) × Faulty stage bytes refusal)
+abbrev pub Says : Reach → List ℕ → Refusal → Type 0
+Says reach bytes refusal = ((refusal ≡ TooLong) × (LONGEST_SOURCE < length bytes)) ⊎ ((length bytes ≤ LONGEST_SOURCE) × FaultyTo reach bytes refusal)
 
-by_cause : (call : Call) (file : List ℕ) (stage : Stage) (bytes : List ℕ) (refusal : Refusal) → IsTold call file bytes
-    → IsUnread call.texts file LONGEST_SOURCE TooLong refusal ⊎ IsFaultySource call.texts file stage refusal → Says stage bytes refusal
-by_cause call file stage bytes refusal t (inl (inl f)) = absurd (t.whole f.1.rose)
-by_cause call file stage bytes refusal t (inl (inr l)) = inl (l.0, told call file bytes (λ b. LONGEST_SOURCE < length b) t l.1.more)
-by_cause call file stage bytes refusal t (inr s) =
-    inr (subst (λ (b : List ℕ). (length b ≤ LONGEST_SOURCE) × Faulty stage b refusal) (same_text call file bytes s.bytes LONGEST_SOURCE t s.read.text)
+by_cause : (call : Call) (file : List ℕ) (reach : Reach) (bytes : List ℕ) (refusal : Refusal) → IsTold call file bytes
+    → IsUnread call.texts file LONGEST_SOURCE TooLong refusal ⊎ IsFaultySource call.texts file reach refusal → Says reach bytes refusal
+by_cause call file reach bytes refusal t (inl (inl f)) = absurd (t.whole f.1.rose)
+by_cause call file reach bytes refusal t (inl (inr l)) = inl (l.0, told call file bytes (λ b. LONGEST_SOURCE < length b) t l.1.more)
+by_cause call file reach bytes refusal t (inr s) =
+    inr (subst (λ (b : List ℕ). (length b ≤ LONGEST_SOURCE) × FaultyTo reach b refusal) (same_text call file bytes s.bytes LONGEST_SOURCE t s.read.text)
     (s.read.text.short, s.faulty))
 
-pub source_says : (call : Call) (file : List ℕ) (stage : Stage) (bytes : List ℕ) (refusal : Refusal) → IsTold call file bytes
-    → RefusesSource call.texts file stage refusal → Says stage bytes refusal
-source_says call file stage bytes refusal t r = by_cause call file stage bytes refusal t r.cause
+pub source_says : (call : Call) (file : List ℕ) (reach : Reach) (bytes : List ℕ) (refusal : Refusal) → IsTold call file bytes
+    → RefusesSource call.texts file reach refusal → Says reach bytes refusal
+source_says call file reach bytes refusal t r = by_cause call file reach bytes refusal t r.cause
 
 -- what is said of a source within the limit is what is wrong with it
-pub says_faulty : (stage : Stage) (bytes : List ℕ) (refusal : Refusal) → length bytes ≤ LONGEST_SOURCE → Says stage bytes refusal → Faulty stage bytes refusal
-says_faulty stage bytes refusal short (inl s) = let long = s.1 in absurd (omega arith)
-says_faulty stage bytes refusal short (inr s) = s.1
+pub says_faulty : (reach : Reach) (bytes : List ℕ) (refusal : Refusal) → length bytes ≤ LONGEST_SOURCE → Says reach bytes refusal → FaultyTo reach bytes refusal
+says_faulty reach bytes refusal short (inl s) = let long = s.1 in absurd (omega arith)
+says_faulty reach bytes refusal short (inr s) = s.1
 
 -- a refusal that comes once the source is accepted
 abbrev pub IsOfHistory : Refusal → Type 0
@@ -51,50 +51,50 @@ of_history call history low refusal (inl (inr l)) = inr (ap status_of l.0)
 of_history call history low refusal (inr s) = inr (run_fault_status low s.bytes refusal s.faulty)
 
 -- a refusal speaks of the source, or of the history behind it
-pub data Cause (asked : Plan) (stage : Stage) (bytes : List ℕ) (refusal : Refusal) : Type 0 where
-  of_source : Says stage bytes refusal → Cause asked stage bytes refusal
-  of_later : Replays asked bytes → length bytes ≤ LONGEST_SOURCE → Accepted stage bytes → IsOfHistory refusal → Cause asked stage bytes refusal
+pub data Cause (asked : Plan) (reach : Reach) (bytes : List ℕ) (refusal : Refusal) : Type 0 where
+  of_source : Says reach bytes refusal → Cause asked reach bytes refusal
+  of_later : Replays asked bytes → length bytes ≤ LONGEST_SOURCE → TakenTo reach bytes → IsOfHistory refusal → Cause asked reach bytes refusal
 
-by_plan : (call : Call) (asked : Plan) (file : List ℕ) (stage : Stage) (bytes : List ℕ) (refusal : Refusal) → ReadsSource asked file stage → IsTold call file bytes
-    → RefusesPlan call.texts asked refusal → Cause asked stage bytes refusal
-by_plan call asked file stage bytes refusal (ReadsSource.alone f task) t r = Cause.of_source (source_says call f (stage_of task) bytes refusal t r)
-by_plan call asked file stage bytes refusal (ReadsSource.replayed source history) t (inl r) = Cause.of_source (source_says call source Stage.program bytes refusal t r)
-by_plan call asked file stage bytes refusal (ReadsSource.replayed source history) t (inr r) =
+by_plan : (call : Call) (asked : Plan) (file : List ℕ) (reach : Reach) (bytes : List ℕ) (refusal : Refusal) → ReadsSource asked file reach → IsTold call file bytes
+    → RefusesPlan call.texts asked refusal → Cause asked reach bytes refusal
+by_plan call asked file reach bytes refusal (ReadsSource.alone f task) t r = Cause.of_source (source_says call f (reach_of task) bytes refusal t r)
+by_plan call asked file reach bytes refusal (ReadsSource.replayed source history) t (inl r) = Cause.of_source (source_says call source Reach.low bytes refusal t r)
+by_plan call asked file reach bytes refusal (ReadsSource.replayed source history) t (inr r) =
     let same : r.lowered.bytes ≡ bytes = same_text call source bytes r.lowered.bytes LONGEST_SOURCE t r.lowered.read in
-    let accepted = subst (λ (b : List ℕ). Accepted Stage.program b) same (r.lowered.lowers.program, r.lowered.lowers.accepted) in
-    Cause.of_later (record { source = source; history = history; is = refl; program = accepted.0; accepted = accepted.1 })
+    let accepted = subst (λ (b : List ℕ). TakenTo Reach.low b) same (r.low, r.lowered.lowers) in
+    Cause.of_later (record { source = source; history = history; is = refl; low = accepted.0; lowered = accepted.1 })
     (subst (λ (b : List ℕ). length b ≤ LONGEST_SOURCE) same r.lowered.read.short) accepted (of_history call history r.low refusal r.run)
 
-pub stands_cause : (call : Call) (asked : Plan) (stage : Stage) (bytes : List ℕ) (refusal : Refusal) → Reads call asked stage bytes
-    → Stands call.words call.texts refusal → Cause asked stage bytes refusal
-stands_cause call asked stage bytes refusal r s =
-    by_plan call asked r.file stage bytes refusal r.reads r.told (refused_plan call asked refusal r.planned s)
+pub stands_cause : (call : Call) (asked : Plan) (reach : Reach) (bytes : List ℕ) (refusal : Refusal) → Reads call asked reach bytes
+    → Stands call.words call.texts refusal → Cause asked reach bytes refusal
+stands_cause call asked reach bytes refusal r s =
+    by_plan call asked r.file reach bytes refusal r.reads r.told (refused_plan call asked refusal r.planned s)
 
 -- ---- what is made
 
 pub does_accept : (task : Task) (bytes : List ℕ) (kept : Option Record) (high : Option SerialRun) (text : List ℕ) → DoesTask task bytes kept high text
-    → Accepted (stage_of task) bytes
+    → TakenTo (reach_of task) bytes
 does_accept (task.Run budget history high serial links) bytes kept made text d = (d.runs.program, d.runs.accepted)
 does_accept (task.High budget history) bytes kept made text d = (d.runs.program, d.runs.accepted)
 does_accept task.Show bytes kept made text d = (d.tree, d.accepted)
 does_accept task.Check bytes kept made text d = (d.program, d.accepted)
-does_accept task.Low bytes kept made text d = (d.program, d.accepted)
+does_accept task.Low bytes kept made text d = (d.low, d.lowered)
 
-abbrev IsTaken : Stage → List ℕ → Type 0
-IsTaken stage bytes = (length bytes ≤ LONGEST_SOURCE) × Accepted stage bytes
+abbrev IsTaken : Reach → List ℕ → Type 0
+IsTaken reach bytes = (length bytes ≤ LONGEST_SOURCE) × TakenTo reach bytes
 
-made_plan : (call : Call) (asked : Plan) (file : List ℕ) (stage : Stage) (bytes : List ℕ) (kept : Option Record) (high : Option SerialRun) (text : List ℕ)
-    → ReadsSource asked file stage → IsTold call file bytes → Does call.texts asked kept high text → IsTaken stage bytes
-made_plan call asked file stage bytes kept high text (ReadsSource.alone f task) t d =
-    subst (λ (b : List ℕ). IsTaken (stage_of task) b) (same_text call f bytes d.bytes LONGEST_SOURCE t d.read.text)
+made_plan : (call : Call) (asked : Plan) (file : List ℕ) (reach : Reach) (bytes : List ℕ) (kept : Option Record) (high : Option SerialRun) (text : List ℕ)
+    → ReadsSource asked file reach → IsTold call file bytes → Does call.texts asked kept high text → IsTaken reach bytes
+made_plan call asked file reach bytes kept high text (ReadsSource.alone f task) t d =
+    subst (λ (b : List ℕ). IsTaken (reach_of task) b) (same_text call f bytes d.bytes LONGEST_SOURCE t d.read.text)
     (d.read.text.short, does_accept task d.bytes kept high text d.does)
-made_plan call asked file stage bytes kept high text (ReadsSource.replayed source history) t d =
-    subst (λ (b : List ℕ). IsTaken Stage.program b) (same_text call source bytes d.lowered.bytes LONGEST_SOURCE t d.lowered.read)
-    (d.lowered.read.short, (d.lowered.lowers.program, d.lowered.lowers.accepted))
+made_plan call asked file reach bytes kept high text (ReadsSource.replayed source history) t d =
+    subst (λ (b : List ℕ). IsTaken Reach.low b) (same_text call source bytes d.lowered.bytes LONGEST_SOURCE t d.lowered.read)
+    (d.lowered.read.short, (d.low, d.lowered.lowers))
 
 -- what is made is made of an accepted source
-pub made_accepts : (call : Call) (asked : Plan) (stage : Stage) (bytes : List ℕ) (kept : Option Record) (high : Option SerialRun) (text : List ℕ)
-    → Reads call asked stage bytes → HasMade call.words call.texts kept high text → (length bytes ≤ LONGEST_SOURCE) × Accepted stage bytes
-made_accepts call asked stage bytes kept high text r h =
-    made_plan call asked r.file stage bytes kept high text r.reads r.told
+pub made_accepts : (call : Call) (asked : Plan) (reach : Reach) (bytes : List ℕ) (kept : Option Record) (high : Option SerialRun) (text : List ℕ)
+    → Reads call asked reach bytes → HasMade call.words call.texts kept high text → (length bytes ≤ LONGEST_SOURCE) × TakenTo reach bytes
+made_accepts call asked reach bytes kept high text r h =
+    made_plan call asked r.file reach bytes kept high text r.reads r.told
     (subst (λ (p : Plan). Does call.texts p kept high text) (one h.asked asked _ h.planned r.planned) h.does)

@@ -2,20 +2,17 @@
 use Rattle.std.specs.Prelude.{◌≡◌, ◌≢◌, ℕ, ◌<◌, ◌≤◌, ◌⊎◌, ◌↔◌, List, length, Option, Some, None}
 use Rattle.np_syntax.specs.declared.limits.TheConstants.{LONGEST_SOURCE}
 use Rattle.np_syntax.specs.declared.program.LowProgram.{LowProgram}
-use Rattle.np_syntax.specs.declared.program.Program.{Program}
 use Rattle.np_io.specs.Causes.{Rose}
-use Rattle.daemon_encode.specs.Encoded.{encoded}
 use Rattle.np_words.specs.Plans.{plan}
 use Rattle.np_words.specs.declared.planning.Plan.{Plan}
 use Rattle.np_words.specs.declared.planning.Plan.TheVariants as plans
 use Rattle.np_words.specs.declared.planning.Task.{Task}
-use Rattle.np_verdict.specs.Faults.{Stage, Accepted, Faulty, IsWellTyped}
 use Rattle.np_verdict.specs.declared.refusal.Refusal.{Refusal}
 use Rattle.np_verdict.specs.declared.refusal.Refusal.TheVariants.{TooLong, HistoryTooLong}
 use Rattle.np_verdict.specs.declared.statuses.TheConstants.{BAD_HISTORY, BAD_SOURCE, BAD_USAGE, BUDGET_SPENT, DONE, NO_MEMORY}
 use Rattle.np_histories.specs.Histories.{HasEvents, HasRun, HasNoEvents, IsFaulty}
 use Rattle.np_histories.specs.declared.limits.TheConstants.{LONGEST_HISTORY}
-use Rattle.np_sources.specs.Makes.{stage_of}
+use Rattle.np_sources.specs.Reaches.{Reach, TakenTo, FaultyTo, IsLowOf, reach_of}
 use Rattle.np_modes.specs.Causes.{Stands}
 use Rattle.np_run.specs.Answers.{Call, HasCauses, IsRefused}
 use Rattle.np_run.specs.declared.answer.Answer.{Answer}
@@ -28,32 +25,32 @@ pub record IsTold (call : Call) (name bytes : List ℕ) : Type 0 where
 -- ---- sources
 
 -- the source that is read first, and how far; whether a history is read behind it
-pub data ReadsSource : Plan → List ℕ → Stage → Type 0 where
-  alone : (file : List ℕ) (task : Task) → ReadsSource (plans.Source file task) file (stage_of task)
-  replayed : (source history : List ℕ) → ReadsSource (plans.Replay source history) source Stage.program
+pub data ReadsSource : Plan → List ℕ → Reach → Type 0 where
+  alone : (file : List ℕ) (task : Task) → ReadsSource (plans.Source file task) file (reach_of task)
+  replayed : (source history : List ℕ) → ReadsSource (plans.Replay source history) source Reach.low
 
 -- the words ask for something of a source, and these are its bytes
-pub record Reads (call : Call) (asked : Plan) (stage : Stage) (bytes : List ℕ) : Type 0 where
+pub record Reads (call : Call) (asked : Plan) (reach : Reach) (bytes : List ℕ) : Type 0 where
   pub planned : plan call.words ≡ Some asked
   pub file : List ℕ
-  pub reads : ReadsSource asked file stage
+  pub reads : ReadsSource asked file reach
   pub told : IsTold call file bytes
 
--- the source is well typed, and then the history is read
+-- the source has a low program, and then the history is read
 pub record Replays (asked : Plan) (bytes : List ℕ) : Type 0 where
   pub source : List ℕ
   pub history : List ℕ
   pub is : asked ≡ plans.Replay source history
-  pub program : Program
-  pub accepted : IsWellTyped bytes program
+  pub low : LowProgram
+  pub lowered : IsLowOf bytes low
 
 -- ---- histories
 
 -- the history that is read, and the low program from whose start it is replayed, if it is
 pub data ReadsHistory (call : Call) : Plan → List ℕ → Option LowProgram → Type 0 where
   alone : (history : List ℕ) → ReadsHistory call (plans.Upgrade history) history None
-  replayed : (source history bytes : List ℕ) (program : Program) → IsTold call source bytes → length bytes ≤ LONGEST_SOURCE → IsWellTyped bytes program
-      → ReadsHistory call (plans.Replay source history) history (Some (encoded program))
+  replayed : (source history bytes : List ℕ) (low : LowProgram) → IsTold call source bytes → length bytes ≤ LONGEST_SOURCE → IsLowOf bytes low
+      → ReadsHistory call (plans.Replay source history) history (Some low)
 
 -- the words ask for something of a history, and these are its bytes
 pub record Follows (call : Call) (low : Option LowProgram) (bytes : List ℕ) : Type 0 where
@@ -70,22 +67,22 @@ FaultyHistory (Some low) bytes refusal = IsFaulty low bytes refusal
 
 -- ---- where what is asked for is done
 
-pub record AcceptsSource (call : Call) (file : List ℕ) (stage : Stage) : Type 0 where
+pub record AcceptsSource (call : Call) (file : List ℕ) (reach : Reach) : Type 0 where
   pub bytes : List ℕ
   pub told : IsTold call file bytes
   pub short : length bytes ≤ LONGEST_SOURCE
-  pub accepted : Accepted stage bytes
+  pub accepted : TakenTo reach bytes
 
 pub record AcceptsReplay (call : Call) (source history : List ℕ) : Type 0 where
   pub bytes : List ℕ
   pub told : IsTold call source bytes
   pub short : length bytes ≤ LONGEST_SOURCE
-  pub program : Program
-  pub accepted : IsWellTyped bytes program
+  pub low : LowProgram
+  pub lowered : IsLowOf bytes low
   pub run : List ℕ
   pub told_run : IsTold call history run
   pub short_run : length run ≤ LONGEST_HISTORY
-  pub replays : HasRun (encoded program) run
+  pub replays : HasRun low run
 
 pub record AcceptsHistory (call : Call) (history : List ℕ) : Type 0 where
   pub bytes : List ℕ
@@ -95,7 +92,7 @@ pub record AcceptsHistory (call : Call) (history : List ℕ) : Type 0 where
 
 -- each text that is read is accepted, and no read of it failed
 abbrev pub Accepts : Call → Plan → Type 0
-Accepts call (plans.Source file task) = AcceptsSource call file (stage_of task)
+Accepts call (plans.Source file task) = AcceptsSource call file (reach_of task)
 Accepts call (plans.Replay source history) = AcceptsReplay call source history
 Accepts call (plans.Upgrade history) = AcceptsHistory call history
 Accepts call (plans.Generate agents) = Unit {0}
@@ -115,7 +112,7 @@ RefusesWords = (call : Call) (answer : Answer) → HasCauses call answer → ¬ 
 
 -- a source is refused as too long exactly where it is
 abbrev pub RefusesLong : Type 0
-RefusesLong = (call : Call) (answer : Answer) (asked : Plan) (stage : Stage) (bytes : List ℕ) → HasCauses call answer → Reads call asked stage bytes
+RefusesLong = (call : Call) (answer : Answer) (asked : Plan) (reach : Reach) (bytes : List ℕ) → HasCauses call answer → Reads call asked reach bytes
     → ¬ Rose call.err.before call.err.now → answer.status ≢ NO_MEMORY → IsRefused call answer TooLong ↔ (LONGEST_SOURCE < length bytes)
 
 -- where the words ask for something of a source alone, it is refused as too long exactly where more was read than a source may have
@@ -125,9 +122,9 @@ CountsLong = (call : Call) (answer : Answer) (file : List ℕ) (task : Task) →
 
 -- a source that is not too long is refused exactly where the mode refuses it, and so; only a history behind it gets another refusal
 abbrev pub RefusesSources : Type 0
-RefusesSources = (call : Call) (answer : Answer) (asked : Plan) (stage : Stage) (bytes : List ℕ) (refusal : Refusal) → HasCauses call answer
-    → Reads call asked stage bytes → ¬ Rose call.err.before call.err.now → answer.status ≢ NO_MEMORY → length bytes ≤ LONGEST_SOURCE
-    → (Faulty stage bytes refusal → IsRefused call answer refusal) × (IsRefused call answer refusal → Faulty stage bytes refusal ⊎ Replays asked bytes)
+RefusesSources = (call : Call) (answer : Answer) (asked : Plan) (reach : Reach) (bytes : List ℕ) (refusal : Refusal) → HasCauses call answer
+    → Reads call asked reach bytes → ¬ Rose call.err.before call.err.now → answer.status ≢ NO_MEMORY → length bytes ≤ LONGEST_SOURCE
+    → (FaultyTo reach bytes refusal → IsRefused call answer refusal) × (IsRefused call answer refusal → FaultyTo reach bytes refusal ⊎ Replays asked bytes)
 
 -- the answer is this refusal, of this status, and no other has its cause in the call
 pub record RefusesAlone (status : ℕ) (call : Call) (answer : Answer) (refusal : Refusal) : Type 0 where
@@ -137,9 +134,9 @@ pub record RefusesAlone (status : ℕ) (call : Call) (answer : Answer) (refusal 
 
 -- a source that is not too long, and that the mode refuses, has this one refusal
 abbrev pub RefusesOnce : Type 0
-RefusesOnce = (call : Call) (answer : Answer) (asked : Plan) (stage : Stage) (bytes : List ℕ) (refusal : Refusal) → HasCauses call answer
-    → Reads call asked stage bytes → ¬ Rose call.err.before call.err.now → answer.status ≢ NO_MEMORY → length bytes ≤ LONGEST_SOURCE
-    → Faulty stage bytes refusal → RefusesAlone BAD_SOURCE call answer refusal
+RefusesOnce = (call : Call) (answer : Answer) (asked : Plan) (reach : Reach) (bytes : List ℕ) (refusal : Refusal) → HasCauses call answer
+    → Reads call asked reach bytes → ¬ Rose call.err.before call.err.now → answer.status ≢ NO_MEMORY → length bytes ≤ LONGEST_SOURCE
+    → FaultyTo reach bytes refusal → RefusesAlone BAD_SOURCE call answer refusal
 
 -- a history is refused as too long exactly where it is
 abbrev pub RefusesLongHistories : Type 0

@@ -8,21 +8,15 @@ use Rattle.np_show.specs.Shown.{shown}
 use Rattle.np_low_text.specs.LowText.{low_text}
 use Rattle.np_calculus.specs.Config.{Config}
 use Rattle.np_calculus.specs.Starts.{start_high, start_low}
-use Rattle.daemon_encode.specs.Encoded.{encoded}
 use Rattle.np_serial.specs.declared.serial.SerialRun.{SerialRun}
 use Rattle.np_serial.specs.Serial.{IsSerialRun}
 use Rattle.history_text.specs.Spelling.{high_text}
 use Rattle.np_report.specs.Report.{report_text}
-use Rattle.np_verdict.specs.Faults.{Stage, HasTree, IsWellTyped}
+use Rattle.np_verdict.specs.Faults.{HasTree, IsWellTyped}
 use Rattle.np_words.specs.declared.planning.Task.{Task}
 use Rattle.np_words.specs.declared.planning.Task.TheVariants as task
 use Rattle.np_sources.specs.declared.record.Record.{Record}
-
--- the source is accepted, and this is the low program of its program
-pub record IsLowOf (bytes : List ℕ) (low : LowProgram) : Type 0 where
-  pub program : Program
-  pub accepted : IsWellTyped bytes program
-  pub is : low ≡ encoded program
+use Rattle.np_sources.specs.Reaches.{IsLowOf}
 
 -- ---- runs
 
@@ -42,11 +36,11 @@ pub record Runs (budget : ℕ) (history : Bool) (bytes : List ℕ) (made : Seria
   pub accepted : IsWellTyped bytes program
   pub run : IsRunOf program.sites (start_high program) budget history made text
 
--- the source is accepted, and its low program was run
+-- the source has this low program, which was run
 pub record RunsLow (budget : ℕ) (bytes : List ℕ) (made : SerialRun) (text : List ℕ) : Type 0 where
-  pub program : Program
-  pub accepted : IsWellTyped bytes program
-  pub run : IsRunOf program.sites (start_low (encoded program)) budget false made text
+  pub low : LowProgram
+  pub lowered : IsLowOf bytes low
+  pub run : IsRunOf low.sites (start_low low) budget false made text
 
 -- the record of a run
 abbrev pub record_of : SerialRun → Record
@@ -90,21 +84,13 @@ pub record Checks (bytes : List ℕ) (kept : Option Record) (high : Option Seria
   pub is_kept : kept ≡ None
   pub is_high : high ≡ None
 
--- the source is well typed, and this is the low text of its low program
+-- the source has a low program, and this is its low text
 pub record Lowers (bytes : List ℕ) (kept : Option Record) (high : Option SerialRun) (text : List ℕ) : Type 0 where
-  pub program : Program
-  pub accepted : IsWellTyped bytes program
-  pub lowers : text ≡ low_text (encoded program)
+  pub low : LowProgram
+  pub lowered : IsLowOf bytes low
+  pub lowers : text ≡ low_text low
   pub is_kept : kept ≡ None
   pub is_high : high ≡ None
-
--- how far the source is read: `show` asks for no types
-abbrev pub stage_of : Task → Stage
-stage_of (task.Run budget history high serial links) = Stage.program
-stage_of (task.High budget history) = Stage.program
-stage_of task.Show = Stage.tree
-stage_of task.Check = Stage.program
-stage_of task.Low = Stage.program
 
 -- What is made of a source: a run, which is kept, the canonical text, that it is well typed, or the low text. No words ask for the
 -- other options of `run` yet.

@@ -5,6 +5,7 @@ ghost use Rattle.np_calculus.specs.Runs.{RunsWell};
 ghost use Rattle.np_calculus.specs.Starts.{start_high, start_low};
 ghost use Rattle.np_report.specs.Report.{report_text};
 ghost use Rattle.np_verdict.specs.Faults.{Stage, Faulty};
+ghost use Rattle.np_sources.specs.Reaches.{Reach, FaultyTo};
 ghost use Rattle.np_sources.specs.Makes.{IsRunOf, KeepsLow, Runs, RunsLow, high_part, record_of};
 
 use super::lowering::low_of;
@@ -81,7 +82,7 @@ fn run(
 pub fn run_low(alloc: Global, budget: u32, bytes: &[u8]) -> Result<(Record, Text), Refusal>
     requires { length bytes.now ≤ LONGEST_SOURCE }
     ensures made { IfOk result (λ made. KeepsLow budget bytes.now made.0 made.1) }
-    ensures refused { IfErr result (λ refusal. refusal ≢ Refusal.Memory → Faulty Stage.program bytes.now refusal) }
+    ensures refused { IfErr result (λ refusal. refusal ≢ Refusal.Memory → FaultyTo Reach.low bytes.now refusal) }
 {
     let (made, text) = low_run_of(alloc, budget, bytes)?;
     Ok((record_of(made), text))
@@ -91,7 +92,7 @@ pub fn run_low(alloc: Global, budget: u32, bytes: &[u8]) -> Result<(Record, Text
 fn low_run_of(alloc: Global, budget: u32, bytes: &[u8]) -> Result<(SerialRun, Text), Refusal>
     requires { length bytes.now ≤ LONGEST_SOURCE }
     ensures made { IfOk result (λ made. RunsLow budget bytes.now made.0 made.1) }
-    ensures refused { IfErr result (λ refusal. refusal ≢ Refusal.Memory → Faulty Stage.program bytes.now refusal) }
+    ensures refused { IfErr result (λ refusal. refusal ≢ Refusal.Memory → FaultyTo Reach.low bytes.now refusal) }
 {
     let low = low_of(alloc, bytes)?;
     match run_encoded(alloc, budget, &low) {

@@ -2,7 +2,8 @@
 
 ghost use Rattle.std.specs.Prelude.{◌≢◌, ◌≤◌, length, IfOk, IfErr};
 ghost use Rattle.np_verdict.specs.Faults.{Stage, Faulty};
-ghost use Rattle.np_sources.specs.Makes.{KeepsRun, KeepsHigh, Shows, Checks, Lowers, DoesTask, stage_of};
+ghost use Rattle.np_sources.specs.Reaches.{Reach, FaultyTo, reach_of};
+ghost use Rattle.np_sources.specs.Makes.{KeepsRun, KeepsHigh, Shows, Checks, Lowers, DoesTask};
 
 use super::job::{Job, text_alone};
 use super::lowering::low_of;
@@ -18,7 +19,7 @@ use std::alloc::Global;
 pub fn job_of(alloc: Global, task: Task, bytes: &[u8]) -> Result<Job, Refusal>
     requires { length bytes.now ≤ LONGEST_SOURCE }
     ensures made { IfOk result (λ job. DoesTask task bytes.now job.kept job.high job.text) }
-    ensures refused { IfErr result (λ refusal. refusal ≢ Refusal.Memory → Faulty (stage_of task) bytes.now refusal) }
+    ensures refused { IfErr result (λ refusal. refusal ≢ Refusal.Memory → FaultyTo (reach_of task) bytes.now refusal) }
 {
     match task {
         Task::Run { budget, .. } => run_source(alloc, budget, bytes),
@@ -93,7 +94,7 @@ fn check_source(alloc: Global, bytes: &[u8]) -> Result<Job, Refusal>
 fn low_source(alloc: Global, bytes: &[u8]) -> Result<Job, Refusal>
     requires { length bytes.now ≤ LONGEST_SOURCE }
     ensures made { IfOk result (λ job. Lowers bytes.now job.kept job.high job.text) }
-    ensures refused { IfErr result (λ refusal. refusal ≢ Refusal.Memory → Faulty Stage.program bytes.now refusal) }
+    ensures refused { IfErr result (λ refusal. refusal ≢ Refusal.Memory → FaultyTo Reach.low bytes.now refusal) }
 {
     let low = low_of(alloc, bytes)?;
     match print_low(alloc, &low) {

@@ -1,14 +1,12 @@
 use Rattle.std.proofs.Common.{ℕ, ◌≤◌, List, length, Option, None, Some, inl, inr, subst, arith}
 use Rattle.np_syntax.specs.declared.limits.TheConstants.{LONGEST_SOURCE}
 use Rattle.np_syntax.specs.declared.program.LowProgram.{LowProgram}
-use Rattle.daemon_encode.specs.Encoded.{encoded}
 use Rattle.np_words.specs.declared.planning.Plan.{Plan}
 use Rattle.np_words.specs.declared.planning.Plan.TheVariants as plans
-use Rattle.np_sources.specs.Makes.{stage_of}
-use Rattle.np_verdict.specs.Faults.{Stage, Accepted}
+use Rattle.np_sources.specs.Reaches.{Reach, TakenTo, reach_of}
 use Rattle.np_verdict.specs.declared.refusal.Refusal.{Refusal}
 use Rattle.np_verdict.specs.declared.refusal.Refusal.TheVariants.{Usage, ReadFault}
-use Rattle.np_verdict.proofs.Verdicts.{not_both}
+use Rattle.np_sources.proofs.Once.{not_both}
 use Rattle.np_histories.specs.declared.limits.TheConstants.{LONGEST_HISTORY}
 use Rattle.np_modes.specs.Causes.{RefusesPlan, Stands}
 use Rattle.np_run.specs.Answers.{Call}
@@ -19,9 +17,9 @@ use Rattle.np_run.proofs.Histories as history
 use Rattle.np_run.proofs.laws.law_completes.Goals as goal
 
 -- no refusal says anything of an accepted source
-of_source : (stage : Stage) (bytes : List ℕ) (refusal : Refusal) → length bytes ≤ LONGEST_SOURCE → Accepted stage bytes → Says stage bytes refusal → ⊥
-of_source stage bytes refusal short a (inl s) = let long = s.1 in omega arith
-of_source stage bytes refusal short a (inr s) = not_both stage bytes refusal a s.1
+of_source : (reach : Reach) (bytes : List ℕ) (refusal : Refusal) → length bytes ≤ LONGEST_SOURCE → TakenTo reach bytes → Says reach bytes refusal → ⊥
+of_source reach bytes refusal short a (inl s) = let long = s.1 in omega arith
+of_source reach bytes refusal short a (inr s) = not_both reach bytes refusal a s.1
 
 -- and none of an accepted history
 of_history : (low : Option LowProgram) (bytes : List ℕ) (refusal : Refusal) → length bytes ≤ LONGEST_HISTORY → history.AcceptedHistory low bytes → history.SaysHistory low bytes refusal → ⊥
@@ -29,12 +27,12 @@ of_history low bytes refusal short a (inl s) = let long = s.1 in omega arith
 of_history low bytes refusal short a (inr s) = history.not_both low bytes refusal a s.1
 
 of_plan : (call : Call) (asked : Plan) (refusal : Refusal) → Accepts call asked → RefusesPlan call.texts asked refusal → ⊥
-of_plan call (plans.Source file task) refusal a r = of_source (stage_of task) a.bytes refusal a.short a.accepted (source_says call file (stage_of task) a.bytes refusal a.told r)
+of_plan call (plans.Source file task) refusal a r = of_source (reach_of task) a.bytes refusal a.short a.accepted (source_says call file (reach_of task) a.bytes refusal a.told r)
 of_plan call (plans.Replay source h) refusal a (inl r) =
-    of_source Stage.program a.bytes refusal a.short (a.program, a.accepted) (source_says call source Stage.program a.bytes refusal a.told r)
+    of_source Reach.low a.bytes refusal a.short (a.low, a.lowered) (source_says call source Reach.low a.bytes refusal a.told r)
 of_plan call (plans.Replay source h) refusal a (inr r) =
-    of_history (Some (encoded a.program)) a.run refusal a.short_run a.replays
-    (subst (λ (low : LowProgram). history.SaysHistory (Some low) a.run refusal) (history.same_low call source a.bytes a.program r.low a.told a.accepted r.lowered)
+    of_history (Some a.low) a.run refusal a.short_run a.replays
+    (subst (λ (low : LowProgram). history.SaysHistory (Some low) a.run refusal) (history.same_low call source a.bytes a.low r.low a.told a.lowered r.lowered)
     (history.run_says call h r.low a.run refusal a.told_run r.run))
 of_plan call (plans.Upgrade h) refusal a r = of_history None a.bytes refusal a.short a.accepted (history.history_says call h a.bytes refusal a.told r)
 of_plan call (plans.Generate agents) refusal a r = r

@@ -4,12 +4,11 @@ use Rattle.np_syntax.specs.declared.program.LowProgram.{LowProgram}
 use Rattle.np_words.specs.Plans.{plan}
 use Rattle.np_words.specs.declared.planning.Plan.{Plan}
 use Rattle.np_words.specs.declared.planning.Plan.TheVariants as plans
-use Rattle.np_sources.specs.Makes.{stage_of}
-use Rattle.np_verdict.specs.Faults.{Stage}
+use Rattle.np_sources.specs.Reaches.{Reach, reach_of}
 use Rattle.np_verdict.specs.Lines.{status_of}
 use Rattle.np_verdict.specs.declared.refusal.Refusal.{Refusal}
 use Rattle.np_verdict.specs.declared.refusal.Refusal.TheVariants.{Usage, TooLong}
-use Rattle.np_verdict.proofs.Verdicts.{not_usage}
+use Rattle.np_sources.proofs.Once.{not_usage}
 use Rattle.np_histories.proofs.Once.{fault_status, run_fault_status}
 use Rattle.np_modes.specs.Readings.{Reading, IsUnread}
 use Rattle.np_modes.specs.Causes.{IsFaultySource, RefusesHistory, RefusesRun, RefusesPlan, Stands}
@@ -25,10 +24,10 @@ usage_stands call status refusal p e (Stands.asked asked planned refused) = cc
 
 -- usage is no refusal of what is asked for
 
-of_source : (texts : Reading) (file : List ℕ) (stage : Stage) → IsUnread texts file LONGEST_SOURCE TooLong Usage ⊎ IsFaultySource texts file stage Usage → ⊥
-of_source texts file stage (inl (inl u)) = let is = u.0 in cc
-of_source texts file stage (inl (inr u)) = let is = u.0 in cc
-of_source texts file stage (inr s) = not_usage stage s.bytes s.faulty
+of_source : (texts : Reading) (file : List ℕ) (reach : Reach) → IsUnread texts file LONGEST_SOURCE TooLong Usage ⊎ IsFaultySource texts file reach Usage → ⊥
+of_source texts file reach (inl (inl u)) = let is = u.0 in cc
+of_source texts file reach (inl (inr u)) = let is = u.0 in cc
+of_source texts file reach (inr s) = not_usage reach s.bytes s.faulty
 
 of_run : (texts : Reading) (history : List ℕ) (low : LowProgram) → RefusesRun texts history low Usage → ⊥
 of_run texts history low (inl (inl u)) = let is = u.0 in cc
@@ -41,8 +40,8 @@ of_history texts history (inl (inr u)) = let is = u.0 in cc
 of_history texts history (inr s) = let is = fault_status s.bytes Usage s.faulty in omega (arith, is)
 
 of_plan : (texts : Reading) (asked : Plan) → RefusesPlan texts asked Usage → ⊥
-of_plan texts (plans.Source file task) r = of_source texts file (stage_of task) r.cause
-of_plan texts (plans.Replay source history) (inl r) = of_source texts source Stage.program r.cause
+of_plan texts (plans.Source file task) r = of_source texts file (reach_of task) r.cause
+of_plan texts (plans.Replay source history) (inl r) = of_source texts source Reach.low r.cause
 of_plan texts (plans.Replay source history) (inr r) = of_run texts history r.low r.run
 of_plan texts (plans.Upgrade history) r = of_history texts history r
 of_plan texts (plans.Generate agents) r = r

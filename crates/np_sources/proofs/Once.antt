@@ -1,0 +1,72 @@
+-- A source is taken so far or refused, and refused in one way alone.
+use Rattle.std.proofs.Common.{◌≡◌, ℕ, ◌≤◌, ◌<◌, ◌⊎◌, inl, inr, List, sym, subst, ap, ◌∙◌, arith}
+use Rattle.np_syntax.specs.declared.program.LowProgram.{LowProgram}
+use Rattle.np_syntax.specs.declared.program.Program.{Program}
+use Rattle.np_code.specs.Sizes.{capped, program_nodes}
+use Rattle.np_code.specs.declared.limits.TheConstants.{MOST_CODE_NODES}
+use Rattle.daemon_encode.specs.Encoded.{encoded}
+use Rattle.np_verdict.specs.Faults.{Stage, Faulty, IsWellTyped}
+use Rattle.np_verdict.specs.Lines.{status_of}
+use Rattle.np_verdict.specs.declared.refusal.Refusal.{Refusal}
+use Rattle.np_verdict.specs.declared.refusal.Refusal.TheVariants.{Usage, TooLong, TooManyNodes}
+use Rattle.np_verdict.proofs.Verdicts as verdicts
+use Rattle.np_sources.specs.Reaches.{Reach, IsLowOf, IsTooLarge, TakenTo, FaultyTo}
+
+-- a source has one low program
+pub same_low : (bytes : List ℕ) (low other : LowProgram) → IsLowOf bytes low → IsLowOf bytes other → low ≡ other
+same_low bytes low other a b = a.is ∙ ap encoded (verdicts.well_typed_once bytes a.program b.program a.accepted b.accepted) ∙ sym b.is
+
+-- the nodes of a low program are few or too many
+few_or_many : (n : ℕ) → n ≤ MOST_CODE_NODES → MOST_CODE_NODES < n → ⊥
+few_or_many n few many = omega (arith, few, many)
+
+not_too_large : (bytes : List ℕ) (low : LowProgram) (refusal : Refusal) → IsLowOf bytes low → IsTooLarge bytes refusal → ⊥
+not_too_large bytes low refusal a f =
+    let same : low ≡ encoded f.program = a.is ∙ ap encoded (verdicts.well_typed_once bytes a.program f.program a.accepted f.accepted) in
+    few_or_many (program_nodes (encoded f.program)) (subst (λ (p : LowProgram). program_nodes p ≤ MOST_CODE_NODES) same a.few) f.large.many
+
+-- no source is both taken so far and refused
+pub not_both : (reach : Reach) (bytes : List ℕ) (refusal : Refusal) → TakenTo reach bytes → FaultyTo reach bytes refusal → ⊥
+not_both Reach.tree bytes refusal a f = verdicts.not_both Stage.tree bytes refusal a f
+not_both Reach.program bytes refusal a f = verdicts.not_both Stage.program bytes refusal a f
+not_both Reach.low bytes refusal a (inl f) = verdicts.not_both Stage.program bytes refusal (a.1.program, a.1.accepted) f
+not_both Reach.low bytes refusal a (inr f) = not_too_large bytes a.0 refusal a.1 f
+
+large_once : (bytes : List ℕ) (a b : Refusal) → IsTooLarge bytes a → IsTooLarge bytes b → a ≡ b
+large_once bytes a b f g =
+    f.large.is ∙ ap (λ (p : Program). TooManyNodes (capped (program_nodes (encoded p)))) (verdicts.well_typed_once bytes f.program g.program f.accepted g.accepted)
+    ∙ sym g.large.is
+
+-- a source that is too large is well typed
+not_faulty : (bytes : List ℕ) (a b : Refusal) → IsTooLarge bytes a → Faulty Stage.program bytes b → ⊥
+not_faulty bytes a b f g = verdicts.not_both Stage.program bytes b (f.program, f.accepted) g
+
+-- a source is refused in one way
+pub same_fault : (reach : Reach) (bytes : List ℕ) (a b : Refusal) → FaultyTo reach bytes a → FaultyTo reach bytes b → a ≡ b
+same_fault Reach.tree bytes a b f g = verdicts.same_fault Stage.tree bytes a b f g
+same_fault Reach.program bytes a b f g = verdicts.same_fault Stage.program bytes a b f g
+same_fault Reach.low bytes a b (inl f) (inl g) = verdicts.same_fault Stage.program bytes a b f g
+same_fault Reach.low bytes a b (inl f) (inr g) = absurd (not_faulty bytes b a g f)
+same_fault Reach.low bytes a b (inr f) (inl g) = absurd (not_faulty bytes a b f g)
+same_fault Reach.low bytes a b (inr f) (inr g) = large_once bytes a b f g
+
+-- ---- refusals that are of no source
+
+pub not_long : (reach : Reach) (bytes : List ℕ) → FaultyTo reach bytes TooLong → ⊥
+not_long Reach.tree bytes f = verdicts.not_long Stage.tree bytes f
+not_long Reach.program bytes f = verdicts.not_long Stage.program bytes f
+not_long Reach.low bytes (inl f) = verdicts.not_long Stage.program bytes f
+not_long Reach.low bytes (inr f) = let is = f.large.is in cc
+
+pub not_usage : (reach : Reach) (bytes : List ℕ) → FaultyTo reach bytes Usage → ⊥
+not_usage Reach.tree bytes f = verdicts.not_usage Stage.tree bytes f
+not_usage Reach.program bytes f = verdicts.not_usage Stage.program bytes f
+not_usage Reach.low bytes (inl f) = verdicts.not_usage Stage.program bytes f
+not_usage Reach.low bytes (inr f) = let is = f.large.is in cc
+
+-- the status of such a refusal is 3, but for want of memory
+pub faulty_status : (reach : Reach) (bytes : List ℕ) (refusal : Refusal) → FaultyTo reach bytes refusal → (status_of refusal ≡ 3) ⊎ (status_of refusal ≡ 6)
+faulty_status Reach.tree bytes refusal f = verdicts.faulty_status Stage.tree bytes refusal f
+faulty_status Reach.program bytes refusal f = verdicts.faulty_status Stage.program bytes refusal f
+faulty_status Reach.low bytes refusal (inl f) = verdicts.faulty_status Stage.program bytes refusal f
+faulty_status Reach.low bytes refusal (inr f) = inl (ap status_of f.large.is)
