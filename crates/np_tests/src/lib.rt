@@ -1,11 +1,13 @@
-//! Tests of what no contract and no example can say: calls over real files and streams, and public calls that no mode of
-//! the program makes, each with ample memory.
+//! Tests of what no contract and no example can say: calls over real files and streams, items that two threads pass on, and
+//! public calls that no mode of the program makes, each with ample memory.
 #![tactic(auto)]
 
 #[cfg(test)]
 mod adapters;
 #[cfg(test)]
 mod copies;
+#[cfg(test)]
+mod links;
 #[cfg(test)]
 mod low_types;
 #[cfg(test)]
