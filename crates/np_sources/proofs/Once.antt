@@ -5,7 +5,7 @@ use Rattle.np_syntax.specs.declared.program.Program.{Program}
 use Rattle.np_code.specs.Sizes.{capped, program_nodes}
 use Rattle.np_code.specs.declared.limits.TheConstants.{MOST_CODE_NODES}
 use Rattle.daemon_encode.specs.Encoded.{encoded}
-use Rattle.np_verdict.specs.Faults.{Stage, Faulty, IsWellTyped}
+use Rattle.np_verdict.specs.Faults.{Stage, Faulty}
 use Rattle.np_verdict.specs.Lines.{status_of}
 use Rattle.np_verdict.specs.declared.refusal.Refusal.{Refusal}
 use Rattle.np_verdict.specs.declared.refusal.Refusal.TheVariants.{Usage, TooLong, TooManyNodes}
