@@ -1,6 +1,6 @@
 -- Events of the infrastructure after which another atom stands under a mark; and the opening of a letter.
-use Rattle.std.proofs.Common.{◌≡◌, ◌⊎◌, inl, inr, ℕ, Bool, true, false, cond, Option, None, Some, List, [], ◌∷◌, ◌++◌, refl, sym, ap, subst, ◌∙◌}
-use Rattle.std.specs.List.{All, AllByRecursion, list_any}
+use Rattle.std.proofs.Common.{◌≡◌, ℕ, true, cond, None, Some, List, [], ◌∷◌, ◌++◌, refl, sym, ap, subst, ◌∙◌}
+use Rattle.std.specs.List.{AllByRecursion, list_any}
 use Rattle.std.specs.List.Sorted.{IsPermutation}
 use Rattle.std.proofs.lemmas.List.Sorted.{IsPermutation-append_left, IsPermutation-trans}
 use Rattle.std.proofs.lemmas.List.Elements.{All-from_recursion, All-nil, recursion_from_All}
@@ -9,18 +9,16 @@ use Rattle.std.specs.FinMap as map
 use Rattle.np_syntax.specs.declared.value.Name.{Name}
 use Rattle.np_syntax.specs.declared.value.Value.{Value}
 use Rattle.np_syntax.specs.declared.expression.Expr.{Expr}
-use Rattle.np_syntax.specs.declared.process.Tag.{Tag}
 use Rattle.np_syntax.specs.declared.process.Role.TheVariants as role
 use Rattle.np_syntax.specs.declared.process.ProcForm.{ProcForm-F}
 use Rattle.np_syntax.specs.declared.event.Event.{Event}
 use Rattle.np_syntax.specs.declared.event.Kind.TheVariants as kind
-use Rattle.np_syntax.specs.Options.{◌>>=◌}
-use Rattle.np_syntax.proofs.Options.{then, when, done}
-use Rattle.np_tables.specs.Names.{NameMap, same_name}
+use Rattle.np_syntax.proofs.Options.{then, done}
+use Rattle.np_tables.specs.Names.{NameMap}
 use Rattle.np_tables.proofs.Tables.{get-put, put_here}
 use Rattle.np_calculus.specs.declared.config.Atom.{Atom}
 use Rattle.np_calculus.specs.Begins.{begun_by}
-use Rattle.np_calculus.specs.Changes.{Change, effect, put, still}
+use Rattle.np_calculus.specs.Changes.{effect, put, still}
 use Rattle.np_calculus.specs.Config.{Config}
 use Rattle.np_calculus.specs.Reductions.{apply, no_other, none_made, output_in, row}
 use Rattle.np_calculus.specs.Seen.{acting}
@@ -69,12 +67,13 @@ module _ {n from first : ℕ} {low high : Config} {v : View} (c : Coupled n from
     pub known : AllByRecursion (λ t. KnowsOnly (may_know v.lock (chips v.things) t) (is_channel n high.born) from t) ts
         → AllByRecursion (λ t. KnowsOnly (may_know v.lock (chips (map.insert v.things m us)) t) (is_channel n high.born) from t) us
 
-  pub becomes : (next : Config) (e : Event) (m : Name) (x : Atom) (ts us : List Thing) → Becomes next e m x ts us → (w : View) × Coupled n from first next high w
+  pub becomes : (next : Config) (e : Event) (m : Name) (x : Atom) (ts us : List Thing) → Becomes next e m x ts us → (w : View) × (w.stands_for ≡ v.stands_for) × Coupled n from first next high w
   becomes next e m x ts us b =
       let things : NameMap (List Thing) = map.insert v.things m us in
       let step = step_at v.things m ts us b.there in
       let protocol = b.protocol step in (
         record v { things = things; phase = protocol.0 },
+        refl,
         quiet c next things protocol.0 (at_mark c next e m ts us protocol.0 (record {
           applies = b.applies;
           sites = ap (λ (d : Config). d.sites) b.is;
@@ -118,7 +117,7 @@ opens_letter n from first (Thing.mail m (Stage.in_agent x)) a i h f = absurd cc
 opens_letter n from first _ a i h f = absurd cc
 
 module _ {n from first : ℕ} {low high : Config} {v : View} (c : Coupled n from first low high v) where
-  pub opens : (e : Event) (next : Config) → e.kind ≡ kind.Open → e.tag.role ≡ role.Infra → apply low e ≡ Some next → (w : View) × Coupled n from first next high w
+  pub opens : (e : Event) (next : Config) → e.kind ≡ kind.Open → e.tag.role ≡ role.Infra → apply low e ≡ Some next → (w : View) × (w.stands_for ≡ v.stands_for) × Coupled n from first next high w
   opens e next is_open infra h =
       let s = opening low e next (ap (λ k. row k low e) (sym is_open) ∙ h) in
       let o = of_actor c e.actor s.atom kind.Open role.Infra s.acts.there (ap begun_by s.form) (same_role s.atom.proc.tag e.tag s.acts.tag ∙ infra) (λ k r. cc) in

@@ -1,5 +1,5 @@
 -- What stands in a configuration stays born.
-use Rattle.std.proofs.Common.{◌≡◌, Bool, true, false, ◌||◌, Option, None, Some, IsSome, refl, sym, ap, subst, ◌∙◌}
+use Rattle.std.proofs.Common.{◌≡◌, true, None, Some, refl, sym, subst, ◌∙◌}
 use Rattle.std.specs.FinSet as set
 use mathlib.Core.Path.{fun_ext}
 use Rattle.np_syntax.specs.declared.value.Name.{Name}
@@ -11,7 +11,7 @@ use Rattle.np_tables.specs.Names.{NameSet, same_name}
 use Rattle.np_tables.proofs.Tables.{born_insert}
 use Rattle.np_calculus.specs.Changes.{with_made}
 use Rattle.np_calculus.specs.Config.{Config}
-use Rattle.np_calculus.specs.Parts.{AreBorn, IsWhole, beside, nothing}
+use Rattle.np_calculus.specs.Parts.{AreBorn, IsWhole, nothing}
 use Rattle.np_calculus.specs.Reductions.{apply}
 use Rattle.np_calculus.specs.Sight.{inside}
 use Rattle.np_calculus.proofs.FrameRule.{frame_rule}

@@ -1,6 +1,6 @@
 -- The communications of the infrastructure: with the daemon's map and agents' locks, with acknowledgements, and with `currentloc`.
-use Rattle.std.proofs.Common.{◌≡◌, ◌⊎◌, inl, inr, ◌+◌, ◌≤◌, ◌<◌, ℕ, Bool, true, false, cond, ◌||◌, ◌&&◌, is_some, Option, None, Some, List, [], ◌∷◌, ◌++◌, refl, sym, ap, subst, ◌∙◌, arith}
-use Rattle.std.specs.List.{All, AllByRecursion, list_any, sum_by}
+use Rattle.std.proofs.Common.{◌≡◌, ◌⊎◌, inl, inr, ◌+◌, ◌≤◌, ℕ, Bool, true, false, ◌||◌, ◌&&◌, is_some, None, Some, List, [], ◌∷◌, ◌++◌, refl, sym, ap, subst, ◌∙◌, arith}
+use Rattle.std.specs.List.{list_any, sum_by}
 use Rattle.std.proofs.lemmas.List.Sorted.{IsPermutation-refl, list_any-IsPermutation}
 use Rattle.std.proofs.lemmas.List.Sums.{sum_by-cons}
 use Rattle.std.proofs.lemmas.List.Elements.{All-from_recursion, All-nil, recursion_from_All}
@@ -21,20 +21,19 @@ use Rattle.np_syntax.specs.declared.event.Event.{Event}
 use Rattle.np_syntax.specs.declared.event.Kind.TheVariants as kind
 use Rattle.np_syntax.proofs.Options.{done}
 use Rattle.np_syntax.proofs.Bools.{and-out}
-use Rattle.np_tables.specs.Names.{NameMap, same_name}
+use Rattle.np_tables.specs.Names.{same_name}
 use Rattle.np_tables.proofs.Tables.{same_name-is, same_name-itself}
 use Rattle.np_calculus.specs.declared.config.Atom.{Atom}
 use Rattle.np_calculus.specs.Begins.{begun_by}
 use Rattle.np_calculus.specs.Config.{Config}
-use Rattle.np_calculus.specs.Reductions.{apply, goes, goes_under, row, sends}
+use Rattle.np_calculus.specs.Reductions.{apply, row, sends}
 use Rattle.np_calculus.specs.Starts.{daemon_agent, own}
-use Rattle.np_eval.specs.Eval.{Env, agent_of, bind, chan_of, eval, find_place}
+use Rattle.np_eval.specs.Eval.{Env, bind, chan_of, eval}
 use Rattle.np_eval.specs.Forms.{layer}
 use Rattle.np_eval.proofs.Binds.{bind-any, bind-form}
 use Rattle.np_protocol.specs.Chips.{Chip, Service, counted}
 use Rattle.np_protocol.specs.Columns.{Column}
-use Rattle.np_protocol.specs.Phases.{Phase}
-use Rattle.np_protocol.specs.Protocol.{IsTrueOf, Protocol}
+use Rattle.np_protocol.specs.Protocol.{IsTrueOf}
 use Rattle.np_protocol.specs.Rules.{Rule}
 use Rattle.np_protocol.specs.Steps.{Step}
 use Rattle.np_protocol.proofs.Gives.{acknowledged}
@@ -47,18 +46,18 @@ use Rattle.daemon_encode.specs.Pieces.{ack, beside, currentloc, daemon, deliver,
 use Rattle.daemon_encode.specs.Texts.{agent_text, child_text, migrate_text, move_text, settles}
 use Rattle.daemon_encode.specs.Daemon.{acks}
 use Rattle.daemon_encode.specs.Translates.{Translates, source}
-use Rattle.np_source_values.specs.Sources.{Agrees, Names}
+use Rattle.np_source_values.specs.Sources.{Names}
 use Rattle.np_things.specs.Acting.{begins}
-use Rattle.np_things.specs.Desks.{Took, desk, takes_map}
-use Rattle.np_things.specs.Mail.{Mail, Posted, content, on_channel, receiver}
+use Rattle.np_things.specs.Desks.{Took, desk}
+use Rattle.np_things.specs.Mail.{Mail, on_channel, receiver}
 use Rattle.np_things.specs.Shapes.{Are, HasTaken, Is, IsAsking, IsBeginning, IsOfSource, IsSettling, IsWanting, StandsFor, WaitsFor}
-use Rattle.np_things.specs.Things.{IsHeaded, Stage, Thing, high_atom, show_all}
+use Rattle.np_things.specs.Things.{Stage, Thing, high_atom}
 use Rattle.np_things.proofs.Acting.{source-plain}
 use Rattle.np_things.proofs.Starts.{constant-is}
-use Rattle.np_levels.specs.Coupled.{Coupled, KnowsOnly, View, chips, is_channel, is_child_of, may_know, scene}
+use Rattle.np_levels.specs.Coupled.{Coupled, View, chips, is_channel, is_child_of, may_know, scene}
 use Rattle.np_levels.proofs.Becomes.{cancel}
 use Rattle.np_levels.proofs.Marks.{same_chips, step_at}
-use Rattle.np_levels.proofs.Meets.{IsMeeting, left_things, meeting, meets}
+use Rattle.np_levels.proofs.Meets.{IsMeeting, meeting, meets}
 use Rattle.np_levels.proofs.Orders.{and_then, behind, permuted, swapped}
 use Rattle.np_levels.proofs.Outputs.{IsGiven, by_lock, by_map, by_number, by_token, given_by, is-own, number-of}
 use Rattle.np_levels.proofs.Quiet.{any_in, any_kept, any_out, knows_more, or_cases}
@@ -96,7 +95,7 @@ no_owed a b (ch ∷ cs) none h =
 
 module _ {n from first : ℕ} {low high : Config} {v : View} (c : Coupled n from first low high v) (e : Event) (next : Config) (s : IsMeeting low e next) (no_packet : map.get low.packets e.actor ≡ None) (h : apply low e ≡ Some next) where
   abbrev Done : Type 0
-  Done = (w : View) × Coupled n from first next high w
+  Done = (w : View) × (w.stands_for ≡ v.stands_for) × Coupled n from first next high w
 
   -- what the text of the input says
   record Reads (a : Expr) (x : Pat) (p : Proc) : Type 0 where
@@ -571,7 +570,7 @@ module _ {n from first : ℕ} {low high : Config} {v : View} (c : Coupled n from
   by_thing (Thing.mail m (Stage.in_agent x)) infra i b there = absurd cc
   by_thing _ infra i b there = absurd cc
 
-pub communicates : {n from first : ℕ} {low high : Config} {v : View} → Coupled n from first low high v → (e : Event) (next : Config) → e.kind ≡ kind.Comm → e.tag.role ≡ role.Infra → apply low e ≡ Some next → (w : View) × Coupled n from first next high w
+pub communicates : {n from first : ℕ} {low high : Config} {v : View} → Coupled n from first low high v → (e : Event) (next : Config) → e.kind ≡ kind.Comm → e.tag.role ≡ role.Infra → apply low e ≡ Some next → (w : View) × (w.stands_for ≡ v.stands_for) × Coupled n from first next high w
 communicates {low = low} c e next is_comm infra h =
     let s = meeting low e next (ap (λ k. row k low e) (sym is_comm) ∙ h) in
     let its_role = same_role s.atom.proc.tag e.tag s.acts.tag ∙ infra in

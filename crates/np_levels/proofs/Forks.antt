@@ -1,6 +1,6 @@
 -- A bracket of the infrastructure is split: its things are those of its parts.
 use Rattle.std.proofs.Common.{◌≡◌, ◌⊎◌, inl, inr, ℕ, Bool, true, false, not, cond, Option, None, Some, List, [], ◌∷◌, ◌++◌, refl, sym, ap, subst, ◌∙◌}
-use Rattle.std.specs.List.{All, flat_map, list_any}
+use Rattle.std.specs.List.{All}
 use Rattle.std.proofs.lemmas.List.Concat.{flat_map-append}
 use Rattle.std.proofs.lemmas.List.Elements.{All-head, All-tail, All-weaker}
 use Rattle.std.proofs.lemmas.List.Sorted.{list_any-IsPermutation}
@@ -16,12 +16,12 @@ use Rattle.np_syntax.specs.declared.event.Event.{Event}
 use Rattle.np_syntax.specs.declared.event.Kind.TheVariants as kind
 use Rattle.np_syntax.specs.declared.event.Made.TheVariants as made
 use Rattle.np_syntax.specs.Options.{◌>>=◌}
-use Rattle.np_syntax.proofs.Options.{then, when, done}
+use Rattle.np_syntax.proofs.Options.{then, done}
 use Rattle.np_tables.specs.Names.{NameMap, same_name}
-use Rattle.np_tables.proofs.Tables.{get-put, put_here, same_name-is, same_name-swap}
+use Rattle.np_tables.proofs.Tables.{get-put, same_name-is}
 use Rattle.np_calculus.specs.declared.config.Atom.{Atom}
 use Rattle.np_calculus.specs.Begins.{begun_by}
-use Rattle.np_calculus.specs.Changes.{Change, effect, put, still, with_made}
+use Rattle.np_calculus.specs.Changes.{effect, put, still}
 use Rattle.np_calculus.specs.Config.{Config}
 use Rattle.np_calculus.specs.Reductions.{apply, goes, no_other, one_made, row}
 use Rattle.np_calculus.specs.Seen.{acting}
@@ -34,10 +34,9 @@ use Rattle.np_eval.specs.Forms.{layer}
 use Rattle.np_things.specs.Acting.{begins}
 use Rattle.np_things.specs.Shapes.{Are, Is}
 use Rattle.np_things.specs.Things.{IsHeaded, Stage, Thing, first_atom_of, first_packet_of, high_atom, high_packet, show_all, shows}
-use Rattle.np_things.proofs.Acting.{begins-by-thing, thing-begins}
+use Rattle.np_things.proofs.Acting.{thing-begins}
 use Rattle.np_levels.specs.Coupled.{Coupled, IsShaped, KnowsOnly, View, chips, is_channel, is_child_of, may_know, scene}
 use Rattle.np_levels.proofs.Born.{born-kept, made-kept}
-use Rattle.np_protocol.specs.Chips.{Chip}
 use Rattle.np_protocol.specs.Phases.{Phase}
 use Rattle.np_protocol.specs.Protocol.{Protocol}
 use Rattle.np_protocol.proofs.Steps.{all_left, all_right}
@@ -151,7 +150,7 @@ headed_parts left right f g h =
     }
 
 module _ {n from first : ℕ} {low high : Config} {v : View} (c : Coupled n from first low high v) where
-  pub forks : (e : Event) (next : Config) → e.kind ≡ kind.Fork → e.tag.role ≡ role.Infra → apply low e ≡ Some next → (w : View) × Coupled n from first next high w
+  pub forks : (e : Event) (next : Config) → e.kind ≡ kind.Fork → e.tag.role ≡ role.Infra → apply low e ≡ Some next → (w : View) × (w.stands_for ≡ v.stands_for) × Coupled n from first next high w
   forks e next is_fork infra h =
       let s = forking low e next (ap (λ k. row k low e) (sym is_fork) ∙ h) in
       let o = of_atom c e.actor s.atom s.acts.there in
@@ -161,9 +160,10 @@ module _ {n from first : ℕ} {low high : Config} {v : View} (c : Coupled n from
       forked e next s o.no_packet parts.left parts.right there parts.are_left parts.are_right headed h
     where
       forked : (e : Event) (next : Config) (s : IsForking low e next) → map.get low.packets e.actor ≡ None → (left right : List Thing) → map.get v.things e.actor ≡ Some (left ++ right)
-          → Are n from first (goes s.atom s.left) left → Are n from first (goes s.atom s.right) right → Headed left right → apply low e ≡ Some next → (w : View) × Coupled n from first next high w
+          → Are n from first (goes s.atom s.left) left → Are n from first (goes s.atom s.right) right → Headed left right → apply low e ≡ Some next → (w : View) × (w.stands_for ≡ v.stands_for) × Coupled n from first next high w
       forked e next s no_packet left right there are_left are_right headed h = (
         record v { things = things; phase = protocol.0 },
+        refl,
         quiet c next things protocol.0 (record {
           sites = ap (λ (d : Config). d.sites) s.is;
           places = ap (λ (d : Config). d.places) s.is;

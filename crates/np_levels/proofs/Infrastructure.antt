@@ -1,15 +1,15 @@
 -- Each event of the infrastructure is nothing at the high level.
-use Rattle.std.proofs.Common.{◌≡◌, ◌⊎◌, ℕ, Bool, true, false, nat_eq, Option, None, Some, List, [], ◌∷◌, refl, sym, ap, subst, ◌∙◌}
+use Rattle.std.proofs.Common.{◌≡◌, ℕ, true, nat_eq, Some, sym, ap, ◌∙◌}
 use Rattle.std.specs.FinMap as map
 use Rattle.np_syntax.specs.declared.process.Role.TheVariants as role
 use Rattle.np_syntax.specs.declared.event.Event.{Event}
 use Rattle.np_syntax.specs.declared.event.Kind.{Kind}
 use Rattle.np_syntax.specs.declared.event.Kind.TheVariants as kind
-use Rattle.np_syntax.proofs.Options.{then, when, done}
+use Rattle.np_syntax.proofs.Options.{then, when}
 use Rattle.np_calculus.specs.declared.config.Atom.{Atom}
 use Rattle.np_calculus.specs.Begins.{begun_by}
 use Rattle.np_calculus.specs.Config.{Config}
-use Rattle.np_calculus.specs.Reductions.{apply, row, same_tag, way}
+use Rattle.np_calculus.specs.Reductions.{row, same_tag, way}
 use Rattle.np_calculus.specs.Seen.{acting}
 use Rattle.np_calculus.specs.Sight.{inside, sight}
 unfoldable use Rattle.np_calculus.proofs.Common.{act, arrive_row}
@@ -77,7 +77,7 @@ module _ {n from first : ℕ} {low high : Config} {v : View} (c : Coupled n from
       absurd (none_begins k o actor.thing actor.its_kind)
 
   abbrev Done : Type 0
-  Done = (w : View) × Coupled n from first next high w
+  Done = (w : View) × (w.stands_for ≡ v.stands_for) × Coupled n from first next high w
 
   by_kind : (k : Kind) → e.kind ≡ k → row k low e ≡ Some next → Done
   unfolding act arrive_row

@@ -1,21 +1,18 @@
 -- Mail of the infrastructure lands.
-use Rattle.std.proofs.Common.{◌≡◌, ◌⊎◌, inl, inr, ℕ, Bool, true, false, cond, nat_eq, Option, None, Some, List, [], ◌∷◌, refl, sym, ap, subst, ◌∙◌}
+use Rattle.std.proofs.Common.{◌≡◌, ℕ, Bool, true, false, cond, nat_eq, Option, None, Some, List, [], ◌∷◌, refl, sym, ap, ◌∙◌}
 use Rattle.std.proofs.lemmas.Bool.{eqb-true}
-use Rattle.std.specs.List.{All, list_any}
+use Rattle.std.specs.List.{list_any}
 use Rattle.std.proofs.lemmas.List.Elements.{All-from_recursion, All-nil, recursion_from_All}
 use Rattle.std.specs.FinMap as map
 use Rattle.np_syntax.specs.declared.value.Name.{Name}
 use Rattle.np_syntax.specs.declared.value.Value.{Value}
 use Rattle.np_syntax.specs.declared.value.Value as value
 use Rattle.np_syntax.specs.declared.value.Value.TheVariants.{outs-Chan}
-use Rattle.np_syntax.specs.declared.expression.ExprForm as expr
 use Rattle.np_syntax.specs.declared.process.Tag.{Tag}
 use Rattle.np_syntax.specs.declared.process.Role.TheVariants as role
 use Rattle.np_syntax.specs.declared.process.ProcForm.TheVariants.{outs-Out}
 use Rattle.np_syntax.specs.declared.event.Event.{Event}
 use Rattle.np_syntax.specs.declared.event.Kind.TheVariants as kind
-use Rattle.np_syntax.specs.declared.event.Made.TheVariants as made
-use Rattle.np_syntax.specs.Options.{◌>>=◌}
 use Rattle.np_syntax.proofs.Options.{then, when, done}
 use Rattle.np_tables.specs.Names.{NameMap, same_name}
 use Rattle.np_tables.proofs.Tables.{cut_here, get-cut, get-put, put_here, same_name-is}
@@ -23,13 +20,13 @@ use Rattle.np_calculus.specs.declared.config.Atom.{Atom}
 use Rattle.np_calculus.specs.declared.config.Packet.{Packet}
 use Rattle.np_calculus.specs.declared.config.Place.{Place}
 use Rattle.np_calculus.specs.declared.config.Place.TheVariants as place
-use Rattle.np_calculus.specs.Changes.{Change, effect, put, cut, still}
+use Rattle.np_calculus.specs.Changes.{effect, put, cut, still}
 use Rattle.np_calculus.specs.Config.{Config}
 use Rattle.np_calculus.specs.Reductions.{apply, no_other, none_made, output_in, row, same_tag, sends}
 use Rattle.np_calculus.specs.Sight.{at_site}
 use Rattle.np_calculus.specs.Starts.{daemon_agent, own}
 unfoldable use Rattle.np_calculus.proofs.Common.{land_row}
-use Rattle.np_calculus.proofs.Steps.{is-none, row-step, same_site}
+use Rattle.np_calculus.proofs.Steps.{row-step, same_site}
 use Rattle.np_protocol.specs.Chips.{Chip}
 use Rattle.np_protocol.specs.Phases.{Phase}
 use Rattle.np_protocol.specs.Protocol.{IsTrueOf, Protocol}
@@ -127,7 +124,7 @@ module _ {n from first : ℕ} {low high : Config} {v : View} (c : Coupled n from
   mail_finds (Mail.deliver q t) step =
       low_place q.agent t (recursion_from_All (IsTrueOf (scene v high) v.phase) (Chip.delivery q.agent t ∷ Chip.knows q.agent ∷ []) (all_taken step (IsTrueOf (scene v high) v.phase) c.protocol.true_chips)).0
 
-  pub lands : (e : Event) (next : Config) → e.kind ≡ kind.Land → (e.tag.role ≡ role.Plain → ⊥) → apply low e ≡ Some next → (w : View) × Coupled n from first next high w
+  pub lands : (e : Event) (next : Config) → e.kind ≡ kind.Land → (e.tag.role ≡ role.Plain → ⊥) → apply low e ≡ Some next → (w : View) × (w.stands_for ≡ v.stands_for) × Coupled n from first next high w
   lands e next is_land apart h =
       let row_is : row kind.Land low e ≡ Some next = ap (λ k. row k low e) (sym is_land) ∙ h in
       let l = landing low e next row_is in
@@ -146,6 +143,7 @@ module _ {n from first : ℕ} {low high : Config} {v : View} (c : Coupled n from
       let gives : sends low_atom ≡ Some (own n (on_channel m), content m) =
       output-gives l.0.agent l.0.chan l.0.value e.tag ∙ ap (λ (k : Packet). Some (k.chan, k.value)) packet in (
         record v { things = things; phase = protocol.0 },
+        refl,
         quiet c next things protocol.0 (at_mark c next e e.actor (Thing.mail m Stage.on_the_way ∷ []) us protocol.0 (record {
           applies = h;
           sites = ap (λ (d : Config). d.sites) is;

@@ -9,6 +9,7 @@ pub mod Marks
 pub mod Meets
 pub mod Orders
 pub mod Outputs
+pub mod Posts
 pub mod Quiet
 pub mod Registers
 pub mod Sends

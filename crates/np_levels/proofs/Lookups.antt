@@ -1,6 +1,5 @@
 -- The daemon looks an agent up, and finds it.
-use Rattle.std.proofs.Common.{◌≡◌, ◌⊎◌, inl, inr, ◌+◌, ◌≤◌, ℕ, Bool, true, false, cond, is_some, Option, None, Some, List, [], ◌∷◌, ◌++◌, refl, sym, ap, subst, ◌∙◌, arith}
-use Rattle.std.specs.List.{All, AllByRecursion, list_any}
+use Rattle.std.proofs.Common.{◌≡◌, ◌+◌, ◌≤◌, ℕ, Bool, true, false, is_some, Option, None, Some, List, [], ◌∷◌, refl, sym, ap, ◌∙◌, arith}
 use Rattle.std.proofs.lemmas.List.Sorted.{IsPermutation-refl}
 use Rattle.std.proofs.lemmas.List.Elements.{All-from_recursion, All-nil, recursion_from_All}
 use Rattle.std.specs.FinMap as map
@@ -15,43 +14,42 @@ use Rattle.np_syntax.specs.declared.process.ProcForm.{ProcForm-F}
 use Rattle.np_syntax.specs.declared.process.ProcForm.TheVariants as forms
 use Rattle.np_syntax.specs.declared.event.Event.{Event}
 use Rattle.np_syntax.specs.declared.event.Kind.TheVariants as kind
-use Rattle.np_syntax.specs.Options.{◌>>=◌}
 use Rattle.np_syntax.proofs.Options.{then, done}
-use Rattle.np_tables.specs.Names.{NameMap, same_name}
+use Rattle.np_tables.specs.Names.{same_name}
 use Rattle.np_tables.proofs.Tables.{same_name-itself}
 use Rattle.np_calculus.specs.declared.config.Atom.{Atom}
 use Rattle.np_calculus.specs.Begins.{begun_by}
-use Rattle.np_calculus.specs.Changes.{Change, effect, put, still}
+use Rattle.np_calculus.specs.Changes.{effect, put, still}
 use Rattle.np_calculus.specs.Config.{Config}
 use Rattle.np_calculus.specs.Reductions.{apply, found_on, goes_under, no_other, none_made, row, sends}
 use Rattle.np_calculus.specs.Seen.{acting}
 use Rattle.np_calculus.specs.Sight.{inside, sight}
-use Rattle.np_calculus.specs.Starts.{daemon_agent, own}
+use Rattle.np_calculus.specs.Starts.{own}
 unfoldable use Rattle.np_calculus.proofs.Common.{act}
 use Rattle.np_calculus.proofs.Rows.{parts}
 use Rattle.np_calculus.proofs.Steps.{Acts, acting-step, row-step}
-use Rattle.np_eval.specs.Eval.{Env, agent_of, eval, find_place, places_of}
+use Rattle.np_eval.specs.Eval.{Env, agent_of, find_place, places_of}
 use Rattle.np_eval.specs.Forms.{layer}
 use Rattle.np_protocol.specs.Chips.{Chip, Service, has_lock}
 use Rattle.np_protocol.specs.Columns.{Column}
-use Rattle.np_protocol.specs.Phases.{Phase, is_registered, is_moving}
-use Rattle.np_protocol.specs.Protocol.{IsTrueOf, Protocol, one_if}
+use Rattle.np_protocol.specs.Phases.{Phase, is_registered}
+use Rattle.np_protocol.specs.Protocol.{IsTrueOf, one_if}
 use Rattle.np_protocol.specs.Rules.{IsKnowledge, IsLearnt, Rule}
 use Rattle.np_protocol.specs.Steps.{Step}
 use Rattle.np_protocol.proofs.Keeps.{keeps-protocol}
 use Rattle.np_protocol.proofs.Kept.{phase_of}
 use Rattle.np_protocol.proofs.Steps.{all_taken, sum_before}
-use Rattle.daemon_encode.specs.Pieces.{ack, beside, expression, gives, lock, name, stop, takes, unit, variable}
+use Rattle.daemon_encode.specs.Pieces.{ack, beside, gives, lock, name, stop, takes, unit, variable}
 use Rattle.daemon_encode.specs.Daemon.{acks, frees}
 use Rattle.np_things.specs.Acting.{begins}
 use Rattle.np_things.specs.Desks.{Took, desk, looks}
-use Rattle.np_things.specs.Mail.{Mail, Posted}
+use Rattle.np_things.specs.Mail.{Mail}
 use Rattle.np_things.specs.Shapes.{Are, Is, IsLooking, delivering}
-use Rattle.np_things.specs.Things.{IsHeaded, Stage, Thing, first_atom_of, first_packet_of, high_atom, show_all}
-use Rattle.np_levels.specs.Coupled.{Coupled, KnowsOnly, View, chips, is_channel, is_child_of, may_know, scene}
+use Rattle.np_things.specs.Things.{Stage, Thing, high_atom}
+use Rattle.np_levels.specs.Coupled.{Coupled, View, chips, scene}
 use Rattle.np_levels.proofs.Becomes.{becomes, cancel}
 use Rattle.np_levels.proofs.Marks.{step_at}
-use Rattle.np_levels.proofs.Orders.{Reordered, and_then, behind, permuted, swapped}
+use Rattle.np_levels.proofs.Orders.{and_then, behind, permuted, swapped}
 use Rattle.np_levels.proofs.Shapes.{of_actor, same_role}
 use Rattle.np_levels.proofs.Values.{channel-is, here_is, there_is, unit-is, variable-is}
 
@@ -148,11 +146,11 @@ module _ {n from first : ℕ} {low high : Config} {v : View} (c : Coupled n from
 
   -- an atom that looks up goes on with a lock
   looked : (e : Event) (next : Config) (s : IsFinding low e next) (m : Mail) (ps : List (Name × Name)) → IsLooking n first m ps s.atom → map.get low.packets e.actor ≡ None → map.get v.things e.actor ≡ Some (Thing.looking m ps ∷ [])
-      → apply low e ≡ Some next → (w : View) × Coupled n from first next high w
+      → apply low e ≡ Some next → (w : View) × (w.stands_for ≡ v.stands_for) × Coupled n from first next high w
   looked e next s m ps i no_packet there h = go m i.service i.took i.map i.is there
     where
       go : (m : Mail) (k : Service) → Took first k m s.atom.env → map.get s.atom.env (desk n first k).map ≡ Some (value.Places ps) → s.atom.proc ≡ (desk n first k).body → map.get v.things e.actor ≡ Some (Thing.looking m ps ∷ [])
-          → (w : View) × Coupled n from first next high w
+          → (w : View) × (w.stands_for ≡ v.stands_for) × Coupled n from first next high w
       go (Mail.migrating a) Service.grants took map_is text at =
           let steps = step_at v.things e.actor (Thing.looking (Mail.migrating a) ps ∷ []) [] at in
           let told = recursion_from_All (IsTrueOf (scene v high) v.phase) (Chip.locks (find_place ps) ∷ Chip.request a ∷ []) (all_taken steps (IsTrueOf (scene v high) v.phase) c.protocol.true_chips) in
@@ -275,7 +273,7 @@ module _ {n from first : ℕ} {low high : Config} {v : View} (c : Coupled n from
       go (Mail.deliver q u) Service.registers took map_is text at = absurd took
       go _ _ took map_is text at = absurd took
 
-  pub looks_up : (e : Event) (next : Config) → e.kind ≡ kind.Lookup → e.tag.role ≡ role.Infra → apply low e ≡ Some next → (w : View) × Coupled n from first next high w
+  pub looks_up : (e : Event) (next : Config) → e.kind ≡ kind.Lookup → e.tag.role ≡ role.Infra → apply low e ≡ Some next → (w : View) × (w.stands_for ≡ v.stands_for) × Coupled n from first next high w
   looks_up e next is_lookup infra h =
       let s = finding low e next (ap (λ k. row k low e) (sym is_lookup) ∙ h) in
       let o = of_actor c e.actor s.atom kind.Lookup role.Infra s.acts.there (ap begun_by s.form) (same_role s.atom.proc.tag e.tag s.acts.tag ∙ infra) (λ k r. cc) in

@@ -1,7 +1,6 @@
 -- Events that change the things of one mark.
-use Rattle.std.proofs.Common.{◌≡◌, ◌⊎◌, inl, inr, ℕ, Bool, true, false, cond, ◌||◌, Option, None, Some, List, [], ◌∷◌, ◌++◌, refl, sym, ap, subst, ◌∙◌}
-use Rattle.std.specs.List.{All, flat_map, list_any}
-use Rattle.std.specs.List.Sorted.{IsPermutation}
+use Rattle.std.proofs.Common.{◌≡◌, ◌⊎◌, inl, inr, ℕ, Bool, true, false, ◌||◌, Some, List, ◌++◌, refl, sym, ap, subst, ◌∙◌}
+use Rattle.std.specs.List.{All, list_any}
 use Rattle.std.proofs.lemmas.List.Sorted.{IsPermutation-sym, IsPermutation-trans}
 use Rattle.std.proofs.lemmas.List.Elements.{All-weaker}
 use Rattle.std.specs.FinMap as map
@@ -17,15 +16,13 @@ use Rattle.np_calculus.specs.Reductions.{apply}
 use Rattle.np_protocol.specs.Chips.{Chip}
 use Rattle.np_protocol.specs.Phases.{Phase}
 use Rattle.np_protocol.specs.Protocol.{Protocol}
-use Rattle.np_protocol.specs.Rules.{Rule}
 use Rattle.np_protocol.specs.Scenes.{Locks, Scene}
 use Rattle.np_protocol.specs.Steps.{Step}
-use Rattle.np_protocol.proofs.Keeps.{keeps-protocol}
 use Rattle.np_things.specs.Things.{Thing, first_atom_of, first_packet_of, show_all}
 use Rattle.np_levels.specs.Coupled.{Coupled, IsShaped, KnowsOnly, View, chips, is_channel, is_child_of, may_know, scene}
 use Rattle.np_levels.proofs.Born.{born-kept, made-kept}
 use Rattle.np_levels.proofs.Orders.{entries_at, entries_put, flat, permuted}
-use Rattle.np_levels.proofs.Quiet.{Next, any_kept, knows_more, or_cases, or_second}
+use Rattle.np_levels.proofs.Quiet.{Next, knows_more, or_cases, or_second}
 use Rattle.np_levels.proofs.Starts.{any_order}
 
 -- the chips where one mark has other things

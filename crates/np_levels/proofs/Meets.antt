@@ -1,6 +1,6 @@
 -- An input of the infrastructure takes an output: the output's mark is gone, and the input goes on.
-use Rattle.std.proofs.Common.{◌≡◌, ◌⊎◌, inl, inr, ◌+◌, ◌≤◌, ℕ, Bool, true, false, cond, ◌||◌, is_some, nat_eq, Option, None, Some, List, [], ◌∷◌, ◌++◌, refl, sym, ap, subst, ◌∙◌, arith, append_assoc}
-use Rattle.std.specs.List.{All, AllByRecursion, flat_map, list_any}
+use Rattle.std.proofs.Common.{◌≡◌, ◌⊎◌, inl, inr, ℕ, Bool, true, false, cond, ◌||◌, is_some, None, Some, List, [], ◌∷◌, ◌++◌, refl, sym, ap, subst, ◌∙◌, append_assoc}
+use Rattle.std.specs.List.{All, AllByRecursion, list_any}
 use Rattle.std.specs.List.Sorted.{IsPermutation}
 use Rattle.std.proofs.lemmas.List.Elements.{All-from_recursion, All-weaker, recursion_from_All}
 use Rattle.std.specs.FinMap as map
@@ -16,11 +16,11 @@ use Rattle.np_syntax.specs.declared.event.Kind.TheVariants as kind
 use Rattle.np_syntax.specs.Options.{◌>>=◌}
 use Rattle.np_syntax.proofs.Options.{then, done}
 use Rattle.np_tables.specs.Names.{NameMap, same_name}
-use Rattle.np_tables.proofs.Tables.{cut_here, get-cut, get-put, put_here, same_name-is, same_name-swap}
+use Rattle.np_tables.proofs.Tables.{get-cut, get-put, same_name-is, same_name-swap}
 use Rattle.np_calculus.specs.declared.config.Atom.{Atom}
-use Rattle.np_calculus.specs.Changes.{Change, cut, effect, put, still}
+use Rattle.np_calculus.specs.Changes.{cut, effect, put, still}
 use Rattle.np_calculus.specs.Config.{Config}
-use Rattle.np_calculus.specs.Reductions.{apply, goes_under, row, sends}
+use Rattle.np_calculus.specs.Reductions.{apply, goes_under, row}
 use Rattle.np_calculus.specs.Seen.{acting}
 use Rattle.np_calculus.specs.Sight.{inside, sight}
 unfoldable use Rattle.np_calculus.proofs.Common.{act}
@@ -40,7 +40,7 @@ use Rattle.np_levels.specs.Coupled.{Coupled, IsShaped, KnowsOnly, View, chips, i
 use Rattle.np_levels.proofs.Born.{born-kept, made-kept}
 use Rattle.np_levels.proofs.Marks.{reshape}
 use Rattle.np_levels.proofs.Orders.{and_then, behind, entries_at, entries_put, flat, permuted}
-use Rattle.np_levels.proofs.Outputs.{IsOutput, is_output}
+use Rattle.np_levels.proofs.Outputs.{is_output}
 use Rattle.np_levels.proofs.Quiet.{knows_more, or_cases, or_second, quiet}
 
 -- what a communication does
@@ -124,9 +124,10 @@ module _ {n from first : ℕ} {low high : Config} {v : View} (c : Coupled n from
     pub known : Step (chips v.things) (chips (left_things e.actor s.other us)) (show_all (u ∷ []) ++ show_all ts) (show_all us) → AllByRecursion (λ t. KnowsOnly (may_know v.lock (chips v.things) t) (is_channel n high.born) from t) ts
         → AllByRecursion (λ t. KnowsOnly (may_know v.lock (chips (left_things e.actor s.other us)) t) (is_channel n high.born) from t) us
 
-  pub meets : (next : Config) (e : Event) (s : IsMeeting low e next) (ts us : List Thing) (u : Thing) → Meets next e s ts us u → (w : View) × Coupled n from first next high w
+  pub meets : (next : Config) (e : Event) (s : IsMeeting low e next) (ts us : List Thing) (u : Thing) → Meets next e s ts us u → (w : View) × (w.stands_for ≡ v.stands_for) × Coupled n from first next high w
   meets next e s ts us u b = (
     record v { things = things; phase = protocol.0 },
+    refl,
     quiet c next things protocol.0 (record {
       sites = ap (λ (d : Config). d.sites) s.is;
       places = ap (λ (d : Config). d.places) s.is;

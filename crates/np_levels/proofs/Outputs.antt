@@ -1,6 +1,6 @@
 -- What an output is there for, by its channel.
-use Rattle.std.proofs.Common.{◌≡◌, ◌≤◌, ◌⊎◌, arith, inl, inr, ℕ, Bool, true, false, not, ◌&&◌, ◌||◌, Option, None, Some, List, [], ◌∷◌, ◌++◌, nat_eq, map as each, refl, sym, ap, subst, ◌∙◌}
-use Rattle.std.specs.List.{All, list_any}
+use Rattle.std.proofs.Common.{◌≡◌, ◌≤◌, arith, inl, inr, ℕ, Bool, true, false, not, ◌&&◌, ◌||◌, None, Some, List, [], ◌∷◌, nat_eq, map as each, refl, sym, ap, subst, ◌∙◌}
+use Rattle.std.specs.List.{list_any}
 use Rattle.std.proofs.lemmas.List.Elements.{All-head}
 use Rattle.std.specs.FinMap as map
 use Rattle.std.specs.FinSet as set
@@ -12,8 +12,6 @@ use Rattle.np_syntax.specs.declared.expression.Expr.{Expr}
 use Rattle.np_syntax.specs.declared.process.Proc.{Proc}
 use Rattle.np_syntax.specs.declared.process.ProcForm.{ProcForm-F}
 use Rattle.np_syntax.specs.declared.process.ProcForm.TheVariants as forms
-use Rattle.np_syntax.specs.Options.{◌>>=◌}
-use Rattle.np_syntax.proofs.Bools.{and-out}
 use Rattle.np_syntax.proofs.Options.{then, done}
 use Rattle.np_tables.specs.Names.{NameSet}
 use Rattle.np_calculus.specs.declared.config.Atom.{Atom}
@@ -23,12 +21,10 @@ use Rattle.np_calculus.proofs.OwnNames.{with_all-keeps}
 use Rattle.np_tables.proofs.Tables.{born_here, same_name-itself}
 use Rattle.std.proofs.lemmas.Bool.{eqb-true}
 use Rattle.np_levels.proofs.Quiet.{or_cases}
-use Rattle.np_eval.specs.Eval.{Env, as_chan, chan_of, eval}
+use Rattle.np_eval.specs.Eval.{as_chan, chan_of, eval}
 use Rattle.np_eval.specs.Forms.{Layer, as_out, layer}
-use Rattle.np_scope.specs.Sound.{IsSoundExpr, IsSoundProc}
 use Rattle.daemon_encode.specs.Translates.{Translates}
 use Rattle.np_source_values.specs.Known.{IsKnown, Knows}
-use Rattle.np_source_values.specs.Sources.{IsSource}
 use Rattle.np_source_values.proofs.Known.{value-is-known}
 use Rattle.np_source_values.proofs.Values.{same-value}
 use Rattle.np_things.specs.Mail.{Mail, content, on_channel, receiver}
@@ -37,7 +33,6 @@ use Rattle.np_things.specs.Shapes.{Are, Is, IsAgents, IsMail, IsOfSource, WaitsF
 use Rattle.np_protocol.specs.Chips.{Service}
 use Rattle.np_tables.specs.Names.{same_name}
 use Rattle.np_things.specs.Things.{Stage, Thing}
-use Rattle.np_things.proofs.Acting.{thing-begins}
 use Rattle.np_scope.specs.Written.{IsLiteral}
 use Rattle.np_scope.proofs.SoundParts.{ProcParts, proc-parts}
 use Rattle.np_syntax.specs.declared.event.Kind.{Kind}
@@ -66,7 +61,7 @@ is_output low s h =
     record { on = t.0; sent = t.1; form = out_form (layer low.proc) t is; its_chan = on ∙ ap (λ (x : Name × Value). Some x.0) (sym same); its_value = at ∙ ap (λ (x : Name × Value). Some x.1) (sym same) }
 
 -- the channel that a source names is known
-chan-known : (agents chans : Name → Bool) (v : Value) → IsKnown agents chans v → (c : Name) → as_chan (out-Value v) ≡ Some c → chans c ≡ true
+pub chan-known : (agents chans : Name → Bool) (v : Value) → IsKnown agents chans v → (c : Name) → as_chan (out-Value v) ≡ Some c → chans c ≡ true
 chan-known agents chans v (IsKnown.channel {c = d} k) c h = subst (λ x. chans x ≡ true) (sym (done (sym (ap as_chan (outs.outs-Chan d)) ∙ h))) k
 chan-known agents chans v (IsKnown.literal (IsLiteral.number {n = i})) c h = absurd (let e = ap as_chan (outs.outs-Int i) in cc)
 chan-known agents chans v (IsKnown.literal (IsLiteral.truth {b = b})) c h = absurd (let e = ap as_chan (outs.outs-Truth b) in cc)

@@ -1,27 +1,23 @@
 -- Events of the low level that are none of the high level: places stay, and the things of the high level keep their marks.
-use Rattle.std.proofs.Common.{◌≡◌, ◌⊎◌, inl, inr, ℕ, Bool, true, false, not, cond, ◌||◌, is_some, Option, None, Some, IsSome, List, [], ◌∷◌, ◌++◌, refl, sym, ap, subst, ◌∙◌}
-use Rattle.std.specs.List.{All, flat_map, list_any}
-use Rattle.std.specs.List.Sorted.{IsPermutation}
-use Rattle.std.proofs.lemmas.List.Sorted.{IsPermutation-append_left, IsPermutation-sym, IsPermutation-trans, list_any-IsPermutation}
-use Rattle.std.proofs.lemmas.List.Elements.{All-weaker}
+use Rattle.std.proofs.Common.{◌≡◌, ◌⊎◌, inl, inr, ℕ, Bool, true, false, ◌||◌, is_some, Option, None, Some, IsSome, List, [], ◌∷◌, ◌++◌, refl, sym, ap, ◌∙◌}
+use Rattle.std.specs.List.{All, list_any}
+use Rattle.std.proofs.lemmas.List.Sorted.{list_any-IsPermutation}
 use Rattle.std.specs.FinMap as map
 use Rattle.std.specs.FinSet as set
 use Rattle.np_syntax.specs.declared.value.Name.{Name}
 use Rattle.np_syntax.specs.Options.{◌>>=◌}
-use Rattle.np_tables.specs.Names.{NameMap, same_name}
-use Rattle.np_tables.proofs.Tables.{get-cut, get-put, put_here, same_name-is, same_name-itself}
+use Rattle.np_tables.specs.Names.{NameMap}
 use Rattle.np_calculus.specs.Config.{Config}
 use Rattle.np_calculus.specs.Parts.{AreBorn}
 use Rattle.np_calculus.specs.Starts.{daemon_agent, main_agent, own, own_names}
 use Rattle.np_protocol.specs.Chips.{Chip}
 use Rattle.np_protocol.specs.Phases.{Phase}
 use Rattle.np_protocol.specs.Protocol.{Protocol}
-use Rattle.np_protocol.specs.Scenes.{Locks, Scene}
+use Rattle.np_protocol.specs.Scenes.{Locks}
 use Rattle.np_protocol.specs.Steps.{Step}
 use Rattle.np_source_values.proofs.Known.{more_known}
-use Rattle.np_things.specs.Things.{Thing, carried, first_atom_of, first_packet_of, show_all}
-use Rattle.np_levels.specs.Coupled.{Coupled, IsShaped, KnowsLetter, KnowsOnly, View, chips, is_channel, is_child_of, may_know, scene, whereabouts}
-use Rattle.np_levels.specs.Mirrors.{Mirrors}
+use Rattle.np_things.specs.Things.{Thing, carried, first_atom_of, first_packet_of}
+use Rattle.np_levels.specs.Coupled.{Coupled, IsShaped, KnowsLetter, KnowsOnly, View, chips, is_channel, may_know, scene, whereabouts}
 
 no_value : {A : Type 0} {x : A} → None ≡ Some x → ⊥
 no_value e = cc

@@ -1,6 +1,6 @@
 -- The infrastructure sends mail.
-use Rattle.std.proofs.Common.{◌≡◌, ◌⊎◌, inl, inr, ℕ, Bool, true, false, cond, is_some, Option, None, Some, List, [], ◌∷◌, ◌++◌, refl, sym, ap, subst, ◌∙◌}
-use Rattle.std.specs.List.{All, list_any}
+use Rattle.std.proofs.Common.{◌≡◌, ℕ, Bool, true, false, cond, None, Some, List, [], ◌∷◌, refl, sym, ap, ◌∙◌}
+use Rattle.std.specs.List.{list_any}
 use Rattle.std.proofs.lemmas.List.Elements.{All-from_recursion, recursion_from_All}
 use Rattle.std.specs.FinMap as map
 use Rattle.np_syntax.specs.declared.value.Name.{Name}
@@ -9,23 +9,20 @@ use Rattle.np_syntax.specs.declared.value.Value as value
 use Rattle.np_syntax.specs.declared.value.Value.TheVariants.{outs-Site}
 use Rattle.np_syntax.specs.declared.expression.Expr.{Expr}
 use Rattle.np_syntax.specs.declared.process.Tag.{Tag}
-use Rattle.np_syntax.specs.declared.process.Role.{Role}
 use Rattle.np_syntax.specs.declared.process.Role.TheVariants as role
 use Rattle.np_syntax.specs.declared.process.ProcForm.{ProcForm-F}
 use Rattle.np_syntax.specs.declared.event.Event.{Event}
-use Rattle.np_syntax.specs.declared.event.Kind.{Kind}
 use Rattle.np_syntax.specs.declared.event.Kind.TheVariants as kind
 use Rattle.np_syntax.specs.declared.event.Made.TheVariants as made
-use Rattle.np_syntax.specs.Options.{◌>>=◌}
 use Rattle.np_syntax.proofs.Options.{then, when, done}
 use Rattle.np_tables.specs.Names.{NameMap, same_name}
 use Rattle.np_tables.proofs.Tables.{cut_here, get-cut, get-put, put_here}
 use Rattle.np_calculus.specs.declared.config.Atom.{Atom}
 use Rattle.np_calculus.specs.declared.config.Packet.{Packet}
 use Rattle.np_calculus.specs.declared.config.Place.TheVariants as place
-use Rattle.np_calculus.specs.Changes.{Change, effect, put, cut, still}
+use Rattle.np_calculus.specs.Changes.{effect, put, cut, still}
 use Rattle.np_calculus.specs.Config.{Config}
-use Rattle.np_calculus.specs.Reductions.{alone, apply, change, no_other, none_made, row, same_tag, site_in}
+use Rattle.np_calculus.specs.Reductions.{apply, no_other, none_made, row, site_in}
 use Rattle.np_calculus.specs.Seen.{acting}
 use Rattle.np_calculus.specs.Sight.{inside, sight}
 unfoldable use Rattle.np_calculus.proofs.Common.{act}
@@ -54,24 +51,24 @@ use Rattle.np_levels.proofs.Quiet.{any_kept, quiet}
 use Rattle.np_levels.proofs.Shapes.{of_actor, same_role}
 
 -- what a Send does, by the parts of its atom
-record IsSending (low : Config) (e : Event) (next : Config) : Type 0 where
-  atom : Atom
-  acts : Acts low e atom
-  receiver : Expr
-  to : Expr
-  chan : Expr
-  sent : Expr
-  form : layer atom.proc ≡ ProcForm-F.Send receiver to chan sent
-  packet : Packet
-  its_agent : agent_of receiver atom.env ≡ Some packet.agent
-  its_site : site_in low.sites to atom.env ≡ Some packet.to
-  its_chan : chan_of chan atom.env ≡ Some packet.chan
-  its_value : eval sent atom.env ≡ Some packet.value
-  its_tag : packet.tag ≡ e.tag
-  made_none : e.made ≡ made.Nothing
-  is : next ≡ effect low e (record still { atoms = cut e.actor ∷ []; packets = put e.actor packet ∷ [] })
+pub record IsSending (low : Config) (e : Event) (next : Config) : Type 0 where
+  pub atom : Atom
+  pub acts : Acts low e atom
+  pub receiver : Expr
+  pub to : Expr
+  pub chan : Expr
+  pub sent : Expr
+  pub form : layer atom.proc ≡ ProcForm-F.Send receiver to chan sent
+  pub packet : Packet
+  pub its_agent : agent_of receiver atom.env ≡ Some packet.agent
+  pub its_site : site_in low.sites to atom.env ≡ Some packet.to
+  pub its_chan : chan_of chan atom.env ≡ Some packet.chan
+  pub its_value : eval sent atom.env ≡ Some packet.value
+  pub its_tag : packet.tag ≡ e.tag
+  pub made_none : e.made ≡ made.Nothing
+  pub is : next ≡ effect low e (record still { atoms = cut e.actor ∷ []; packets = put e.actor packet ∷ [] })
 
-sending : (low : Config) (e : Event) (next : Config) → row kind.Send low e ≡ Some next → IsSending low e next
+pub sending : (low : Config) (e : Event) (next : Config) → row kind.Send low e ≡ Some next → IsSending low e next
 unfolding act
 sending low e next h =
     let r = row-step low e next kind.Send h in
@@ -97,18 +94,19 @@ sending low e next h =
     }
 
 -- the values of the mail make its packet
-mail_packet : (n : ℕ) (m : Mail) (x : Name) (low : Config) (e : Event) (next : Config) (s : IsSending low e next) → Mails n m x s.atom → s.packet ≡ packet_of n m s.packet.tag
-mail_packet n m x low e next s i =
-    let receivers : s.receiver ≡ i.receiver = (let same = sym s.form ∙ i.is in cc) in
-    let tos : s.to ≡ i.to = (let same = sym s.form ∙ i.is in cc) in
-    let chans : s.chan ≡ i.chan = (let same = sym s.form ∙ i.is in cc) in
-    let sents : s.sent ≡ i.sent = (let same = sym s.form ∙ i.is in cc) in
-    let agent : receiver_of n m ≡ s.packet.agent = some_is (sym i.for_agent ∙ ap (λ (y : Expr). agent_of y s.atom.env) (sym receivers) ∙ s.its_agent) in
-    let chan : own n (on_channel m) ≡ s.packet.chan = some_is (sym i.on ∙ ap (λ (y : Expr). chan_of y s.atom.env) (sym chans) ∙ s.its_chan) in
-    let sent : content m ≡ s.packet.value = some_is (sym i.holds ∙ ap (λ (y : Expr). eval y s.atom.env) (sym sents) ∙ s.its_value) in
+pub packet_is : (n : ℕ) (m : Mail) (low : Config) (e : Event) (next : Config) (s : IsSending low e next) (r t x y : Expr) → layer s.atom.proc ≡ ProcForm-F.Send r t x y → agent_of r s.atom.env ≡ Some (receiver_of n m)
+    → eval t s.atom.env ≡ Some (value.Site (to_site m)) → chan_of x s.atom.env ≡ Some (own n (on_channel m)) → eval y s.atom.env ≡ Some (content m) → s.packet ≡ packet_of n m s.packet.tag
+packet_is n m low e next s r t x y form for_agent for_site on holds =
+    let receivers : s.receiver ≡ r = (let same = sym s.form ∙ form in cc) in
+    let tos : s.to ≡ t = (let same = sym s.form ∙ form in cc) in
+    let chans : s.chan ≡ x = (let same = sym s.form ∙ form in cc) in
+    let sents : s.sent ≡ y = (let same = sym s.form ∙ form in cc) in
+    let agent : receiver_of n m ≡ s.packet.agent = some_is (sym for_agent ∙ ap (λ (y : Expr). agent_of y s.atom.env) (sym receivers) ∙ s.its_agent) in
+    let chan : own n (on_channel m) ≡ s.packet.chan = some_is (sym on ∙ ap (λ (y : Expr). chan_of y s.atom.env) (sym chans) ∙ s.its_chan) in
+    let sent : content m ≡ s.packet.value = some_is (sym holds ∙ ap (λ (y : Expr). eval y s.atom.env) (sym sents) ∙ s.its_value) in
     let to : s.packet.to ≡ to_site m =
     then (eval s.to s.atom.env) _ s.its_site λ v is rest. then (as_site (out-Value v)) _ rest λ t site last. when _ _ last λ below ends.
-    let its : Some (value.Site (to_site m)) ≡ Some v = sym i.for_site ∙ ap (λ (y : Expr). eval y s.atom.env) (sym tos) ∙ is in
+    let its : Some (value.Site (to_site m)) ≡ Some v = sym for_site ∙ ap (λ (y : Expr). eval y s.atom.env) (sym tos) ∙ is in
     let same : to_site m ≡ t = some_is (ap as_site (sym (outs-Site (to_site m))) ∙ ap (λ (u : Value). as_site (out-Value u)) (some_is its) ∙ site) in
     done ends ∙ sym same in
     λ j. record { to = to j; agent = sym agent j; chan = sym chan j; value = sym sent j; tag = s.packet.tag }
@@ -156,7 +154,7 @@ module _ {n from first : ℕ} {low high : Config} {v : View} (c : Coupled n from
           let none : whereabouts (map.get high.places x) ≡ Whereabouts.nowhere = ap whereabouts (ap (map.get high.places) (same_name-is x (daemon_agent n) e) ∙ c.no_daemon) in
           absurd (let bad : false ≡ true = ap is_there (sym none) ∙ c.protocol.placed x ∙ ap is_present r in cc)
 
-  pub sends : (e : Event) (next : Config) → e.kind ≡ kind.Send → e.tag.role ≡ role.Infra → apply low e ≡ Some next → (w : View) × Coupled n from first next high w
+  pub sends : (e : Event) (next : Config) → e.kind ≡ kind.Send → e.tag.role ≡ role.Infra → apply low e ≡ Some next → (w : View) × (w.stands_for ≡ v.stands_for) × Coupled n from first next high w
   sends e next is_send infra h =
       let s = sending low e next (ap (λ k. row k low e) (sym is_send) ∙ h) in
       let o = of_actor c e.actor s.atom kind.Send role.Infra s.acts.there (ap begun_by s.form) (same_role s.atom.proc.tag e.tag s.acts.tag ∙ infra) (λ k r. cc) in
@@ -165,10 +163,11 @@ module _ {n from first : ℕ} {low high : Config} {v : View} (c : Coupled n from
       let us : List Thing = Thing.mail m Stage.on_the_way ∷ [] in
       let step = step_at v.things e.actor (Thing.mail m (Stage.in_agent x) ∷ []) us there in
       let protocol = mail_leaves m x e.site own step (λ t r. at_site_of x e.site t r (ap (map.get low.places) (sym mails.agent) ∙ s.acts.stands)) c.protocol in
-      let packet = mail_packet n m x low e next s mails in
+      let packet = packet_is n m low e next s mails.receiver mails.to mails.chan mails.sent mails.is mails.for_agent mails.for_site mails.on mails.holds in
       let known = recursion_from_All (λ t. KnowsOnly (may_know v.lock (chips v.things) t) (is_channel n high.born) from t) (Thing.mail m (Stage.in_agent x) ∷ []) (c.known e.actor (Thing.mail m (Stage.in_agent x) ∷ []) there) in
       let things : NameMap (List Thing) = map.insert v.things e.actor us in (
         record v { things = things; phase = protocol.0 },
+        refl,
         quiet c next things protocol.0 (at_mark c next e e.actor (Thing.mail m (Stage.in_agent x) ∷ []) us protocol.0 (record {
           applies = h;
           sites = ap (λ (d : Config). d.sites) s.is;

@@ -1,10 +1,9 @@
 -- The daemon's servers take mail, and an agent's server takes a letter.
-use Rattle.std.proofs.Common.{◌≡◌, ◌⊎◌, inl, inr, ◌+◌, ◌≤◌, ℕ, Bool, true, false, cond, nat_eq, Option, None, Some, List, [], ◌∷◌, ◌++◌, refl, sym, ap, subst, ◌∙◌, arith}
-use Rattle.std.specs.List.{All, list_any}
+use Rattle.std.proofs.Common.{◌≡◌, ◌+◌, ℕ, true, nat_eq, None, Some, [], ◌∷◌, refl, sym, ap, ◌∙◌, arith}
+use Rattle.std.specs.List.{list_any}
 use Rattle.std.proofs.lemmas.List.Sorted.{IsPermutation-middle, IsPermutation-refl}
 use Rattle.std.proofs.lemmas.List.Elements.{All-from_recursion, All-nil, recursion_from_All}
 use Rattle.std.specs.FinMap as map
-use Rattle.std.specs.FinSet as set
 use Rattle.np_syntax.specs.declared.value.Name.{Name}
 use Rattle.np_syntax.specs.declared.value.Value.{Value}
 use Rattle.np_syntax.specs.declared.value.Value as value
@@ -17,13 +16,12 @@ use Rattle.np_syntax.specs.declared.process.ProcForm.{ProcForm-F}
 use Rattle.np_syntax.specs.declared.process.ProcForm.TheVariants as forms
 use Rattle.np_syntax.specs.declared.event.Event.{Event}
 use Rattle.np_syntax.specs.declared.event.Kind.TheVariants as kind
-use Rattle.np_syntax.specs.Options.{◌>>=◌}
-use Rattle.np_syntax.proofs.Options.{then, when, done}
-use Rattle.np_tables.specs.Names.{NameMap, same_name}
+use Rattle.np_syntax.proofs.Options.{then, done}
+use Rattle.np_tables.specs.Names.{same_name}
 use Rattle.np_tables.proofs.Tables.{same_name-is}
 use Rattle.np_calculus.specs.declared.config.Atom.{Atom}
 use Rattle.np_calculus.specs.Begins.{begun_by}
-use Rattle.np_calculus.specs.Changes.{Change, effect, put, still}
+use Rattle.np_calculus.specs.Changes.{effect, put, still}
 use Rattle.np_calculus.specs.Config.{Config}
 use Rattle.np_calculus.specs.Reductions.{apply, goes_under, row}
 use Rattle.np_calculus.specs.Seen.{acting}
@@ -36,20 +34,17 @@ use Rattle.np_eval.specs.Forms.{layer}
 use Rattle.np_syntax.specs.declared.expression.ExprForm as expr
 use Rattle.np_calculus.specs.Starts.{daemon_agent, own, own_numbers}
 use Rattle.np_protocol.specs.Chips.{Chip, Service}
-use Rattle.np_protocol.specs.Phases.{Phase}
-use Rattle.np_protocol.specs.Protocol.{IsTrueOf, Protocol}
-use Rattle.np_protocol.specs.Rules.{IsKnowledge, IsLearnt, Rule}
-use Rattle.np_protocol.proofs.Keeps.{keeps-protocol}
+use Rattle.np_protocol.specs.Protocol.{IsTrueOf}
 use Rattle.np_protocol.proofs.Steps.{all_taken}
 use Rattle.daemon_encode.specs.Pieces.{beside, daemon, dack, deliver, expression, infra, name, pair, site, tells, two_names, variable}
 use Rattle.np_syntax.specs.declared.process.ProcForm as form
 use Rattle.np_things.proofs.Starts.{constant-is}
 use Rattle.np_things.specs.Acting.{begins}
-use Rattle.np_things.specs.Desks.{Desk, Took, desk, takes_map}
+use Rattle.np_things.specs.Desks.{Took, desk, takes_map}
 use Rattle.np_things.specs.Mail.{Mail, Posted, content as content_of, on_channel, receiver}
 use Rattle.np_things.specs.Shapes.{Are, Is, IsLetters, IsServing}
-use Rattle.np_things.specs.Things.{IsHeaded, Stage, Thing, high_atom, show_all}
-use Rattle.np_levels.specs.Coupled.{Coupled, KnowsOnly, View, chips, is_channel, is_child_of, may_know, scene}
+use Rattle.np_things.specs.Things.{Stage, Thing, high_atom}
+use Rattle.np_levels.specs.Coupled.{Coupled, View, scene}
 use Rattle.np_levels.proofs.Becomes.{becomes, cancel}
 use Rattle.np_levels.proofs.Marks.{same_chips, step_at}
 use Rattle.np_levels.proofs.Outputs.{by_number, given_by, is-own, number-of}
@@ -147,7 +142,7 @@ module _ {n from first : ℕ} {low high : Config} {v : View} (c : Coupled n from
       let claim = (recursion_from_All (IsTrueOf (scene v high) v.phase) (Chip.free l s ∷ []) (all_taken (step_at v.things m (Thing.free l s ∷ []) [] at) (IsTrueOf (scene v high) v.phase) c.protocol.true_chips)).0 in
       other (number-of n i 13 (c.locks_apart claim.0 (own n i) (claim.1 ∙ ap Some on) (is-own n i own_one)))
 
-  served : (e : Event) (next : Config) (s : IsRepeating low e next) (k : Service) → IsServing n first k s.atom → apply low e ≡ Some next → (w : View) × Coupled n from first next high w
+  served : (e : Event) (next : Config) (s : IsRepeating low e next) (k : Service) → IsServing n first k s.atom → apply low e ≡ Some next → (w : View) × (w.stands_for ≡ v.stands_for) × Coupled n from first next high w
   served e next s k i h =
       let d = desk n first k in
       let form : ProcForm-F.Rep s.on s.pattern s.body ≡ ProcForm-F.Rep d.chan d.pattern (takes_map n d) = sym s.form ∙ ap layer i.is ∙ forms.outs-Rep d.chan d.pattern (takes_map n d) in
@@ -209,7 +204,7 @@ letter_mail (Mail.deliver p s) e r = r p s refl
 letter_mail _ e r = absurd (let bad : ⊥ = omega arith in bad)
 
 module _ {n from first : ℕ} {low high : Config} {v : View} (c : Coupled n from first low high v) where
-  handed : (e : Event) (next : Config) (s : IsRepeating low e next) (x : Name) → IsLetters n from x s.atom → apply low e ≡ Some next → (w : View) × Coupled n from first next high w
+  handed : (e : Event) (next : Config) (s : IsRepeating low e next) (x : Name) → IsLetters n from x s.atom → apply low e ≡ Some next → (w : View) × (w.stands_for ≡ v.stands_for) × Coupled n from first next high w
   handed e next s x i h =
       let left : Proc = infra i.node (form.Open (variable i.letter)) in
       let right : Proc = tells n i.node (dack n) (pair i.named (variable i.place)) in
@@ -277,7 +272,7 @@ module _ {n from first : ℕ} {low high : Config} {v : View} (c : Coupled n from
         known = λ k. (k.0, (tt, tt));
       })
 
-  pub serves : (e : Event) (next : Config) → e.kind ≡ kind.Rep → e.tag.role ≡ role.Infra → apply low e ≡ Some next → (w : View) × Coupled n from first next high w
+  pub serves : (e : Event) (next : Config) → e.kind ≡ kind.Rep → e.tag.role ≡ role.Infra → apply low e ≡ Some next → (w : View) × (w.stands_for ≡ v.stands_for) × Coupled n from first next high w
   serves e next is_rep infra h =
       let s = repeating low e next (ap (λ k. row k low e) (sym is_rep) ∙ h) in
       let o = of_actor c e.actor s.atom kind.Rep role.Infra s.acts.there (ap begun_by s.form) (same_role s.atom.proc.tag e.tag s.acts.tag ∙ infra) (λ k r. cc) in

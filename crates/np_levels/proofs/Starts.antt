@@ -36,7 +36,6 @@ use Rattle.np_eval.specs.Eval.{find_place}
 use Rattle.np_scope.specs.Sound.{IsSound}
 use Rattle.daemon_encode.specs.Translates.{IsLowOf}
 use Rattle.np_things.specs.Laws.{HasStartThings}
-use Rattle.np_things.specs.Shapes.{Are}
 use Rattle.np_things.specs.Starts.{daemon_things, main_things}
 use Rattle.np_things.specs.Things.{Thing, first_atom_of, first_packet_of, IsHeaded, high_atom, show_all}
 use Rattle.np_things.proofs.Starts.{own-apart, starts-with-things}

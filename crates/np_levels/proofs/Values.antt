@@ -1,5 +1,5 @@
 -- Values of the infrastructure's expressions, and what its patterns bind.
-use Rattle.std.proofs.Common.{◌≡◌, ◌<◌, ◌≤◌, ℕ, Bool, true, false, cond, Option, None, Some, List, [], ◌∷◌, refl, sym, ap, subst, ◌∙◌, arith}
+use Rattle.std.proofs.Common.{◌≡◌, ◌≤◌, ℕ, cond, Some, [], ◌∷◌, refl, sym, ap, ◌∙◌, arith}
 use Rattle.std.specs.FinMap as map
 use Rattle.std.specs.FinMap.{nat_cmp-IsAntisymmetric}
 use Rattle.std.specs.Cmp.{nat_cmp_total, tied_itself}
@@ -10,16 +10,14 @@ use Rattle.np_syntax.specs.declared.value.Value as value
 use Rattle.np_syntax.specs.declared.value.Value.TheVariants as outs
 use Rattle.np_syntax.specs.declared.expression.Expr.{Expr}
 use Rattle.np_syntax.specs.declared.expression.ExprForm as expr
-use Rattle.np_syntax.specs.declared.pattern.PatForm as pat
-use Rattle.np_syntax.specs.Options.{◌>>=◌}
 use Rattle.np_tables.proofs.Tables.{is_equal}
 use Rattle.np_eval.specs.Eval.{Env, agent_of, bind, chan_of, eval}
-use Rattle.np_eval.proofs.Evals.{eval-form, eval-tuple, eval-val, eval-var}
+use Rattle.np_eval.proofs.Evals.{eval-form, eval-tuple, eval-var}
 use Rattle.np_eval.proofs.Binds.{bind-bind, bind-form, bind-tuples}
 use Rattle.np_calculus.proofs.AgentValues.{slot_put}
 use Rattle.np_calculus.proofs.OwnNames.{not_true}
 use Rattle.np_calculus.specs.Starts.{own}
-use Rattle.daemon_encode.specs.Pieces.{expression, main, name, pair, pattern, two_names, variable}
+use Rattle.daemon_encode.specs.Pieces.{expression, name, pair, two_names, variable}
 use Rattle.np_source_values.specs.Sources.{Names}
 use Rattle.np_things.proofs.Starts.{constant-is}
 

@@ -116,7 +116,7 @@ pub record Coupled (n from first : ℕ) (low high : Config) (v : View) : Type 0 
   pub old_marks : (m : Name) → set.contains low.born m ≡ true → set.contains low.born (v.stands_for m) ≡ true
   -- marks that stand for one mark are one: so an event takes from the high level what it takes from the low one
   pub distinct : (m k : Name) (ts us : List Thing) → map.get v.things m ≡ Some ts → map.get v.things k ≡ Some us → v.stands_for m ≡ v.stands_for k → m ≡ k
-  -- phases, locks, sites that are told, and the map
+  -- the chips that the things show keep the protocol: so an agent has one affair at a time, and letters and look-ups find their agents in the map
   pub protocol : Protocol (scene v high) v.phase (chips v.things)
   -- a lock is no name of the infrastructure but main's: so nothing else is taken for it; and a new name is no lock
   pub locks_born : (a l : Name) → v.lock a ≡ Some l → set.contains low.born l ≡ true

@@ -7,6 +7,10 @@ use Rattle.np_syntax.specs.declared.event.Kind.{Kind}
 use Rattle.np_syntax.specs.declared.process.Role.{Role}
 use Rattle.np_calculus.specs.Config.{Config}
 use Rattle.np_calculus.specs.Reductions.{apply}
+use Rattle.np_calculus.specs.Well.{Well}
+use Rattle.np_syntax.specs.declared.event.Kind.TheVariants as kind
+use Rattle.np_syntax.specs.declared.process.Role.TheVariants as role
+use Rattle.np_lift.specs.Lift.{posted}
 use Rattle.np_calculus.specs.Starts.{start_high, start_low}
 use Rattle.np_scope.specs.Sound.{IsSound}
 use Rattle.daemon_encode.specs.Translates.{IsLowOf}
@@ -19,4 +23,13 @@ StartsCoupled = (p : Program) (q : LowProgram) (low : IsLowOf p q) → IsSound p
 -- after an event of this kind and role the low level still belongs to the same configuration of the high level
 abbrev pub IsQuiet : Kind → Role → Type 0
 IsQuiet k r = (n from first : ℕ) (low high : Config) (v : View) → Coupled n from first low high v → (e : Event) (next : Config) → e.kind ≡ k → e.tag.role ≡ r → apply low e ≡ Some next
-    → (w : View) × Coupled n from first next high w
+    → (w : View) × (w.stands_for ≡ v.stands_for) × Coupled n from first next high w
+
+-- The post that a Send is, at the mark of the high level: it is an event of the high level, where no value of a wrong type is met, and the two
+-- configurations stay coupled.
+abbrev pub post_of : View → Event → Event
+post_of v e = record (posted e) { actor = v.stands_for e.actor }
+
+abbrev pub PostsAreEvents : Type 0
+PostsAreEvents = (n from first : ℕ) (low high : Config) (v : View) → Coupled n from first low high v → Well high → (e : Event) (next : Config) → e.kind ≡ kind.Send → e.tag.role ≡ role.Post → apply low e ≡ Some next
+    → (then : Config) × (apply high (post_of v e) ≡ Some then) × (w : View) × (w.stands_for ≡ v.stands_for) × Coupled n from first next then w

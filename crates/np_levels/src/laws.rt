@@ -1,4 +1,4 @@
-ghost use Rattle.np_levels.specs.Laws.{IsQuiet, StartsCoupled};
+ghost use Rattle.np_levels.specs.Laws.{IsQuiet, PostsAreEvents, StartsCoupled};
 ghost use Rattle.np_syntax.specs.declared.event.Kind.{Kind};
 ghost use Rattle.np_syntax.specs.declared.event.Kind.TheVariants as kind;
 ghost use Rattle.np_syntax.specs.declared.process.Role.TheVariants as role;
@@ -12,4 +12,9 @@ pub fn law_coupled_starts()
 pub fn law_quiet()
     ensures infrastructure { (k : Kind) → IsQuiet k role.Infra }
     ensures posts_land { IsQuiet kind.Land role.Post }
+{}
+
+/// A Send of a post is an event of the high level, and the two configurations stay coupled.
+pub fn law_posts_are_events()
+    ensures { PostsAreEvents }
 {}

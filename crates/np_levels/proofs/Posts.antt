@@ -1,0 +1,309 @@
+-- A post leaves for the daemon: it is a post of the high level.
+use Rattle.std.proofs.Common.{◌≡◌, ℕ, Bool, true, false, cond, is_some, nat_eq, Option, None, Some, List, [], ◌∷◌, refl, sym, ap, subst, ◌∙◌}
+use Rattle.std.specs.List.{All}
+use Rattle.std.proofs.lemmas.List.Elements.{All-from_recursion, All-nil, All-weaker, recursion_from_All}
+use Rattle.std.specs.FinMap as map
+use Rattle.std.specs.FinSet as set
+use Rattle.np_syntax.specs.declared.value.Name.{Name}
+use Rattle.np_syntax.specs.declared.value.Value.{Value, out-Value}
+use Rattle.np_syntax.specs.declared.value.Value as value
+use Rattle.np_syntax.specs.declared.value.Value.TheVariants as outs
+use Rattle.np_syntax.specs.declared.expression.Expr.{Expr}
+use Rattle.np_syntax.specs.declared.process.Tag.{Tag}
+use Rattle.np_syntax.specs.declared.process.Proc.{Proc}
+use Rattle.np_syntax.specs.declared.process.Role.TheVariants as role
+use Rattle.np_syntax.specs.declared.process.ProcForm.{ProcForm-F}
+use Rattle.np_syntax.specs.declared.process.ProcForm as form
+use Rattle.np_syntax.specs.declared.process.ProcForm.TheVariants as forms
+use Rattle.np_syntax.specs.declared.event.Event.{Event}
+use Rattle.np_syntax.specs.declared.event.Kind.TheVariants as kind
+use Rattle.np_syntax.specs.Options.{◌>>=◌}
+use Rattle.np_syntax.proofs.Bools.{and-out}
+use Rattle.np_syntax.proofs.Options.{then, done}
+use Rattle.np_tables.specs.Names.{NameMap, same_name}
+use Rattle.np_tables.proofs.Tables.{get-put, put_here, same_name-is, same_name-itself}
+use Rattle.np_calculus.specs.declared.config.Atom.{Atom}
+use Rattle.np_calculus.specs.Begins.{begun_by}
+use Rattle.np_calculus.specs.Config.{Config}
+use Rattle.np_calculus.specs.Reductions.{apply, row, same_tag}
+use Rattle.np_calculus.specs.Starts.{daemon_agent, own}
+use Rattle.np_calculus.specs.Well.{Well}
+use Rattle.np_eval.specs.Eval.{Env, agent_of, as_agent, as_chan, chan_of, eval}
+use Rattle.np_eval.specs.Forms.{layer}
+use Rattle.np_eval.proofs.Evals.{eval-form, eval-pack}
+use Rattle.np_scope.specs.Sound.{IsSoundExpr}
+use Rattle.np_scope.specs.Written.{IsLiteral}
+use Rattle.np_scope.proofs.SoundParts.{ProcParts, proc-parts}
+use Rattle.daemon_encode.specs.Pieces.{daemon, message, pair, site}
+use Rattle.daemon_encode.specs.Texts.{letter, post_text}
+use Rattle.daemon_encode.specs.Translates.{Translates, source}
+use Rattle.np_source_values.specs.Known.{IsKnown}
+use Rattle.np_source_values.proofs.Known.{value-is-known}
+use Rattle.np_source_values.proofs.Values.{same-value}
+use Rattle.np_things.specs.Acting.{begins}
+use Rattle.np_things.specs.Shapes.{Is, IsOfSource}
+use Rattle.np_things.specs.Things.{Stage, Thing}
+use Rattle.np_things.proofs.Acting.{source-plain}
+use Rattle.np_syntax.specs.declared.value.Value.{Value-F, roll-Value, roll-out-Value}
+use Rattle.np_calculus.specs.Changes.{effect, put, still, with_made}
+use Rattle.np_calculus.specs.Reductions.{role_index}
+use Rattle.np_calculus.specs.Well.{Has, Ready}
+use Rattle.np_calculus.proofs.Steps.{Acts, step-acting}
+unfoldable use Rattle.np_calculus.proofs.Common.{act}
+use Rattle.np_syntax.proofs.Bools.{and-in}
+use Rattle.np_protocol.specs.Chips.{Chip}
+use Rattle.np_protocol.specs.Phases.{Phase}
+use Rattle.np_protocol.specs.Protocol.{Protocol}
+use Rattle.np_protocol.specs.Rules.{IsKnowledge, IsLearnt, Rule}
+use Rattle.np_protocol.specs.Steps.{Step}
+use Rattle.np_protocol.proofs.Keeps.{keeps-protocol}
+use Rattle.np_things.specs.Mail.{Mail, Posted, as_output, packet_of}
+use Rattle.np_things.specs.Things.{first_atom_of, first_packet_of, show_all}
+use Rattle.np_things.proofs.Starts.{constant-is}
+use Rattle.np_levels.specs.Coupled.{Coupled, IsShaped, KnowsOnly, View, chips, is_channel, is_child_of, may_know, scene}
+use Rattle.np_levels.specs.Laws.{PostsAreEvents, post_of}
+use Rattle.np_levels.specs.Mirrors.{Mirrors}
+use Rattle.np_levels.proofs.Born.{born-kept, made-kept}
+use Rattle.np_levels.proofs.Marks.{may_know_more, reshape, step_at}
+use Rattle.np_levels.proofs.Outputs.{chan-known}
+use Rattle.np_levels.proofs.Quiet.{any_kept, knows_more}
+use Rattle.np_levels.proofs.Sends.{IsSending, packet_is, sending}
+use Rattle.np_levels.proofs.Shapes.{of_actor, same_role}
+use Rattle.np_levels.proofs.Values.{agent-is, channel-is, pair-is}
+use Rattle.np_tables.proofs.Tables.{cut_here, get-cut}
+
+-- what a mark of the low level stands for is changed at both levels
+pub mirrors_put : {X : Type 0} (st : Name → Name) (low high : Name → Option X) (low' high' : Name → Option X) (m : Name) (x : X) → Mirrors st low high → ((q : Name) → low' q ≡ cond (same_name q m) (Some x) (low q))
+    → ((k : Name) → high' k ≡ cond (same_name k (st m)) (Some x) (high k)) → ((q : Name) (y : X) → low q ≡ Some y → st q ≡ st m → q ≡ m) → Mirrors st low' high'
+mirrors_put {X} st low high low' high' m x mirrors l h one = record { up = λ q y j. up q y (same_name q m) refl (sym (l q) ∙ j); down = λ k y j. down k y (same_name k (st m)) refl (sym (h k) ∙ j) }
+  where
+    other : (q : Name) (y : X) → low q ≡ Some y → same_name q m ≡ false → same_name (st q) (st m) ≡ false
+    other q y j e = go (same_name (st q) (st m)) refl
+      where
+        go : (t : Bool) → same_name (st q) (st m) ≡ t → t ≡ false
+        go false f = refl
+        go true f = absurd (let same : q ≡ m = one q y j (same_name-is (st q) (st m) f) in let bad : false ≡ true = sym e ∙ ap (λ z. same_name z m) same ∙ same_name-itself m in cc)
+
+    up : (q : Name) (y : X) (t : Bool) → same_name q m ≡ t → cond t (Some x) (low q) ≡ Some y → high' (st q) ≡ Some y
+    up q y true e j = h (st q) ∙ ap (λ t. cond t (Some x) (high (st q))) (ap (λ z. same_name (st z) (st m)) (same_name-is q m e) ∙ same_name-itself (st m)) ∙ j
+    up q y false e j = h (st q) ∙ ap (λ t. cond t (Some x) (high (st q))) (other q y j e) ∙ mirrors.up q y j
+
+    down : (k : Name) (y : X) (t : Bool) → same_name k (st m) ≡ t → cond t (Some x) (high k) ≡ Some y → (q : Name) × (st q ≡ k) × (low' q ≡ Some y)
+    down k y true e j = (m, sym (same_name-is k (st m) e), l m ∙ ap (λ t. cond t (Some x) (low m)) (same_name-itself m) ∙ j)
+    down k y false e j =
+        let d = mirrors.down k y j in
+        (d.0, d.1, l d.0 ∙ ap (λ t. cond t (Some x) (low d.0)) (apart d.0 d.1 (same_name d.0 m) refl) ∙ d.2)
+      where
+        apart : (q : Name) → st q ≡ k → (t : Bool) → same_name q m ≡ t → t ≡ false
+        apart q at false f = refl
+        apart q at true f = absurd (let bad : false ≡ true = sym e ∙ ap (λ z. same_name z (st m)) (sym at ∙ ap st (same_name-is q m f)) ∙ same_name-itself (st m) in cc)
+
+-- a post of the source, by its text
+post_by : {R : Type 0} (n from : ℕ) (a : Expr) (p q : Proc) → Translates n from a p q → p.tag.role ≡ role.Plain → q.tag.role ≡ role.Post
+    → ((tag : Tag) (at : ℕ) (b c v : Expr) → p ≡ source tag at (form.Post b c v) → q ≡ post_text n tag.node b c v → R) → R
+post_by n from a p q (Translates.post {k = tag} {at = at} {b = b} {c = c} {v = v}) plain post r = r tag at b c v refl refl
+post_by n from a p q (Translates.agent f g w x y z) plain post r = absurd (let bad : role.Infra ≡ role.Post = post in cc)
+post_by n from a p q (Translates.migrate t) plain post r = absurd (let bad : role.Infra ≡ role.Post = post in cc)
+post_by n from a p q _ plain post r = absurd (let bad : role.Plain ≡ role.Post = sym plain ∙ post in cc)
+
+posts_source : {R : Type 0} (n from first : ℕ) (t : Thing) (a : Atom) → Is n from first t a → begins t role.Post kind.Send ≡ true → ((x : Expr) (h : Atom) → t ≡ Thing.source x h → IsOfSource n from x h a → R) → R
+posts_source n from first (Thing.source x h) a i b r = r x h refl i
+posts_source n from first (Thing.mail m (Stage.in_agent x)) a i b r = absurd cc
+posts_source n from first _ a i b r = absurd cc
+
+-- an agent that is known
+agent-known : (agents chans : Name → Bool) (v : Value) → IsKnown agents chans v → (a : Name) → as_agent (out-Value v) ≡ Some a → agents a ≡ true
+agent-known agents chans v (IsKnown.agent {a = b} k) a h = subst (λ x. agents x ≡ true) (sym (done (sym (ap as_agent (outs.outs-Agent b)) ∙ h))) k
+agent-known agents chans v (IsKnown.literal (IsLiteral.number {n = i})) c h = absurd (let e = ap as_agent (outs.outs-Int i) in cc)
+agent-known agents chans v (IsKnown.literal (IsLiteral.truth {b = b})) c h = absurd (let e = ap as_agent (outs.outs-Truth b) in cc)
+agent-known agents chans v (IsKnown.literal (IsLiteral.string {text = t})) c h = absurd (let e = ap as_agent (outs.outs-Str t) in cc)
+agent-known agents chans v (IsKnown.site {s = s}) c h = absurd (let e = ap as_agent (outs.outs-Site s) in cc)
+agent-known agents chans v (IsKnown.channel {c = d} k) c h = absurd (let e = ap as_agent (outs.outs-Chan d) in cc)
+agent-known agents chans v (IsKnown.tuple {vs = vs} k) c h = absurd (let e = ap as_agent (outs.outs-Tuple vs) in cc)
+
+agent-value : (u : Value) (a : Name) → as_agent (out-Value u) ≡ Some a → u ≡ value.Agent a
+agent-value u a h = sym (roll-out-Value u) ∙ ap roll-Value (layer_is (out-Value u) h) ∙ outs.rolls-Agent a
+  where
+    layer_is : (l : Value-F Value) → as_agent l ≡ Some a → l ≡ Value-F.Agent a
+    layer_is (Value-F.Agent b) k = ap Value-F.Agent (sym (done k))
+    layer_is _ k = absurd cc
+
+-- what a post sends
+letter-is : (b x e : Expr) (env : Env) (a n : Name) (u : Value) → agent_of b env ≡ Some a → chan_of x env ≡ Some n → eval e env ≡ Some u → eval (pair b (letter x e)) env ≡ Some (value.Tuple (value.Agent a ∷ value.Letter n u ∷ []))
+letter-is b x e env a n u ab xn eu =
+    then (eval b env) _ ab λ vb at_b is_b. then (eval x env) _ xn λ vx at_x is_x.
+    let packed : eval (letter x e) env ≡ Some (value.Letter n u) = rw (eval-form (letter x e) env, eval-pack x e env, at_x, eu, is_x) refl in
+    pair-is b (letter x e) (value.Agent a) (value.Letter n u) env (at_b ∙ ap Some (agent-value vb a is_b)) packed
+
+module _ {n from first : ℕ} {low high : Config} {v : View} (c : Coupled n from first low high v) (well : Well high) (e : Event) (next : Config) (post : e.tag.role ≡ role.Post) (h : apply low e ≡ Some next) (s : IsSending low e next)
+    (no_packet : map.get low.packets e.actor ≡ None) (x : Expr) (hi : Atom) (there : map.get v.things e.actor ≡ Some (Thing.source x hi ∷ [])) (i : IsOfSource n from x hi s.atom)
+    (tag : Tag) (at : ℕ) (b ch va : Expr) (source_is : hi.proc ≡ source tag at (form.Post b ch va)) (text_is : s.atom.proc ≡ post_text n tag.node b ch va) where
+  high_there : map.get high.atoms (v.stands_for e.actor) ≡ Some hi
+  high_there = c.mirrored.up e.actor hi (ap (λ o. o >>= first_atom_of) there)
+
+  form_is : layer hi.proc ≡ ProcForm-F.Post b ch va
+  form_is = ap layer source_is ∙ forms.outs-Post b ch va
+
+  abbrev ready : Has (agent_of b hi.env) × Has (chan_of ch hi.env) × Has (eval va hi.env)
+  ready = subst (Ready high hi.env) form_is (well.ready (v.stands_for e.actor) hi high_there)
+
+  abbrev plain : Tag
+  plain = record { node = e.tag.node; role = role.Plain }
+
+  abbrev p : Posted
+  p = record { agent = ready.0.0; chan = ready.1.0; value = ready.2.0; tag = plain }
+
+  acts : Acts high (post_of v e) hi
+  acts = record {
+    there = high_there;
+    stands = sym (c.places hi.agent i.stands.apart) ∙ ap (map.get low.places) (sym i.stands.agent) ∙ s.acts.stands;
+    tag = and-in (ap (λ (t : Tag). nat_eq t.node e.tag.node) (ap (λ (q : Proc). q.tag) source_is) ∙ (and-out _ _ (ap (λ (q : Proc). same_tag q.tag e.tag) (sym text_is) ∙ s.acts.tag)).0)
+        (ap (λ r. nat_eq (role_index r) 0) (source-plain i.stands.source.sound));
+  }
+
+  abbrev then_high : Config
+  then_high = effect high (post_of v e) (record still { atoms = put (v.stands_for e.actor) (as_output p) ∷ [] })
+
+  applies : apply high (post_of v e) ≡ Some then_high
+  unfolding act
+  applies = rw (step-acting high (post_of v e) hi acts, form_is, ready.0.1, ready.1.1, ready.2.1) refl
+
+  -- ---- what the post knows
+
+  agents : Name → Bool
+  agents a = is_some (v.lock a)
+
+  known_parts : (agents ready.0.0 ≡ true) × (is_channel n high.born ready.1.0 ≡ true) × IsKnown agents (is_channel n high.born) ready.2.0
+  unfolding agents
+  known_parts =
+      let src = i.stands.source in
+      let parts = subst (ProcParts n src.scope src.node src.after src.bound) form_is (proc-parts n src.sound) in
+      let knows = (recursion_from_All (λ t. KnowsOnly (may_know v.lock (chips v.things) t) (is_channel n high.born) from t) (Thing.source x hi ∷ []) (c.known e.actor (Thing.source x hi ∷ []) there)).0 in
+      let good = λ (y : Expr) (u : Value) (is : IsSoundExpr n src.scope y) (k : eval y hi.env ≡ Some u). value-is-known agents (is_channel n high.born) n from src.scope y hi.env u c.main is src.in_scope knows k in
+      then (eval b hi.env) _ ready.0.1 λ vb at_b is_b. then (eval ch hi.env) _ ready.1.1 λ vc at_c is_c.
+      (agent-known agents (is_channel n high.born) vb (good b vb parts.1 at_b) ready.0.0 is_b, chan-known agents (is_channel n high.born) vc (good ch vc parts.2 at_c) ready.1.0 is_c, good va ready.2.0 parts.3 ready.2.1)
+
+  -- ---- the packet
+
+  low_same : (y : Expr) → IsSoundExpr n i.stands.source.scope y → eval y s.atom.env ≡ eval y hi.env
+  low_same y is = same-value n from i.stands.source.scope y s.atom.env hi.env is i.stands.source.in_scope i.stands.agrees
+
+  packet : s.packet ≡ packet_of n (Mail.message p) s.packet.tag
+  packet =
+      let src = i.stands.source in
+      let parts = subst (ProcParts n src.scope src.node src.after src.bound) form_is (proc-parts n src.sound) in
+      packet_is n (Mail.message p) low e next s (daemon n) (site 0) (message n) (pair b (letter ch va)) (ap layer text_is ∙ forms.outs-Send (daemon n) (site 0) (message n) (pair b (letter ch va)))
+      (agent-is (daemon_agent n) s.atom.env) (constant-is (value.Site 0) s.atom.env) (channel-is (own n 5) s.atom.env)
+      (letter-is b ch va s.atom.env ready.0.0 ready.1.0 ready.2.0 (ap (λ o. o >>= λ u. as_agent (out-Value u)) (low_same b parts.1) ∙ ready.0.1) (ap (λ o. o >>= λ u. as_chan (out-Value u)) (low_same ch parts.2) ∙ ready.1.1) (low_same va parts.3 ∙ ready.2.1))
+
+  -- ---- the two configurations afterwards
+
+  abbrev things : NameMap (List Thing)
+  things = map.insert v.things e.actor (Thing.mail (Mail.message p) Stage.on_the_way ∷ [])
+
+  step : Step (chips v.things) (chips things) (show_all (Thing.source x hi ∷ [])) (show_all (Thing.mail (Mail.message p) Stage.on_the_way ∷ []))
+  step = step_at v.things e.actor (Thing.source x hi ∷ []) (Thing.mail (Mail.message p) Stage.on_the_way ∷ []) there
+
+  abbrev Ordered : Type 0
+  Ordered = (then : Name → Phase) × Protocol (scene v high) then (chips things)
+
+  protocol : Ordered
+  unfolding agents
+  protocol = keeps-protocol (scene v high) (scene v high) v.phase (chips v.things) (chips things) [] (Chip.knows p.agent ∷ [])
+      (Rule.knows (All-nil IsKnowledge) (All-from_recursion (IsLearnt (scene v high)) (Chip.knows p.agent ∷ []) (registered, tt))) step c.protocol
+    where
+      registered : is_some (v.lock p.agent) ≡ true
+      registered = known_parts.0
+
+  unchanged : (q : Name) → same_name q e.actor ≡ false → map.get things q ≡ map.get v.things q
+  unchanged q f = get-put v.things e.actor (Thing.mail (Mail.message p) Stage.on_the_way ∷ []) q ∙ ap (λ z. cond z (Some (Thing.mail (Mail.message p) Stage.on_the_way ∷ [])) (map.get v.things q)) f
+
+  its : (q : Name) → same_name q e.actor ≡ true → map.get things q ≡ Some (Thing.mail (Mail.message p) Stage.on_the_way ∷ [])
+  its q f = get-put v.things e.actor (Thing.mail (Mail.message p) Stage.on_the_way ∷ []) q ∙ ap (λ z. cond z (Some (Thing.mail (Mail.message p) Stage.on_the_way ∷ [])) (map.get v.things q)) f
+
+  born : (q : Name) → set.contains low.born q ≡ true → set.contains next.born q ≡ true
+  born q j = ap (λ (d : Config). set.contains d.born q) s.is ∙ made-kept low.born e.made q j
+
+  same_born : next.born ≡ low.born
+  same_born = ap (λ (d : Config). d.born) s.is ∙ ap (with_made low.born) s.made_none
+
+  shaped : (q : Name) (t : Bool) → same_name q e.actor ≡ t → IsShaped n from first next things q
+  shaped q true f = subst (IsShaped n from first next things) (sym (same_name-is q e.actor f))
+      (IsShaped.packet (ap (λ (d : Config). map.get d.atoms e.actor) s.is ∙ cut_here low.atoms e.actor) (ap (λ (d : Config). map.get d.packets e.actor) s.is ∙ put_here low.packets e.actor s.packet)
+      (put_here v.things e.actor (Thing.mail (Mail.message p) Stage.on_the_way ∷ [])) (packet, λ r. let bad : role.Plain ≡ role.Post = sym r ∙ ap (λ (t : Tag). t.role) s.its_tag ∙ post in cc))
+  shaped q false f = reshape q (ap (λ (d : Config). map.get d.atoms q) s.is ∙ get-cut low.atoms e.actor q ∙ ap (λ t. cond t None (map.get low.atoms q)) f) (ap (λ (d : Config). map.get d.packets q) s.is ∙ get-put low.packets e.actor s.packet q ∙ ap (λ t. cond t (Some s.packet) (map.get low.packets q)) f)
+      (unchanged q f) (c.shaped q)
+
+  its_atoms : (q : Name) → (map.get things q >>= first_atom_of) ≡ cond (same_name q e.actor) (Some (as_output p)) (map.get v.things q >>= first_atom_of)
+  its_atoms q = go (same_name q e.actor) refl
+    where
+      go : (t : Bool) → same_name q e.actor ≡ t → (map.get things q >>= first_atom_of) ≡ cond t (Some (as_output p)) (map.get v.things q >>= first_atom_of)
+      go true f = ap (λ o. o >>= first_atom_of) (its q f)
+      go false f = ap (λ o. o >>= first_atom_of) (unchanged q f)
+
+  its_packets : (q : Name) → (map.get things q >>= first_packet_of) ≡ (map.get v.things q >>= first_packet_of)
+  its_packets q = go (same_name q e.actor) refl
+    where
+      go : (t : Bool) → same_name q e.actor ≡ t → (map.get things q >>= first_packet_of) ≡ (map.get v.things q >>= first_packet_of)
+      go true f = ap (λ o. o >>= first_packet_of) (its q f) ∙ sym (ap (λ o. o >>= first_packet_of) (ap (map.get v.things) (same_name-is q e.actor f) ∙ there))
+      go false f = ap (λ o. o >>= first_packet_of) (unchanged q f)
+
+  was : (q : Name) (ts : List Thing) → map.get things q ≡ Some ts → (ws : List Thing) × (map.get v.things q ≡ Some ws)
+  was q ts j = go (same_name q e.actor) refl
+    where
+      go : (t : Bool) → same_name q e.actor ≡ t → (ws : List Thing) × (map.get v.things q ≡ Some ws)
+      go true f = (Thing.source x hi ∷ [], ap (map.get v.things) (same_name-is q e.actor f) ∙ there)
+      go false f = (ts, sym (unchanged q f) ∙ j)
+
+  one_mark : (q : Name) (y : Atom) → (map.get v.things q >>= first_atom_of) ≡ Some y → v.stands_for q ≡ v.stands_for e.actor → q ≡ e.actor
+  one_mark q y j same = go (map.get v.things q) refl j
+    where
+      go : (o : Option (List Thing)) → map.get v.things q ≡ o → (o >>= first_atom_of) ≡ Some y → q ≡ e.actor
+      go None f k = absurd cc
+      go (Some ts) f k = c.distinct q e.actor ts (Thing.source x hi ∷ []) f there same
+
+  known : (q : Name) (ts : List Thing) (t : Bool) → same_name q e.actor ≡ t → map.get things q ≡ Some ts → All (λ t. KnowsOnly (may_know v.lock (chips things) t) (is_channel n high.born) from t) ts
+  unfolding agents
+  known q ts true f j = subst (All (λ t. KnowsOnly (may_know v.lock (chips things) t) (is_channel n high.born) from t)) (sym (done (sym (its q f) ∙ j)))
+      (All-from_recursion (λ t. KnowsOnly (may_know v.lock (chips things) t) (is_channel n high.born) from t) (Thing.mail (Mail.message p) Stage.on_the_way ∷ []) ((known_parts.1, known_parts.2), tt))
+  known q ts false f j = All-weaker (λ t. KnowsOnly (may_know v.lock (chips v.things) t) (is_channel n high.born) from t) (λ t. KnowsOnly (may_know v.lock (chips things) t) (is_channel n high.born) from t)
+      (λ z k. knows_more (may_know v.lock (chips v.things) z) (may_know v.lock (chips things) z) (is_channel n high.born) from (may_know_more v.lock (chips v.things) (chips things) (λ a d any. any_kept (is_child_of a d) step (λ w. absurd cc) any) z) z k)
+      ts (c.known q ts (sym (unchanged q f) ∙ j))
+
+  coupled : Coupled n from first next then_high (record v { things = things; phase = protocol.0 })
+  coupled = record {
+    low_sites = ap (λ (d : Config). d.sites) s.is ∙ c.low_sites;
+    high_sites = c.high_sites;
+    daemon = ap (λ (d : Config). map.get d.places (daemon_agent n)) s.is ∙ c.daemon;
+    no_daemon = c.no_daemon;
+    places = λ q f. ap (λ (d : Config). map.get d.places q) s.is ∙ c.places q f;
+    said = ap (λ (d : Config). d.said) s.is ∙ c.said;
+    born = λ q j. born q (c.born q j);
+    own_born = c.own_born;
+    stand_born = born-kept low next e c.stand_born h;
+    shaped = λ q. shaped q (same_name q e.actor) refl;
+    mirrored = mirrors_put v.stands_for (λ q. map.get v.things q >>= first_atom_of) (map.get high.atoms) (λ q. map.get things q >>= first_atom_of) (map.get then_high.atoms) e.actor (as_output p) c.mirrored its_atoms
+        (λ k. get-put high.atoms (v.stands_for e.actor) (as_output p) k) one_mark;
+    mirrored_packets = record { up = λ q k j. c.mirrored_packets.up q k (sym (its_packets q) ∙ j); down = λ k y j. let d = c.mirrored_packets.down k y j in (d.0, d.1, its_packets d.0 ∙ d.2) };
+    new_marks = λ q j. c.new_marks q (ap (λ b. set.contains b q) (sym same_born) ∙ j);
+    old_marks = λ q j. born (v.stands_for q) (c.old_marks q (ap (λ b. set.contains b q) (sym same_born) ∙ j));
+    distinct = λ q k ts ws j l f. let a = was q ts j in let d = was k ws l in c.distinct q k a.0 d.0 a.1 d.1 f;
+    protocol = protocol.1;
+    locks_born = λ a l j. born l (c.locks_born a l j);
+    locks_apart = c.locks_apart;
+    main = c.main;
+    known = λ q ts j. known q ts (same_name q e.actor) refl j;
+  }
+
+  still_coupled : (w : View) × (w.stands_for ≡ v.stands_for) × Coupled n from first next then_high w
+  still_coupled = (record v { things = things; phase = protocol.0 }, refl, coupled)
+
+pub posts-are-events : PostsAreEvents
+posts-are-events n from first low high v c well e next is_send post h =
+    let s = sending low e next (ap (λ k. row k low e) (sym is_send) ∙ h) in
+    let o = of_actor c e.actor s.atom kind.Send role.Post s.acts.there (ap begun_by s.form) (same_role s.atom.proc.tag e.tag s.acts.tag ∙ post) (λ k r. cc) in
+    posts_source n from first o.thing s.atom o.is o.its_kind λ x hi thing i.
+    post_by n from x hi.proc s.atom.proc i.translates (source-plain i.stands.source.sound) (same_role s.atom.proc.tag e.tag s.acts.tag ∙ post) λ tag at b ch va source_is text_is.
+    let there : map.get v.things e.actor ≡ Some (Thing.source x hi ∷ []) = o.there ∙ ap (λ t. Some (t ∷ [])) thing in
+    let w = still_coupled c well e next post h s o.no_packet x hi there i tag at b ch va source_is text_is in
+    (then_high c well e next post h s o.no_packet x hi there i tag at b ch va source_is text_is, applies c well e next post h s o.no_packet x hi there i tag at b ch va source_is text_is, w.0, w.1, w.2)
