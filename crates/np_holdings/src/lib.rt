@@ -1,0 +1,6 @@
+//! What a site holds, and that what it does alone is a step of every configuration that is just this.
+#![tactic(auto)]
+
+mod laws;
+
+pub use laws::law_nothing_done;
