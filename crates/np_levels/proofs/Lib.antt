@@ -1,10 +1,16 @@
+pub mod Actors
+pub mod Applies
 pub mod Becomes
+pub mod Bodies
 pub mod Born
 pub mod Comms
 pub mod Forks
+pub mod Forms
+pub mod Goes
 pub mod Infrastructure
 pub mod Lands
 pub mod Lookups
+pub mod Makes
 pub mod Marks
 pub mod Meets
 pub mod Orders
@@ -15,5 +21,8 @@ pub mod Registers
 pub mod Sends
 pub mod Serves
 pub mod Shapes
+pub mod Stands
 pub mod Starts
+pub mod Together
 pub mod Values
+pub mod Writes

@@ -1,4 +1,5 @@
 -- What the laws of the invariant between the levels say.
+use Rattle.std.specs.Option.{option_map}
 use Rattle.np_syntax.specs.declared.program.Program.{Program}
 use Rattle.np_syntax.specs.declared.program.LowProgram.{LowProgram}
 use Rattle.std.specs.Prelude.{◌≡◌, ℕ, Some, length}
@@ -33,3 +34,13 @@ post_of v e = record (posted e) { actor = v.stands_for e.actor }
 abbrev pub PostsAreEvents : Type 0
 PostsAreEvents = (n from first : ℕ) (low high : Config) (v : View) → Coupled n from first low high v → Well high → (e : Event) (next : Config) → e.kind ≡ kind.Send → e.tag.role ≡ role.Post → apply low e ≡ Some next
     → (then : Config) × (apply high (post_of v e) ≡ Some then) × (w : View) × (w.stands_for ≡ v.stands_for) × Coupled n from first next then w
+
+-- the same event at the marks of the high level
+abbrev pub event_of : View → Event → Event
+event_of v e = record e { actor = v.stands_for e.actor; other = option_map v.stands_for e.other }
+
+-- an event of the source's own is the same event of the high level, where no value of a wrong type is met, and the two configurations stay coupled
+abbrev pub IsEvent : Kind → Type 0
+IsEvent k = (n from first : ℕ) (low high : Config) (v : View) → Coupled n from first low high v → Well high → (e : Event) (next : Config)
+    → e.kind ≡ k → e.tag.role ≡ role.Plain → apply low e ≡ Some next
+    → (then : Config) × (apply high (event_of v e) ≡ Some then) × (w : View) × (w.stands_for ≡ v.stands_for) × Coupled n from first next then w

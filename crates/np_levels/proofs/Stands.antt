@@ -1,0 +1,320 @@
+-- What stands under the marks of both levels, written mark by mark, where what goes and comes shows no chips: an atom or a packet of the source.
+use Rattle.std.proofs.Common.{
+  ◌≡◌,
+  ◌⊎◌,
+  inl,
+  inr,
+  ℕ,
+  Bool,
+  true,
+  false,
+  cond,
+  Option,
+  None,
+  Some,
+  IsSome,
+  IfSome,
+  List,
+  [],
+  ◌∷◌,
+  ◌++◌,
+  refl,
+  sym,
+  ap,
+  subst,
+  ◌∙◌,
+}
+use Rattle.std.specs.List.{All}
+use Rattle.std.proofs.lemmas.List.Elements.{All-from_recursion, All-nil, All-weaker}
+use Rattle.std.proofs.lemmas.List.Sorted.{list_any-IsPermutation}
+use Rattle.std.specs.FinMap as map
+use Rattle.std.specs.FinSet as set
+use Rattle.np_syntax.specs.declared.value.Name.{Name}
+use Rattle.np_syntax.specs.declared.value.Value.{Value}
+use Rattle.np_syntax.specs.declared.event.Event.{Event}
+use Rattle.np_syntax.specs.Options.{◌>>=◌}
+use Rattle.np_syntax.proofs.Options.{done}
+use Rattle.np_tables.specs.Names.{NameMap, same_name}
+use Rattle.np_tables.proofs.Tables.{cut_absent, same_name-is}
+use Rattle.np_calculus.specs.declared.config.Atom.{Atom}
+use Rattle.np_calculus.specs.declared.config.Packet.{Packet}
+use Rattle.np_calculus.specs.Changes.{rewritten, with_made}
+use Rattle.np_calculus.specs.Config.{Config}
+use Rattle.np_calculus.specs.Reductions.{apply}
+use Rattle.np_calculus.specs.Starts.{daemon_agent}
+use Rattle.np_protocol.specs.Phases.{Phase}
+use Rattle.np_protocol.specs.Protocol.{Protocol}
+use Rattle.np_things.specs.Shapes.{Are, Is, IsUnderWay}
+use Rattle.np_things.specs.Things.{Thing, first_atom_of, first_packet_of, high_atom, high_packet, show_all, shows}
+use Rattle.np_levels.specs.Coupled.{Coupled, IsShaped, KnowsOnly, View, chips, is_channel, is_child_of, may_know, scene}
+use Rattle.np_levels.specs.Mirrors.{Mirrors}
+use Rattle.np_levels.proofs.Marks.{may_know_more, reshape}
+use Rattle.np_levels.proofs.Orders.{Reordered, and_then, backwards, entries_at, entries_put, flat, kept, permuted}
+use Rattle.np_levels.proofs.Quiet.{knows_more, things_born}
+use Rattle.np_levels.proofs.Starts.{any_order}
+use Rattle.np_levels.proofs.Together.{IsOldOrNew, knows_wider, more_channels, one_mark, together, true_or_false}
+use Rattle.np_levels.proofs.Writes.{IsOnly, get-rewritten, mirror_at, mirrors_write, rewritten_here, rewritten_there, uncut}
+
+no_value : {A B : Type 0} {x : A} → None ≡ Some x → B
+no_value e = absurd cc
+
+-- what stands under a mark for one thing at most
+pub data Holds (n from first : ℕ) : Option Atom → Option Packet → Option Thing → Type 0 where
+  nothing : Holds n from first None None None
+  atom : {a : Atom} {t : Thing} → Is n from first t a → Holds n from first (Some a) None (Some t)
+  packet : {k : Packet} {t : Thing} → IsUnderWay n t k → Holds n from first None (Some k) (Some t)
+
+abbrev pub listed : Option Thing → Option (List Thing)
+listed None = None
+listed (Some t) = Some (t ∷ [])
+
+listed-atom : (o : Option Thing) → (listed o >>= first_atom_of) ≡ (o >>= high_atom)
+listed-atom None = refl
+listed-atom (Some t) = refl
+
+listed-packet : (o : Option Thing) → (listed o >>= first_packet_of) ≡ (o >>= high_packet)
+listed-packet None = refl
+listed-packet (Some t) = refl
+
+module _ {n from first : ℕ} {low high : Config} {v : View} (c : Coupled n from first low high v) (e : Event) where
+  -- what a thing may know is known, where the event's names are made
+  abbrev pub Knowing : Thing → Type 0
+  Knowing t = KnowsOnly (may_know v.lock (chips v.things) t) (is_channel n (with_made high.born e.made)) from t
+
+  -- what stands under the marks of two configurations that come from the coupled ones, and what it is there for
+  pub record Stands (atoms : NameMap Atom) (packets : NameMap Packet) (high_atoms : NameMap Atom) (high_packets : NameMap Packet)
+      (things : NameMap (List Thing)) : Type 0 where
+    pub shaped : (m : Name) → IsShaped n from first (record low { atoms = atoms; packets = packets }) things m
+    pub mirrored : Mirrors v.stands_for (λ m. map.get things m >>= first_atom_of) (map.get high_atoms)
+    pub mirrored_packets : Mirrors v.stands_for (λ m. map.get things m >>= first_packet_of) (map.get high_packets)
+    pub old_or_new : (m : Name) (ts : List Thing) → map.get things m ≡ Some ts → IsOldOrNew c m
+    pub order : Reordered (chips things) (chips v.things)
+    pub known : (m : Name) (ts : List Thing) → map.get things m ≡ Some ts → All Knowing ts
+
+  pub stands : Stands low.atoms low.packets high.atoms high.packets v.things
+  stands = record {
+    shaped = λ m. reshape m refl refl refl (c.shaped m);
+    mirrored = c.mirrored;
+    mirrored_packets = c.mirrored_packets;
+    old_or_new = λ m ts h. inl (ts, h);
+    order = kept;
+    known = λ m ts h. All-weaker (λ t. KnowsOnly (may_know v.lock (chips v.things) t) (is_channel n high.born) from t) Knowing
+        (λ t k. knows_wider (may_know v.lock (chips v.things) t) (may_know v.lock (chips v.things) t) (is_channel n high.born)
+        (is_channel n (with_made high.born e.made)) from (λ a h. h) (more_channels n high.born e.made) t k) ts (c.known m ts h);
+  }
+
+  -- a mark that may be written: a new one, or one of a thing that shows no chips
+  pub data Free (things : NameMap (List Thing)) (m : Name) : Type 0 where
+    new : map.get things m ≡ None → set.contains low.born m ≡ false → Free things m
+    old : {ts : List Thing} → map.get things m ≡ Some ts → show_all ts ≡ [] → Free things m
+
+  module _ {atoms : NameMap Atom} {packets : NameMap Packet} {high_atoms : NameMap Atom} {high_packets : NameMap Packet} {things : NameMap (List Thing)}
+      (s : Stands atoms packets high_atoms high_packets things) (m : Name) (free : Free things m) where
+    is_old_or_new : IsOldOrNew c m
+    is_old_or_new = go free
+      where
+        go : Free things m → IsOldOrNew c m
+        go (Free.new none f) = inr f
+        go (Free.old {ts = ts} h silent) = s.old_or_new m ts h
+
+    only : {X : Type 0} (f : List Thing → Option X) → IsOnly v.stands_for (λ q. map.get things q >>= f) m
+    only f q y h same = go (map.get things q) refl h
+      where
+        go : (o : Option (List Thing)) → map.get things q ≡ o → (o >>= f) ≡ Some y → q ≡ m
+        go None i j = no_value j
+        go (Some ts) i j = one_mark c q m same (s.old_or_new q ts i) is_old_or_new
+
+    -- the high level has under this mark what the things are
+    pub high_atom_at : map.get high_atoms (v.stands_for m) ≡ (map.get things m >>= first_atom_of)
+    high_atom_at = mirror_at v.stands_for (λ q. map.get things q >>= first_atom_of) (map.get high_atoms) m s.mirrored (only first_atom_of)
+
+    pub high_packet_at : map.get high_packets (v.stands_for m) ≡ (map.get things m >>= first_packet_of)
+    high_packet_at = mirror_at v.stands_for (λ q. map.get things q >>= first_packet_of) (map.get high_packets) m s.mirrored_packets (only first_packet_of)
+
+    module _ (a : Option Atom) (k : Option Packet) (u : Option Thing) (holds : Holds n from first a k u) (silent : IfSome u (λ t. shows t ≡ []))
+        (knows : IfSome u Knowing) where
+      abbrev after : NameMap (List Thing)
+      after = rewritten things m (listed u)
+
+      here : (q : Name) → same_name q m ≡ true → map.get after q ≡ listed u
+      here q t = ap (map.get after) (same_name-is q m t) ∙ rewritten_here things m (listed u)
+
+      there : (q : Name) → same_name q m ≡ false → map.get after q ≡ map.get things q
+      there q f = rewritten_there things m (listed u) q f
+
+      shape_here : (a : Option Atom) (k : Option Packet) (u : Option Thing) → Holds n from first a k u → map.get (rewritten atoms m a) m ≡ a
+          → map.get (rewritten packets m k) m ≡ k → map.get (rewritten things m (listed u)) m ≡ listed u
+          → IsShaped n from first (record low { atoms = rewritten atoms m a; packets = rewritten packets m k }) (rewritten things m (listed u)) m
+      shape_here a k u Holds.nothing x y z = IsShaped.nothing x y z
+      shape_here a k u (Holds.atom {t = t} i) x y z = IsShaped.atom x y z (All-nil (λ u. high_atom u ≡ None)) (Are.one i)
+      shape_here a k u (Holds.packet i) x y z = IsShaped.packet x y z i
+
+      shaped : (q : Name) (t : Bool) → same_name q m ≡ t
+          → IsShaped n from first (record low { atoms = rewritten atoms m a; packets = rewritten packets m k }) after q
+      shaped q true e = subst (IsShaped n from first (record low { atoms = rewritten atoms m a; packets = rewritten packets m k }) after)
+          (sym (same_name-is q m e))
+          (shape_here a k u holds (rewritten_here atoms m a) (rewritten_here packets m k) (rewritten_here things m (listed u)))
+      shaped q false e = reshape q (rewritten_there atoms m a q e) (rewritten_there packets m k q e) (there q e) (s.shaped q)
+
+      first_of : {X : Type 0} (f : List Thing → Option X) (o : Option X) → (listed u >>= f) ≡ o → (q : Name)
+          → (map.get after q >>= f) ≡ cond (same_name q m) o (map.get things q >>= f)
+      first_of f o is q = go (same_name q m) refl
+        where
+          go : (t : Bool) → same_name q m ≡ t → (map.get after q >>= f) ≡ cond t o (map.get things q >>= f)
+          go true e = ap (λ x. x >>= f) (here q e) ∙ is
+          go false e = ap (λ x. x >>= f) (there q e)
+
+      old_or_new : (q : Name) (ts : List Thing) (t : Bool) → same_name q m ≡ t → map.get after q ≡ Some ts → IsOldOrNew c q
+      old_or_new q ts true e h = subst (IsOldOrNew c) (sym (same_name-is q m e)) is_old_or_new
+      old_or_new q ts false e h = s.old_or_new q ts (sym (there q e) ∙ h)
+
+      known : (q : Name) (ts : List Thing) (t : Bool) → same_name q m ≡ t → map.get after q ≡ Some ts → All Knowing ts
+      known q ts true e h = go u knows (sym (here q e) ∙ h)
+        where
+          go : (u : Option Thing) → IfSome u Knowing → listed u ≡ Some ts → All Knowing ts
+          go None k i = no_value i
+          go (Some t) k i = subst (All Knowing) (sym (done i)) (All-from_recursion Knowing (t ∷ []) (k, tt))
+      known q ts false e h = s.known q ts (sym (there q e) ∙ h)
+
+      -- the chips stay, in another order
+      without : Reordered (chips (map.remove things m)) (chips things)
+      without = go free
+        where
+          go : Free things m → Reordered (chips (map.remove things m)) (chips things)
+          go (Free.new none f) = subst (λ (t : NameMap (List Thing)). Reordered (chips t) (chips things)) (sym (cut_absent things m none)) kept
+          go (Free.old {ts = ts} h quiet) = backwards
+              (subst (λ l. Reordered (chips things) (l ++ chips (map.remove things m))) quiet
+              (flat (λ (e : Name × List Thing). show_all e.1) (entries_at things m ts h)))
+
+      order : Reordered (chips after) (chips things)
+      order = go u silent
+        where
+          go : (u : Option Thing) → IfSome u (λ t. shows t ≡ []) → Reordered (chips (rewritten things m (listed u))) (chips things)
+          go None quiet = without
+          go (Some t) quiet =
+              and_then (subst (λ l. Reordered (chips (map.insert things m (t ∷ []))) (l ++ chips (map.remove things m))) (ap (λ l. l ++ []) quiet)
+              (flat (λ (e : Name × List Thing). show_all e.1) (entries_put things m (t ∷ [])))) without
+
+      pub write : Stands (rewritten atoms m a) (rewritten packets m k) (rewritten high_atoms (v.stands_for m) (u >>= high_atom))
+          (rewritten high_packets (v.stands_for m) (u >>= high_packet)) after
+      write = record {
+        shaped = λ q. shaped q (same_name q m) refl;
+        mirrored = mirrors_write v.stands_for (λ q. map.get things q >>= first_atom_of) (map.get high_atoms) (λ q. map.get after q >>= first_atom_of)
+            (map.get (rewritten high_atoms (v.stands_for m) (u >>= high_atom))) m (u >>= high_atom)
+            s.mirrored (first_of first_atom_of (u >>= high_atom) (listed-atom u)) (get-rewritten high_atoms (v.stands_for m) (u >>= high_atom))
+            (only first_atom_of);
+        mirrored_packets = mirrors_write v.stands_for (λ q. map.get things q >>= first_packet_of) (map.get high_packets)
+            (λ q. map.get after q >>= first_packet_of) (map.get (rewritten high_packets (v.stands_for m) (u >>= high_packet))) m (u >>= high_packet)
+            s.mirrored_packets (first_of first_packet_of (u >>= high_packet) (listed-packet u))
+            (get-rewritten high_packets (v.stands_for m) (u >>= high_packet)) (only first_packet_of);
+        old_or_new = λ q ts h. old_or_new q ts (same_name q m) refl h;
+        order = and_then order s.order;
+        known = λ q ts h. known q ts (same_name q m) refl h;
+      }
+
+    -- an atom stands there then, and no packet did
+    pub put_atom : (a : Atom) (t : Thing) (h : Atom) → Is n from first t a → high_atom t ≡ Some h → high_packet t ≡ None → shows t ≡ [] → Knowing t
+        → map.get packets m ≡ None → (map.get things m >>= first_packet_of) ≡ None
+        → Stands (map.insert atoms m a) packets (map.insert high_atoms (v.stands_for m) h) high_packets (map.insert things m (t ∷ []))
+    put_atom a t h is its_atom no_packet silent knows none high_none =
+        let w : Stands (map.insert atoms m a) (rewritten packets m None) (rewritten high_atoms (v.stands_for m) (high_atom t))
+        (rewritten high_packets (v.stands_for m) (high_packet t)) (map.insert things m (t ∷ [])) =
+        write (Some a) None (Some t) (Holds.atom is) silent knows in
+        let x = subst (λ (p : NameMap Packet). Stands (map.insert atoms m a) p (rewritten high_atoms (v.stands_for m) (high_atom t))
+        (rewritten high_packets (v.stands_for m) (high_packet t)) (map.insert things m (t ∷ []))) (sym (uncut packets m none)) w in
+        let y = subst (λ (o : Option Atom). Stands (map.insert atoms m a) packets (rewritten high_atoms (v.stands_for m) o)
+        (rewritten high_packets (v.stands_for m) (high_packet t)) (map.insert things m (t ∷ []))) its_atom x in
+        subst (λ (p : NameMap Packet). Stands (map.insert atoms m a) packets (map.insert high_atoms (v.stands_for m) h) p (map.insert things m (t ∷ [])))
+        (ap (rewritten high_packets (v.stands_for m)) no_packet ∙ sym (uncut high_packets (v.stands_for m) (high_packet_at ∙ high_none))) y
+
+    -- an atom goes
+    pub cut_atom : map.get packets m ≡ None → (map.get things m >>= first_packet_of) ≡ None
+        → Stands (map.remove atoms m) packets (map.remove high_atoms (v.stands_for m)) high_packets (map.remove things m)
+    cut_atom none high_none =
+        let w : Stands (map.remove atoms m) (rewritten packets m None) (map.remove high_atoms (v.stands_for m)) (rewritten high_packets (v.stands_for m) None)
+        (map.remove things m) = write None None None Holds.nothing tt tt in
+        let x = subst (λ (p : NameMap Packet). Stands (map.remove atoms m) p (map.remove high_atoms (v.stands_for m))
+        (rewritten high_packets (v.stands_for m) None) (map.remove things m)) (sym (uncut packets m none)) w in
+        subst (λ (p : NameMap Packet). Stands (map.remove atoms m) packets (map.remove high_atoms (v.stands_for m)) p (map.remove things m))
+        (sym (uncut high_packets (v.stands_for m) (high_packet_at ∙ high_none))) x
+
+    -- a packet goes
+    pub cut_packet : map.get atoms m ≡ None → (map.get things m >>= first_atom_of) ≡ None
+        → Stands atoms (map.remove packets m) high_atoms (map.remove high_packets (v.stands_for m)) (map.remove things m)
+    cut_packet none high_none =
+        let w : Stands (rewritten atoms m None) (map.remove packets m) (rewritten high_atoms (v.stands_for m) None) (map.remove high_packets (v.stands_for m))
+        (map.remove things m) = write None None None Holds.nothing tt tt in
+        let x = subst (λ (p : NameMap Atom). Stands p (map.remove packets m) (rewritten high_atoms (v.stands_for m) None)
+        (map.remove high_packets (v.stands_for m)) (map.remove things m)) (sym (uncut atoms m none)) w in
+        subst (λ (p : NameMap Atom). Stands atoms (map.remove packets m) p (map.remove high_packets (v.stands_for m)) (map.remove things m))
+        (sym (uncut high_atoms (v.stands_for m) (high_atom_at ∙ high_none))) x
+
+  -- a new mark stands for itself, and nothing is there
+  pub record IsNewMark (m : Name) : Type 0 where
+    pub stands_for : v.stands_for m ≡ m
+    pub no_things : map.get v.things m ≡ None
+    pub no_packet : map.get low.packets m ≡ None
+    pub high_new : set.contains high.born m ≡ false
+
+  pub new_mark : (m : Name) → set.contains low.born m ≡ false → IsNewMark m
+  new_mark m f = record {
+    stands_for = c.new_marks m f;
+    no_things = no_things (map.get v.things m) refl;
+    no_packet =
+        no_packet (map.get low.packets m) refl;
+    high_new = high_new (true_or_false (set.contains high.born m));
+  }
+    where
+      is_some_of : {A : Type 0} (o : Option A) (x : A) → o ≡ Some x → IsSome o
+      is_some_of o x i = rw i refl
+
+      no_things : (o : Option (List Thing)) → map.get v.things m ≡ o → o ≡ None
+      no_things None i = refl
+      no_things (Some ts) i = absurd (let bad : false ≡ true = sym f ∙ things_born c m ts i in cc)
+
+      no_packet : (o : Option Packet) → map.get low.packets m ≡ o → o ≡ None
+      no_packet None i = refl
+      no_packet (Some k) i = absurd (let bad : false ≡ true = sym f ∙ c.stand_born.marks m (inr (is_some_of (map.get low.packets m) k i)) in cc)
+
+      high_new : (set.contains high.born m ≡ true) ⊎ (set.contains high.born m ≡ false) → set.contains high.born m ≡ false
+      high_new (inl t) = absurd (let bad : false ≡ true = sym f ∙ c.born m t in cc)
+      high_new (inr g) = g
+
+  -- so both levels are coupled after the event
+  pub leave : {atoms : NameMap Atom} {packets : NameMap Packet} {high_atoms : NameMap Atom} {high_packets : NameMap Packet} {things : NameMap (List Thing)}
+      → Stands atoms packets high_atoms high_packets things
+      → (next : Config) (said high_said : List (ℕ × Value)) → apply low e ≡ Some next
+      → next ≡ record low { atoms = atoms; packets = packets; born = with_made low.born e.made; said = said } → said ≡ high_said
+      → (w : View) × (w.stands_for ≡ v.stands_for) × Coupled n from first next
+      (record high { atoms = high_atoms; packets = high_packets; born = with_made high.born e.made; said = high_said }) w
+  leave {atoms} {packets} {high_atoms} {high_packets} {things} s next said high_said applies is same = (
+    record v { things = things; phase = protocol.0 },
+    refl,
+    together c next (record high { atoms = high_atoms; packets = high_packets; born = with_made high.born e.made; said = high_said }) e things protocol.0
+        (record {
+          applies = applies;
+          sites = ap (λ (d : Config). d.sites) is;
+          high_sites = refl;
+          daemon = ap (λ (d : Config). map.get d.places (daemon_agent n)) is;
+          no_daemon = refl;
+          places = λ q f. ap (λ (d : Config). map.get d.places q) is ∙ c.places q f;
+          said = ap (λ (d : Config). d.said) is ∙ same;
+          born = ap (λ (d : Config). d.born) is;
+          high_born = refl;
+          shaped = λ m. reshape m (ap (λ (d : Config). map.get d.atoms m) is) (ap (λ (d : Config). map.get d.packets m) is) refl (s.shaped m);
+          mirrored = s.mirrored;
+          mirrored_packets = s.mirrored_packets;
+          old_or_new = s.old_or_new;
+          protocol = protocol.1;
+          known = λ m ts h. All-weaker Knowing (λ t. KnowsOnly (may_know v.lock (chips things) t) (is_channel n (with_made high.born e.made)) from t)
+              (λ t k. knows_more (may_know v.lock (chips v.things) t) (may_know v.lock (chips things) t) (is_channel n (with_made high.born e.made)) from
+              (more t) t k) ts (s.known m ts h);
+        }),
+  )
+    where
+      protocol : (phase : Name → Phase) × Protocol (scene v high) phase (chips things)
+      protocol = any_order (scene v high) v.phase (chips v.things) (chips things) (permuted s.order) c.protocol
+
+      more : (t : Thing) (b : Name) → may_know v.lock (chips v.things) t b ≡ true → may_know v.lock (chips things) t b ≡ true
+      more = may_know_more v.lock (chips v.things) (chips things)
+          (λ a b i. sym (list_any-IsPermutation (is_child_of a b) (chips v.things) (chips things) (permuted (backwards s.order))) ∙ i)
