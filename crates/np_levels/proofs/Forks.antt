@@ -36,6 +36,7 @@ use Rattle.np_things.specs.Shapes.{Are, Is}
 use Rattle.np_things.specs.Things.{IsHeaded, Stage, Thing, first_atom_of, first_packet_of, high_atom, high_packet, show_all, shows}
 use Rattle.np_things.proofs.Acting.{thing-begins}
 use Rattle.np_levels.specs.Coupled.{Coupled, IsShaped, KnowsOnly, View, chips, is_channel, is_child_of, may_know, scene}
+use Rattle.np_levels.proofs.Applies.{takes_nothing}
 use Rattle.np_levels.proofs.Born.{born-kept, made-kept}
 use Rattle.np_protocol.specs.Phases.{Phase}
 use Rattle.np_protocol.specs.Protocol.{Protocol}
@@ -46,18 +47,19 @@ use Rattle.np_levels.proofs.Quiet.{knows_more, quiet, things_born}
 use Rattle.np_levels.proofs.Starts.{any_order}
 use Rattle.np_levels.proofs.Shapes.{of_atom, same_role}
 
-record IsForking (low : Config) (e : Event) (next : Config) : Type 0 where
-  atom : Atom
-  acts : Acts low e atom
-  left : Proc
-  right : Proc
-  form : layer atom.proc ≡ ProcForm-F.Par left right
-  new : Name
-  made_one : e.made ≡ made.One new
-  is_new : set.contains low.born new ≡ false
-  is : next ≡ effect low e (record still { atoms = put new (goes atom right) ∷ put e.actor (goes atom left) ∷ [] })
+pub record IsForking (low : Config) (e : Event) (next : Config) : Type 0 where
+  pub atom : Atom
+  pub acts : Acts low e atom
+  pub left : Proc
+  pub right : Proc
+  pub form : layer atom.proc ≡ ProcForm-F.Par left right
+  pub new : Name
+  pub made_one : e.made ≡ made.One new
+  pub other_none : e.other ≡ None
+  pub is_new : set.contains low.born new ≡ false
+  pub is : next ≡ effect low e (record still { atoms = put new (goes atom right) ∷ put e.actor (goes atom left) ∷ [] })
 
-forking : (low : Config) (e : Event) (next : Config) → row kind.Fork low e ≡ Some next → IsForking low e next
+pub forking : (low : Config) (e : Event) (next : Config) → row kind.Fork low e ≡ Some next → IsForking low e next
 unfolding act
 forking low e next h =
     let r = row-step low e next kind.Fork h in
@@ -71,6 +73,7 @@ forking low e next h =
       form = form;
       new = m;
       made_one = is-one e.made m one;
+      other_none = takes_nothing e.other w other;
       is_new = not_one (set.contains low.born m) (sym (one-new low.born e.made m one) ∙ r.new);
       is = r.is ∙ ap (effect low e) (done h);
     }

@@ -15,14 +15,17 @@ pub mod Marks
 pub mod Meets
 pub mod Orders
 pub mod Outputs
+pub mod Packets
 pub mod Posts
 pub mod Quiet
 pub mod Registers
 pub mod Sends
 pub mod Serves
 pub mod Shapes
+pub mod Splits
 pub mod Stands
 pub mod Starts
+pub mod Takes
 pub mod Together
 pub mod Values
 pub mod Writes

@@ -13,6 +13,7 @@ use Rattle.np_syntax.specs.declared.process.Proc.{Proc}
 use Rattle.np_syntax.specs.declared.process.ProcForm.{ProcForm-F}
 use Rattle.np_syntax.specs.declared.event.Event.{Event}
 use Rattle.np_syntax.specs.declared.event.Kind.TheVariants as kind
+use Rattle.np_syntax.specs.declared.event.Made.TheVariants as made
 use Rattle.np_syntax.specs.Options.{◌>>=◌}
 use Rattle.np_syntax.proofs.Options.{then, done}
 use Rattle.np_tables.specs.Names.{NameMap, same_name}
@@ -25,7 +26,7 @@ use Rattle.np_calculus.specs.Seen.{acting}
 use Rattle.np_calculus.specs.Sight.{inside, sight}
 unfoldable use Rattle.np_calculus.proofs.Common.{act}
 use Rattle.np_calculus.proofs.OwnNames.{not_true}
-use Rattle.np_calculus.proofs.Rows.{parts, taking}
+use Rattle.np_calculus.proofs.Rows.{parts}
 use Rattle.np_calculus.proofs.Steps.{Acts, Offers, acting-step, offered-step, row-step, same-offer}
 use Rattle.np_eval.specs.Eval.{Env, bind, chan_of}
 use Rattle.np_eval.specs.Forms.{layer}
@@ -37,6 +38,7 @@ use Rattle.np_protocol.specs.Steps.{Step}
 use Rattle.np_things.specs.Shapes.{Are}
 use Rattle.np_things.specs.Things.{IsHeaded, Thing, first_atom_of, first_packet_of, show_all}
 use Rattle.np_levels.specs.Coupled.{Coupled, IsShaped, KnowsOnly, View, chips, is_channel, is_child_of, may_know, scene}
+use Rattle.np_levels.proofs.Applies.{takes}
 use Rattle.np_levels.proofs.Born.{born-kept, made-kept}
 use Rattle.np_levels.proofs.Marks.{reshape}
 use Rattle.np_levels.proofs.Orders.{and_then, behind, entries_at, entries_put, flat, permuted}
@@ -54,10 +56,12 @@ pub record IsMeeting (low : Config) (e : Event) (next : Config) : Type 0 where
   pub chan : Name
   pub its_chan : chan_of on atom.env ≡ Some chan
   pub other : Name
+  pub its_other : e.other ≡ Some other
   pub what : Value
   pub offers : Offers low other atom.agent chan what
   pub env : Env
   pub binds : bind pattern what atom.env ≡ Some env
+  pub made_none : e.made ≡ made.Nothing
   pub is : next ≡ effect low e (record still { atoms = put e.actor (goes_under atom body env) ∷ cut other ∷ [] })
 
 pub meeting : (low : Config) (e : Event) (next : Config) → row kind.Comm low e ≡ Some next → IsMeeting low e next
@@ -65,7 +69,8 @@ unfolding act
 meeting low e next h =
     let r = row-step low e next kind.Comm h in
     then (acting low e) _ r.gives λ a acts h. parts kind.Comm (sight low.sites (inside low) e.site) e a h λ p form h.
-    taking (sight low.sites (inside low) e.site) e a p.0 p.1 (λ o env. record still { atoms = put e.actor (goes_under a p.2 env) ∷ cut o ∷ [] }) h λ n o v env on offer binds h.
+    takes (sight low.sites (inside low) e.site) e a p.0 p.1
+    (λ o env. record still { atoms = put e.actor (goes_under a p.2 env) ∷ cut o ∷ [] }) h λ n o v env on other offer binds none last.
     record {
       atom = a;
       acts = acting-step low e a acts;
@@ -76,11 +81,13 @@ meeting low e next h =
       chan = n;
       its_chan = on;
       other = o;
+      its_other = other;
       what = v;
       offers = offered-step low o a.agent n v (sym (same-offer low e a o n acts) ∙ offer);
       env = env;
       binds = binds;
-      is = r.is ∙ ap (effect low e) (done h);
+      made_none = none;
+      is = r.is ∙ ap (effect low e) last;
     }
 
 -- who goes on knows no less: an agent that it made is told of still, or is in the map

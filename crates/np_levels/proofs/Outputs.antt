@@ -75,7 +75,7 @@ not_out : {A : Type 0} (l : Layer) (k : Kind) (c e : Expr) → begun_by l ≡ So
 not_out l k c e b h = absurd (let bad : None ≡ Some k = sym (ap begun_by h) ∙ b in cc)
 
 -- what is translated to an output is this output
-translated-out : {n from : ℕ} {a : Expr} {p q : Proc} (c e : Expr) → Translates n from a p q → layer q ≡ ProcForm-F.Out c e → layer p ≡ ProcForm-F.Out c e
+pub translated-out : {n from : ℕ} {a : Expr} {p q : Proc} (c e : Expr) → Translates n from a p q → layer q ≡ ProcForm-F.Out c e → layer p ≡ ProcForm-F.Out c e
 translated-out c e Translates.output h = h
 translated-out c e Translates.stop h = not_out _ kind.Stop c e (ap begun_by forms.outs-Stop) h
 translated-out c e (Translates.parallel t u) h = not_out _ kind.Fork c e (ap begun_by (forms.outs-Par _ _)) h
@@ -93,15 +93,21 @@ translated-out c e Translates.print h = not_out _ kind.Print c e (ap begun_by (f
 translated-out c e Translates.open_letter h = not_out _ kind.Open c e (ap begun_by (forms.outs-Open _)) h
 translated-out c e (Translates.lookup t u) h = not_out _ kind.Lookup c e (ap begun_by (forms.outs-Lookup _ _ _ _ _)) h
 
+-- an atom of the source, or an output that a letter opened to
+abbrev pub is_of_source : Thing → Bool
+is_of_source (Thing.source a h) = true
+is_of_source (Thing.opened p) = true
+is_of_source _ = false
+
 -- what an output on a channel is there for
 pub data Gift (n : ℕ) (low : Atom) (chan : Name) (v : Value) : Thing → Type 0 where
-  of_source : {t : Thing} → set.contains (own_names n) chan ≡ false → IsAgents n low.agent → Gift n low chan v t
+  of_source : {t : Thing} → set.contains (own_names n) chan ≡ false → IsAgents n low.agent → is_of_source t ≡ true → Gift n low chan v t
   of_token : {a : Name} {s : ℕ} → low.agent ≡ a → IsAgents n a → chan ≡ own n 9 → v ≡ value.Site s → Gift n low chan v (Thing.token a s)
   of_mail : {m : Mail} → low.agent ≡ receiver n m → chan ≡ own n (on_channel m) → v ≡ content m → Gift n low chan v (Thing.mail m Stage.there)
   of_map : {ps : List (Name × Name)} → low.agent ≡ daemon_agent n → chan ≡ own n 10 → v ≡ value.Places ps → Gift n low chan v (Thing.places ps)
   of_lock : {l : Name} {s : ℕ} → low.agent ≡ daemon_agent n → chan ≡ l → v ≡ value.Site s → Gift n low chan v (Thing.free l s)
 
-not_own : (t u : Bool) → (t && not u) ≡ true → u ≡ false
+pub not_own : (t u : Bool) → (t && not u) ≡ true → u ≡ false
 not_own true false h = refl
 not_own _ _ h = absurd cc
 
@@ -144,7 +150,7 @@ module _ (n from first : ℕ) (agents : Name → Bool) (born : NameSet) (main : 
   wants_given _ l w = absurd w
 
   gift_of : (t : Thing) → Is n from first t low → KnowsOnly agents (is_channel n born) from t → Gift n low chan v t
-  gift_of (Thing.source a h) i k = Gift.of_source (source_channel a h i k) (ap (λ x. same_name x (daemon_agent n)) i.stands.agent ∙ i.stands.apart)
+  gift_of (Thing.source a h) i k = Gift.of_source (source_channel a h i k) (ap (λ x. same_name x (daemon_agent n)) i.stands.agent ∙ i.stands.apart) refl
   gift_of (Thing.asking a h) i k = by_text _ kind.Comm i.is (ap begun_by (forms.outs-Inp _ _ _))
   gift_of (Thing.leaving a h) i k = by_text _ kind.Depart i.is (ap begun_by (forms.outs-Migrate _ _))
   gift_of (Thing.settling a h s) i k = by_text _ kind.Comm i.is (ap begun_by (forms.outs-Inp _ _ _))
@@ -152,7 +158,8 @@ module _ (n from first : ℕ) (agents : Name → Bool) (born : NameSet) (main : 
   gift_of (Thing.beginning a h p s) i k = by_text _ kind.Comm i.is (ap begun_by (forms.outs-Inp _ _ _))
   gift_of (Thing.opened p) i k =
       let g = given p.chan p.value (ap sends i.is ∙ output-gives p.agent p.chan p.value i.tag) in
-      Gift.of_source (ap (set.contains (own_names n)) g.0 ∙ not_own (set.contains born p.chan) (set.contains (own_names n) p.chan) k.0) (ap (λ (a : Atom). same_name a.agent (daemon_agent n)) i.is ∙ i.apart)
+      Gift.of_source (ap (set.contains (own_names n)) g.0 ∙ not_own (set.contains born p.chan) (set.contains (own_names n) p.chan) k.0)
+      (ap (λ (a : Atom). same_name a.agent (daemon_agent n)) i.is ∙ i.apart) refl
   gift_of (Thing.token a s) i k = let g = given (own n 9) (value.Site s) i.0.gives in Gift.of_token i.0.agent i.1 g.0 g.1
   gift_of (Thing.letters a) i k = by_text _ kind.Rep i.is (ap begun_by (forms.outs-Rep _ _ _))
   gift_of (Thing.opening p) i k = not_out (layer low.proc) kind.Open o.on o.sent (ap begun_by i.0.is) o.form
@@ -208,7 +215,8 @@ number-of n i j e = ap (λ (x : Name). x.n) e
 -- an output on a channel of the infrastructure that is neither `currentloc` nor a lock is mail
 pub by_number : {R : Type 0} (n i : ℕ) (low : Atom) (chan : Name) (v : Value) (t : Thing) → list_any (nat_eq i) own_numbers ≡ true → (i ≡ 9 → ⊥) → (i ≡ 10 → ⊥) → ((l : Name) (s : ℕ) → t ≡ Thing.free l s → l ≡ own n i → ⊥)
     → chan ≡ own n i → Gift n low chan v t → ((m : Mail) → t ≡ Thing.mail m Stage.there → on_channel m ≡ i → v ≡ content m → low.agent ≡ receiver n m → R) → R
-by_number n i low chan v t own no_token no_map no_lock on (Gift.of_source f a) r = absurd (let bad : false ≡ true = sym f ∙ ap (set.contains (own_names n)) on ∙ is-own n i own in cc)
+by_number n i low chan v t own no_token no_map no_lock on (Gift.of_source f a s) r =
+    absurd (let bad : false ≡ true = sym f ∙ ap (set.contains (own_names n)) on ∙ is-own n i own in cc)
 by_number n i low chan v t own no_token no_map no_lock on (Gift.of_token a b g h) r = absurd (no_token (number-of n i 9 (sym on ∙ g)))
 by_number n i low chan v t own no_token no_map no_lock on (Gift.of_mail {m = m} a g h) r = r m refl (number-of n (on_channel m) i (sym g ∙ on)) h a
 by_number n i low chan v t own no_token no_map no_lock on (Gift.of_map a g h) r = absurd (no_map (number-of n i 10 (sym on ∙ g)))
@@ -226,7 +234,8 @@ mail_number (Mail.deliver p s) i h e = omega arith
 -- an output on the daemon's lock is its map, and one on `currentloc` is an agent's
 pub by_map : {R : Type 0} (n : ℕ) (low : Atom) (chan : Name) (v : Value) (t : Thing) → ((l : Name) (s : ℕ) → t ≡ Thing.free l s → l ≡ own n 10 → ⊥) → chan ≡ own n 10 → Gift n low chan v t
     → ((ps : List (Name × Name)) → t ≡ Thing.places ps → v ≡ value.Places ps → R) → R
-by_map n low chan v t no_lock on (Gift.of_source f a) r = absurd (let bad : false ≡ true = sym f ∙ ap (set.contains (own_names n)) on ∙ is-own n 10 refl in cc)
+by_map n low chan v t no_lock on (Gift.of_source f a s) r =
+    absurd (let bad : false ≡ true = sym f ∙ ap (set.contains (own_names n)) on ∙ is-own n 10 refl in cc)
 by_map n low chan v t no_lock on (Gift.of_token a b g h) r = absurd (let bad = number-of n 10 9 (sym on ∙ g) in let no : ⊥ = omega arith in no)
 by_map n low chan v t no_lock on (Gift.of_mail {m = m} a g h) r = absurd (mail_number m 10 (omega arith) (number-of n (on_channel m) 10 (sym g ∙ on)))
 by_map n low chan v t no_lock on (Gift.of_map {ps = ps} a g h) r = r ps refl h
@@ -234,7 +243,8 @@ by_map n low chan v t no_lock on (Gift.of_lock {l = l} {s = s} a g h) r = absurd
 
 pub by_token : {R : Type 0} (n : ℕ) (low : Atom) (chan : Name) (v : Value) (t : Thing) → ((l : Name) (s : ℕ) → t ≡ Thing.free l s → l ≡ own n 9 → ⊥) → chan ≡ own n 9 → Gift n low chan v t
     → ((a : Name) (s : ℕ) → t ≡ Thing.token a s → v ≡ value.Site s → low.agent ≡ a → R) → R
-by_token n low chan v t no_lock on (Gift.of_source f a) r = absurd (let bad : false ≡ true = sym f ∙ ap (set.contains (own_names n)) on ∙ is-own n 9 refl in cc)
+by_token n low chan v t no_lock on (Gift.of_source f a s) r =
+    absurd (let bad : false ≡ true = sym f ∙ ap (set.contains (own_names n)) on ∙ is-own n 9 refl in cc)
 by_token n low chan v t no_lock on (Gift.of_token {a = a} {s = s} x b g h) r = r a s refl h x
 by_token n low chan v t no_lock on (Gift.of_mail {m = m} a g h) r = absurd (mail_number m 9 (omega arith) (number-of n (on_channel m) 9 (sym g ∙ on)))
 by_token n low chan v t no_lock on (Gift.of_map a g h) r = absurd (let bad = number-of n 9 10 (sym on ∙ g) in let no : ⊥ = omega arith in no)
@@ -252,8 +262,22 @@ mail_listed (Mail.deliver p s) = refl
 -- an output in the daemon on a lock of an agent is that lock
 pub by_lock : {R : Type 0} (n : ℕ) (low : Atom) (chan : Name) (v : Value) (t : Thing) → ((i : ℕ) → list_any (nat_eq i) own_numbers ≡ true → chan ≡ own n i → i ≡ 13) → low.agent ≡ daemon_agent n → Gift n low chan v t
     → ((s : ℕ) → t ≡ Thing.free chan s → v ≡ value.Site s → R) → R
-by_lock n low chan v t apart here (Gift.of_source f a) r = absurd (let bad : false ≡ true = sym a ∙ ap (λ x. same_name x (daemon_agent n)) here ∙ same_name-itself (daemon_agent n) in cc)
+by_lock n low chan v t apart here (Gift.of_source f a s) r =
+    absurd (let bad : false ≡ true = sym a ∙ ap (λ x. same_name x (daemon_agent n)) here ∙ same_name-itself (daemon_agent n) in cc)
 by_lock n low chan v t apart here (Gift.of_token a b g h) r = absurd (let bad = apart 9 refl g in let no : ⊥ = omega arith in no)
 by_lock n low chan v t apart here (Gift.of_mail {m = m} a g h) r = absurd (let bad = apart (on_channel m) (mail_listed m) g in mail_number m 13 (omega arith) bad)
 by_lock n low chan v t apart here (Gift.of_map a g h) r = absurd (let bad = apart 10 refl g in let no : ⊥ = omega arith in no)
 by_lock n low chan v t apart here (Gift.of_lock {l = l} {s = s} a g h) r = r s (ap (λ x. Thing.free x s) (sym g)) h
+
+-- an output in an agent on a channel that is none of the infrastructure is of the source
+pub by_source : {R : Type 0} (n : ℕ) (low : Atom) (chan : Name) (v : Value) (t : Thing) → set.contains (own_names n) chan ≡ false → IsAgents n low.agent
+    → Gift n low chan v t → (is_of_source t ≡ true → R) → R
+by_source n low chan v t other apart (Gift.of_source f a s) r = r s
+by_source n low chan v t other apart (Gift.of_token a b g h) r =
+    absurd (let bad : false ≡ true = sym other ∙ ap (set.contains (own_names n)) g ∙ is-own n 9 refl in cc)
+by_source n low chan v t other apart (Gift.of_mail {m = m} a g h) r =
+    absurd (let bad : false ≡ true = sym other ∙ ap (set.contains (own_names n)) g ∙ is-own n (on_channel m) (mail_listed m) in cc)
+by_source n low chan v t other apart (Gift.of_map a g h) r =
+    absurd (let bad : false ≡ true = sym other ∙ ap (set.contains (own_names n)) g ∙ is-own n 10 refl in cc)
+by_source n low chan v t other apart (Gift.of_lock a g h) r =
+    absurd (let bad : false ≡ true = sym apart ∙ ap (λ x. same_name x (daemon_agent n)) a ∙ same_name-itself (daemon_agent n) in cc)

@@ -46,6 +46,7 @@ use Rattle.np_things.specs.Mail.{Mail, content, on_channel, packet_of, receiver 
 use Rattle.np_things.specs.Shapes.{Is, IsSender, Mails}
 use Rattle.np_things.specs.Things.{Stage, Thing, show_all}
 use Rattle.np_levels.specs.Coupled.{Coupled, IsShaped, KnowsOnly, View, chips, is_channel, is_child_of, may_know, scene, whereabouts}
+use Rattle.np_levels.proofs.Applies.{takes_nothing}
 use Rattle.np_levels.proofs.Marks.{at_mark, same_chips, step_at}
 use Rattle.np_levels.proofs.Quiet.{any_kept, quiet}
 use Rattle.np_levels.proofs.Shapes.{of_actor, same_role}
@@ -66,6 +67,7 @@ pub record IsSending (low : Config) (e : Event) (next : Config) : Type 0 where
   pub its_value : eval sent atom.env ≡ Some packet.value
   pub its_tag : packet.tag ≡ e.tag
   pub made_none : e.made ≡ made.Nothing
+  pub other_none : e.other ≡ None
   pub is : next ≡ effect low e (record still { atoms = cut e.actor ∷ []; packets = put e.actor packet ∷ [] })
 
 pub sending : (low : Config) (e : Event) (next : Config) → row kind.Send low e ≡ Some next → IsSending low e next
@@ -90,6 +92,7 @@ sending low e next h =
       its_value = av;
       its_tag = refl;
       made_none = is-none e.made u none;
+      other_none = takes_nothing e.other w other;
       is = r.is ∙ ap (effect low e) (done h);
     }
 

@@ -16,6 +16,7 @@ use Rattle.np_syntax.specs.declared.process.ProcForm.{ProcForm-F}
 use Rattle.np_syntax.specs.declared.process.ProcForm.TheVariants as forms
 use Rattle.np_syntax.specs.declared.event.Event.{Event}
 use Rattle.np_syntax.specs.declared.event.Kind.TheVariants as kind
+use Rattle.np_syntax.specs.declared.event.Made.TheVariants as made
 use Rattle.np_syntax.proofs.Options.{then, done}
 use Rattle.np_tables.specs.Names.{same_name}
 use Rattle.np_tables.proofs.Tables.{same_name-is}
@@ -27,7 +28,7 @@ use Rattle.np_calculus.specs.Reductions.{apply, goes_under, row}
 use Rattle.np_calculus.specs.Seen.{acting}
 use Rattle.np_calculus.specs.Sight.{inside, sight}
 unfoldable use Rattle.np_calculus.proofs.Common.{act}
-use Rattle.np_calculus.proofs.Rows.{parts, taking}
+use Rattle.np_calculus.proofs.Rows.{parts}
 use Rattle.np_calculus.proofs.Steps.{Acts, Offers, acting-step, offered-step, row-step, same-offer}
 use Rattle.np_eval.specs.Eval.{Env, bind, chan_of, eval}
 use Rattle.np_eval.specs.Forms.{layer}
@@ -45,6 +46,7 @@ use Rattle.np_things.specs.Mail.{Mail, Posted, content as content_of, on_channel
 use Rattle.np_things.specs.Shapes.{Are, Is, IsLetters, IsServing}
 use Rattle.np_things.specs.Things.{Stage, Thing, high_atom}
 use Rattle.np_levels.specs.Coupled.{Coupled, View, scene}
+use Rattle.np_levels.proofs.Applies.{takes}
 use Rattle.np_levels.proofs.Becomes.{becomes, cancel}
 use Rattle.np_levels.proofs.Marks.{same_chips, step_at}
 use Rattle.np_levels.proofs.Outputs.{by_number, given_by, is-own, number-of}
@@ -52,28 +54,31 @@ use Rattle.np_levels.proofs.Shapes.{of_actor, of_atom, same_role}
 use Rattle.np_levels.proofs.Values.{agent-is, bind-one, bind-two, channel-is, here_is, named_kept, pair-is, there_is, variable-is}
 
 -- what a server's event does
-record IsRepeating (low : Config) (e : Event) (next : Config) : Type 0 where
-  atom : Atom
-  acts : Acts low e atom
-  on : Expr
-  pattern : Pat
-  body : Proc
-  form : layer atom.proc ≡ ProcForm-F.Rep on pattern body
-  chan : Name
-  its_chan : chan_of on atom.env ≡ Some chan
-  other : Name
-  value : Value
-  offers : Offers low other atom.agent chan value
-  env : Env
-  binds : bind pattern value atom.env ≡ Some env
-  is : next ≡ effect low e (record still { atoms = put other (goes_under atom body env) ∷ [] })
+pub record IsRepeating (low : Config) (e : Event) (next : Config) : Type 0 where
+  pub atom : Atom
+  pub acts : Acts low e atom
+  pub on : Expr
+  pub pattern : Pat
+  pub body : Proc
+  pub form : layer atom.proc ≡ ProcForm-F.Rep on pattern body
+  pub chan : Name
+  pub its_chan : chan_of on atom.env ≡ Some chan
+  pub other : Name
+  pub its_other : e.other ≡ Some other
+  pub value : Value
+  pub offers : Offers low other atom.agent chan value
+  pub env : Env
+  pub binds : bind pattern value atom.env ≡ Some env
+  pub made_none : e.made ≡ made.Nothing
+  pub is : next ≡ effect low e (record still { atoms = put other (goes_under atom body env) ∷ [] })
 
-repeating : (low : Config) (e : Event) (next : Config) → row kind.Rep low e ≡ Some next → IsRepeating low e next
+pub repeating : (low : Config) (e : Event) (next : Config) → row kind.Rep low e ≡ Some next → IsRepeating low e next
 unfolding act
 repeating low e next h =
     let r = row-step low e next kind.Rep h in
     then (acting low e) _ r.gives λ a acts h. parts kind.Rep (sight low.sites (inside low) e.site) e a h λ p form h.
-    taking (sight low.sites (inside low) e.site) e a p.0 p.1 (λ o env. record still { atoms = put o (goes_under a p.2 env) ∷ [] }) h λ n o v env on offer binds h.
+    takes (sight low.sites (inside low) e.site) e a p.0 p.1
+    (λ o env. record still { atoms = put o (goes_under a p.2 env) ∷ [] }) h λ n o v env on other offer binds none last.
     record {
       atom = a;
       acts = acting-step low e a acts;
@@ -84,11 +89,13 @@ repeating low e next h =
       chan = n;
       its_chan = on;
       other = o;
+      its_other = other;
       value = v;
       offers = offered-step low o a.agent n v (sym (same-offer low e a o n acts) ∙ offer);
       env = env;
       binds = binds;
-      is = r.is ∙ ap (effect low e) (done h);
+      made_none = none;
+      is = r.is ∙ ap (effect low e) last;
     }
 
 -- ---- the daemon serves

@@ -1,4 +1,4 @@
-ghost use Rattle.np_levels.specs.Laws.{IsQuiet, PostsAreEvents, StartsCoupled};
+ghost use Rattle.np_levels.specs.Laws.{IsEvent, IsQuiet, PostsAreEvents, StartsCoupled};
 ghost use Rattle.np_syntax.specs.declared.event.Kind.{Kind};
 ghost use Rattle.np_syntax.specs.declared.event.Kind.TheVariants as kind;
 ghost use Rattle.np_syntax.specs.declared.process.Role.TheVariants as role;
@@ -17,4 +17,14 @@ pub fn law_quiet()
 /// A Send of a post is an event of the high level, and the two configurations stay coupled.
 pub fn law_posts_are_events()
     ensures { PostsAreEvents }
+{}
+
+/// Where the source forks, sends, takes an output, or takes one by a copy of a replicated input, and where what it sent lands, the high level does
+/// the same, and the two configurations stay coupled.
+pub fn law_meetings_are_events()
+    ensures forks { IsEvent kind.Fork }
+    ensures sends { IsEvent kind.Send }
+    ensures lands { IsEvent kind.Land }
+    ensures communications { IsEvent kind.Comm }
+    ensures copies { IsEvent kind.Rep }
 {}

@@ -3,4 +3,4 @@
 
 mod laws;
 
-pub use laws::{law_coupled_starts, law_posts_are_events, law_quiet};
+pub use laws::{law_coupled_starts, law_meetings_are_events, law_posts_are_events, law_quiet};

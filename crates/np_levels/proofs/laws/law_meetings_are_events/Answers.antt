@@ -1,0 +1,19 @@
+use Rattle.np_levels.proofs.Packets.{lands-are-events, sends-are-events}
+use Rattle.np_levels.proofs.Splits.{forks-are-events}
+use Rattle.np_levels.proofs.Takes.{communications-are-events, copies-are-events}
+use Rattle.np_levels.proofs.laws.law_meetings_are_events.Goals as goal
+
+pub returns-clause-forks : goal.returns-clause-forks
+returns-clause-forks c = forks-are-events
+
+pub returns-clause-sends : goal.returns-clause-sends
+returns-clause-sends c = sends-are-events
+
+pub returns-clause-lands : goal.returns-clause-lands
+returns-clause-lands c = lands-are-events
+
+pub returns-clause-communications : goal.returns-clause-communications
+returns-clause-communications c = communications-are-events
+
+pub returns-clause-copies : goal.returns-clause-copies
+returns-clause-copies c = copies-are-events
