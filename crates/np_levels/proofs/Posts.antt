@@ -21,7 +21,7 @@ use Rattle.np_syntax.specs.Options.{◌>>=◌}
 use Rattle.np_syntax.proofs.Bools.{and-out}
 use Rattle.np_syntax.proofs.Options.{then, done}
 use Rattle.np_tables.specs.Names.{NameMap, same_name}
-use Rattle.np_tables.proofs.Tables.{get-put, put_here, same_name-is, same_name-itself}
+use Rattle.np_tables.proofs.Tables.{get-put, put_here, same_name-is}
 use Rattle.np_calculus.specs.declared.config.Atom.{Atom}
 use Rattle.np_calculus.specs.Begins.{begun_by}
 use Rattle.np_calculus.specs.Config.{Config}
@@ -32,7 +32,6 @@ use Rattle.np_eval.specs.Eval.{Env, agent_of, as_agent, as_chan, chan_of, eval}
 use Rattle.np_eval.specs.Forms.{layer}
 use Rattle.np_eval.proofs.Evals.{eval-form, eval-pack}
 use Rattle.np_scope.specs.Sound.{IsSoundExpr}
-use Rattle.np_scope.specs.Written.{IsLiteral}
 use Rattle.np_scope.proofs.SoundParts.{ProcParts, proc-parts}
 use Rattle.daemon_encode.specs.Pieces.{daemon, message, pair, site}
 use Rattle.daemon_encode.specs.Texts.{letter, post_text}
@@ -63,6 +62,7 @@ use Rattle.np_things.proofs.Starts.{constant-is}
 use Rattle.np_levels.specs.Coupled.{Coupled, IsShaped, KnowsOnly, View, chips, is_channel, is_child_of, may_know, scene}
 use Rattle.np_levels.specs.Laws.{PostsAreEvents, post_of}
 use Rattle.np_levels.specs.Mirrors.{Mirrors}
+use Rattle.np_levels.proofs.Actors.{agent_known}
 use Rattle.np_levels.proofs.Born.{born-kept, made-kept}
 use Rattle.np_levels.proofs.Marks.{may_know_more, reshape, step_at}
 use Rattle.np_levels.proofs.Outputs.{chan-known}
@@ -70,33 +70,14 @@ use Rattle.np_levels.proofs.Quiet.{any_kept, knows_more}
 use Rattle.np_levels.proofs.Sends.{IsSending, packet_is, sending}
 use Rattle.np_levels.proofs.Shapes.{of_actor, same_role}
 use Rattle.np_levels.proofs.Values.{agent-is, channel-is, pair-is}
+use Rattle.np_levels.proofs.Writes.{mirrors_write}
 use Rattle.np_tables.proofs.Tables.{cut_here, get-cut}
 
 -- what a mark of the low level stands for is changed at both levels
-pub mirrors_put : {X : Type 0} (st : Name → Name) (low high : Name → Option X) (low' high' : Name → Option X) (m : Name) (x : X) → Mirrors st low high → ((q : Name) → low' q ≡ cond (same_name q m) (Some x) (low q))
-    → ((k : Name) → high' k ≡ cond (same_name k (st m)) (Some x) (high k)) → ((q : Name) (y : X) → low q ≡ Some y → st q ≡ st m → q ≡ m) → Mirrors st low' high'
-mirrors_put {X} st low high low' high' m x mirrors l h one = record { up = λ q y j. up q y (same_name q m) refl (sym (l q) ∙ j); down = λ k y j. down k y (same_name k (st m)) refl (sym (h k) ∙ j) }
-  where
-    other : (q : Name) (y : X) → low q ≡ Some y → same_name q m ≡ false → same_name (st q) (st m) ≡ false
-    other q y j e = go (same_name (st q) (st m)) refl
-      where
-        go : (t : Bool) → same_name (st q) (st m) ≡ t → t ≡ false
-        go false f = refl
-        go true f = absurd (let same : q ≡ m = one q y j (same_name-is (st q) (st m) f) in let bad : false ≡ true = sym e ∙ ap (λ z. same_name z m) same ∙ same_name-itself m in cc)
-
-    up : (q : Name) (y : X) (t : Bool) → same_name q m ≡ t → cond t (Some x) (low q) ≡ Some y → high' (st q) ≡ Some y
-    up q y true e j = h (st q) ∙ ap (λ t. cond t (Some x) (high (st q))) (ap (λ z. same_name (st z) (st m)) (same_name-is q m e) ∙ same_name-itself (st m)) ∙ j
-    up q y false e j = h (st q) ∙ ap (λ t. cond t (Some x) (high (st q))) (other q y j e) ∙ mirrors.up q y j
-
-    down : (k : Name) (y : X) (t : Bool) → same_name k (st m) ≡ t → cond t (Some x) (high k) ≡ Some y → (q : Name) × (st q ≡ k) × (low' q ≡ Some y)
-    down k y true e j = (m, sym (same_name-is k (st m) e), l m ∙ ap (λ t. cond t (Some x) (low m)) (same_name-itself m) ∙ j)
-    down k y false e j =
-        let d = mirrors.down k y j in
-        (d.0, d.1, l d.0 ∙ ap (λ t. cond t (Some x) (low d.0)) (apart d.0 d.1 (same_name d.0 m) refl) ∙ d.2)
-      where
-        apart : (q : Name) → st q ≡ k → (t : Bool) → same_name q m ≡ t → t ≡ false
-        apart q at false f = refl
-        apart q at true f = absurd (let bad : false ≡ true = sym e ∙ ap (λ z. same_name z (st m)) (sym at ∙ ap st (same_name-is q m f)) ∙ same_name-itself (st m) in cc)
+pub mirrors_put : {X : Type 0} (st : Name → Name) (low high : Name → Option X) (low' high' : Name → Option X) (m : Name) (x : X) → Mirrors st low high
+    → ((q : Name) → low' q ≡ cond (same_name q m) (Some x) (low q)) → ((k : Name) → high' k ≡ cond (same_name k (st m)) (Some x) (high k))
+    → ((q : Name) (y : X) → low q ≡ Some y → st q ≡ st m → q ≡ m) → Mirrors st low' high'
+mirrors_put st low high low' high' m x = mirrors_write st low high low' high' m (Some x)
 
 -- a post of the source, by its text
 post_by : {R : Type 0} (n from : ℕ) (a : Expr) (p q : Proc) → Translates n from a p q → p.tag.role ≡ role.Plain → q.tag.role ≡ role.Post
@@ -110,16 +91,6 @@ posts_source : {R : Type 0} (n from first : ℕ) (t : Thing) (a : Atom) → Is n
 posts_source n from first (Thing.source x h) a i b r = r x h refl i
 posts_source n from first (Thing.mail m (Stage.in_agent x)) a i b r = absurd cc
 posts_source n from first _ a i b r = absurd cc
-
--- an agent that is known
-agent-known : (agents chans : Name → Bool) (v : Value) → IsKnown agents chans v → (a : Name) → as_agent (out-Value v) ≡ Some a → agents a ≡ true
-agent-known agents chans v (IsKnown.agent {a = b} k) a h = subst (λ x. agents x ≡ true) (sym (done (sym (ap as_agent (outs.outs-Agent b)) ∙ h))) k
-agent-known agents chans v (IsKnown.literal (IsLiteral.number {n = i})) c h = absurd (let e = ap as_agent (outs.outs-Int i) in cc)
-agent-known agents chans v (IsKnown.literal (IsLiteral.truth {b = b})) c h = absurd (let e = ap as_agent (outs.outs-Truth b) in cc)
-agent-known agents chans v (IsKnown.literal (IsLiteral.string {text = t})) c h = absurd (let e = ap as_agent (outs.outs-Str t) in cc)
-agent-known agents chans v (IsKnown.site {s = s}) c h = absurd (let e = ap as_agent (outs.outs-Site s) in cc)
-agent-known agents chans v (IsKnown.channel {c = d} k) c h = absurd (let e = ap as_agent (outs.outs-Chan d) in cc)
-agent-known agents chans v (IsKnown.tuple {vs = vs} k) c h = absurd (let e = ap as_agent (outs.outs-Tuple vs) in cc)
 
 agent-value : (u : Value) (a : Name) → as_agent (out-Value u) ≡ Some a → u ≡ value.Agent a
 agent-value u a h = sym (roll-out-Value u) ∙ ap roll-Value (layer_is (out-Value u) h) ∙ outs.rolls-Agent a
@@ -181,7 +152,7 @@ module _ {n from first : ℕ} {low high : Config} {v : View} (c : Coupled n from
       let knows = (recursion_from_All (λ t. KnowsOnly (may_know v.lock (chips v.things) t) (is_channel n high.born) from t) (Thing.source x hi ∷ []) (c.known e.actor (Thing.source x hi ∷ []) there)).0 in
       let good = λ (y : Expr) (u : Value) (is : IsSoundExpr n src.scope y) (k : eval y hi.env ≡ Some u). value-is-known agents (is_channel n high.born) n from src.scope y hi.env u c.main is src.in_scope knows k in
       then (eval b hi.env) _ ready.0.1 λ vb at_b is_b. then (eval ch hi.env) _ ready.1.1 λ vc at_c is_c.
-      (agent-known agents (is_channel n high.born) vb (good b vb parts.1 at_b) ready.0.0 is_b, chan-known agents (is_channel n high.born) vc (good ch vc parts.2 at_c) ready.1.0 is_c, good va ready.2.0 parts.3 ready.2.1)
+      (agent_known agents (is_channel n high.born) vb (good b vb parts.1 at_b) ready.0.0 is_b, chan-known agents (is_channel n high.born) vc (good ch vc parts.2 at_c) ready.1.0 is_c, good va ready.2.0 parts.3 ready.2.1)
 
   -- ---- the packet
 
