@@ -19,6 +19,17 @@ pub fn law_posts_are_events()
     ensures { PostsAreEvents }
 {}
 
+/// An event that one process of the source makes alone is the same event of the high level: it is done, makes a channel, binds a value, tests, says a
+/// value, or finds an agent at its site or not.
+pub fn law_steps_are_events()
+    ensures stops { IsEvent kind.Stop }
+    ensures news { IsEvent kind.New }
+    ensures lets { IsEvent kind.Let }
+    ensures ifs { IsEvent kind.If }
+    ensures prints { IsEvent kind.Print }
+    ensures locals { IsEvent kind.Local }
+{}
+
 /// Where the source forks, sends, takes an output, or takes one by a copy of a replicated input, and where what it sent lands, the high level does
 /// the same, and the two configurations stay coupled.
 pub fn law_meetings_are_events()
