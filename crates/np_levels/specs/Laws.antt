@@ -44,3 +44,9 @@ abbrev pub IsEvent : Kind → Type 0
 IsEvent k = (n from first : ℕ) (low high : Config) (v : View) → Coupled n from first low high v → Well high → (e : Event) (next : Config)
     → e.kind ≡ k → e.tag.role ≡ role.Plain → apply low e ≡ Some next
     → (then : Config) × (apply high (event_of v e) ≡ Some then) × (w : View) × (w.stands_for ≡ v.stands_for) × Coupled n from first next then w
+
+-- The same of arrivals: the actor of an arrival is an agent and no mark, and so it stays itself.
+abbrev pub ArrivalsAreEvents : Type 0
+ArrivalsAreEvents = (n from first : ℕ) (low high : Config) (v : View) → Coupled n from first low high v → Well high → (e : Event) (next : Config)
+    → e.kind ≡ kind.Arrive → e.tag.role ≡ role.Plain → apply low e ≡ Some next
+    → (then : Config) × (apply high e ≡ Some then) × (w : View) × (w.stands_for ≡ v.stands_for) × Coupled n from first next then w

@@ -1,4 +1,4 @@
-ghost use Rattle.np_levels.specs.Laws.{IsEvent, IsQuiet, PostsAreEvents, StartsCoupled};
+ghost use Rattle.np_levels.specs.Laws.{ArrivalsAreEvents, IsEvent, IsQuiet, PostsAreEvents, StartsCoupled};
 ghost use Rattle.np_syntax.specs.declared.event.Kind.{Kind};
 ghost use Rattle.np_syntax.specs.declared.event.Kind.TheVariants as kind;
 ghost use Rattle.np_syntax.specs.declared.process.Role.TheVariants as role;
@@ -38,4 +38,11 @@ pub fn law_meetings_are_events()
     ensures lands { IsEvent kind.Land }
     ensures communications { IsEvent kind.Comm }
     ensures copies { IsEvent kind.Rep }
+{}
+
+/// Where an agent is made, departs or arrives for the source, the same is an event of the high level, and the two configurations stay coupled.
+pub fn law_moves_are_events()
+    ensures creations { IsEvent kind.Agent }
+    ensures departures { IsEvent kind.Depart }
+    ensures arrivals { ArrivalsAreEvents }
 {}

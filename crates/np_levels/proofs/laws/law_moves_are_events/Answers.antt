@@ -1,0 +1,13 @@
+use Rattle.np_levels.proofs.Arrivals.{arrivals-are-events}
+use Rattle.np_levels.proofs.Creations.{creations-are-events}
+use Rattle.np_levels.proofs.Departures.{departures-are-events}
+use Rattle.np_levels.proofs.laws.law_moves_are_events.Goals as goal
+
+pub returns-clause-creations : goal.returns-clause-creations
+returns-clause-creations c = creations-are-events
+
+pub returns-clause-departures : goal.returns-clause-departures
+returns-clause-departures c = departures-are-events
+
+pub returns-clause-arrivals : goal.returns-clause-arrivals
+returns-clause-arrivals c = arrivals-are-events
