@@ -20,6 +20,7 @@ pub mod Lookups
 pub mod Makes
 pub mod Marks
 pub mod Meets
+pub mod Nevers
 pub mod News
 pub mod Orders
 pub mod Outputs

@@ -2,7 +2,7 @@
 use Rattle.std.specs.Option.{option_map}
 use Rattle.np_syntax.specs.declared.program.Program.{Program}
 use Rattle.np_syntax.specs.declared.program.LowProgram.{LowProgram}
-use Rattle.std.specs.Prelude.{◌≡◌, ℕ, Some, length}
+use Rattle.std.specs.Prelude.{◌≡◌, ℕ, Bool, true, false, Some, length}
 use Rattle.np_syntax.specs.declared.event.Event.{Event}
 use Rattle.np_syntax.specs.declared.event.Kind.{Kind}
 use Rattle.np_syntax.specs.declared.process.Role.{Role}
@@ -50,3 +50,15 @@ abbrev pub ArrivalsAreEvents : Type 0
 ArrivalsAreEvents = (n from first : ℕ) (low high : Config) (v : View) → Coupled n from first low high v → Well high → (e : Event) (next : Config)
     → e.kind ≡ kind.Arrive → e.tag.role ≡ role.Plain → apply low e ≡ Some next
     → (then : Config) × (apply high e ≡ Some then) × (w : View) × (w.stands_for ≡ v.stands_for) × Coupled n from first next then w
+
+-- no event of this kind and role happens at the low level
+abbrev pub IsNever : Kind → Role → Type 0
+IsNever k r = (n from first : ℕ) (low high : Config) (v : View) → Coupled n from first low high v → (e : Event) (next : Config)
+    → e.kind ≡ k → e.tag.role ≡ r → apply low e ≡ Some next → ⊥
+
+-- what the source never does at the low level: it opens no letter, looks nothing up, and its posts are sent
+abbrev pub is_of_no_source : Kind → Bool
+is_of_no_source kind.Open = true
+is_of_no_source kind.Lookup = true
+is_of_no_source kind.Post = true
+is_of_no_source _ = false

@@ -1,4 +1,5 @@
-ghost use Rattle.np_levels.specs.Laws.{ArrivalsAreEvents, IsEvent, IsQuiet, PostsAreEvents, StartsCoupled};
+ghost use Rattle.std.specs.Prelude.{◌≡◌, true};
+ghost use Rattle.np_levels.specs.Laws.{ArrivalsAreEvents, IsEvent, IsNever, IsQuiet, PostsAreEvents, StartsCoupled, is_of_no_source};
 ghost use Rattle.np_syntax.specs.declared.event.Kind.{Kind};
 ghost use Rattle.np_syntax.specs.declared.event.Kind.TheVariants as kind;
 ghost use Rattle.np_syntax.specs.declared.process.Role.TheVariants as role;
@@ -45,4 +46,10 @@ pub fn law_moves_are_events()
     ensures creations { IsEvent kind.Agent }
     ensures departures { IsEvent kind.Depart }
     ensures arrivals { ArrivalsAreEvents }
+{}
+
+/// The low level has no other events: a source opens no letter and looks nothing up, and of the role of a post are the Send and the Land of a post alone.
+pub fn law_no_other_events()
+    ensures of_source { (k : Kind) → is_of_no_source k ≡ true → IsNever k role.Plain }
+    ensures of_posts { (k : Kind) → (k ≡ kind.Send → ⊥) → (k ≡ kind.Land → ⊥) → IsNever k role.Post }
 {}
