@@ -20,7 +20,6 @@ pub mod Lookups
 pub mod Makes
 pub mod Marks
 pub mod Meets
-pub mod Nevers
 pub mod News
 pub mod Orders
 pub mod Outputs
@@ -30,6 +29,7 @@ pub mod Posts
 pub mod Prints
 pub mod Quiet
 pub mod Registers
+pub mod Roles
 pub mod Scenes
 pub mod Sends
 pub mod Serves

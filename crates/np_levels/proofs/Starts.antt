@@ -264,7 +264,8 @@ module _ (p : Program) (q : LowProgram) (low : IsLowOf p q) (sound : IsSound p) 
 
 pub starts-coupled : StartsCoupled
 unfolding start_low start_high
-starts-coupled p q low sound = (view p q low sound, subst (λ (c : Config). Coupled (length p.sites) p.binders low.first c (start_high p) (view p q low sound)) (sym same) (coupled p q low sound))
+starts-coupled p q low sound =
+    (view p q low sound, subst (λ (c : Config). Coupled (length p.sites) p.binders low.first c (start_high p) (view p q low sound)) (sym same) (coupled p q low sound), λ m. refl)
   where
     same : start_low q ≡ low_start p q low sound
     same = λ i. let m : ℕ = length (low.sites i) in with_agent (with_agent (names_alone m) (main_agent m) (low.at i) (main_mark m) q.main) (daemon_agent m) 0 (daemon_mark m) q.daemon

@@ -2,7 +2,8 @@
 use Rattle.std.specs.Option.{option_map}
 use Rattle.np_syntax.specs.declared.program.Program.{Program}
 use Rattle.np_syntax.specs.declared.program.LowProgram.{LowProgram}
-use Rattle.std.specs.Prelude.{◌≡◌, ℕ, Bool, true, false, Some, length}
+use Rattle.std.specs.Prelude.{◌≡◌, ℕ, true, Some, length}
+use Rattle.np_syntax.specs.declared.value.Name.{Name}
 use Rattle.np_syntax.specs.declared.event.Event.{Event}
 use Rattle.np_syntax.specs.declared.event.Kind.{Kind}
 use Rattle.np_syntax.specs.declared.process.Role.{Role}
@@ -16,10 +17,21 @@ use Rattle.np_calculus.specs.Starts.{start_high, start_low}
 use Rattle.np_scope.specs.Sound.{IsSound}
 use Rattle.daemon_encode.specs.Translates.{IsLowOf}
 use Rattle.np_levels.specs.Coupled.{Coupled, View}
+use Rattle.np_levels.specs.Roles.{occurs}
 
--- the two starts are coupled
+-- no infrastructure passed a mark on: each mark of the low level stands for itself
+abbrev pub StandForThemselves : View → Type 0
+StandForThemselves v = (m : Name) → v.stands_for m ≡ m
+
+-- the two starts are coupled, and each mark stands for itself
 abbrev pub StartsCoupled : Type 0
-StartsCoupled = (p : Program) (q : LowProgram) (low : IsLowOf p q) → IsSound p → (v : View) × Coupled (length p.sites) p.binders low.first (start_low q) (start_high p) v
+StartsCoupled = (p : Program) (q : LowProgram) (low : IsLowOf p q) → IsSound p
+    → (v : View) × Coupled (length p.sites) p.binders low.first (start_low q) (start_high p) v × StandForThemselves v
+
+-- each event of the low level is of the infrastructure, of a post, or of the source's own, and of a kind that such events have
+abbrev pub RolesOfEvents : Type 0
+RolesOfEvents = (n from first : ℕ) (low high : Config) (v : View) → Coupled n from first low high v → (e : Event) (next : Config) → apply low e ≡ Some next
+    → occurs e.tag.role e.kind ≡ true
 
 -- after an event of this kind and role the low level still belongs to the same configuration of the high level
 abbrev pub IsQuiet : Kind → Role → Type 0
@@ -50,15 +62,3 @@ abbrev pub ArrivalsAreEvents : Type 0
 ArrivalsAreEvents = (n from first : ℕ) (low high : Config) (v : View) → Coupled n from first low high v → Well high → (e : Event) (next : Config)
     → e.kind ≡ kind.Arrive → e.tag.role ≡ role.Plain → apply low e ≡ Some next
     → (then : Config) × (apply high e ≡ Some then) × (w : View) × (w.stands_for ≡ v.stands_for) × Coupled n from first next then w
-
--- no event of this kind and role happens at the low level
-abbrev pub IsNever : Kind → Role → Type 0
-IsNever k r = (n from first : ℕ) (low high : Config) (v : View) → Coupled n from first low high v → (e : Event) (next : Config)
-    → e.kind ≡ k → e.tag.role ≡ r → apply low e ≡ Some next → ⊥
-
--- what the source never does at the low level: it opens no letter, looks nothing up, and its posts are sent
-abbrev pub is_of_no_source : Kind → Bool
-is_of_no_source kind.Open = true
-is_of_no_source kind.Lookup = true
-is_of_no_source kind.Post = true
-is_of_no_source _ = false

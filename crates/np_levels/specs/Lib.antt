@@ -1,3 +1,4 @@
 pub mod Coupled
 pub mod Laws
 pub mod Mirrors
+pub mod Roles

@@ -1,10 +1,9 @@
-ghost use Rattle.std.specs.Prelude.{◌≡◌, true};
-ghost use Rattle.np_levels.specs.Laws.{ArrivalsAreEvents, IsEvent, IsNever, IsQuiet, PostsAreEvents, StartsCoupled, is_of_no_source};
+ghost use Rattle.np_levels.specs.Laws.{ArrivalsAreEvents, IsEvent, IsQuiet, PostsAreEvents, RolesOfEvents, StartsCoupled};
 ghost use Rattle.np_syntax.specs.declared.event.Kind.{Kind};
 ghost use Rattle.np_syntax.specs.declared.event.Kind.TheVariants as kind;
 ghost use Rattle.np_syntax.specs.declared.process.Role.TheVariants as role;
 
-/// The starts of a sound program and of each low program of it are coupled.
+/// The starts of a sound program and of each low program of it are coupled, where each mark stands for itself.
 pub fn law_coupled_starts()
     ensures { StartsCoupled }
 {}
@@ -48,8 +47,8 @@ pub fn law_moves_are_events()
     ensures arrivals { ArrivalsAreEvents }
 {}
 
-/// The low level has no other events: a source opens no letter and looks nothing up, and of the role of a post are the Send and the Land of a post alone.
-pub fn law_no_other_events()
-    ensures of_source { (k : Kind) → is_of_no_source k ≡ true → IsNever k role.Plain }
-    ensures of_posts { (k : Kind) → (k ≡ kind.Send → ⊥) → (k ≡ kind.Land → ⊥) → IsNever k role.Post }
+/// Each event of the low level is of the infrastructure, of a post, or of the source's own, and of a kind that such events
+/// have.
+pub fn law_roles()
+    ensures { RolesOfEvents }
 {}

@@ -4,6 +4,6 @@
 mod laws;
 
 pub use laws::{
-    law_coupled_starts, law_meetings_are_events, law_moves_are_events, law_no_other_events,
-    law_posts_are_events, law_quiet, law_steps_are_events,
+    law_coupled_starts, law_meetings_are_events, law_moves_are_events, law_posts_are_events,
+    law_quiet, law_roles, law_steps_are_events,
 };
