@@ -1,0 +1,110 @@
+-- One event of the low level is one of the high level, or none.
+use Rattle.std.proofs.Common.{◌≡◌, ℕ, true, Option, None, Some, List, [], ◌∷◌, ◌++◌, option_map, refl, sym, ap, ◌∙◌}
+use Rattle.np_syntax.specs.declared.value.Name.{Name}
+use Rattle.np_syntax.specs.declared.process.Role.{Role}
+use Rattle.np_syntax.specs.declared.process.Role.TheVariants as role
+use Rattle.np_syntax.specs.declared.event.Event.{Event}
+use Rattle.np_syntax.specs.declared.event.Kind.{Kind}
+use Rattle.np_syntax.specs.declared.event.Kind.TheVariants as kind
+use Rattle.np_syntax.specs.Options.{◌>>=◌}
+use Rattle.np_calculus.specs.Config.{Config}
+use Rattle.np_calculus.specs.Reductions.{apply, run}
+use Rattle.np_calculus.specs.Well.{Well}
+use Rattle.np_lift.specs.Lift.{lift, lifted, posted}
+use Rattle.np_lift.proofs.Lifted.{lifted-by-table}
+use Rattle.np_levels.specs.Coupled.{Coupled, View}
+use Rattle.np_levels.specs.Laws.{IsEvent, StandForThemselves, event_of, post_of}
+use Rattle.np_levels.specs.Roles.{occurs}
+use Rattle.np_levels.proofs.Infrastructure.{infrastructure}
+use Rattle.np_levels.proofs.Lands.{lands}
+use Rattle.np_levels.proofs.Posts.{posts-are-events}
+use Rattle.np_levels.proofs.Roles.{roles-of-events}
+use Rattle.np_simulation.specs.Premises.{EventsAreCoupled}
+
+-- where each mark stands for itself, an event and a post have the same marks at both levels
+same-other : (v : View) → StandForThemselves v → (o : Option Name) → option_map v.stands_for o ≡ o
+same-other v stand None = refl
+same-other v stand (Some m) = ap Some (stand m)
+
+same-event : (v : View) → StandForThemselves v → (e : Event) → event_of v e ≡ e
+same-event v stand e = λ i. record e { actor = stand e.actor i; other = same-other v stand e.other i }
+
+same-post : (v : View) → StandForThemselves v → (e : Event) → post_of v e ≡ posted e
+same-post v stand e = λ i. record (posted e) { actor = stand e.actor i }
+
+-- a list that begins with an event is lifted so
+lifts-none : (e : Event) (es : List Event) → lifted e ≡ None → lift (e ∷ es) ≡ lift es
+lifts-none e es h = rw h refl
+
+lifts-one : (e d : Event) (es : List Event) → lifted e ≡ Some d → lift (e ∷ es) ≡ d ∷ lift es
+lifts-one e d es h = rw h refl
+
+runs-on : (c d : Config) (e : Event) (es : List Event) → apply c e ≡ Some d → run c (e ∷ es) ≡ run d es
+runs-on c d e es h = ap (λ o. o >>= λ m. run m es) h
+
+-- the events of the high level that an event of the low level is, and where they lead
+pub record Step (n from first : ℕ) (next high : Config) (e : Event) : Type 0 where
+  pub made : List Event
+  pub lifts : (es : List Event) → lift (e ∷ es) ≡ made ++ lift es
+  pub then : Config
+  pub runs : (es : List Event) → run high (made ++ es) ≡ run then es
+  pub view : View
+  pub coupled : Coupled n from first next then view
+  pub stand : StandForThemselves view
+
+by-kind : EventsAreCoupled → (k : Kind) → occurs role.Plain k ≡ true → (k ≡ kind.Arrive → ⊥) → IsEvent k
+by-kind given kind.Stop h other = given.stop
+by-kind given kind.Fork h other = given.fork
+by-kind given kind.New h other = given.channel
+by-kind given kind.Let h other = given.bind
+by-kind given kind.If h other = given.test
+by-kind given kind.Comm h other = given.comm
+by-kind given kind.Rep h other = given.rep
+by-kind given kind.Agent h other = given.agent
+by-kind given kind.Depart h other = given.depart
+by-kind given kind.Arrive h other = absurd (other refl)
+by-kind given kind.Local h other = given.local_test
+by-kind given kind.Send h other = given.send
+by-kind given kind.Land h other = given.land
+by-kind given kind.Print h other = given.print
+by-kind given _ h other = absurd cc
+
+module _ (given : EventsAreCoupled) {n from first : ℕ} {low high : Config} {v : View} (c : Coupled n from first low high v) (stand : StandForThemselves v) (well : Well high) (e : Event) (next : Config) (h : apply low e ≡ Some next) where
+  still : (w : View) → w.stands_for ≡ v.stands_for → StandForThemselves w
+  still w same m = ap (λ (f : Name → Name). f m) same ∙ stand m
+
+  -- nothing at the high level
+  quiet : lifted e ≡ None → (w : View) × (w.stands_for ≡ v.stands_for) × Coupled n from first next high w → Step n from first next high e
+  quiet none w = record { made = []; lifts = λ es. lifts-none e es none; then = high; runs = λ es. refl; view = w.0; coupled = w.2; stand = still w.0 w.1 }
+
+  -- one event
+  one : (d f : Event) → f ≡ d → lifted e ≡ Some d → (then : Config) × (apply high f ≡ Some then) × (w : View) × (w.stands_for ≡ v.stands_for) × Coupled n from first next then w → Step n from first next high e
+  one d f same is w = record {
+    made = d ∷ [];
+    lifts = λ es. lifts-one e d es is;
+    then = w.0;
+    runs = λ es. runs-on high w.0 d es (ap (apply high) (sym same) ∙ w.1);
+    view = w.2;
+    coupled = w.4;
+    stand = still w.2 w.3;
+  }
+
+  its-kind : (r : Role) → e.tag.role ≡ r → occurs r e.kind ≡ true
+  its-kind r is = ap (λ s. occurs s e.kind) (sym is) ∙ roles-of-events n from first low high v c e next h
+
+  of-post : e.tag.role ≡ role.Post → (k : Kind) → e.kind ≡ k → occurs role.Post k ≡ true → Step n from first next high e
+  of-post post kind.Send is may = one (posted e) (post_of v e) (same-post v stand e) (lifted-by-table.post e post is) (posts-are-events n from first low high v c well e next is post h)
+  of-post post kind.Land is may = quiet (lifted-by-table.landing e post is) (lands c e next is (λ plain. let bad : role.Plain ≡ role.Post = sym plain ∙ post in cc) h)
+  of-post post _ is may = absurd cc
+
+  of-source : e.tag.role ≡ role.Plain → (k : Kind) → e.kind ≡ k → occurs role.Plain k ≡ true → Step n from first next high e
+  of-source plain kind.Arrive is may = one e e refl (lifted-by-table.plain e plain) (given.arrive n from first low high v c well e next is plain h)
+  of-source plain k is may = one e (event_of v e) (same-event v stand e) (lifted-by-table.plain e plain) (by-kind given k may (λ a. absurd cc) n from first low high v c well e next is plain h)
+
+  by-role : (r : Role) → e.tag.role ≡ r → Step n from first next high e
+  by-role role.Infra is = quiet (lifted-by-table.infra e is) (infrastructure e.kind n from first low high v c e next refl is h)
+  by-role role.Post is = of-post is e.kind refl (its-kind role.Post is)
+  by-role role.Plain is = of-source is e.kind refl (its-kind role.Plain is)
+
+  pub step : Step n from first next high e
+  step = by-role e.tag.role refl
