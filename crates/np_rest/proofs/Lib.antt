@@ -1,0 +1,7 @@
+pub mod Anys
+pub mod Begins
+pub mod Highs
+pub mod Phases
+pub mod Resting
+pub mod Standing
+pub mod Waiting
