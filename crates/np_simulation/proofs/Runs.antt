@@ -14,10 +14,9 @@ use Rattle.np_levels.specs.Coupled.{Coupled, View}
 use Rattle.np_levels.specs.Laws.{StandForThemselves}
 use Rattle.np_levels.proofs.Starts.{starts-coupled}
 use Rattle.np_simulation.specs.Laws.{IsLifted, RunsAreLifted}
-use Rattle.np_simulation.specs.Premises.{EventsAreCoupled}
 use Rattle.np_simulation.proofs.Steps.{step}
 
-module _ (given : EventsAreCoupled) (n from first : ℕ) where
+module _ (n from first : ℕ) where
   along : (events : List Event) (low high : Config) (v : View) → Coupled n from first low high v → StandForThemselves v
       → ((hs : List Event) (d : Config) → run high hs ≡ Some d → Well d) → (c : Config) → run low events ≡ Some c → IsLifted n from first high events c
   along [] low high v coupled stand well c h = record {
@@ -30,7 +29,7 @@ module _ (given : EventsAreCoupled) (n from first : ℕ) where
   }
   along (e ∷ es) low high v coupled stand well c h =
       then (apply low e) _ h λ next applies rest.
-      let s = step given coupled stand (well [] high refl) e next applies in
+      let s = step coupled stand (well [] high refl) e next applies in
       let l = along es next s.then s.view s.coupled s.stand (λ hs d r. well (s.made ++ hs) d (s.runs hs ∙ r)) c rest in
       record { high = l.high; runs = ap (run high) (s.lifts es) ∙ s.runs (lift es) ∙ l.runs; said = l.said; view = l.view; coupled = l.coupled; stand = l.stand }
 
@@ -44,7 +43,7 @@ stays-well p accepted hs d h =
     let x = w.each hs [] (nothing-more hs) in
     subst Well (done (sym h ∙ x.1)) x.2
 
-pub runs-are-lifted : EventsAreCoupled → RunsAreLifted
-runs-are-lifted given p q low accepted events c h =
+pub runs-are-lifted : RunsAreLifted
+runs-are-lifted p q low accepted events c h =
     let start = starts-coupled p q low accepted.sound in
-    along given (length p.sites) p.binders low.first events _ (start_high p) start.0 start.1 start.2 (stays-well p accepted) c h
+    along (length p.sites) p.binders low.first events _ (start_high p) start.0 start.1 start.2 (stays-well p accepted) c h

@@ -15,11 +15,22 @@ use Rattle.np_lift.proofs.Lifted.{lifted-by-table}
 use Rattle.np_levels.specs.Coupled.{Coupled, View}
 use Rattle.np_levels.specs.Laws.{IsEvent, StandForThemselves, event_of, post_of}
 use Rattle.np_levels.specs.Roles.{occurs}
+use Rattle.np_levels.proofs.Arrivals.{arrivals-are-events}
+use Rattle.np_levels.proofs.Creations.{creations-are-events}
+use Rattle.np_levels.proofs.Departures.{departures-are-events}
+use Rattle.np_levels.proofs.Ifs.{ifs-are-events}
 use Rattle.np_levels.proofs.Infrastructure.{infrastructure}
 use Rattle.np_levels.proofs.Lands.{lands}
+use Rattle.np_levels.proofs.Lets.{lets-are-events}
+use Rattle.np_levels.proofs.Locals.{locals-are-events}
+use Rattle.np_levels.proofs.News.{news-are-events}
+use Rattle.np_levels.proofs.Packets.{lands-are-events, sends-are-events}
 use Rattle.np_levels.proofs.Posts.{posts-are-events}
+use Rattle.np_levels.proofs.Prints.{prints-are-events}
 use Rattle.np_levels.proofs.Roles.{roles-of-events}
-use Rattle.np_simulation.specs.Premises.{EventsAreCoupled}
+use Rattle.np_levels.proofs.Splits.{forks-are-events}
+use Rattle.np_levels.proofs.Stops.{stops-are-events}
+use Rattle.np_levels.proofs.Takes.{communications-are-events, copies-are-events}
 
 -- where each mark stands for itself, an event and a post have the same marks at both levels
 same-other : (v : View) → StandForThemselves v → (o : Option Name) → option_map v.stands_for o ≡ o
@@ -52,24 +63,24 @@ pub record Step (n from first : ℕ) (next high : Config) (e : Event) : Type 0 w
   pub coupled : Coupled n from first next then view
   pub stand : StandForThemselves view
 
-by-kind : EventsAreCoupled → (k : Kind) → occurs role.Plain k ≡ true → (k ≡ kind.Arrive → ⊥) → IsEvent k
-by-kind given kind.Stop h other = given.stop
-by-kind given kind.Fork h other = given.fork
-by-kind given kind.New h other = given.channel
-by-kind given kind.Let h other = given.bind
-by-kind given kind.If h other = given.test
-by-kind given kind.Comm h other = given.comm
-by-kind given kind.Rep h other = given.rep
-by-kind given kind.Agent h other = given.agent
-by-kind given kind.Depart h other = given.depart
-by-kind given kind.Arrive h other = absurd (other refl)
-by-kind given kind.Local h other = given.local_test
-by-kind given kind.Send h other = given.send
-by-kind given kind.Land h other = given.land
-by-kind given kind.Print h other = given.print
-by-kind given _ h other = absurd cc
+by-kind : (k : Kind) → occurs role.Plain k ≡ true → (k ≡ kind.Arrive → ⊥) → IsEvent k
+by-kind kind.Stop h other = stops-are-events
+by-kind kind.Fork h other = forks-are-events
+by-kind kind.New h other = news-are-events
+by-kind kind.Let h other = lets-are-events
+by-kind kind.If h other = ifs-are-events
+by-kind kind.Comm h other = communications-are-events
+by-kind kind.Rep h other = copies-are-events
+by-kind kind.Agent h other = creations-are-events
+by-kind kind.Depart h other = departures-are-events
+by-kind kind.Arrive h other = absurd (other refl)
+by-kind kind.Local h other = locals-are-events
+by-kind kind.Send h other = sends-are-events
+by-kind kind.Land h other = lands-are-events
+by-kind kind.Print h other = prints-are-events
+by-kind _ h other = absurd cc
 
-module _ (given : EventsAreCoupled) {n from first : ℕ} {low high : Config} {v : View} (c : Coupled n from first low high v) (stand : StandForThemselves v) (well : Well high) (e : Event) (next : Config) (h : apply low e ≡ Some next) where
+module _ {n from first : ℕ} {low high : Config} {v : View} (c : Coupled n from first low high v) (stand : StandForThemselves v) (well : Well high) (e : Event) (next : Config) (h : apply low e ≡ Some next) where
   still : (w : View) → w.stands_for ≡ v.stands_for → StandForThemselves w
   still w same m = ap (λ (f : Name → Name). f m) same ∙ stand m
 
@@ -98,8 +109,8 @@ module _ (given : EventsAreCoupled) {n from first : ℕ} {low high : Config} {v 
   of-post post _ is may = absurd cc
 
   of-source : e.tag.role ≡ role.Plain → (k : Kind) → e.kind ≡ k → occurs role.Plain k ≡ true → Step n from first next high e
-  of-source plain kind.Arrive is may = one e e refl (lifted-by-table.plain e plain) (given.arrive n from first low high v c well e next is plain h)
-  of-source plain k is may = one e (event_of v e) (same-event v stand e) (lifted-by-table.plain e plain) (by-kind given k may (λ a. absurd cc) n from first low high v c well e next is plain h)
+  of-source plain kind.Arrive is may = one e e refl (lifted-by-table.plain e plain) (arrivals-are-events n from first low high v c well e next is plain h)
+  of-source plain k is may = one e (event_of v e) (same-event v stand e) (lifted-by-table.plain e plain) (by-kind k may (λ a. absurd cc) n from first low high v c well e next is plain h)
 
   by-role : (r : Role) → e.tag.role ≡ r → Step n from first next high e
   by-role role.Infra is = quiet (lifted-by-table.infra e is) (infrastructure e.kind n from first low high v c e next refl is h)

