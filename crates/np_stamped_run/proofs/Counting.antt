@@ -5,7 +5,8 @@ use Rattle.std.specs.List.{AllByRecursion}
 use Rattle.np_merged_run.proofs.Steps.{false_eq}
 use Rattle.run_merge.proofs.InOrder.{all_append, all_filter, all_weaker, at_cond}
 use Rattle.np_stamped_run.specs.Deeds.{Deed, StampedItem, Ticks, ticked}
-use Rattle.np_stamped_run.proofs.Flowing.{Flows, IsStamped, Waiting, each_site, moved, own, own-here, own-there, puts, takes, takes-here, takes_at, without}
+use Rattle.np_stamped_run.specs.Turns.{Flows, Waiting, moved, own, puts, takes, takes_at, without}
+use Rattle.np_stamped_run.proofs.Flowing.{IsStamped, each_site, own-here, own-there, takes-here}
 
 -- ---- Lamport's rule
 

@@ -7,39 +7,7 @@ use Rattle.std.specs.List.{AllByRecursion}
 use Rattle.np_merged_run.proofs.Steps.{false_eq}
 use Rattle.run_merge.proofs.InOrder.{all_filter, all_flat_map, all_weaker, at_cond}
 use Rattle.np_stamped_run.specs.Deeds.{Deed, StampedItem, put_for, taken_from}
-
--- the items that wait for a site from a site
-abbrev pub Waiting : Type 0
-Waiting = ℕ → ℕ → List StampedItem
-
--- the deeds of a site
-abbrev pub own : ℕ → List Deed → List Deed
-own s = filter (λ d. d.event.event.site == s)
-
--- what a deed takes of what waits from u to v, and what it puts there
-abbrev pub takes_at : ℕ → ℕ → ℕ → Option StampedItem → List StampedItem
-takes_at u v s o = cond (s == v) (filter (λ x. x.item.sender == u) (option_to_list o)) []
-
-abbrev pub puts_at : ℕ → ℕ → ℕ → Option StampedItem → List StampedItem
-puts_at u v s o = cond (s == u) (filter (λ x. x.item.receiver == v) (option_to_list o)) []
-
-abbrev pub takes : ℕ → ℕ → Deed → List StampedItem
-takes u v d = takes_at u v d.event.event.site d.taken
-
-abbrev pub puts : ℕ → ℕ → Deed → List StampedItem
-puts u v d = puts_at u v d.event.event.site d.put
-
--- what waits without what a deed takes, and then also with what it puts
-abbrev pub without : Waiting → Deed → Waiting
-without w d u v = drop (length (takes u v d)) (w u v)
-
-abbrev pub moved : Waiting → Deed → Waiting
-moved w d u v = without w d u v ++ puts u v d
-
--- each deed takes what waits first
-abbrev pub Flows : Waiting → List Deed → Waiting → Type 0
-Flows w [] rest = (u v : ℕ) → w u v ≡ rest u v
-Flows w (d ∷ ds) rest = ((u v : ℕ) → w u v ≡ takes u v d ++ without w d u v) × Flows (moved w d) ds rest
+use Rattle.np_stamped_run.specs.Turns.{Flows, Waiting, moved, own, puts, takes, takes_at, without}
 
 -- no stamp is below an earlier one
 abbrev pub IsByStamp : List Deed → Type 0

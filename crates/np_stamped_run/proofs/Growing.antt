@@ -20,7 +20,7 @@ leads-on : (start old new : Config) (ds : List Deed) (d : Deed) → Leads start 
 leads-on start old new [] d leads step = (new, subst (λ l. IsStep d.event.event l (loads (plain d.taken)) new (loads (plain d.put))) (sym leads) step, refl)
 leads-on start old new (e ∷ es) d leads step = (leads.0, leads.1, leads-on leads.0 old new es d leads.2 step)
 
-ticks-on : (clock : ℕ) (ds : List Deed) (d : Deed) → Ticks clock ds → HasStamps (clock_after clock ds) d → Ticks clock (ds ++ d ∷ [])
+pub ticks-on : (clock : ℕ) (ds : List Deed) (d : Deed) → Ticks clock ds → HasStamps (clock_after clock ds) d → Ticks clock (ds ++ d ∷ [])
 ticks-on clock [] d ticks has = (has, tt)
 ticks-on clock (e ∷ es) d ticks has = (ticks.0, ticks-on e.event.stamp es d ticks.1 has)
 
@@ -59,7 +59,7 @@ ticks-above clock (d ∷ ds) ticks =
     let first : clock < d.event.stamp = above clock d.event.stamp d.taken ticks.0.event in
     (first, all_weaker (λ (e : Deed). d.event.stamp < e.event.stamp) (λ (e : Deed). clock < e.event.stamp) (λ e is. omega arith) ds (ticks-above d.event.stamp ds ticks.1))
 
-events-rise : (clock : ℕ) (ds : List Deed) → Ticks clock ds → Rises (map (λ d. d.event) ds)
+pub events-rise : (clock : ℕ) (ds : List Deed) → Ticks clock ds → Rises (map (λ d. d.event) ds)
 events-rise clock [] ticks = tt
 events-rise clock (d ∷ ds) ticks =
     (all_map (λ later. d.event.stamp < later.stamp) (λ (d : Deed). d.event) ds (ticks-above d.event.stamp ds ticks.1), events-rise d.event.stamp ds ticks.1)

@@ -12,3 +12,4 @@ pub mod Running
 pub mod Saying
 pub mod Shown
 pub mod Starting
+pub mod Turning

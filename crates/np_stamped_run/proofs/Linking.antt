@@ -7,11 +7,11 @@ use Rattle.np_stamped_run.specs.Deeds.{StampedItem, put_for, taken_from}
 use Rattle.np_stamped_run.specs.Laws.{IsFrom, LinksLead}
 use Rattle.np_stamped_run.proofs.Flowing.{all_both}
 
-all_first : {A : Type 0} (P : A → Type 0) (xs ys : List A) → AllByRecursion P (xs ++ ys) → AllByRecursion P xs
+pub all_first : {A : Type 0} (P : A → Type 0) (xs ys : List A) → AllByRecursion P (xs ++ ys) → AllByRecursion P xs
 all_first P [] ys all = tt
 all_first P (x ∷ xs) ys all = (all.0, all_first P xs ys all.1)
 
-all_second : {A : Type 0} (P : A → Type 0) (xs ys : List A) → AllByRecursion P (xs ++ ys) → AllByRecursion P ys
+pub all_second : {A : Type 0} (P : A → Type 0) (xs ys : List A) → AllByRecursion P (xs ++ ys) → AllByRecursion P ys
 all_second P [] ys all = all
 all_second P (x ∷ xs) ys all = all_second P xs ys all.1
 

@@ -17,7 +17,8 @@ use Rattle.run_merge.proofs.InOrder.{all_weaker, all_map, all_flat_map, all_in_o
 use Rattle.run_merge.proofs.Ranks.{ranks_order, IsOfOwn, ascends-events, site_none, site_one}
 use Rattle.np_stamped_run.specs.Deeds.{AreSiteRuns, Deed, IsDeedOf, SiteRuns}
 use Rattle.np_stamped_run.specs.Laws.{AreRecorded}
-use Rattle.np_stamped_run.proofs.Flowing.{IsByStamp, all_both, own}
+use Rattle.np_stamped_run.specs.Turns.{AreClocked, own}
+use Rattle.np_stamped_run.proofs.Flowing.{IsByStamp, all_both}
 
 abbrev pub ranked_deed : ℕ → Deed → Ranked Deed
 ranked_deed s d = record { rank = record { stamp = d.event.stamp; site = s }; item = d }
@@ -127,9 +128,13 @@ events-joined deeds (h ∷ hs) are =
     map-append event_of (deeds_of deeds h) (flat_map (deeds_of deeds) hs)
     ∙ ap₂ (λ xs ys. xs ++ ys) (events-deeds h.site (deeds h.site) ∙ ap (map (ranked h.site)) (sym are.0)) (events-joined deeds hs are.1)
 
-module _ (n : ℕ) (r : SiteRuns) (hs : List Recorded) (runs : AreSiteRuns n r) (are : AreRecorded hs r) where
+-- whatever the events of sites do
+pub clocked : (n : ℕ) (r : SiteRuns) → AreSiteRuns n r → AreClocked n r.deeds r.rest
+clocked n r runs = record { own = λ s. (runs.each s).own; ticks = λ s. (runs.each s).ticks; others = runs.others; links = runs.links }
+
+module _ (n : ℕ) (r : SiteRuns) (hs : List Recorded) (runs : AreClocked n r.deeds r.rest) (are : AreRecorded hs r) where
   pub all-ranks : AllByRecursion HasItsRank (all_deeds r.deeds hs)
-  all-ranks = all_here HasItsRank r.deeds (λ s. own-ranks n s (r.deeds s) (runs.each s).own) hs
+  all-ranks = all_here HasItsRank r.deeds (λ s. own-ranks n s (r.deeds s) (runs.own s)) hs
 
   pub turns-by_stamp : IsByStamp (in_turn r.deeds hs)
   turns-by_stamp = by_stamp (all_deeds r.deeds hs) all-ranks (ascends-in_order (comes_before {X = Deed}) ranks_order (flat_map (deeds_of r.deeds) hs))

@@ -11,18 +11,14 @@ use Rattle.np_merged_run.specs.Links.{Item, Linked, Links, Move, Moves, MovesTo,
 use Rattle.np_merged_run.specs.Steps.{with_site}
 use Rattle.np_merged_run.proofs.Steps.{with-site-same, false_eq}
 use Rattle.np_stamped_run.specs.Deeds.{Deed, Leads, StampedItem, plain}
-use Rattle.np_stamped_run.proofs.Flowing.{Flows, Waiting, each_site, moved, own, own-here, own-there, puts_at, takes, takes-here, takes_at, without}
+use Rattle.np_stamped_run.specs.Turns.{Flows, IsAmong, Waiting, moved, own, puts_at, takes, takes_at, without}
+use Rattle.np_stamped_run.proofs.Flowing.{each_site, own-here, own-there, takes-here}
 
 abbrev pub move_of : Deed → Move
 move_of d = record { event = d.event.event; taken = plain d.taken; put = plain d.put }
 
 abbrev pub items_of : List StampedItem → List Item
 items_of = map (λ x. x.item)
-
--- the event is of one of n sites, and puts nothing on its way to another
-pub record IsAmong (n : ℕ) (d : Deed) : Type 0 where
-  pub at : d.event.event.site < n
-  pub to : IfSome d.put (λ x. x.item.receiver < n)
 
 -- the links have the items that wait
 abbrev pub Shows : Links → Waiting → Type 0
@@ -59,7 +55,7 @@ takes-one : (u v s : ℕ) (x : StampedItem) → takes_at u v s (Some x) ≡ cond
 takes-one u v s x =
     ap₂ (λ p q. cond q (cond p (x ∷ []) []) []) (turned x.item.sender u) (turned s v) ∙ inner_first (nat_eq u x.item.sender) (nat_eq v s) (x ∷ [])
 
-took : (n s : ℕ) (o : Option StampedItem) (link : Links) (w : Waiting) → Shows link w → ((u v : ℕ) → n ≤ u → w u v ≡ [])
+pub took : (n s : ℕ) (o : Option StampedItem) (link : Links) (w : Waiting) → Shows link w → ((u v : ℕ) → n ≤ u → w u v ≡ [])
     → ((u v : ℕ) → w u v ≡ takes_at u v s o ++ drop (length (takes_at u v s o)) (w u v))
     → (between : Links) × Takes n link s (plain o) between × Shows between (λ u v. drop (length (takes_at u v s o)) (w u v))
 took n s None link w shows none front = (
@@ -114,7 +110,7 @@ sent n s (Some x) link w shows to =
 
 -- ---- all moves
 
-with-site-other : (here : ℕ → Config) (s u : ℕ) (l : Config) → (u ≡ s → ⊥) → with_site here s l u ≡ here u
+pub with-site-other : (here : ℕ → Config) (s u : ℕ) (l : Config) → (u ≡ s → ⊥) → with_site here s l u ≡ here u
 with-site-other here s u l apart = rw (false_eq u s apart) refl
 
 none-moved : (n : ℕ) (w : Waiting) (d : Deed) → d.event.event.site < n → ((u v : ℕ) → n ≤ u → w u v ≡ []) → (u v : ℕ) → n ≤ u → moved w d u v ≡ []

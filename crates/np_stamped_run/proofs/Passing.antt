@@ -20,11 +20,12 @@ use Rattle.np_stamped_run.specs.Deeds.{Deed, StampedItem, plain}
 use Rattle.np_stamped_run.specs.Elements.{Occurs}
 use Rattle.np_stamped_run.specs.Passing.{Meets, PassesOn, TakenLater}
 use Rattle.np_stamped_run.proofs.Elements.{every-occurs, mapped-occurs, occurs-either, occurs-filter, occurs-first, occurs-if, occurs-map, occurs-second, over-occurs, there-is}
-use Rattle.np_stamped_run.proofs.Flowing.{IsByStamp, IsStamped, Waiting, moved, puts, puts_at, takes, without}
-use Rattle.np_stamped_run.proofs.Merging.{all_deeds, all_unmap, deeds_of, in_turn, of-site, ranked_deed, turns-by_stamp}
+use Rattle.np_stamped_run.specs.Turns.{Waiting, moved, none_waits, puts, puts_at, takes, without}
+use Rattle.np_stamped_run.proofs.Flowing.{IsByStamp, IsStamped}
+use Rattle.np_stamped_run.proofs.Merging.{all_deeds, all_unmap, clocked, deeds_of, in_turn, of-site, ranked_deed, turns-by_stamp}
 use Rattle.np_stamped_run.proofs.Moving.{Fits, MovesOn, Shows, move_of, moves_on}
 use Rattle.np_stamped_run.proofs.Resting.{atom-out, packet-out, place-out}
-use Rattle.np_stamped_run.proofs.Running.{begins, fits, none_waits, turns-stamped}
+use Rattle.np_stamped_run.proofs.Running.{begins, fits, turns-stamped}
 
 -- ---- what waits is apart from what is taken
 
@@ -151,10 +152,10 @@ pub taken_later : TakenLater
 taken_later n r hs c s t d e runs are shows first second before passes =
     let up = ascends-in_order (comes_before {X = Deed}) ranks_order (flat_map (deeds_of r.deeds) hs) in
     let late = all-late n (in_turn r.deeds hs) (record { here = r.start; link = λ u v. [] }) r.end none_waits r.rest c
-    (fits n r hs runs are) (turns-stamped n r hs runs are) (turns-by_stamp n r hs runs are) (begins n r c shows) in
+    (fits n r hs runs are) (turns-stamped n r hs (clocked n r runs) are) (turns-by_stamp n r hs (clocked n r runs) are) (begins n r c shows) in
     let among : (s : ℕ) (d : Deed) → Occurs (λ x. x ≡ d) (r.deeds s) → Occurs (λ x. x ≡ ranked_deed s d) (all_deeds r.deeds hs) =
     λ s d h.
     occurs-filter (λ x. x ≡ ranked_deed s d) (λ r. r.rank.site == s) (all_deeds r.deeds hs)
-    (subst (Occurs (λ x. x ≡ ranked_deed s d)) (sym (of-site n r hs runs are s))
+    (subst (Occurs (λ x. x ≡ ranked_deed s d)) (sym (of-site n r hs (clocked n r runs) are s))
     (mapped-occurs (λ x. x ≡ ranked_deed s d) (ranked_deed s) (r.deeds s) (occurs-map (λ x. x ≡ d) (λ x. ranked_deed s x ≡ ranked_deed s d) (λ x same. ap (ranked_deed s) same) (r.deeds s) h))) in
     of-two (all_deeds r.deeds hs) (ranked_deed s d) (ranked_deed t e) up late (among s d first) (among t e second) before passes

@@ -23,7 +23,7 @@ use Rattle.run_merge.proofs.InOrder.{all_filter, all_map, all_weaker, filter_map
 use Rattle.run_merge.proofs.Values.{follows_prints, keeps_said, only_said}
 use Rattle.np_stamped_run.specs.Deeds.{AreSiteRuns, Leads, SiteRuns, at_end, at_start}
 use Rattle.np_stamped_run.specs.Laws.{AreRecorded, IsSaid, SaidInOrder}
-use Rattle.np_stamped_run.proofs.Merging.{HasItsRank, all-ranks, all_deeds, found, turns-merged}
+use Rattle.np_stamped_run.proofs.Merging.{HasItsRank, all-ranks, all_deeds, clocked, found, turns-merged}
 
 -- ---- one event
 
@@ -134,9 +134,9 @@ map_alike f g (x ∷ xs) all = ap₂ (λ y ys. y ∷ ys) all.0 (map_alike f g xs
 module _ (n : ℕ) (r : SiteRuns) (hs : List Recorded) (c d : Config) (runs : AreSiteRuns n r) (are : AreRecorded hs r) (said_there : IsSaid hs r) where
   -- the sites of the printed values are those of the Print events
   events-sites : AllByRecursion (λ e. e.item.site ≡ e.rank.site) (merged hs)
-  events-sites = subst (AllByRecursion (λ e. e.item.site ≡ e.rank.site)) (turns-merged n r hs runs are)
+  events-sites = subst (AllByRecursion (λ e. e.item.site ≡ e.rank.site)) (turns-merged n r hs (clocked n r runs) are)
       (all_map (λ e. e.item.site ≡ e.rank.site) _ (all_deeds r.deeds hs)
-      (all_weaker HasItsRank (λ x. x.item.event.event.site ≡ x.rank.site) (λ x is. is.site) (all_deeds r.deeds hs) (all-ranks n r hs runs are)))
+      (all_weaker HasItsRank (λ x. x.item.event.event.site ≡ x.rank.site) (λ x is. is.site) (all_deeds r.deeds hs) (all-ranks n r hs (clocked n r runs) are)))
 
   said-sites : sites_of (said hs) ≡ map (λ e. e.site) (filter (λ e. prints e.kind) (items (merged hs)))
   said-sites =

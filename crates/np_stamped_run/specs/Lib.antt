@@ -5,3 +5,4 @@ pub mod Laws
 pub mod Passing
 pub mod Resting
 pub mod Starting
+pub mod Turns

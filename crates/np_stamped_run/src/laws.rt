@@ -3,6 +3,7 @@ ghost use Rattle.np_stamped_run.specs.Laws.{EndIsShown, IsToldByParts, LinksLead
 ghost use Rattle.np_stamped_run.specs.Passing.{TakenLater};
 ghost use Rattle.np_stamped_run.specs.Resting.{CanInParts, IdleInParts};
 ghost use Rattle.np_stamped_run.specs.Starting.{LowStartIsSettled, SpreadBySites};
+ghost use Rattle.np_stamped_run.specs.Turns.{HaveTurns, TurnGoesOn, TurnIsApart};
 
 /// What a site does alone begins with nothing, and goes on with one event more.
 pub fn law_site_run()
@@ -51,4 +52,12 @@ pub fn law_stamps()
 pub fn law_rest_in_parts()
     ensures can { CanInParts }
     ensures idle { IdleInParts }
+{}
+
+/// The events of sites that keep clocks and have links have one order in which each takes what waits first on its link. When
+/// an event's turn comes, what it takes is apart from what its site has; and where it is a step of the site, the whole goes on.
+pub fn law_turns()
+    ensures turns { HaveTurns }
+    ensures apart { TurnIsApart }
+    ensures step { TurnGoesOn }
 {}

@@ -5,5 +5,5 @@ mod laws;
 
 pub use laws::{
     law_links, law_merged_is_run, law_rest_in_parts, law_said_in_order, law_site_run,
-    law_spread_by_sites, law_stamps,
+    law_spread_by_sites, law_stamps, law_turns,
 };
