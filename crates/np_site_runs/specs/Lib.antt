@@ -1,0 +1,4 @@
+pub mod Accounts
+pub mod Ending
+pub mod SiteRuns
+pub mod Starting
