@@ -3,4 +3,4 @@
 
 mod laws;
 
-pub use laws::law_nothing_done;
+pub use laws::{law_nothing_done, law_own_events};

@@ -1,0 +1,4 @@
+pub mod Holds
+pub mod Showing
+pub mod Parts
+pub mod Within

@@ -1,0 +1,8 @@
+use Rattle.np_holdings.proofs.Within.{goes_on, goes_on_alone}
+use Rattle.np_holdings.proofs.laws.law_own_events.Goals as goal
+
+pub returns-clause-on : goal.returns-clause-on
+returns-clause-on c = goes_on
+
+pub returns-clause-alone : goal.returns-clause-alone
+returns-clause-alone c = goes_on_alone
