@@ -1,4 +1,6 @@
+ghost use Rattle.np_holdings.specs.Coming.{Arrives, IsLost, Lands};
 ghost use Rattle.np_holdings.specs.Laws.{NothingDone};
+ghost use Rattle.np_holdings.specs.Leaving.{Leaves, Sends};
 ghost use Rattle.np_holdings.specs.Within.{GoesOn, GoesOnAlone};
 
 /// A site that does nothing holds what it held.
@@ -11,4 +13,18 @@ pub fn law_nothing_done()
 pub fn law_own_events()
     ensures on { GoesOn }
     ensures alone { GoesOnAlone }
+{}
+
+/// A migration puts out the agent with its atoms, and a message puts out a packet.
+pub fn law_leaving()
+    ensures agent { Leaves }
+    ensures packet { Sends }
+{}
+
+/// An agent that arrives stands at the site then, with its atoms. A packet that lands is an output of its agent where this
+/// stands there, and else nothing.
+pub fn law_coming()
+    ensures agent { Arrives }
+    ensures packet { Lands }
+    ensures lost { IsLost }
 {}
