@@ -5,3 +5,4 @@ pub mod Within
 pub mod Inversions
 pub mod Leaving
 pub mod Coming
+pub mod Telling

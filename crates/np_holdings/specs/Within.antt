@@ -6,7 +6,6 @@ use Rattle.np_syntax.specs.declared.value.Value.{Value}
 use Rattle.np_syntax.specs.declared.event.Event.{Event}
 use Rattle.np_syntax.specs.declared.event.Kind.{Kind}
 use Rattle.np_syntax.specs.declared.event.Kind.TheVariants as kind
-use Rattle.np_syntax.specs.declared.event.Made.TheVariants as made
 use Rattle.np_tables.specs.Names.{NameMap}
 use Rattle.np_calculus.specs.declared.config.Atom.{Atom}
 use Rattle.np_calculus.specs.declared.config.Packet.{Packet}
@@ -57,13 +56,12 @@ given h agent atoms mark atom = record h { agents = table.insert h.agents agent 
 -- a location test whose agent is here, maybe the same: that one gets the output under the mark that is made
 abbrev pub Tells : Type 0
 Tells = (h : Holding) (x : Stamped) (agent mark : Name) (packet : Packet) (old new there : NameMap Atom) → IsOwnEvent h agent old kind.Local x.event → AreMade h
-    → x.event.made ≡ made.One mark → GoesPast kind.Local h.sites true old new x.event (record still { atoms = put mark (output_of packet) ∷ [] })
+    → GoesPast kind.Local h.sites true old new x.event (record still { atoms = put mark (output_of packet) ∷ [] })
     → table.get (table.insert h.agents agent new) packet.agent ≡ Some there
     → Does h (inner x) (given (gone_on h agent new x.event None) packet.agent there mark (output_of packet))
 
 -- the making of an agent: it stands here then with its one atom
 abbrev pub Makes : Type 0
 Makes = (h : Holding) (x : Stamped) (agent child mark : Name) (first : Atom) (old new : NameMap Atom) → IsOwnEvent h agent old kind.Agent x.event → AreMade h
-    → x.event.made ≡ made.Two child mark
     → GoesPast kind.Agent h.sites false old new x.event (record still { places = put child (place.At h.site) ∷ []; atoms = put mark first ∷ [] })
     → Does h (inner x) (given (gone_on h agent new x.event None) child table.empty mark first)

@@ -1,7 +1,7 @@
 ghost use Rattle.np_holdings.specs.Coming.{Arrives, IsLost, Lands};
 ghost use Rattle.np_holdings.specs.Laws.{NothingDone};
 ghost use Rattle.np_holdings.specs.Leaving.{Leaves, Sends};
-ghost use Rattle.np_holdings.specs.Within.{GoesOn, GoesOnAlone};
+ghost use Rattle.np_holdings.specs.Within.{GoesOn, GoesOnAlone, Makes, Tells};
 
 /// A site that does nothing holds what it held.
 pub fn law_nothing_done()
@@ -9,10 +9,12 @@ pub fn law_nothing_done()
 {}
 
 /// By an event within an agent that stands at a site, the agent goes on, and so it does by a location test whose agent is
-/// not there.
+/// not there. Where that one is there, it gets the output. An agent that is made stands at the site then.
 pub fn law_own_events()
     ensures on { GoesOn }
     ensures alone { GoesOnAlone }
+    ensures tells { Tells }
+    ensures makes { Makes }
 {}
 
 /// A migration puts out the agent with its atoms, and a message puts out a packet.

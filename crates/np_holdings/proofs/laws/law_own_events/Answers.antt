@@ -1,3 +1,4 @@
+use Rattle.np_holdings.proofs.Telling.{makes, tells}
 use Rattle.np_holdings.proofs.Within.{goes_on, goes_on_alone}
 use Rattle.np_holdings.proofs.laws.law_own_events.Goals as goal
 
@@ -6,3 +7,9 @@ returns-clause-on c = goes_on
 
 pub returns-clause-alone : goal.returns-clause-alone
 returns-clause-alone c = goes_on_alone
+
+pub returns-clause-tells : goal.returns-clause-tells
+returns-clause-tells c = tells
+
+pub returns-clause-makes : goal.returns-clause-makes
+returns-clause-makes c = makes
