@@ -16,8 +16,8 @@ use Rattle.np_calculus.specs.Parts.{IsOfSite}
 use Rattle.np_calculus.proofs.Fits.{some}
 use Rattle.np_calculus.proofs.FrameRule.{none_of}
 use Rattle.np_calculus.proofs.OwnNames.{not_true}
-use Rattle.np_holdings.specs.Holdings.{Holding, IsPart, name_of}
-use Rattle.np_holdings.specs.Making.{AreMade, AreNext, next_after}
+use Rattle.np_holdings.specs.Holdings.{Holding, IsPart, name_of, AreMade}
+use Rattle.np_holdings.specs.Making.{AreNext, next_after}
 use Rattle.np_holdings.specs.Within.{with_value}
 use Rattle.np_holdings.proofs.Holds.{Holds}
 use Rattle.np_holdings.proofs.Showing.{Shows}

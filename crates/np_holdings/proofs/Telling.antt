@@ -17,10 +17,10 @@ use Rattle.np_calculus.proofs.Steps.{same_site}
 use Rattle.np_calculus.proofs.Writes.{either-none}
 use Rattle.np_merged_run.proofs.Items.{inner_step}
 use Rattle.stamp_history.specs.declared.stamped.Stamped.{Stamped}
-use Rattle.np_holdings.specs.Holdings.{Holding, IsPart}
+use Rattle.np_holdings.specs.Holdings.{Holding, IsPart, AreMade}
 use Rattle.np_holdings.specs.Going.{GoesPast, asked_of, change_in, outside, own_sight}
 use Rattle.np_holdings.specs.Loads.{output_of}
-use Rattle.np_holdings.specs.Making.{AreMade, AreNext}
+use Rattle.np_holdings.specs.Making.{AreNext}
 use Rattle.np_holdings.specs.Within.{IsOwnEvent, Makes, Tells}
 use Rattle.np_holdings.proofs.Holds.{Holds, hold-come, hold-write, mine-there}
 use Rattle.np_holdings.proofs.Inversions.{Born, Told, born, told}
@@ -174,7 +174,7 @@ module _ (h : Holding) (x : Stamped) (agent mark : Name) (packet : Packet) (old 
           ((inr (still-new h c part agent mark x.event.actor old R.on.atom R.on.now (output_of packet) o.stands R.on.there R.on.of unheld), refl), tt))
 
 pub tells : Tells
-tells h x agent mark packet old new there o m g is_there c part items apart =
+tells h x agent mark packet old new there o g is_there = (refl, λ m c part items apart.
     let d : Change = d h x agent mark packet old new there o m g is_there in
     let e : Event = x.event in
     let is : apply c e ≡ Some (effect c e d) =
@@ -187,7 +187,7 @@ tells h x agent mark packet old new there o m g is_there c part items apart =
           part.packets
           refl,
       inner_step c (effect c e d) e (own-site h c part agent old kind.Local e o) (λ p. let p : kind.Local ≡ kind.Post = sym o.kind ∙ p in cc) (own-made h c part agent old kind.Local e o) is,
-    )
+    ))
 
 -- ---- the making of an agent
 
@@ -297,7 +297,7 @@ module _ (h : Holding) (x : Stamped) (agent child mark : Name) (first : Atom) (o
       }
 
 pub makes : Makes
-makes h x agent child mark first old new o m g c part items apart =
+makes h x agent child mark first old new o g = (refl, λ m c part items apart.
     let d : Change = made_change h x agent child mark first old new o m g in
     let e : Event = x.event in
     let is : apply c e ≡ Some (effect c e d) =
@@ -309,4 +309,4 @@ makes h x agent child mark first old new o m g c part items apart =
           part.packets
           refl,
       inner_step c (effect c e d) e (own-site h c part agent old kind.Agent e o) (λ p. let p : kind.Agent ≡ kind.Post = sym o.kind ∙ p in cc) (own-made h c part agent old kind.Agent e o) is,
-    )
+    ))

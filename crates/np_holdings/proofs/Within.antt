@@ -13,9 +13,9 @@ use Rattle.np_calculus.proofs.Writes.{every-map}
 use Rattle.np_eval.specs.FormParts.{as_iflocal}
 use Rattle.stamp_history.specs.declared.stamped.Stamped.{Stamped}
 use Rattle.np_merged_run.proofs.Items.{inner_step}
-use Rattle.np_holdings.specs.Holdings.{Does, Holding, IsPart}
+use Rattle.np_holdings.specs.Holdings.{Holding, IsPart, AreMade, StepsOn}
 use Rattle.np_holdings.specs.Going.{Goes, asked_of, change_in, own_sight}
-use Rattle.np_holdings.specs.Making.{AreMade, AreNext, next_after}
+use Rattle.np_holdings.specs.Making.{AreNext, next_after}
 use Rattle.np_holdings.specs.Within.{GoesOn, GoesOnAlone, IsOwnEvent, gone_on, inner, with_value}
 use Rattle.np_holdings.proofs.Holds.{Holds, hold-write}
 use Rattle.np_holdings.proofs.Parts.{are-new, born-after, holds, no-mark, no-place, of-site, own-names, part-of, said-after, same-places, shows}
@@ -99,7 +99,7 @@ module _ (h : Holding) (agent : Name) (old new : NameMap Atom) (k : Kind) (value
     gone = parted k h.sites old new x.event (record still { said = value }) g
 
     -- an event within an agent, where an agent for which its acting atom asks is not here
-    within : ((a : Atom) (b : Name) → table.get old x.event.actor ≡ Some a → asked_of a ≡ Some b → table.get h.agents b ≡ None) → Does h (inner x) (gone_on h agent new x.event value)
+    within : ((a : Atom) (b : Name) → table.get old x.event.actor ≡ Some a → asked_of a ≡ Some b → table.get h.agents b ≡ None) → StepsOn h (inner x) (gone_on h agent new x.event value)
     within away c part items apart =
         let d : Change = gone.change in
         let e : Event = x.event in
@@ -119,11 +119,11 @@ module _ (h : Holding) (agent : Name) (old new : NameMap Atom) (k : Kind) (value
         )
 
 pub goes_on : GoesOn
-goes_on h x agent old new k value o m local post g =
+goes_on h x agent old new k value o local post g = (refl, λ m.
     within h agent old new k value x o m post g
-    (λ a b there asks. let p = parted k h.sites old new x.event _ g in absurd (asks-none (own_sight h.sites old false) x.event k p.change local p.is a b there asks))
+    (λ a b there asks. let p = parted k h.sites old new x.event _ g in absurd (asks-none (own_sight h.sites old false) x.event k p.change local p.is a b there asks)))
 
 pub goes_on_alone : GoesOnAlone
-goes_on_alone h x agent other old new o m asks_for absent g =
+goes_on_alone h x agent other old new o asks_for absent g = (refl, λ m.
     within h agent old new kind.Local None x o m (λ e. cc) g
-    (λ a b there asks. let same : b ≡ other = sym (done (sym (ap (λ q. q >>= asked_of) there ∙ asks) ∙ asks_for)) in ap (table.get h.agents) same ∙ absent)
+    (λ a b there asks. let same : b ≡ other = sym (done (sym (ap (λ q. q >>= asked_of) there ∙ asks) ∙ asks_for)) in ap (table.get h.agents) same ∙ absent))

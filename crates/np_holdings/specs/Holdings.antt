@@ -1,5 +1,5 @@
 -- What a site holds, the configurations that are just this, and what the site does (docs/LANGUAGE.md, "History text").
-use Rattle.std.specs.Prelude.{◌≡◌, ℕ, nat_lt, List, [], ◌∷◌, map, option_map, None, Some}
+use Rattle.std.specs.Prelude.{◌≡◌, ◌<◌, ℕ, nat_lt, List, [], ◌∷◌, map, option_map, None, Some, IsSome}
 use Rattle.std.specs.FinMap as table
 use Rattle.std.specs.FinSet as set
 use Rattle.np_syntax.specs.declared.value.Name.{Name}
@@ -48,11 +48,22 @@ pub record IsPart (h : Holding) (c : Config) : Type 0 where
   pub born : (k : ℕ) → set.contains c.born (name_of h.site k) ≡ nat_lt k h.next
   pub said : c.said ≡ map (λ v. (h.site, v)) h.said
 
--- What a site does: where a configuration is what the site holds, and an item that the event takes is apart from it, the event is a step on to a
--- configuration that is what the site holds then. That the item is apart no site can tell: the run of all sites tells it.
-abbrev pub Does : Holding → Deed → Holding → Type 0
-Does h d then = (old : Config) → IsPart h old → Every IsItem (loads (plain d.taken)) → AreApart (inside old ∷ loads (plain d.taken))
+-- Each name of the site's own that stands there is one that it has made. No site can tell this of what comes to it: the run of all sites
+-- tells it.
+pub record AreMade (h : Holding) : Type 0 where
+  pub agents : (k : ℕ) → IsSome (table.get h.agents (name_of h.site k)) → k < h.next
+  pub marks : (k : ℕ) (a : Atom) → IsHeld h (name_of h.site k) a → k < h.next
+
+-- where a configuration is what the site holds, and an item that the event takes is apart from it, the event is a step on to a configuration that is
+-- what the site holds then
+abbrev pub StepsOn : Holding → Deed → Holding → Type 0
+StepsOn h d then = (old : Config) → IsPart h old → Every IsItem (loads (plain d.taken)) → AreApart (inside old ∷ loads (plain d.taken))
     → (new : Config) × IsPart then new × IsStep d.event.event old (loads (plain d.taken)) new (loads (plain d.put))
+
+-- What a site does: it stays the same site, and steps on, if the names that stand there are made. That they are, and that the item is apart, no site
+-- can tell: the run of all sites tells it.
+abbrev pub Does : Holding → Deed → Holding → Type 0
+Does h d then = (then.site ≡ h.site) × (AreMade h → StepsOn h d then)
 
 -- one after the other
 abbrev pub DoesAll : Holding → List Deed → Holding → Type 0
