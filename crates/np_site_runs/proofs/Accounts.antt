@@ -25,7 +25,7 @@ use Rattle.np_site_runs.proofs.Running.{held_run_grows, held_run_starts}
 -- ---- one event more
 
 pub account_starts : AccountStarts
-account_starts n site start = record { run = held_run_starts n site start; sends = tt; took = refl; within = tt }
+account_starts n site start at = record { run = held_run_starts n site start at; sends = tt; took = refl; within = tt }
 
 unpaired : (from : ℕ) (o : Option StampedItem) → map (λ (c : Came). c.item) (map (λ x. record { from = from; item = x }) (option_to_list o)) ≡ option_to_list o
 unpaired from None = refl
@@ -143,7 +143,7 @@ module _ (n : ℕ) (start : ℕ → Holding) (r : Accounts) (are : AreSettled n 
 
   run-of : (s : ℕ) (b : Bool) → nat_lt s n ≡ b → IsHeldRun n s (start s) (cond b (r.deeds s) []) (cond b (r.end s) (start s))
   run-of s true e = (are.each s (is-less s n e)).run
-  run-of s false e = held_run_starts n s (start s)
+  run-of s false e = held_run_starts n s (start s) (are.at s)
 
   link-of : (s t : ℕ) (b c : Bool) → nat_lt s n ≡ b → nat_lt t n ≡ c
       → put_for t (cond b (r.deeds s) []) ≡ taken_from s (cond c (r.deeds t) []) ++ cond (b && c) (r.rest s t) []

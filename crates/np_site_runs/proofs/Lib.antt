@@ -1,4 +1,5 @@
 pub mod Accounts
 pub mod Ending
+pub mod Making
 pub mod Running
 pub mod Starting

@@ -1,5 +1,5 @@
 -- What sites did by their holdings are steps of configurations.
-use Rattle.std.proofs.Common.{◌≡◌, ℕ, cond, nat_eq, List, [], ◌∷◌, ◌++◌, refl, sym, subst, subst₂, ◌∙◌}
+use Rattle.std.proofs.Common.{◌≡◌, ℕ, cond, nat_eq, List, [], ◌∷◌, ◌++◌, refl, sym, ap, subst, subst₂, ◌∙◌}
 use Rattle.std.specs.List.{AllByRecursion}
 use Rattle.np_calculus.specs.Config.{Config}
 use Rattle.np_merged_run.specs.Links.{Linked, spread}
@@ -15,6 +15,7 @@ use Rattle.np_stamped_run.proofs.Moving.{with-site-other}
 use Rattle.np_stamped_run.proofs.Running.{begins}
 use Rattle.np_stamped_run.proofs.Turning.{have_turns, turn_goes_on, turn_is_apart}
 use Rattle.np_holdings.specs.Holdings.{Does, DoesAll, Holding, IsPart}
+use Rattle.np_site_runs.proofs.Making.{are_made}
 use Rattle.np_site_runs.specs.SiteRuns.{AreHeldRuns, ArePartsOf, HeldRunGrows, HeldRunStarts, HeldRuns, HeldRunsAreRuns, by_configs}
 
 -- ---- one event more
@@ -24,10 +25,11 @@ does-on start old new [] d all does = (new, subst (λ h. Does h d new) (sym all)
 does-on start old new (e ∷ es) d all does = (all.0, all.1, does-on all.0 old new es d all.2 does)
 
 pub held_run_starts : HeldRunStarts
-held_run_starts n site start = record { own = tt; does = refl; ticks = tt }
+held_run_starts n site start at = record { at = at; own = tt; does = refl; ticks = tt }
 
 pub held_run_grows : HeldRunGrows
 held_run_grows n site start old new ds d run next = record {
+  at = run.at;
   own = all_append _ ds (d ∷ []) run.own (next.own, tt);
   does = does-on start old new ds d run.does next.does;
   ticks = ticks-on 0 ds d run.ticks next.stamps;
@@ -47,6 +49,7 @@ holding-there held s h u apart = rw (false_eq u s apart) refl
 
 -- what holds of sites and links when these events are still to come
 record IsHeld (n : ℕ) (ds : List Deed) (held end : ℕ → Holding) (g : Linked) (w rest : Waiting) (c : Config) : Type 0 where
+  sites : (s : ℕ) → (held s).site ≡ s
   parts : ArePartsOf held g.here
   does : (s : ℕ) → DoesAll (held s) (own s ds) (end s)
   spread : IsSpread n (spread n g) c
@@ -62,12 +65,16 @@ lead n (d ∷ ds) held end g w rest c is =
     let free = turn_is_apart n g c w d turn in
     let run = subst (λ es. DoesAll (held d.event.event.site) es (end d.event.event.site)) (own-here d.event.event.site d ds refl)
     (is.does d.event.event.site) in
-    let made = run.1 (g.here d.event.event.site) (is.parts d.event.event.site) free.items free.apart in
+    let is_made = are_made n d.event.event.site (held d.event.event.site) (spread n g) c is.among.0.at (is.sites d.event.event.site) (is.parts d.event.event.site) is.spread in
+    let made = run.1.1 is_made (g.here d.event.event.site) (is.parts d.event.event.site) free.items free.apart in
     let on = turn_goes_on n g c w d made.0 turn made.2 in
     let here_now : on.next.here d.event.event.site ≡ made.0 = on.here d.event.event.site ∙ with-site-same d.event.event.site g.here made.0 in
     let there_now : (u : ℕ) → (u ≡ d.event.event.site → ⊥) → on.next.here u ≡ g.here u = λ u apart. on.here u
     ∙ with-site-other g.here d.event.event.site u made.0 apart in
     let more = lead n ds (with_holding held d.event.event.site run.0) end on.next (moved w d) rest on.after (record {
+      sites = each_site (λ u. (with_holding held d.event.event.site run.0 u).site ≡ u) d.event.event.site
+          (ap (λ (h : Holding). h.site) (holding-here held d.event.event.site run.0) ∙ run.1.0 ∙ is.sites d.event.event.site)
+          (λ u apart. ap (λ (h : Holding). h.site) (holding-there held d.event.event.site run.0 u apart) ∙ is.sites u);
       parts = each_site (λ u. IsPart (with_holding held d.event.event.site run.0 u) (on.next.here u)) d.event.event.site
           (subst₂ IsPart (sym (holding-here held d.event.event.site run.0)) (sym here_now) made.1)
           (λ u apart. subst₂ IsPart (sym (holding-there held d.event.event.site run.0 u apart)) (sym (there_now u apart)) (is.parts u));
@@ -98,6 +105,7 @@ pub held_runs_are_runs : HeldRunsAreRuns
 held_runs_are_runs n r here c runs parts shows =
     let turns = have_turns n r.deeds r.rest (clocked n r runs) in
     let all = lead n turns.0 r.start r.end (record { here = here; link = λ u v. [] }) none_waits r.rest c (record {
+      sites = λ s. (runs.each s).at;
       parts = parts;
       does = λ s. subst (λ ds. DoesAll (r.start s) ds (r.end s)) (sym (turns.1.each s)) (runs.each s).does;
       spread = begins n (by_configs r here here) c shows;

@@ -40,7 +40,7 @@ pub record IsAccount (n site : ℕ) (start : Holding) (ds : List Deed) (end : Ho
 -- ---- one event more
 
 abbrev pub AccountStarts : Type 0
-AccountStarts = (n site : ℕ) (start : Holding) → IsAccount n site start [] start []
+AccountStarts = (n site : ℕ) (start : Holding) → start.site ≡ site → IsAccount n site start [] start []
 
 -- what the event takes, on the link from a site
 abbrev pub taken_on : ℕ → Deed → List Came
@@ -65,6 +65,7 @@ pub record Accounts : Type 0 where
 
 -- each of n sites ran alone, and on each link between them what is put is what came, and then what is left
 pub record AreSettled (n : ℕ) (start : ℕ → Holding) (r : Accounts) : Type 0 where
+  pub at : (s : ℕ) → (start s).site ≡ s
   pub each : (s : ℕ) → s < n → IsAccount n s (start s) (r.deeds s) (r.end s) (r.came s)
   pub links : (s t : ℕ) → s < n → t < n → put_for t (r.deeds s) ≡ came_on s (r.came t) ++ r.rest s t
 

@@ -8,6 +8,7 @@ use Rattle.np_holdings.specs.Holdings.{Does, DoesAll, Holding, IsPart}
 
 -- what a site, one of n, did alone, from one holding on to another and from a clock that is 0
 pub record IsHeldRun (n site : ℕ) (start : Holding) (ds : List Deed) (end : Holding) : Type 0 where
+  pub at : start.site ≡ site
   pub own : AllByRecursion (IsDeedOf n site) ds
   pub does : DoesAll start ds end
   pub ticks : Ticks 0 ds
@@ -41,7 +42,7 @@ HeldRunsAreRuns = (n : ℕ) (r : HeldRuns) (here : ℕ → Config) (c : Config) 
 -- ---- one event more
 
 abbrev pub HeldRunStarts : Type 0
-HeldRunStarts = (n site : ℕ) (start : Holding) → IsHeldRun n site start [] start
+HeldRunStarts = (n site : ℕ) (start : Holding) → start.site ≡ site → IsHeldRun n site start [] start
 
 -- an event of the site after these
 pub record IsNextDeed (n site : ℕ) (ds : List Deed) (old : Holding) (d : Deed) (new : Holding) : Type 0 where

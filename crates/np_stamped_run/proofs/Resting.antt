@@ -21,7 +21,7 @@ use Rattle.np_stamped_run.specs.Resting.{Brings, CanInParts, IdleInParts, IsAwai
 use Rattle.np_stamped_run.proofs.Elements.{last-or_before, mapped-occurs, occurs-either, occurs-first, occurs-map, occurs-mapped, occurs-not, occurs-over, occurs-second, over-occurs}
 
 module _ (P : Contents → Type 0) (here : ℕ → Config) where
-  in_sites : (n u : ℕ) → u < n → P (inside (here u)) → Occurs P (sites n here)
+  pub in_sites : (n u : ℕ) → u < n → P (inside (here u)) → Occurs P (sites n here)
   in_sites zero u less h = absurd (omega arith)
   in_sites (suc n) u less h = ⊎_elim (λ same. inl (subst (λ u. P (inside (here u))) same h)) (λ lower. inr (in_sites n u lower h)) (last-or_before u n less)
 
