@@ -6,3 +6,4 @@ pub mod Inversions
 pub mod Leaving
 pub mod Coming
 pub mod Telling
+pub mod Resting

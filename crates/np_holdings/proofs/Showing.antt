@@ -112,13 +112,17 @@ module _ (sites : ℕ) (x : Contents) (agent : Name) (atoms : NameMap Atom) (her
         by None is None got = rw (got, is) refl
         by None is (Some b) got = rw (got, is) (other (same_name a.agent b.agent) b refl got is)
 
+  -- where it was told right, it sees what stands there
+  pub sees : IsTold x atoms e here → (k : Kind) (a : Atom) → acting_in (own_sight sites atoms here) e ≡ Some a
+      → act k (layer a.proc) (sight sites x e.site) e a ≡ act k (layer a.proc) (own_sight sites atoms here) e a
+  sees told k a acts = same-act whole (own_sight sites atoms here) e a refl (offers a acts) k (λ b asked. told.each a b (own-actor a acts) asked)
+
   module _ (told : IsTold x atoms e here) (d : Change) where
     pub shown : (k : Kind) → change_in k (own_sight sites atoms here) e ≡ Some d → change k sites x e ≡ Some d
     shown kind.Arrive h = absurd (not-arrive (own_sight sites atoms here) e d h)
     shown kind.Land h = absurd (not-land (own_sight sites atoms here) e d h)
     shown k h = then (acting_in (own_sight sites atoms here) e) _ h λ a acts h.
-        rw (acts-there a acts)
-        (same-act whole (own_sight sites atoms here) e a refl (offers a acts) k (λ b asked. told.each a b (own-actor a acts) asked) ∙ h)
+        rw (acts-there a acts) (sees told k a acts ∙ h)
 
 -- ---- the agent alone
 

@@ -5,4 +5,5 @@ pub mod Laws
 pub mod Leaving
 pub mod Loads
 pub mod Making
+pub mod Resting
 pub mod Within

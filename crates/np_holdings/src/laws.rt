@@ -1,6 +1,7 @@
 ghost use Rattle.np_holdings.specs.Coming.{Arrives, IsLost, Lands};
 ghost use Rattle.np_holdings.specs.Laws.{NothingDone};
 ghost use Rattle.np_holdings.specs.Leaving.{Leaves, Sends};
+ghost use Rattle.np_holdings.specs.Resting.{IdleByAgents, NoEventHere};
 ghost use Rattle.np_holdings.specs.Within.{GoesOn, GoesOnAlone, Makes, Tells};
 
 /// A site that does nothing holds what it held.
@@ -29,4 +30,11 @@ pub fn law_coming()
     ensures agent { Arrives }
     ensures packet { Lands }
     ensures lost { IsLost }
+{}
+
+/// Where no agent at a site has anything to do, no event is enabled in what the site holds, but for posts. What it holds
+/// rests just where each agent there is idle.
+pub fn law_resting()
+    ensures none { NoEventHere }
+    ensures idle { IdleByAgents }
 {}

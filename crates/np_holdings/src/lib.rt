@@ -3,4 +3,4 @@
 
 mod laws;
 
-pub use laws::{law_coming, law_leaving, law_nothing_done, law_own_events};
+pub use laws::{law_coming, law_leaving, law_nothing_done, law_own_events, law_resting};
