@@ -1,0 +1,30 @@
+ghost use Rattle.std.specs.Prelude.{◌≡◌};
+ghost use Rattle.agent_move.specs.Loads.{site_for};
+
+use crate::load::Load;
+use site_links::Addressed;
+
+/// A load under way from a site to a site, with the stamp of the event that put it on its way. A packet is under way to its
+/// own site.
+#[derive(Drop)]
+pub struct Item {
+    pub(crate) stamp: u64,
+    pub(crate) from: u32,
+    pub(crate) to: u32,
+    pub(crate) load: Load,
+    pub ghost addressed: { site_for load to ≡ to },
+}
+
+impl Addressed for Item {
+    ghost sender = { λ item. item.from };
+
+    ghost receiver = { λ item. item.to };
+
+    fn from_site(&self) -> u32 {
+        self.from
+    }
+
+    fn to_site(&self) -> u32 {
+        self.to
+    }
+}
