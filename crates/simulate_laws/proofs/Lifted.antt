@@ -1,0 +1,41 @@
+-- The lifted events of a run of a compiled program are a run, and leave the configuration that shows it.
+use Rattle.std.proofs.Common.{◌≡◌, List, Some, length, sym, ap, subst, ◌∙◌}
+use Rattle.np_syntax.specs.declared.event.Event.{Event}
+use Rattle.np_syntax.specs.declared.program.Program.{Program}
+use Rattle.np_syntax.proofs.Options.{done}
+use Rattle.np_calculus.specs.Config.{Config}
+use Rattle.np_calculus.specs.Idle.{Idle}
+use Rattle.np_calculus.specs.Reductions.{run}
+use Rattle.np_calculus.specs.Starts.{start_high, start_low}
+use Rattle.np_calculus.specs.Well.{Has}
+use Rattle.np_check.specs.Faults.{IsAccepted}
+use Rattle.daemon_encode.specs.Encoded.{encoded}
+use Rattle.daemon_encode.proofs.LowAgents.{encodes-runs-well}
+use Rattle.daemon_encode.proofs.Related.{encodes-itself}
+use Rattle.np_lift.specs.Lift.{lift}
+use Rattle.np_rest.proofs.Highs.{rests-together}
+use Rattle.np_simulation.specs.Premises.{EventsAreCoupled}
+use Rattle.np_simulation.proofs.Runs.{runs-are-lifted, stays-well}
+use Rattle.simulate_laws.specs.Lifted.{EndsAtRest, ShowsHigh, ShowsRest}
+
+module _ (given : EventsAreCoupled) (p : Program) (accepted : IsAccepted p) (events : List Event) where
+  -- the lifted events are a run
+  pub are-run : Has (run (start_low (encoded p)) events) → Has (run (start_high p) (lift events))
+  are-run h = let l = runs-are-lifted given p (encoded p) (encodes-itself p) accepted events h.0 h.1 in (l.high, l.runs)
+
+  pub shows-high : Has (run (start_low (encoded p)) events) → (high : Config) → run (start_high p) (lift events) ≡ Some high → ShowsHigh p events high
+  shows-high h high leads = record {
+    runs = leads;
+    said = λ low is. (let l = runs-are-lifted given p (encoded p) (encodes-itself p) accepted events low is in l.said ∙ ap (λ (d : Config). d.said) (done (sym leads ∙ l.runs)));
+    well = stays-well p accepted (lift events) high leads;
+  }
+
+  pub shows-rest : EndsAtRest p events → (high : Config) → ShowsHigh p events high → ShowsRest p events high
+  shows-rest ends high shows =
+      let l = runs-are-lifted given p (encoded p) (encodes-itself p) accepted events ends.last ends.runs in
+      let lodged = (encodes-runs-well p accepted).lodged events ends.last ends.runs in
+      let same : high ≡ l.high = done (sym l.runs ∙ shows.runs) in
+      record {
+        shows = shows;
+        rests = subst Idle (sym same) (rests-together (length p.sites) p.binders (encodes-itself p).first ends.last l.high l.view l.coupled lodged ends.rests).0;
+      }

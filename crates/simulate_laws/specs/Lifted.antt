@@ -1,0 +1,30 @@
+-- What the laws answer of a run of a compiled program.
+use Rattle.std.specs.Prelude.{◌≡◌, List, Some}
+use Rattle.np_syntax.specs.declared.event.Event.{Event}
+use Rattle.np_syntax.specs.declared.program.Program.{Program}
+use Rattle.np_calculus.specs.Config.{Config}
+use Rattle.np_calculus.specs.Idle.{Idle}
+use Rattle.np_calculus.specs.Reductions.{run}
+use Rattle.np_calculus.specs.Starts.{start_high, start_low}
+use Rattle.np_calculus.specs.Well.{Well}
+use Rattle.daemon_encode.specs.Encoded.{encoded}
+use Rattle.np_lift.specs.Lift.{lift}
+
+-- the configuration that the lifted events of a run of the compiled program leave
+pub record ShowsHigh (p : Program) (events : List Event) (high : Config) : Type 0 where
+  pub runs : run (start_high p) (lift events) ≡ Some high
+  -- the run of the compiled program printed the same
+  pub said : (low : Config) → run (start_low (encoded p)) events ≡ Some low → low.said ≡ high.said
+  -- no value of a wrong type is met there
+  pub well : Well high
+
+-- the events are a run of the compiled program, after which no site can act
+pub record EndsAtRest (p : Program) (events : List Event) : Type 0 where
+  pub last : Config
+  pub runs : run (start_low (encoded p)) events ≡ Some last
+  pub rests : Idle last
+
+-- and no site can act at the high level then
+pub record ShowsRest (p : Program) (events : List Event) (high : Config) : Type 0 where
+  pub shows : ShowsHigh p events high
+  pub rests : Idle high

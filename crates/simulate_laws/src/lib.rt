@@ -1,0 +1,9 @@
+//! Laws of the two levels on a run at hand: each replays it and answers the configuration that it leaves.
+#![tactic(auto)]
+
+mod following;
+mod lifting;
+mod resting;
+
+pub use lifting::law_lift;
+pub use resting::law_rest;
