@@ -119,14 +119,17 @@ module _ (h : Holding) (agent : Name) (atoms : NameMap Atom) (c : Config) (part 
         (record { sites = refl; born = refl; said = refl }) (λ p. cc) (λ q made. absurd made) arrived
 
 pub arrives : Arrives
-arrives h x item agent atoms is load = (refl, λ made c part items apart.
-    let items : Every IsItem (agent_load agent atoms h.site ∷ []) = subst (λ l. Every IsItem (l ∷ [])) load items in
-    let apart : AreApart (inside c ∷ agent_load agent atoms h.site ∷ []) = subst (λ l. AreApart (inside c ∷ l ∷ [])) load apart in (
-      next h agent atoms c part items.0 apart,
-      next-part h agent atoms c part items.0 apart,
-      subst (λ l. IsStep x.event c (l ∷ []) (next h agent atoms c part items.0 apart) []) (sym load)
-          (subst (λ e. IsStep e c (agent_load agent atoms h.site ∷ []) (next h agent atoms c part items.0 apart) []) (sym is) (next-step h agent atoms c part items.0 apart)),
-    ))
+arrives h x item agent atoms is load = (
+  refl,
+  λ made c part items apart.
+      let items : Every IsItem (agent_load agent atoms h.site ∷ []) = subst (λ l. Every IsItem (l ∷ [])) load items in
+      let apart : AreApart (inside c ∷ agent_load agent atoms h.site ∷ []) = subst (λ l. AreApart (inside c ∷ l ∷ [])) load apart in (
+        next h agent atoms c part items.0 apart,
+        next-part h agent atoms c part items.0 apart,
+        subst (λ l. IsStep x.event c (l ∷ []) (next h agent atoms c part items.0 apart) []) (sym load)
+            (subst (λ e. IsStep e c (agent_load agent atoms h.site ∷ []) (next h agent atoms c part items.0 apart) []) (sym is) (next-step h agent atoms c part items.0 apart)),
+      ),
+)
 
 -- ---- a packet lands
 
@@ -202,19 +205,25 @@ module _ (h : Holding) (x : Stamped) (item : StampedItem) (mark : Name) (packet 
   its-apart apart = subst (λ l. AreApart (inside c ∷ l ∷ [])) load apart
 
 pub lands : Lands
-lands h x item mark packet there is to load stands = (refl, λ made c part items apart.
-    let i = its-items h x item mark packet is load c items in
-    let a = its-apart h x item mark packet is load c apart in (
-      then_next h mark packet to c part i a true,
-      land-part h mark packet to c part i a there stands,
-      of-landing h x item mark packet is load c _ (land-step h mark packet to c part i a true (is-here h mark packet to c part i a there stands)),
-    ))
+lands h x item mark packet there is to load stands = (
+  refl,
+  λ made c part items apart.
+      let i = its-items h x item mark packet is load c items in
+      let a = its-apart h x item mark packet is load c apart in (
+        then_next h mark packet to c part i a true,
+        land-part h mark packet to c part i a there stands,
+        of-landing h x item mark packet is load c _ (land-step h mark packet to c part i a true (is-here h mark packet to c part i a there stands)),
+      ),
+)
 
 pub is_lost : IsLost
-is_lost h x item mark packet is to load absent = (refl, λ made c part items apart.
-    let i = its-items h x item mark packet is load c items in
-    let a = its-apart h x item mark packet is load c apart in (
-      then_next h mark packet to c part i a false,
-      lost-part h mark packet to c part i a absent,
-      of-landing h x item mark packet is load c _ (land-step h mark packet to c part i a false (not-here h mark packet to c part i a absent)),
-    ))
+is_lost h x item mark packet is to load absent = (
+  refl,
+  λ made c part items apart.
+      let i = its-items h x item mark packet is load c items in
+      let a = its-apart h x item mark packet is load c apart in (
+        then_next h mark packet to c part i a false,
+        lost-part h mark packet to c part i a absent,
+        of-landing h x item mark packet is load c _ (land-step h mark packet to c part i a false (not-here h mark packet to c part i a absent)),
+      ),
+)

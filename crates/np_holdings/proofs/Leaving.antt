@@ -121,11 +121,14 @@ module _ (h : Holding) (x : Stamped) (agent : Name) (packet : Packet) (old new :
         })
 
 pub sends : Sends
-sends h x item agent packet old new o g load = (refl, λ made c part items apart. (
-  left h x agent packet old new o g c part,
-  sent-part h x agent packet old new o g c part,
-  subst (λ l. IsStep x.event c [] (left h x agent packet old new o g c part) (l ∷ [])) (item-is h x agent packet old new o g c part ∙ sym load) (sent-step h x agent packet old new o g c part),
-))
+sends h x item agent packet old new o g load = (
+  refl,
+  λ made c part items apart. (
+    left h x agent packet old new o g c part,
+    sent-part h x agent packet old new o g c part,
+    subst (λ l. IsStep x.event c [] (left h x agent packet old new o g c part) (l ∷ [])) (item-is h x agent packet old new o g c part ∙ sym load) (sent-step h x agent packet old new o g c part),
+  ),
+)
 
 -- ---- a migration
 
@@ -224,8 +227,11 @@ module _ (h : Holding) (x : Stamped) (agent : Name) (to : ℕ) (old new : NameMa
         })
 
 pub leaves : Leaves
-leaves h x item agent to old new o g load = (refl, λ made c part items apart. (
-  stay h x agent to old new o g c part,
-  stay-part h x agent to old new o g c part,
-  subst (λ l. IsStep x.event c [] (stay h x agent to old new o g c part) (l ∷ [])) (trip-is h x agent to old new o g c part ∙ sym load) (trip-step h x agent to old new o g c part),
-))
+leaves h x item agent to old new o g load = (
+  refl,
+  λ made c part items apart. (
+    stay h x agent to old new o g c part,
+    stay-part h x agent to old new o g c part,
+    subst (λ l. IsStep x.event c [] (stay h x agent to old new o g c part) (l ∷ [])) (trip-is h x agent to old new o g c part ∙ sym load) (trip-step h x agent to old new o g c part),
+  ),
+)

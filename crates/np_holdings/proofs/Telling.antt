@@ -174,20 +174,23 @@ module _ (h : Holding) (x : Stamped) (agent mark : Name) (packet : Packet) (old 
           ((inr (still-new h c part agent mark x.event.actor old R.on.atom R.on.now (output_of packet) o.stands R.on.there R.on.of unheld), refl), tt))
 
 pub tells : Tells
-tells h x agent mark packet old new there o g is_there = (refl, λ m c part items apart.
-    let d : Change = d h x agent mark packet old new there o m g is_there in
-    let e : Event = x.event in
-    let is : apply c e ≡ Some (effect c e d) =
-    applied h c part agent old kind.Local e o d (changes h c part agent old kind.Local e o true (is-told h x agent mark packet old new there o m g is_there c part) d (row-now h x agent mark packet old new there o m g is_there)) in (
-      effect c e d,
-      part-after h c part e d o.site o.makes (table.insert (table.insert h.agents agent new) packet.agent (table.insert there mark (output_of packet))) None
-          (λ q. part.places q ∙ same-places h.agents agent old new (place.At h.site) o.stands q
-          ∙ same-places (table.insert h.agents agent new) packet.agent there (table.insert there mark (output_of packet)) (place.At h.site) is_there q)
-          (two-holds h x agent mark packet old new there o m g is_there c part)
-          part.packets
-          refl,
-      inner_step c (effect c e d) e (own-site h c part agent old kind.Local e o) (λ p. let p : kind.Local ≡ kind.Post = sym o.kind ∙ p in cc) (own-made h c part agent old kind.Local e o) is,
-    ))
+tells h x agent mark packet old new there o g is_there = (
+  refl,
+  λ m c part items apart.
+      let d : Change = d h x agent mark packet old new there o m g is_there in
+      let e : Event = x.event in
+      let is : apply c e ≡ Some (effect c e d) =
+      applied h c part agent old kind.Local e o d (changes h c part agent old kind.Local e o true (is-told h x agent mark packet old new there o m g is_there c part) d (row-now h x agent mark packet old new there o m g is_there)) in (
+        effect c e d,
+        part-after h c part e d o.site o.makes (table.insert (table.insert h.agents agent new) packet.agent (table.insert there mark (output_of packet))) None
+            (λ q. part.places q ∙ same-places h.agents agent old new (place.At h.site) o.stands q
+            ∙ same-places (table.insert h.agents agent new) packet.agent there (table.insert there mark (output_of packet)) (place.At h.site) is_there q)
+            (two-holds h x agent mark packet old new there o m g is_there c part)
+            part.packets
+            refl,
+        inner_step c (effect c e d) e (own-site h c part agent old kind.Local e o) (λ p. let p : kind.Local ≡ kind.Post = sym o.kind ∙ p in cc) (own-made h c part agent old kind.Local e o) is,
+      ),
+)
 
 -- ---- the making of an agent
 
@@ -297,16 +300,19 @@ module _ (h : Holding) (x : Stamped) (agent child mark : Name) (first : Atom) (o
       }
 
 pub makes : Makes
-makes h x agent child mark first old new o g = (refl, λ m c part items apart.
-    let d : Change = made_change h x agent child mark first old new o m g in
-    let e : Event = x.event in
-    let is : apply c e ≡ Some (effect c e d) =
-    applied h c part agent old kind.Agent e o d (changes h c part agent old kind.Agent e o false (no-asking h x agent child mark first old new o m g c part) d (row-born h x agent child mark first old new o m g)) in (
-      effect c e d,
-      part-after h c part e d o.site o.makes (table.insert (table.insert h.agents agent new) child (table.insert table.empty mark first)) None
-          (born-places h x agent child mark first old new o m g c part)
-          (born-holds h x agent child mark first old new o m g c part)
-          part.packets
-          refl,
-      inner_step c (effect c e d) e (own-site h c part agent old kind.Agent e o) (λ p. let p : kind.Agent ≡ kind.Post = sym o.kind ∙ p in cc) (own-made h c part agent old kind.Agent e o) is,
-    ))
+makes h x agent child mark first old new o g = (
+  refl,
+  λ m c part items apart.
+      let d : Change = made_change h x agent child mark first old new o m g in
+      let e : Event = x.event in
+      let is : apply c e ≡ Some (effect c e d) =
+      applied h c part agent old kind.Agent e o d (changes h c part agent old kind.Agent e o false (no-asking h x agent child mark first old new o m g c part) d (row-born h x agent child mark first old new o m g)) in (
+        effect c e d,
+        part-after h c part e d o.site o.makes (table.insert (table.insert h.agents agent new) child (table.insert table.empty mark first)) None
+            (born-places h x agent child mark first old new o m g c part)
+            (born-holds h x agent child mark first old new o m g c part)
+            part.packets
+            refl,
+        inner_step c (effect c e d) e (own-site h c part agent old kind.Agent e o) (λ p. let p : kind.Agent ≡ kind.Post = sym o.kind ∙ p in cc) (own-made h c part agent old kind.Agent e o) is,
+      ),
+)

@@ -119,11 +119,17 @@ module _ (h : Holding) (agent : Name) (old new : NameMap Atom) (k : Kind) (value
         )
 
 pub goes_on : GoesOn
-goes_on h x agent old new k value o local post g = (refl, λ m.
-    within h agent old new k value x o m post g
-    (λ a b there asks. let p = parted k h.sites old new x.event _ g in absurd (asks-none (own_sight h.sites old false) x.event k p.change local p.is a b there asks)))
+goes_on h x agent old new k value o local post g = (
+  refl,
+  λ m.
+      within h agent old new k value x o m post g
+      (λ a b there asks. let p = parted k h.sites old new x.event _ g in absurd (asks-none (own_sight h.sites old false) x.event k p.change local p.is a b there asks)),
+)
 
 pub goes_on_alone : GoesOnAlone
-goes_on_alone h x agent other old new o asks_for absent g = (refl, λ m.
-    within h agent old new kind.Local None x o m (λ e. cc) g
-    (λ a b there asks. let same : b ≡ other = sym (done (sym (ap (λ q. q >>= asked_of) there ∙ asks) ∙ asks_for)) in ap (table.get h.agents) same ∙ absent))
+goes_on_alone h x agent other old new o asks_for absent g = (
+  refl,
+  λ m.
+      within h agent old new kind.Local None x o m (λ e. cc) g
+      (λ a b there asks. let same : b ≡ other = sym (done (sym (ap (λ q. q >>= asked_of) there ∙ asks) ∙ asks_for)) in ap (table.get h.agents) same ∙ absent),
+)

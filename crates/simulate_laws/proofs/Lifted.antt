@@ -14,25 +14,24 @@ use Rattle.daemon_encode.proofs.LowAgents.{encodes-runs-well}
 use Rattle.daemon_encode.proofs.Related.{encodes-itself}
 use Rattle.np_lift.specs.Lift.{lift}
 use Rattle.np_rest.proofs.Highs.{rests-together}
-use Rattle.np_simulation.specs.Premises.{EventsAreCoupled}
 use Rattle.np_simulation.proofs.Runs.{runs-are-lifted, stays-well}
 use Rattle.simulate_laws.specs.Lifted.{EndsAtRest, ShowsHigh, ShowsRest}
 
-module _ (given : EventsAreCoupled) (p : Program) (accepted : IsAccepted p) (events : List Event) where
+module _ (p : Program) (accepted : IsAccepted p) (events : List Event) where
   -- the lifted events are a run
   pub are-run : Has (run (start_low (encoded p)) events) → Has (run (start_high p) (lift events))
-  are-run h = let l = runs-are-lifted given p (encoded p) (encodes-itself p) accepted events h.0 h.1 in (l.high, l.runs)
+  are-run h = let l = runs-are-lifted p (encoded p) (encodes-itself p) accepted events h.0 h.1 in (l.high, l.runs)
 
   pub shows-high : Has (run (start_low (encoded p)) events) → (high : Config) → run (start_high p) (lift events) ≡ Some high → ShowsHigh p events high
   shows-high h high leads = record {
     runs = leads;
-    said = λ low is. (let l = runs-are-lifted given p (encoded p) (encodes-itself p) accepted events low is in l.said ∙ ap (λ (d : Config). d.said) (done (sym leads ∙ l.runs)));
+    said = λ low is. (let l = runs-are-lifted p (encoded p) (encodes-itself p) accepted events low is in l.said ∙ ap (λ (d : Config). d.said) (done (sym leads ∙ l.runs)));
     well = stays-well p accepted (lift events) high leads;
   }
 
   pub shows-rest : EndsAtRest p events → (high : Config) → ShowsHigh p events high → ShowsRest p events high
   shows-rest ends high shows =
-      let l = runs-are-lifted given p (encoded p) (encodes-itself p) accepted events ends.last ends.runs in
+      let l = runs-are-lifted p (encoded p) (encodes-itself p) accepted events ends.last ends.runs in
       let lodged = (encodes-runs-well p accepted).lodged events ends.last ends.runs in
       let same : high ≡ l.high = done (sym l.runs ∙ shows.runs) in
       record {

@@ -5,7 +5,6 @@ ghost use Rattle.np_calculus.specs.Reductions.{run};
 ghost use Rattle.np_calculus.specs.Starts.{start_low};
 ghost use Rattle.np_calculus.specs.Well.{Has};
 ghost use Rattle.daemon_encode.specs.Encoded.{encoded};
-ghost use Rattle.np_simulation.specs.Premises.{EventsAreCoupled};
 ghost use Rattle.simulate_laws.specs.Lifted.{ShowsHigh};
 
 use super::following::follow;
@@ -18,7 +17,6 @@ use std::alloc::Global;
 /// The configuration to which the lifted events lead from the high start, where the events are a run of the compiled
 /// program. The run of that has printed the same.
 pub fn law_lift(alloc: Global, program: &Checked, events: &[Event]) -> Result<Cfg, Memory>
-    requires kinds { EventsAreCoupled }
     requires run { Has (run (start_low (encoded program.now)) events.now) }
     ensures { IfOk result (ShowsHigh program.now events.now) }
 {

@@ -1,7 +1,6 @@
 //! A run of a compiled program that ends at rest, at the high level.
 
 ghost use Rattle.std.specs.Prelude.{IfOk};
-ghost use Rattle.np_simulation.specs.Premises.{EventsAreCoupled};
 ghost use Rattle.simulate_laws.specs.Lifted.{EndsAtRest, ShowsRest};
 
 use super::lifting::law_lift;
@@ -13,7 +12,6 @@ use std::alloc::Global;
 /// The configuration to which the lifted events lead from the high start, where the events are a run of the compiled
 /// program that ends at rest. No site can act there.
 pub fn law_rest(alloc: Global, program: &Checked, events: &[Event]) -> Result<Cfg, Memory>
-    requires kinds { EventsAreCoupled }
     requires run { EndsAtRest program.now events.now }
     ensures { IfOk result (ShowsRest program.now events.now) }
 {

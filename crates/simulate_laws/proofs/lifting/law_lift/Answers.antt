@@ -8,11 +8,11 @@ use Rattle.simulate_laws.proofs.lifting.law_lift.Goals as goal
 
 pub follow-requires : goal.follow-requires
 follow-requires c =
-    let r = are-run c.requires.kinds c.args.program.now c.program.ensures.accepted c.args.events.now c.requires.run in
+    let r = are-run c.args.program.now c.program.ensures.accepted c.args.events.now c.requires.run in
     (r.0, ap (λ s. run s c.as_slice.result.now) (c.in_ok-start.ensures ∙ ap start_high c.program.ensures.value) ∙ ap (run (start_high c.args.program.now)) (c.as_slice.ensures ∙ c.in_ok-lifted.ensures) ∙ r.1)
 
 pub returns : goal.returns
 returns c =
-    IfOk-weaker c.follow.result _ (ShowsHigh c.args.program.now c.args.events.now) (λ high leads. shows-high c.requires.kinds c.args.program.now c.program.ensures.accepted c.args.events.now c.requires.run high
+    IfOk-weaker c.follow.result _ (ShowsHigh c.args.program.now c.args.events.now) (λ high leads. shows-high c.args.program.now c.program.ensures.accepted c.args.events.now c.requires.run high
     (sym (ap (λ s. run s c.as_slice.result.now) (c.in_ok-start.ensures ∙ ap start_high c.program.ensures.value) ∙ ap (run (start_high c.args.program.now)) (c.as_slice.ensures ∙ c.in_ok-lifted.ensures)) ∙ leads))
     c.follow.ensures
