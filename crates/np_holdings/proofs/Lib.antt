@@ -7,3 +7,4 @@ pub mod Leaving
 pub mod Coming
 pub mod Telling
 pub mod Resting
+pub mod Making

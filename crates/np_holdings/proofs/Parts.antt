@@ -30,7 +30,7 @@ not-self n = grind (arith, nat_tests)
 not-more : (n : ℕ) → nat_lt (n + 1) n ≡ false
 not-more n = grind (arith, nat_tests)
 
-below : (k n : ℕ) → nat_lt k n ≡ true → k < n
+pub below : (k n : ℕ) → nat_lt k n ≡ true → k < n
 below k n h = grind (arith, nat_tests)
 
 pub name-apart : (s j k : ℕ) → (j ≡ k → ⊥) → same_name (name_of s j) (name_of s k) ≡ false

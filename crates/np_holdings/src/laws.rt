@@ -1,12 +1,19 @@
 ghost use Rattle.np_holdings.specs.Coming.{Arrives, IsLost, Lands};
 ghost use Rattle.np_holdings.specs.Laws.{NothingDone};
 ghost use Rattle.np_holdings.specs.Leaving.{Leaves, Sends};
+ghost use Rattle.np_holdings.specs.Making.{MadeInSpread};
 ghost use Rattle.np_holdings.specs.Resting.{IdleByAgents, NoEventHere};
 ghost use Rattle.np_holdings.specs.Within.{GoesOn, GoesOnAlone, Makes, Tells};
 
 /// A site that does nothing holds what it held.
 pub fn law_nothing_done()
     ensures { NothingDone }
+{}
+
+/// Where sites and what is under way between them have the parts of one configuration, each name of a site's own that stands
+/// there is one that it has made.
+pub fn law_names_made()
+    ensures { MadeInSpread }
 {}
 
 /// By an event within an agent that stands at a site, the agent goes on, and so it does by a location test whose agent is

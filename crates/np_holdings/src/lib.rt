@@ -3,4 +3,6 @@
 
 mod laws;
 
-pub use laws::{law_coming, law_leaving, law_nothing_done, law_own_events, law_resting};
+pub use laws::{
+    law_coming, law_leaving, law_names_made, law_nothing_done, law_own_events, law_resting,
+};
