@@ -8,3 +8,4 @@ pub mod Coming
 pub mod Telling
 pub mod Resting
 pub mod Making
+pub mod Loads

@@ -1,5 +1,5 @@
 -- What is under way as an item: an agent with its atoms, or a packet.
-use Rattle.std.specs.Prelude.{ℕ, cond, None, Some}
+use Rattle.std.specs.Prelude.{◌≡◌, ℕ, cond, None, Some}
 use Rattle.std.specs.FinMap as table
 use Rattle.np_syntax.specs.declared.value.Name.{Name}
 use Rattle.np_tables.specs.Names.{NameMap, same_name}
@@ -8,6 +8,8 @@ use Rattle.np_calculus.specs.declared.config.Packet.{Packet}
 use Rattle.np_calculus.specs.declared.config.Place.TheVariants as place
 use Rattle.np_calculus.specs.Reductions.{output_in}
 use Rattle.np_calculus.specs.Sight.{Contents}
+use Rattle.np_merged_run.specs.Steps.{IsItem}
+use Rattle.np_stamped_run.specs.Resting.{Brings}
 
 -- an agent under way to a site, with its atoms
 abbrev pub agent_load : Name → NameMap Atom → ℕ → Contents
@@ -20,3 +22,11 @@ packet_load mark packet = record { place = λ q. None; atom = λ m. None; packet
 -- the output that a packet stands for, in its agent
 abbrev pub output_of : Packet → Atom
 output_of packet = output_in packet.agent packet.chan packet.value packet.tag
+
+-- each of them brings something to the site to which it goes, and is fit to be under way
+abbrev pub AgentIsBrought : Type 0
+AgentIsBrought = (agent : Name) (atoms : NameMap Atom) (to : ℕ) → Brings to (agent_load agent atoms to)
+    × (((m : Name) (a : Atom) → table.get atoms m ≡ Some a → a.agent ≡ agent) → IsItem (agent_load agent atoms to))
+
+abbrev pub PacketIsBrought : Type 0
+PacketIsBrought = (mark : Name) (packet : Packet) → Brings packet.to (packet_load mark packet) × IsItem (packet_load mark packet)

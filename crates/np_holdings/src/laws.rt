@@ -1,6 +1,7 @@
 ghost use Rattle.np_holdings.specs.Coming.{Arrives, IsLost, Lands};
 ghost use Rattle.np_holdings.specs.Laws.{NothingDone};
 ghost use Rattle.np_holdings.specs.Leaving.{Leaves, Sends};
+ghost use Rattle.np_holdings.specs.Loads.{AgentIsBrought, PacketIsBrought};
 ghost use Rattle.np_holdings.specs.Making.{MadeInSpread};
 ghost use Rattle.np_holdings.specs.Resting.{IdleByAgents, NoEventHere};
 ghost use Rattle.np_holdings.specs.Within.{GoesOn, GoesOnAlone, Makes, Tells};
@@ -23,6 +24,12 @@ pub fn law_own_events()
     ensures alone { GoesOnAlone }
     ensures tells { Tells }
     ensures makes { Makes }
+{}
+
+/// An agent under way to a site, with atoms of its own, and a packet bring something to the site to which they go.
+pub fn law_loads()
+    ensures agent { AgentIsBrought }
+    ensures packet { PacketIsBrought }
 {}
 
 /// A migration puts out the agent with its atoms, and a message puts out a packet.
