@@ -1,5 +1,5 @@
 -- The names that a site makes, in order of their numbers.
-use Rattle.std.specs.Prelude.{◌≡◌, ◌+◌, ℕ}
+use Rattle.std.specs.Prelude.{◌≡◌, ◌<◌, ◌+◌, ℕ}
 use Rattle.np_syntax.specs.declared.event.Made.{Made}
 use Rattle.np_syntax.specs.declared.event.Made.TheVariants as made
 use Rattle.np_calculus.specs.Config.{Config}

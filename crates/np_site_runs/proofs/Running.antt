@@ -1,5 +1,5 @@
 -- What sites did by their holdings are steps of configurations.
-use Rattle.std.proofs.Common.{◌≡◌, ℕ, cond, nat_eq, List, [], ◌∷◌, ◌++◌, refl, sym, ap, subst, subst₂, ◌∙◌}
+use Rattle.std.proofs.Common.{◌≡◌, ◌<◌, ℕ, cond, nat_eq, List, [], ◌∷◌, ◌++◌, refl, sym, ap, subst, subst₂, ◌∙◌}
 use Rattle.std.specs.List.{AllByRecursion}
 use Rattle.np_calculus.specs.Config.{Config}
 use Rattle.np_merged_run.specs.Links.{Linked, spread}
@@ -14,8 +14,8 @@ use Rattle.np_stamped_run.proofs.Growing.{ticks-on}
 use Rattle.np_stamped_run.proofs.Moving.{with-site-other}
 use Rattle.np_stamped_run.proofs.Running.{begins}
 use Rattle.np_stamped_run.proofs.Turning.{have_turns, turn_goes_on, turn_is_apart}
-use Rattle.np_holdings.specs.Holdings.{Does, DoesAll, Holding, IsPart}
-use Rattle.np_site_runs.proofs.Making.{are_made}
+use Rattle.np_holdings.specs.Holdings.{AreMade, Does, DoesAll, Holding, IsPart}
+use Rattle.np_holdings.proofs.Making.{made_in_spread}
 use Rattle.np_site_runs.specs.SiteRuns.{AreHeldRuns, ArePartsOf, HeldRunGrows, HeldRunStarts, HeldRuns, HeldRunsAreRuns, by_configs}
 
 -- ---- one event more
@@ -57,6 +57,9 @@ record IsHeld (n : ℕ) (ds : List Deed) (held end : ℕ → Holding) (g : Linke
   among : AllByRecursion (IsAmong n) ds
   flow : Flows w ds rest
 
+is_made : (n : ℕ) (g : Linked) (c : Config) (s : ℕ) (h : Holding) → s < n → h.site ≡ s → IsPart h (g.here s) → IsSpread n (spread n g) c → AreMade h
+is_made n g c s h less at part shows = made_in_spread n (spread n g) c h shows (subst (λ u. u < n) (sym at) less) (subst (λ u. IsPart h (g.here u)) (sym at) part)
+
 lead : (n : ℕ) (ds : List Deed) (held end : ℕ → Holding) (g : Linked) (w rest : Waiting) (c : Config) → IsHeld n ds held end g w rest c
     → (last : ℕ → Config) × ArePartsOf end last × ((s : ℕ) → Leads (g.here s) (own s ds) (last s))
 lead n [] held end g w rest c is = (g.here, λ s. subst (λ h. IsPart h (g.here s)) (is.does s) (is.parts s), λ s. refl)
@@ -65,8 +68,8 @@ lead n (d ∷ ds) held end g w rest c is =
     let free = turn_is_apart n g c w d turn in
     let run = subst (λ es. DoesAll (held d.event.event.site) es (end d.event.event.site)) (own-here d.event.event.site d ds refl)
     (is.does d.event.event.site) in
-    let is_made = are_made n d.event.event.site (held d.event.event.site) (spread n g) c is.among.0.at (is.sites d.event.event.site) (is.parts d.event.event.site) is.spread in
-    let made = run.1.1 is_made (g.here d.event.event.site) (is.parts d.event.event.site) free.items free.apart in
+    let made_there = is_made n g c d.event.event.site (held d.event.event.site) is.among.0.at (is.sites d.event.event.site) (is.parts d.event.event.site) is.spread in
+    let made = run.1.1 made_there (g.here d.event.event.site) (is.parts d.event.event.site) free.items free.apart in
     let on = turn_goes_on n g c w d made.0 turn made.2 in
     let here_now : on.next.here d.event.event.site ≡ made.0 = on.here d.event.event.site ∙ with-site-same d.event.event.site g.here made.0 in
     let there_now : (u : ℕ) → (u ≡ d.event.event.site → ⊥) → on.next.here u ≡ g.here u = λ u apart. on.here u
