@@ -32,6 +32,7 @@ use Rattle.np_levels.proofs.Marks.{reshape}
 use Rattle.np_levels.proofs.Plains.{none-other}
 use Rattle.np_levels.proofs.Scenes.{scene_put}
 use Rattle.np_levels.proofs.Together.{together}
+use Rattle.np_levels.specs.Letters.{SameLetters}
 
 -- what an Arrive does
 record IsArriving (low : Config) (e : Event) (next : Config) : Type 0 where
@@ -116,8 +117,8 @@ module _ {n from first : ℕ} {low high : Config} {v : View} (c : Coupled n from
     known = λ q ts j. known_on v.lock (chips v.things) (chips v.things) n from high.born e.made (λ a b any. any) ts (c.known q ts j);
   })
 
-  arrived : (then : Config) × (apply high e ≡ Some then) × (w : View) × (w.stands_for ≡ v.stands_for) × Coupled n from first next then w
-  arrived = (then_high, applies, record v { phase = protocol.0 }, refl, coupled)
+  arrived : (then : Config) × (apply high e ≡ Some then) × (w : View) × (w.stands_for ≡ v.stands_for) × Coupled n from first next then w × SameLetters v w
+  arrived = (then_high, applies, record v { phase = protocol.0 }, refl, coupled, λ q. refl)
 
 pub arrivals-are-events : ArrivalsAreEvents
 arrivals-are-events n from first low high v c well e next is_arrive plain h = arrived c e next is_arrive h

@@ -13,6 +13,7 @@ use Rattle.np_syntax.specs.declared.process.Role.TheVariants as role
 use Rattle.np_syntax.specs.declared.process.ProcForm.{ProcForm-F}
 use Rattle.np_syntax.specs.declared.event.Event.{Event}
 use Rattle.np_syntax.specs.declared.event.Kind.TheVariants as kind
+use Rattle.np_syntax.specs.Options.{◌>>=◌}
 use Rattle.np_syntax.proofs.Options.{then, done}
 use Rattle.np_tables.specs.Names.{NameMap}
 use Rattle.np_tables.proofs.Tables.{get-put, put_here}
@@ -39,9 +40,11 @@ use Rattle.np_things.specs.Mail.{Posted}
 use Rattle.np_things.specs.Shapes.{Are, Is, IsAgents, Opens}
 use Rattle.np_things.specs.Things.{IsHeaded, Stage, Thing, first_atom_of, first_packet_of, high_atom, show_all}
 use Rattle.np_levels.specs.Coupled.{Coupled, IsShaped, KnowsOnly, View, chips, is_channel, is_child_of, may_know, scene}
+use Rattle.np_levels.proofs.Letters.{letter-put, same-letters}
 use Rattle.np_levels.proofs.Marks.{at_mark, step_at}
 use Rattle.np_levels.proofs.Quiet.{any_kept, quiet}
 use Rattle.np_levels.proofs.Shapes.{of_actor, same_role}
+use Rattle.np_levels.specs.Letters.{IsHanding, OtherLetter, SameLetters, first_letter_of}
 
 -- a step without what is both taken and given
 pub cancel : {A : Type 0} {before after take give : List A} (took gave both : List A) → Step before after take give → IsPermutation take (took ++ both) → IsPermutation give (gave ++ both) → Step before after took gave
@@ -67,8 +70,9 @@ module _ {n from first : ℕ} {low high : Config} {v : View} (c : Coupled n from
     pub known : AllByRecursion (λ t. KnowsOnly (may_know v.lock (chips v.things) t) (is_channel n high.born) from t) ts
         → AllByRecursion (λ t. KnowsOnly (may_know v.lock (chips (map.insert v.things m us)) t) (is_channel n high.born) from t) us
 
-  pub becomes : (next : Config) (e : Event) (m : Name) (x : Atom) (ts us : List Thing) → Becomes next e m x ts us → (w : View) × (w.stands_for ≡ v.stands_for) × Coupled n from first next high w
-  becomes next e m x ts us b =
+  pub becomes_other : (next : Config) (e : Event) (m : Name) (x : Atom) (ts us : List Thing) → Becomes next e m x ts us
+      → (w : View) × (w.stands_for ≡ v.stands_for) × Coupled n from first next high w × OtherLetter v w m (first_letter_of us)
+  becomes_other next e m x ts us b =
       let things : NameMap (List Thing) = map.insert v.things m us in
       let step = step_at v.things m ts us b.there in
       let protocol = b.protocol step in (
@@ -90,7 +94,14 @@ module _ {n from first : ℕ} {low high : Config} {v : View} (c : Coupled n from
           known = All-from_recursion (λ t. KnowsOnly (may_know v.lock (chips things) t) (is_channel n high.born) from t) us
               (b.known (recursion_from_All (λ t. KnowsOnly (may_know v.lock (chips v.things) t) (is_channel n high.born) from t) ts (c.known m ts b.there)));
         })),
+        letter-put v.things m us,
       )
+
+  -- the new things carry the letter that was there
+  pub becomes : (next : Config) (e : Event) (m : Name) (x : Atom) (ts us : List Thing) → first_letter_of us ≡ first_letter_of ts → Becomes next e m x ts us
+      → (w : View) × (w.stands_for ≡ v.stands_for) × Coupled n from first next high w × SameLetters v w
+  becomes next e m x ts us same b =
+      let w = becomes_other next e m x ts us b in (w.0, w.1, w.2, λ q. w.3 q ∙ sym (letter-put v.things m us q) ∙ same-letters v.things m us ts b.there same q)
 
 -- ---- a letter is opened
 
@@ -117,23 +128,26 @@ opens_letter n from first (Thing.mail m (Stage.in_agent x)) a i h f = absurd cc
 opens_letter n from first _ a i h f = absurd cc
 
 module _ {n from first : ℕ} {low high : Config} {v : View} (c : Coupled n from first low high v) where
-  pub opens : (e : Event) (next : Config) → e.kind ≡ kind.Open → e.tag.role ≡ role.Infra → apply low e ≡ Some next → (w : View) × (w.stands_for ≡ v.stands_for) × Coupled n from first next high w
+  pub opens : (e : Event) (next : Config) → e.kind ≡ kind.Open → e.tag.role ≡ role.Infra → apply low e ≡ Some next → (w : View) × (w.stands_for ≡ v.stands_for) × Coupled n from first next high w × IsHanding next e v w
   opens e next is_open infra h =
       let s = opening low e next (ap (λ k. row k low e) (sym is_open) ∙ h) in
       let o = of_actor c e.actor s.atom kind.Open role.Infra s.acts.there (ap begun_by s.form) (same_role s.atom.proc.tag e.tag s.acts.tag ∙ infra) (λ k r. cc) in
       opens_letter n from first o.thing s.atom o.is o.its_kind λ p thing i apart.
       let letters : s.letter ≡ i.letter = (let same = sym s.form ∙ i.is in cc) in
       let held : s.held ≡ (p.chan, p.value) = some_is (sym s.its_letter ∙ ap (λ (y : Expr). letter_of y s.atom.env) letters ∙ i.holds) in
-      becomes c next e e.actor (output_in s.atom.agent s.held.0 s.held.1 e.tag) (Thing.opening p ∷ []) (Thing.opened p ∷ []) (record {
+      let there : map.get v.things e.actor ≡ Some (Thing.opening p ∷ []) = o.there ∙ ap (λ t. Some (t ∷ [])) thing in
+      let output : output_in s.atom.agent s.held.0 s.held.1 e.tag ≡ output_in p.agent p.chan p.value e.tag =
+      ap (λ (a : Name). output_in a s.held.0 s.held.1 e.tag) i.agent ∙ ap (λ (l : Name × Value). output_in p.agent l.0 l.1 e.tag) held in
+      let w = becomes_other c next e e.actor (output_in s.atom.agent s.held.0 s.held.1 e.tag) (Thing.opening p ∷ []) (Thing.opened p ∷ []) (record {
         applies = h;
         is = s.is;
         no_packet = o.no_packet;
-        there = o.there ∙ ap (λ t. Some (t ∷ [])) thing;
+        there = there;
         headed = All-nil (λ u. high_atom u ≡ None);
         are = Are.one (record {
           apart = apart;
           tag = e.tag;
-          is = ap (λ (a : Name). output_in a s.held.0 s.held.1 e.tag) i.agent ∙ ap (λ (l : Name × Value). output_in p.agent l.0 l.1 e.tag) held;
+          is = output;
         });
         atoms = refl;
         packets = refl;
@@ -141,7 +155,18 @@ module _ {n from first : ℕ} {low high : Config} {v : View} (c : Coupled n from
             (Rule.knows (All-from_recursion IsKnowledge (Chip.knows p.agent ∷ []) (tt, tt)) (All-nil (IsLearnt (scene v high)))) step c.protocol;
         children = λ a b any. any;
         known = λ k. k;
-      })
+      }) in (
+        w.0,
+        w.1,
+        w.2,
+        record {
+          letter = p;
+          was = ap (λ o. o >>= first_letter_of) there;
+          tag = e.tag;
+          stands = ap (λ (d : Config). map.get d.atoms e.actor) s.is ∙ put_here low.atoms e.actor (output_in s.atom.agent s.held.0 s.held.1 e.tag) ∙ ap Some output;
+          after = w.3;
+        },
+      )
     where
       some_is : {A : Type 0} {a b : A} → Some a ≡ Some b → a ≡ b
       some_is e = cc

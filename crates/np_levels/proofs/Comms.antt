@@ -64,6 +64,7 @@ use Rattle.np_levels.proofs.Quiet.{any_in, any_kept, any_out, knows_more, or_cas
 use Rattle.np_levels.proofs.Serves.{no_lock_at}
 use Rattle.np_levels.proofs.Shapes.{OfAtom, of_actor, of_atom, same_role}
 use Rattle.np_levels.proofs.Values.{agent-is, bind-one, channel-is, here_is, pair-is, there_is, unit-is, variable-is}
+use Rattle.np_levels.specs.Letters.{SameLetters}
 
 -- what a server's copy took it still has when it has the map
 took_kept : (n x : ℕ) (k : Service) (m : Mail) (env : Env) (u : Value) → Took x k m env → Took x k m (map.insert env (desk n x k).map u)
@@ -95,7 +96,7 @@ no_owed a b (ch ∷ cs) none h =
 
 module _ {n from first : ℕ} {low high : Config} {v : View} (c : Coupled n from first low high v) (e : Event) (next : Config) (s : IsMeeting low e next) (no_packet : map.get low.packets e.actor ≡ None) (h : apply low e ≡ Some next) where
   abbrev Done : Type 0
-  Done = (w : View) × (w.stands_for ≡ v.stands_for) × Coupled n from first next high w
+  Done = (w : View) × (w.stands_for ≡ v.stands_for) × Coupled n from first next high w × SameLetters v w
 
   -- what the text of the input says
   record Reads (a : Expr) (x : Pat) (p : Proc) : Type 0 where
@@ -140,6 +141,7 @@ module _ {n from first : ℕ} {low high : Config} {v : View} (c : Coupled n from
         });
         atoms = refl;
         packets = refl;
+        letters = refl;
         no_atom = refl;
         no_high_packet = refl;
         protocol = λ step. same_chips step c.protocol;
@@ -210,6 +212,7 @@ module _ {n from first : ℕ} {low high : Config} {v : View} (c : Coupled n from
             );
             atoms = refl;
             packets = refl;
+            letters = refl;
             no_atom = refl;
             no_high_packet = refl;
             protocol = λ step. keeps-protocol (scene v high) (scene v high) v.phase (chips v.things) _ (Chip.request a ∷ Chip.wants a l ∷ Chip.free l t ∷ []) (Chip.ack_sent a t ∷ []) (Rule.grants {a = a} {l = l} {s = t})
@@ -251,6 +254,7 @@ module _ {n from first : ℕ} {low high : Config} {v : View} (c : Coupled n from
             );
             atoms = refl;
             packets = refl;
+            letters = refl;
             no_atom = refl;
             no_high_packet = refl;
             protocol = λ step. keeps-protocol (scene v high) (scene v high) v.phase (chips v.things) _ (Chip.wants p.agent l ∷ Chip.free l t ∷ []) (Chip.delivery p.agent t ∷ []) (Rule.delivers {b = p.agent} {l = l} {s = t})
@@ -309,6 +313,7 @@ module _ {n from first : ℕ} {low high : Config} {v : View} (c : Coupled n from
         are = Are.one (record { stands = stands_on s.body env i.stands; migrates = i.migrates; is = r.body });
         atoms = refl;
         packets = refl;
+        letters = refl;
         no_atom = refl;
         no_high_packet = refl;
         protocol = λ step. keeps-protocol (scene v high) (scene v high) v.phase (chips v.things) _ (Chip.mover hi.agent ∷ Chip.ack_here hi.agent ∷ []) (Chip.leaver hi.agent ∷ []) (Rule.is_granted {a = hi.agent})
@@ -340,6 +345,7 @@ module _ {n from first : ℕ} {low high : Config} {v : View} (c : Coupled n from
             (Are.one (record { agent = i.stands.agent; gives = token_given i.node i.at t (ap (eval i.at) env ∙ i.tells) }, i.stands.apart));
         atoms = refl;
         packets = refl;
+        letters = refl;
         no_atom = refl;
         no_high_packet = refl;
         protocol = λ step. keeps-protocol (scene v high) (scene v high) v.phase (chips v.things) _ (Chip.waiter hi.agent t ∷ Chip.ack_here hi.agent ∷ []) (Chip.token hi.agent t ∷ []) (Rule.finishes {a = hi.agent} {s = t}) (alone step) c.protocol;
@@ -395,6 +401,7 @@ module _ {n from first : ℕ} {low high : Config} {v : View} (c : Coupled n from
             (Are.one (record { agent = i.stands.agent; gives = token_given i.node (variable i.binder) t site_is }, i.stands.apart));
         atoms = refl;
         packets = refl;
+        letters = refl;
         no_atom = refl;
         no_high_packet = refl;
         protocol = λ step. keeps-protocol (scene v high) (scene v high) v.phase (chips v.things) _ (Chip.ack_here hi.agent ∷ Chip.child hi.agent p t ∷ []) (Chip.token hi.agent t ∷ Chip.ack_sent p t ∷ []) (Rule.starts {b = hi.agent} {p = p} {s = t})
@@ -489,6 +496,7 @@ module _ {n from first : ℕ} {low high : Config} {v : View} (c : Coupled n from
             ));
         atoms = refl;
         packets = refl;
+        letters = refl;
         no_atom = refl;
         no_high_packet = refl;
         protocol = λ step. keeps-protocol (scene v high) (scene v high) v.phase (chips v.things) _ (Chip.token hi.agent k.site_of ∷ []) (Chip.mover hi.agent ∷ Chip.request hi.agent ∷ []) (Rule.begins_move {a = hi.agent} {s = k.site_of}) step c.protocol;
@@ -543,6 +551,7 @@ module _ {n from first : ℕ} {low high : Config} {v : View} (c : Coupled n from
         });
         atoms = refl;
         packets = refl;
+        letters = refl;
         no_atom = refl;
         no_high_packet = refl;
         protocol = λ step. keeps-protocol (scene v high) (scene v high) v.phase (chips v.things) _ (Chip.token hi.agent k.site_of ∷ []) (Chip.maker hi.agent k.site_of ∷ []) (Rule.begins_creation {a = hi.agent} {s = k.site_of}) step c.protocol;
@@ -570,7 +579,7 @@ module _ {n from first : ℕ} {low high : Config} {v : View} (c : Coupled n from
   by_thing (Thing.mail m (Stage.in_agent x)) infra i b there = absurd cc
   by_thing _ infra i b there = absurd cc
 
-pub communicates : {n from first : ℕ} {low high : Config} {v : View} → Coupled n from first low high v → (e : Event) (next : Config) → e.kind ≡ kind.Comm → e.tag.role ≡ role.Infra → apply low e ≡ Some next → (w : View) × (w.stands_for ≡ v.stands_for) × Coupled n from first next high w
+pub communicates : {n from first : ℕ} {low high : Config} {v : View} → Coupled n from first low high v → (e : Event) (next : Config) → e.kind ≡ kind.Comm → e.tag.role ≡ role.Infra → apply low e ≡ Some next → (w : View) × (w.stands_for ≡ v.stands_for) × Coupled n from first next high w × SameLetters v w
 communicates {low = low} c e next is_comm infra h =
     let s = meeting low e next (ap (λ k. row k low e) (sym is_comm) ∙ h) in
     let its_role = same_role s.atom.proc.tag e.tag s.acts.tag ∙ infra in

@@ -57,6 +57,7 @@ use Rattle.np_things.proofs.Acting.{source-plain}
 use Rattle.np_things.proofs.Starts.{constant-is}
 use Rattle.np_levels.specs.Coupled.{Coupled, IsShaped, KnowsOnly, View, chips, is_channel, is_child_of, may_know, scene, whereabouts}
 use Rattle.np_levels.specs.Laws.{IsEvent, event_of}
+use Rattle.np_levels.specs.Letters.{SameLetters, first_letter_of, letter_under}
 use Rattle.np_levels.specs.Mirrors.{Mirrors}
 use Rattle.np_levels.proofs.Becomes.{cancel}
 use Rattle.np_levels.proofs.Keeping.{first_put, known_on, only_at, step_new}
@@ -435,6 +436,13 @@ module _ {n from first : ℕ} {low high : Config} {v : View} (c : Coupled n from
       ∙ sym (ap (λ o. o >>= first_packet_of) (ap (map.get v.things) (same_name-is q e.actor g) ∙ there))
   packets q false false f g = ap (λ o. o >>= first_packet_of) (unchanged q f g)
 
+  letters : (q : Name) (t u : Bool) → same_name q m ≡ t → same_name q e.actor ≡ u → letter_under things q ≡ letter_under v.things q
+  letters q true u f g = ap (λ o. o >>= first_letter_of) (new_at q f)
+      ∙ sym (ap (λ o. o >>= first_letter_of) (ap (map.get v.things) (same_name-is q m f) ∙ no_things (map.get v.things m) refl))
+  letters q false true f g = ap (λ o. o >>= first_letter_of) (its_at q f g)
+      ∙ sym (ap (λ o. o >>= first_letter_of) (ap (map.get v.things) (same_name-is q e.actor g) ∙ there))
+  letters q false false f g = ap (λ o. o >>= first_letter_of) (unchanged q f g)
+
   old_or_new : (q : Name) (ts : List Thing) (t u : Bool) → same_name q m ≡ t → same_name q e.actor ≡ u → map.get things q ≡ Some ts → IsOldOrNew c q
   old_or_new q ts true u f g j = inr (ap (set.contains low.born) (same_name-is q m f) ∙ s.mark_new)
   old_or_new q ts false true f g j = inl (Thing.making x hi at ∷ [], ap (map.get v.things) (same_name-is q e.actor g) ∙ there)
@@ -545,8 +553,8 @@ module _ {n from first : ℕ} {low high : Config} {v : View} (c : Coupled n from
     known = λ q ts j. known q ts (same_name q m) (same_name q e.actor) refl refl j;
   })
 
-  made_one : (then : Config) × (apply high (event_of v e) ≡ Some then) × (w : View) × (w.stands_for ≡ v.stands_for) × Coupled n from first next then w
-  made_one = (then_high, applies, record v { things = things; phase = protocol.0 }, refl, coupled)
+  made_one : (then : Config) × (apply high (event_of v e) ≡ Some then) × (w : View) × (w.stands_for ≡ v.stands_for) × Coupled n from first next then w × SameLetters v w
+  made_one = (then_high, applies, record v { things = things; phase = protocol.0 }, refl, coupled, λ q. letters q (same_name q m) (same_name q e.actor) refl refl)
 
 pub creations-are-events : IsEvent kind.Agent
 creations-are-events n from first low high v c well e next is_agent plain h =

@@ -53,6 +53,7 @@ use Rattle.np_things.proofs.Starts.{constant-is}
 use Rattle.np_levels.specs.Coupled.{Coupled, IsShaped, KnowsOnly, View, chips, is_channel, is_child_of, may_know, scene}
 use Rattle.np_levels.specs.Laws.{IsEvent, event_of}
 use Rattle.np_levels.proofs.Keeping.{first_put, known_on, only_at}
+use Rattle.np_levels.proofs.Letters.{same-letters}
 use Rattle.np_levels.proofs.Marks.{reshape, step_at}
 use Rattle.np_levels.proofs.Plains.{made_no_move, none-other, plain_tag}
 use Rattle.np_levels.proofs.Posts.{mirrors_put}
@@ -62,6 +63,7 @@ use Rattle.np_levels.proofs.Shapes.{of_actor, same_role}
 use Rattle.np_levels.proofs.Sounds.{MigrateParts, migrate_parts, named_same}
 use Rattle.np_levels.proofs.Together.{IsOldOrNew, knows_wider, more_channels, together}
 use Rattle.np_levels.proofs.Values.{agent-is, channel-is, pair-is}
+use Rattle.np_levels.specs.Letters.{SameLetters}
 
 site-value : (u : Value) (s : ℕ) → as_site (out-Value u) ≡ Some s → u ≡ value.Site s
 site-value u s h = sym (roll-out-Value u) ∙ ap roll-Value (layer_is (out-Value u) h) ∙ outs.rolls-Site s
@@ -300,8 +302,8 @@ module _ {n from first : ℕ} {low high : Config} {v : View} (c : Coupled n from
     known = λ q ts j. known q ts (same_name q e.actor) refl j;
   })
 
-  departed : (then : Config) × (apply high (event_of v e) ≡ Some then) × (w : View) × (w.stands_for ≡ v.stands_for) × Coupled n from first next then w
-  departed = (then_high, applies, record v { things = things; phase = protocol.0 }, refl, coupled)
+  departed : (then : Config) × (apply high (event_of v e) ≡ Some then) × (w : View) × (w.stands_for ≡ v.stands_for) × Coupled n from first next then w × SameLetters v w
+  departed = (then_high, applies, record v { things = things; phase = protocol.0 }, refl, coupled, same-letters v.things e.actor us (Thing.leaving x hi ∷ []) there refl)
 
 pub departures-are-events : IsEvent kind.Depart
 departures-are-events n from first low high v c well e next is_depart plain h =

@@ -41,11 +41,13 @@ use Rattle.np_levels.proofs.Born.{born-kept, made-kept}
 use Rattle.np_protocol.specs.Phases.{Phase}
 use Rattle.np_protocol.specs.Protocol.{Protocol}
 use Rattle.np_protocol.proofs.Steps.{all_left, all_right}
+use Rattle.np_levels.proofs.Letters.{low-carries-none}
 use Rattle.np_levels.proofs.Marks.{may_know_more, reshape}
 use Rattle.np_levels.proofs.Orders.{Reordered, and_then, backwards, behind, entries_at, entries_new, entries_put, flat, past, permuted}
 use Rattle.np_levels.proofs.Quiet.{knows_more, quiet, things_born}
 use Rattle.np_levels.proofs.Starts.{any_order}
 use Rattle.np_levels.proofs.Shapes.{of_atom, same_role}
+use Rattle.np_levels.specs.Letters.{SameLetters, first_letter_of, letter_under}
 
 pub record IsForking (low : Config) (e : Event) (next : Config) : Type 0 where
   pub atom : Atom
@@ -135,7 +137,9 @@ record Headed (left right : List Thing) : Type 0 where
   first : first_atom_of left ≡ first_atom_of (left ++ right)
   none : first_atom_of right ≡ None
   packet : first_packet_of left ≡ first_packet_of (left ++ right)
+  letter : first_letter_of left ≡ first_letter_of (left ++ right)
   no_packet : first_packet_of right ≡ None
+  no_letter : first_letter_of right ≡ None
 
 headed_parts : (left right : List Thing) → HasFirst left → HasFirst right → IsHeaded (left ++ right) → Headed left right
 headed_parts left right f g h =
@@ -149,11 +153,13 @@ headed_parts left right f g h =
       first = ap first_atom_of f.is ∙ sym (ap first_atom_of whole);
       none = ap first_atom_of g.is ∙ All-head IsLow g.thing g.rest its;
       packet = ap first_packet_of f.is ∙ sym (ap first_packet_of whole);
+      letter = ap first_letter_of f.is ∙ sym (ap first_letter_of whole);
       no_packet = ap first_packet_of g.is ∙ g.no_packet;
+      no_letter = ap first_letter_of g.is ∙ low-carries-none g.thing (All-head IsLow g.thing g.rest its);
     }
 
 module _ {n from first : ℕ} {low high : Config} {v : View} (c : Coupled n from first low high v) where
-  pub forks : (e : Event) (next : Config) → e.kind ≡ kind.Fork → e.tag.role ≡ role.Infra → apply low e ≡ Some next → (w : View) × (w.stands_for ≡ v.stands_for) × Coupled n from first next high w
+  pub forks : (e : Event) (next : Config) → e.kind ≡ kind.Fork → e.tag.role ≡ role.Infra → apply low e ≡ Some next → (w : View) × (w.stands_for ≡ v.stands_for) × Coupled n from first next high w × SameLetters v w
   forks e next is_fork infra h =
       let s = forking low e next (ap (λ k. row k low e) (sym is_fork) ∙ h) in
       let o = of_atom c e.actor s.atom s.acts.there in
@@ -163,7 +169,7 @@ module _ {n from first : ℕ} {low high : Config} {v : View} (c : Coupled n from
       forked e next s o.no_packet parts.left parts.right there parts.are_left parts.are_right headed h
     where
       forked : (e : Event) (next : Config) (s : IsForking low e next) → map.get low.packets e.actor ≡ None → (left right : List Thing) → map.get v.things e.actor ≡ Some (left ++ right)
-          → Are n from first (goes s.atom s.left) left → Are n from first (goes s.atom s.right) right → Headed left right → apply low e ≡ Some next → (w : View) × (w.stands_for ≡ v.stands_for) × Coupled n from first next high w
+          → Are n from first (goes s.atom s.left) left → Are n from first (goes s.atom s.right) right → Headed left right → apply low e ≡ Some next → (w : View) × (w.stands_for ≡ v.stands_for) × Coupled n from first next high w × SameLetters v w
       forked e next s no_packet left right there are_left are_right headed h = (
         record v { things = things; phase = protocol.0 },
         refl,
@@ -180,6 +186,7 @@ module _ {n from first : ℕ} {low high : Config} {v : View} (c : Coupled n from
           protocol = protocol.1;
           known = λ q ts i. known q ts (same_name q s.new) (same_name q e.actor) refl refl i;
         }),
+        λ q. letters q (same_name q s.new) (same_name q e.actor) refl refl,
       )
         where
           half : NameMap (List Thing)
@@ -270,6 +277,11 @@ module _ {n from first : ℕ} {low high : Config} {v : View} (c : Coupled n from
           packets q true u a b = ap (λ o. o >>= first_packet_of) (new_at q a) ∙ headed.no_packet ∙ sym (ap (λ o. o >>= first_packet_of) (ap (map.get v.things) (same_name-is q s.new a) ∙ absent))
           packets q false true a b = ap (λ o. o >>= first_packet_of) (left_at q a b) ∙ headed.packet ∙ sym (ap (λ o. o >>= first_packet_of) (ap (map.get v.things) (same_name-is q e.actor b) ∙ there))
           packets q false false a b = ap (λ o. o >>= first_packet_of) (unchanged q a b)
+
+          letters : (q : Name) (t u : Bool) → same_name q s.new ≡ t → same_name q e.actor ≡ u → letter_under things q ≡ letter_under v.things q
+          letters q true u a b = ap (λ o. o >>= first_letter_of) (new_at q a) ∙ headed.no_letter ∙ sym (ap (λ o. o >>= first_letter_of) (ap (map.get v.things) (same_name-is q s.new a) ∙ absent))
+          letters q false true a b = ap (λ o. o >>= first_letter_of) (left_at q a b) ∙ headed.letter ∙ sym (ap (λ o. o >>= first_letter_of) (ap (map.get v.things) (same_name-is q e.actor b) ∙ there))
+          letters q false false a b = ap (λ o. o >>= first_letter_of) (unchanged q a b)
 
           old : (q : Name) (ts : List Thing) (t u : Bool) → same_name q s.new ≡ t → same_name q e.actor ≡ u → map.get things q ≡ Some ts → ((us : List Thing) × (map.get v.things q ≡ Some us)) ⊎ (set.contains low.born q ≡ false)
           old q ts true u a b i = inr (ap (set.contains low.born) (same_name-is q s.new a) ∙ s.is_new)

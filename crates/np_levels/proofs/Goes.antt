@@ -17,6 +17,7 @@ use Rattle.np_levels.specs.Laws.{event_of}
 use Rattle.np_levels.proofs.Actors.{Actor, agents}
 use Rattle.np_levels.proofs.Stands.{Free, cut_atom, leave, put_atom, stands}
 use Rattle.np_levels.proofs.Together.{more_channels}
+use Rattle.np_levels.specs.Letters.{SameLetters}
 
 module _ {n from first : ℕ} {low high : Config} {v : View} (c : Coupled n from first low high v) (e : Event) where
   -- what is known is known still, where the event's names are made
@@ -26,21 +27,22 @@ module _ {n from first : ℕ} {low high : Config} {v : View} (c : Coupled n from
 
   -- the event at the marks of the high level is one of it, and what both leave is coupled
   abbrev pub IsSame : Config → Type 0
-  IsSame next = (after : Config) × (apply high (event_of v e) ≡ Some after) × (w : View) × (w.stands_for ≡ v.stands_for) × Coupled n from first next after w
+  IsSame next = (after : Config) × (apply high (event_of v e) ≡ Some after) × (w : View) × (w.stands_for ≡ v.stands_for) × Coupled n from first next after w × SameLetters v w
 
   module _ (next : Config) {a : Atom} (o : Actor c e a) (applies : apply low e ≡ Some next) where
     pub goes_on_both : (goes_low goes_high : Atom) → next ≡ effect low e (becomes e goes_low) → IsOfSource n from o.named goes_high goes_low
         → Knows (agents c e) (is_channel n (with_made high.born e.made)) from goes_high.env
         → (w : View) × (w.stands_for ≡ v.stands_for) × Coupled n from first next (effect high (event_of v e) (becomes (event_of v e) goes_high)) w
+        × SameLetters v w
     goes_on_both goes_low goes_high is its knows =
-        let s = put_atom c e (stands c e) e.actor (Free.old {ts = Thing.source o.named o.atom ∷ []} o.there refl) goes_low
-        (Thing.source o.named goes_high) goes_high its refl refl refl knows o.no_packet (ap (λ t. t >>= first_packet_of) o.there) in
+        let s = put_atom c e (stands c e) e.actor (Free.old {ts = Thing.source o.named o.atom ∷ []} o.there refl refl) goes_low
+        (Thing.source o.named goes_high) goes_high its refl refl (refl, refl) knows o.no_packet (ap (λ t. t >>= first_packet_of) o.there) in
         leave c e s next low.said high.said applies is c.said
 
     pub ends_both : (said : Option Value) → next ≡ effect low e (record still { atoms = cut e.actor ∷ []; said = said })
         → (w : View) × (w.stands_for ≡ v.stands_for) × Coupled n from first next
-        (effect high (event_of v e) (record still { atoms = cut (v.stands_for e.actor) ∷ []; said = said })) w
+        (effect high (event_of v e) (record still { atoms = cut (v.stands_for e.actor) ∷ []; said = said })) w × SameLetters v w
     ends_both said is =
-        let s = cut_atom c e (stands c e) e.actor (Free.old {ts = Thing.source o.named o.atom ∷ []} o.there refl) o.no_packet
+        let s = cut_atom c e (stands c e) e.actor (Free.old {ts = Thing.source o.named o.atom ∷ []} o.there refl refl) o.no_packet
         (ap (λ t. t >>= first_packet_of) o.there) in
         leave c e s next (with_said low.said e.site said) (with_said high.said e.site said) applies is (ap (λ s. with_said s e.site said) c.said)

@@ -29,6 +29,7 @@ use Rattle.np_levels.proofs.Registers.{registers}
 use Rattle.np_levels.proofs.Sends.{sends}
 use Rattle.np_levels.proofs.Serves.{serves}
 use Rattle.np_levels.proofs.Shapes.{of_actor, same_role}
+use Rattle.np_levels.specs.Letters.{LettersAfter}
 
 -- the kinds of event that the infrastructure never has, but for arrivals
 data IsOthers : Kind → Type 0 where
@@ -76,10 +77,10 @@ module _ {n from first : ℕ} {low high : Config} {v : View} (c : Coupled n from
       let actor = of_actor c e.actor a k role.Infra s.there begun (same_role a.proc.tag e.tag s.tag ∙ infra) (λ f r. no_fork k o f) in
       absurd (none_begins k o actor.thing actor.its_kind)
 
-  abbrev Done : Type 0
-  Done = (w : View) × (w.stands_for ≡ v.stands_for) × Coupled n from first next high w
+  abbrev Done : Kind → Type 0
+  Done k = (w : View) × (w.stands_for ≡ v.stands_for) × Coupled n from first next high w × LettersAfter k role.Infra low next e v w
 
-  by_kind : (k : Kind) → e.kind ≡ k → row k low e ≡ Some next → Done
+  by_kind : (k : Kind) → e.kind ≡ k → row k low e ≡ Some next → Done k
   unfolding act arrive_row
   by_kind kind.Send is h = sends c e next is infra (ap (λ j. row j low e) is ∙ h)
   by_kind kind.Land is h = lands c e next is (λ plain. let bad : role.Plain ≡ role.Infra = sym plain ∙ infra in cc) (ap (λ j. row j low e) is ∙ h)

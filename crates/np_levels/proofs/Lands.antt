@@ -40,9 +40,11 @@ use Rattle.np_things.specs.Shapes.{Are, IsUnderWay}
 use Rattle.np_things.specs.Things.{Stage, Thing, high_atom, show_all}
 use Rattle.np_things.proofs.Starts.{constant-is}
 use Rattle.np_levels.specs.Coupled.{Coupled, IsShaped, KnowsOnly, View, chips, is_channel, is_child_of, may_know, scene, whereabouts}
+use Rattle.np_levels.proofs.Letters.{same-letters}
 use Rattle.np_levels.proofs.Marks.{at_mark, same_chips, step_at}
 use Rattle.np_levels.proofs.Quiet.{any_kept, quiet}
 use Rattle.np_levels.proofs.Shapes.{of_packet, same_role}
+use Rattle.np_levels.specs.Letters.{SameLetters}
 
 -- a Land of a packet whose agent is at its site
 record IsLanding (low : Config) (e : Event) (packet : Packet) : Type 0 where
@@ -124,7 +126,7 @@ module _ {n from first : ℕ} {low high : Config} {v : View} (c : Coupled n from
   mail_finds (Mail.deliver q t) step =
       low_place q.agent t (recursion_from_All (IsTrueOf (scene v high) v.phase) (Chip.delivery q.agent t ∷ Chip.knows q.agent ∷ []) (all_taken step (IsTrueOf (scene v high) v.phase) c.protocol.true_chips)).0
 
-  pub lands : (e : Event) (next : Config) → e.kind ≡ kind.Land → (e.tag.role ≡ role.Plain → ⊥) → apply low e ≡ Some next → (w : View) × (w.stands_for ≡ v.stands_for) × Coupled n from first next high w
+  pub lands : (e : Event) (next : Config) → e.kind ≡ kind.Land → (e.tag.role ≡ role.Plain → ⊥) → apply low e ≡ Some next → (w : View) × (w.stands_for ≡ v.stands_for) × Coupled n from first next high w × SameLetters v w
   lands e next is_land apart h =
       let row_is : row kind.Land low e ≡ Some next = ap (λ k. row k low e) (sym is_land) ∙ h in
       let l = landing low e next row_is in
@@ -160,4 +162,5 @@ module _ {n from first : ℕ} {low high : Config} {v : View} (c : Coupled n from
           children = λ a b. any_kept (is_child_of a b) step (λ any. absurd (let none = no_child a b m in cc));
           known = All-from_recursion (λ t. KnowsOnly (may_know v.lock (chips things) t) (is_channel n high.born) from t) us (known.0, tt);
         })),
+        same-letters v.things e.actor us (Thing.mail m Stage.on_the_way ∷ []) there refl,
       )

@@ -94,6 +94,7 @@ module _ {n from first : ℕ} {low high : Config} {v : View} (c : Coupled n from
         w.0,
         w.1,
         w.2,
+        w.3,
       )
 
 pub lets-are-events : IsEvent kind.Let

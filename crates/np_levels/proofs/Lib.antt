@@ -14,6 +14,7 @@ pub mod Ifs
 pub mod Infrastructure
 pub mod Keeping
 pub mod Lands
+pub mod Letters
 pub mod Lets
 pub mod Locals
 pub mod Lookups

@@ -160,7 +160,7 @@ module _ {n from first : ℕ} {low high : Config} {v : View} (c : Coupled n from
       (more_channels n high.born e.made) (Thing.opened p)
       (known_channel c e o s.chan_named s.chan sound_parts.1 chan_is, known_here c e o s.sent s.what sound_parts.2 value_is) in
       let w = made_both c e next o h i.new (as_output p) (as_output p) (Thing.opened p) i.is_new
-      (record { apart = apart; tag = p.tag; is = refl }) refl refl refl knows (goes s.atom s.met) (goes o.atom form.0) part
+      (record { apart = apart; tag = p.tag; is = refl }) refl refl (refl, refl) knows (goes s.atom s.met) (goes o.atom form.0) part
       (still_knows c e o.knows) i.is in (
         effect high (event_of v e) (record still { atoms = put i.new (as_output p) ∷ put (v.stands_for e.actor) (goes o.atom form.0) ∷ [] }),
         ap (λ k. row k high (event_of v e)) is
@@ -169,6 +169,7 @@ module _ {n from first : ℕ} {low high : Config} {v : View} (c : Coupled n from
         w.0,
         w.1,
         w.2,
+        w.3,
       )
 
   missed : Misses low e next s.atom s.unmet s.agent → IsSame c e next
@@ -183,6 +184,7 @@ module _ {n from first : ℕ} {low high : Config} {v : View} (c : Coupled n from
         w.0,
         w.1,
         w.2,
+        w.3,
       )
 
   located : IsSame c e next

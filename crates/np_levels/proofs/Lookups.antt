@@ -52,6 +52,7 @@ use Rattle.np_levels.proofs.Marks.{step_at}
 use Rattle.np_levels.proofs.Orders.{and_then, behind, permuted, swapped}
 use Rattle.np_levels.proofs.Shapes.{of_actor, same_role}
 use Rattle.np_levels.proofs.Values.{channel-is, here_is, there_is, unit-is, variable-is}
+use Rattle.np_levels.specs.Letters.{SameLetters}
 
 record IsFinding (low : Config) (e : Event) (next : Config) : Type 0 where
   atom : Atom
@@ -146,18 +147,18 @@ module _ {n from first : ℕ} {low high : Config} {v : View} (c : Coupled n from
 
   -- an atom that looks up goes on with a lock
   looked : (e : Event) (next : Config) (s : IsFinding low e next) (m : Mail) (ps : List (Name × Name)) → IsLooking n first m ps s.atom → map.get low.packets e.actor ≡ None → map.get v.things e.actor ≡ Some (Thing.looking m ps ∷ [])
-      → apply low e ≡ Some next → (w : View) × (w.stands_for ≡ v.stands_for) × Coupled n from first next high w
+      → apply low e ≡ Some next → (w : View) × (w.stands_for ≡ v.stands_for) × Coupled n from first next high w × SameLetters v w
   looked e next s m ps i no_packet there h = go m i.service i.took i.map i.is there
     where
       go : (m : Mail) (k : Service) → Took first k m s.atom.env → map.get s.atom.env (desk n first k).map ≡ Some (value.Places ps) → s.atom.proc ≡ (desk n first k).body → map.get v.things e.actor ≡ Some (Thing.looking m ps ∷ [])
-          → (w : View) × (w.stands_for ≡ v.stands_for) × Coupled n from first next high w
+          → (w : View) × (w.stands_for ≡ v.stands_for) × Coupled n from first next high w × SameLetters v w
       go (Mail.migrating a) Service.grants took map_is text at =
           let steps = step_at v.things e.actor (Thing.looking (Mail.migrating a) ps ∷ []) [] at in
           let told = recursion_from_All (IsTrueOf (scene v high) v.phase) (Chip.locks (find_place ps) ∷ Chip.request a ∷ []) (all_taken steps (IsTrueOf (scene v high) v.phase) c.protocol.true_chips) in
           let lock = some_lock (v.lock a) (request_registered a (find_place ps) steps) in
           let env : Env = map.insert s.atom.env (first + 6) (value.Chan lock.0) in
           let left : Proc = takes 0 (variable (first + 6)) (name (first + 7)) (acks n (first + 4) (first + 7)) in
-          becomes c next e e.actor (goes_under s.atom (beside 0 left (frees n (first + 5))) env) (Thing.looking (Mail.migrating a) ps ∷ []) (Thing.wanting (Mail.migrating a) lock.0 ∷ Thing.places ps ∷ []) (record {
+          becomes c next e e.actor (goes_under s.atom (beside 0 left (frees n (first + 5))) env) (Thing.looking (Mail.migrating a) ps ∷ []) (Thing.wanting (Mail.migrating a) lock.0 ∷ Thing.places ps ∷ []) refl (record {
             applies = h;
             is = finds_text n low e next s (first + 4) (first + 5) (first + 6) left a lock.0 ps text took map_is (told.0 a ∙ lock.1);
             no_packet = no_packet;
@@ -180,7 +181,7 @@ module _ {n from first : ℕ} {low high : Config} {v : View} (c : Coupled n from
           let lock = some_lock (v.lock p.agent) told.1.0 in
           let env : Env = map.insert s.atom.env (first + 15) (value.Chan lock.0) in
           let left : Proc = delivering n first in
-          becomes c next e e.actor (goes_under s.atom (beside 0 left (frees n (first + 14))) env) (Thing.looking (Mail.message p) ps ∷ []) (Thing.wanting (Mail.message p) lock.0 ∷ Thing.places ps ∷ []) (record {
+          becomes c next e e.actor (goes_under s.atom (beside 0 left (frees n (first + 14))) env) (Thing.looking (Mail.message p) ps ∷ []) (Thing.wanting (Mail.message p) lock.0 ∷ Thing.places ps ∷ []) refl (record {
             applies = h;
             is = finds_text n low e next s (first + 12) (first + 14) (first + 15) left p.agent lock.0 ps text took.0 map_is (told.0 p.agent ∙ lock.1);
             no_packet = no_packet;
@@ -210,7 +211,7 @@ module _ {n from first : ℕ} {low high : Config} {v : View} (c : Coupled n from
           let lock = some_lock (v.lock b) (delivery_registered b t (find_place ps) steps) in
           let env : Env = map.insert s.atom.env (first + 20) (value.Chan lock.0) in
           let left : Proc = gives 0 (variable (first + 20)) (variable (first + 18)) in
-          becomes c next e e.actor (goes_under s.atom (beside 0 left (frees n (first + 19))) env) (Thing.looking (Mail.dack b t) ps ∷ []) (Thing.free lock.0 t ∷ Thing.places ps ∷ []) (record {
+          becomes c next e e.actor (goes_under s.atom (beside 0 left (frees n (first + 19))) env) (Thing.looking (Mail.dack b t) ps ∷ []) (Thing.free lock.0 t ∷ Thing.places ps ∷ []) refl (record {
             applies = h;
             is = finds_text n low e next s (first + 17) (first + 19) (first + 20) left b lock.0 ps text took.0 map_is (told.0 b ∙ lock.1);
             no_packet = no_packet;
@@ -235,7 +236,7 @@ module _ {n from first : ℕ} {low high : Config} {v : View} (c : Coupled n from
           let two : Proc = acks n (first + 8) (first + 9) in
           let agent_is : map.get env (first + 8) ≡ Some (value.Agent a) = there_is s.atom.env (first + 11) (first + 8) (value.Chan lock.0) (λ e. let bad : ⊥ = omega arith in bad) ∙ took.0 in
           let site_is : map.get env (first + 9) ≡ Some (value.Site t) = there_is s.atom.env (first + 11) (first + 9) (value.Chan lock.0) (λ e. let bad : ⊥ = omega arith in bad) ∙ took.1 in
-          becomes c next e e.actor (goes_under s.atom (beside 0 (beside 0 one two) (frees n (first + 10))) env) (Thing.looking (Mail.migrated a t) ps ∷ []) (Thing.free lock.0 t ∷ Thing.mail (Mail.ack a t) (Stage.in_agent s.atom.agent) ∷ Thing.places ps ∷ []) (record {
+          becomes c next e e.actor (goes_under s.atom (beside 0 (beside 0 one two) (frees n (first + 10))) env) (Thing.looking (Mail.migrated a t) ps ∷ []) (Thing.free lock.0 t ∷ Thing.mail (Mail.ack a t) (Stage.in_agent s.atom.agent) ∷ Thing.places ps ∷ []) refl (record {
             applies = h;
             is = finds_text n low e next s (first + 8) (first + 10) (first + 11) (beside 0 one two) a lock.0 ps text took.0 map_is (told.0 a ∙ lock.1);
             no_packet = no_packet;
@@ -273,7 +274,7 @@ module _ {n from first : ℕ} {low high : Config} {v : View} (c : Coupled n from
       go (Mail.deliver q u) Service.registers took map_is text at = absurd took
       go _ _ took map_is text at = absurd took
 
-  pub looks_up : (e : Event) (next : Config) → e.kind ≡ kind.Lookup → e.tag.role ≡ role.Infra → apply low e ≡ Some next → (w : View) × (w.stands_for ≡ v.stands_for) × Coupled n from first next high w
+  pub looks_up : (e : Event) (next : Config) → e.kind ≡ kind.Lookup → e.tag.role ≡ role.Infra → apply low e ≡ Some next → (w : View) × (w.stands_for ≡ v.stands_for) × Coupled n from first next high w × SameLetters v w
   looks_up e next is_lookup infra h =
       let s = finding low e next (ap (λ k. row k low e) (sym is_lookup) ∙ h) in
       let o = of_actor c e.actor s.atom kind.Lookup role.Infra s.acts.there (ap begun_by s.form) (same_role s.atom.proc.tag e.tag s.acts.tag ∙ infra) (λ k r. cc) in

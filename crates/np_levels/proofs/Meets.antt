@@ -40,10 +40,12 @@ use Rattle.np_things.specs.Things.{IsHeaded, Thing, first_atom_of, first_packet_
 use Rattle.np_levels.specs.Coupled.{Coupled, IsShaped, KnowsOnly, View, chips, is_channel, is_child_of, may_know, scene}
 use Rattle.np_levels.proofs.Applies.{takes}
 use Rattle.np_levels.proofs.Born.{born-kept, made-kept}
+use Rattle.np_levels.proofs.Letters.{low-carries-none}
 use Rattle.np_levels.proofs.Marks.{reshape}
 use Rattle.np_levels.proofs.Orders.{and_then, behind, entries_at, entries_put, flat, permuted}
 use Rattle.np_levels.proofs.Outputs.{is_output}
 use Rattle.np_levels.proofs.Quiet.{knows_more, or_cases, or_second, quiet}
+use Rattle.np_levels.specs.Letters.{SameLetters, first_letter_of, letter_under}
 
 -- what a communication does
 pub record IsMeeting (low : Config) (e : Event) (next : Config) : Type 0 where
@@ -123,6 +125,7 @@ module _ {n from first : ℕ} {low high : Config} {v : View} (c : Coupled n from
     pub are : Are n from first (goes_under s.atom s.body s.env) us
     pub atoms : first_atom_of us ≡ first_atom_of ts
     pub packets : first_packet_of us ≡ first_packet_of ts
+    pub letters : first_letter_of us ≡ first_letter_of ts
     pub no_atom : first_atom_of (u ∷ []) ≡ None
     pub no_high_packet : first_packet_of (u ∷ []) ≡ None
     pub protocol : Step (chips v.things) (chips (left_things e.actor s.other us)) (show_all (u ∷ []) ++ show_all ts) (show_all us) → (then : Name → Phase) × Protocol (scene v high) then (chips (left_things e.actor s.other us))
@@ -131,7 +134,7 @@ module _ {n from first : ℕ} {low high : Config} {v : View} (c : Coupled n from
     pub known : Step (chips v.things) (chips (left_things e.actor s.other us)) (show_all (u ∷ []) ++ show_all ts) (show_all us) → AllByRecursion (λ t. KnowsOnly (may_know v.lock (chips v.things) t) (is_channel n high.born) from t) ts
         → AllByRecursion (λ t. KnowsOnly (may_know v.lock (chips (left_things e.actor s.other us)) t) (is_channel n high.born) from t) us
 
-  pub meets : (next : Config) (e : Event) (s : IsMeeting low e next) (ts us : List Thing) (u : Thing) → Meets next e s ts us u → (w : View) × (w.stands_for ≡ v.stands_for) × Coupled n from first next high w
+  pub meets : (next : Config) (e : Event) (s : IsMeeting low e next) (ts us : List Thing) (u : Thing) → Meets next e s ts us u → (w : View) × (w.stands_for ≡ v.stands_for) × Coupled n from first next high w × SameLetters v w
   meets next e s ts us u b = (
     record v { things = things; phase = protocol.0 },
     refl,
@@ -148,6 +151,7 @@ module _ {n from first : ℕ} {low high : Config} {v : View} (c : Coupled n from
       protocol = protocol.1;
       known = λ q vs h. known q vs (same_name q s.other) (same_name q e.actor) refl refl h;
     }),
+    λ q. letters q (same_name q s.other) (same_name q e.actor) refl refl,
   )
     where
       things : NameMap (List Thing)
@@ -208,6 +212,11 @@ module _ {n from first : ℕ} {low high : Config} {v : View} (c : Coupled n from
       packets q true r x y = ap (λ o. o >>= first_packet_of) (gone q x) ∙ sym b.no_high_packet ∙ sym (ap (λ o. o >>= first_packet_of) (ap (map.get v.things) (same_name-is q s.other x) ∙ b.other_there))
       packets q false true x y = ap (λ o. o >>= first_packet_of) (its q y) ∙ b.packets ∙ sym (ap (λ o. o >>= first_packet_of) (ap (map.get v.things) (same_name-is q e.actor y) ∙ b.there))
       packets q false false x y = ap (λ o. o >>= first_packet_of) (unchanged q x y)
+
+      letters : (q : Name) (t r : Bool) → same_name q s.other ≡ t → same_name q e.actor ≡ r → letter_under things q ≡ letter_under v.things q
+      letters q true r x y = ap (λ o. o >>= first_letter_of) (gone q x) ∙ sym (low-carries-none u b.no_atom) ∙ sym (ap (λ o. o >>= first_letter_of) (ap (map.get v.things) (same_name-is q s.other x) ∙ b.other_there))
+      letters q false true x y = ap (λ o. o >>= first_letter_of) (its q y) ∙ b.letters ∙ sym (ap (λ o. o >>= first_letter_of) (ap (map.get v.things) (same_name-is q e.actor y) ∙ b.there))
+      letters q false false x y = ap (λ o. o >>= first_letter_of) (unchanged q x y)
 
       no_value : {A B : Type 0} {x : A} → None ≡ Some x → B
       no_value h = absurd cc

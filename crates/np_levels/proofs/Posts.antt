@@ -50,6 +50,7 @@ use Rattle.np_calculus.specs.Well.{Has, Ready}
 use Rattle.np_calculus.proofs.Steps.{Acts, step-acting}
 unfoldable use Rattle.np_calculus.proofs.Common.{act}
 use Rattle.np_syntax.proofs.Bools.{and-in}
+use Rattle.np_lift.specs.Posts.{letter_at, letter_sent}
 use Rattle.np_protocol.specs.Chips.{Chip}
 use Rattle.np_protocol.specs.Phases.{Phase}
 use Rattle.np_protocol.specs.Protocol.{Protocol}
@@ -61,9 +62,11 @@ use Rattle.np_things.specs.Things.{first_atom_of, first_packet_of, show_all}
 use Rattle.np_things.proofs.Starts.{constant-is}
 use Rattle.np_levels.specs.Coupled.{Coupled, IsShaped, KnowsOnly, View, chips, is_channel, is_child_of, may_know, scene}
 use Rattle.np_levels.specs.Laws.{PostsAreEvents, post_of}
+use Rattle.np_levels.specs.Letters.{IsPosting, as_letter, first_letter_of}
 use Rattle.np_levels.specs.Mirrors.{Mirrors}
 use Rattle.np_levels.proofs.Actors.{agent_known}
 use Rattle.np_levels.proofs.Born.{born-kept, made-kept}
+use Rattle.np_levels.proofs.Letters.{letter-put}
 use Rattle.np_levels.proofs.Marks.{may_know_more, reshape, step_at}
 use Rattle.np_levels.proofs.Outputs.{chan-known}
 use Rattle.np_levels.proofs.Quiet.{any_kept, knows_more}
@@ -159,13 +162,17 @@ module _ {n from first : ℕ} {low high : Config} {v : View} (c : Coupled n from
   low_same : (y : Expr) → IsSoundExpr n i.stands.source.scope y → eval y s.atom.env ≡ eval y hi.env
   low_same y is = same-value n from i.stands.source.scope y s.atom.env hi.env is i.stands.source.in_scope i.stands.agrees
 
-  packet : s.packet ≡ packet_of n (Mail.message p) s.packet.tag
-  packet =
+  content_is : eval (pair b (letter ch va)) s.atom.env ≡ Some (value.Tuple (value.Agent p.agent ∷ value.Letter p.chan p.value ∷ []))
+  content_is =
       let src = i.stands.source in
       let parts = subst (ProcParts n src.scope src.node src.after src.bound) form_is (proc-parts n src.sound) in
+      letter-is b ch va s.atom.env ready.0.0 ready.1.0 ready.2.0 (ap (λ o. o >>= λ u. as_agent (out-Value u)) (low_same b parts.1) ∙ ready.0.1) (ap (λ o. o >>= λ u. as_chan (out-Value u)) (low_same ch parts.2) ∙ ready.1.1) (low_same va parts.3 ∙ ready.2.1)
+
+  packet : s.packet ≡ packet_of n (Mail.message p) s.packet.tag
+  packet =
       packet_is n (Mail.message p) low e next s (daemon n) (site 0) (message n) (pair b (letter ch va)) (ap layer text_is ∙ forms.outs-Send (daemon n) (site 0) (message n) (pair b (letter ch va)))
       (agent-is (daemon_agent n) s.atom.env) (constant-is (value.Site 0) s.atom.env) (channel-is (own n 5) s.atom.env)
-      (letter-is b ch va s.atom.env ready.0.0 ready.1.0 ready.2.0 (ap (λ o. o >>= λ u. as_agent (out-Value u)) (low_same b parts.1) ∙ ready.0.1) (ap (λ o. o >>= λ u. as_chan (out-Value u)) (low_same ch parts.2) ∙ ready.1.1) (low_same va parts.3 ∙ ready.2.1))
+      content_is
 
   -- ---- the two configurations afterwards
 
@@ -266,8 +273,19 @@ module _ {n from first : ℕ} {low high : Config} {v : View} (c : Coupled n from
     known = λ q ts j. known q ts (same_name q e.actor) refl j;
   }
 
-  still_coupled : (w : View) × (w.stands_for ≡ v.stands_for) × Coupled n from first next then_high w
-  still_coupled = (record v { things = things; phase = protocol.0 }, refl, coupled)
+  -- its letter is what the text sends
+  sent : letter_at low e.actor ≡ Some (as_letter p)
+  sent =
+      ap (λ (o : Option Atom). o >>= λ a. letter_sent (layer a.proc) a.env) s.acts.there ∙ ap (λ l. letter_sent l s.atom.env) (ap layer text_is ∙ forms.outs-Send (daemon n) (site 0) (message n) (pair b (letter ch va)))
+      ∙ rw (content_is, outs.outs-Tuple (value.Agent p.agent ∷ value.Letter p.chan p.value ∷ []), outs.outs-Agent p.agent, outs.outs-Letter p.chan p.value) refl
+
+  still_coupled : (w : View) × (w.stands_for ≡ v.stands_for) × Coupled n from first next then_high w × IsPosting low e v w
+  still_coupled = (
+    record v { things = things; phase = protocol.0 },
+    refl,
+    coupled,
+    record { letter = p; sent = sent; none = ap (λ o. o >>= first_letter_of) there; after = letter-put v.things e.actor (Thing.mail (Mail.message p) Stage.on_the_way ∷ []) },
+  )
 
 pub posts-are-events : PostsAreEvents
 posts-are-events n from first low high v c well e next is_send post h =
@@ -277,4 +295,4 @@ posts-are-events n from first low high v c well e next is_send post h =
     post_by n from x hi.proc s.atom.proc i.translates (source-plain i.stands.source.sound) (same_role s.atom.proc.tag e.tag s.acts.tag ∙ post) λ tag at b ch va source_is text_is.
     let there : map.get v.things e.actor ≡ Some (Thing.source x hi ∷ []) = o.there ∙ ap (λ t. Some (t ∷ [])) thing in
     let w = still_coupled c well e next post h s o.no_packet x hi there i tag at b ch va source_is text_is in
-    (then_high c well e next post h s o.no_packet x hi there i tag at b ch va source_is text_is, applies c well e next post h s o.no_packet x hi there i tag at b ch va source_is text_is, w.0, w.1, w.2)
+    (then_high c well e next post h s o.no_packet x hi there i tag at b ch va source_is text_is, applies c well e next post h s o.no_packet x hi there i tag at b ch va source_is text_is, w.0, w.1, w.2, w.3)

@@ -47,9 +47,11 @@ use Rattle.np_things.specs.Shapes.{Is, IsSender, Mails}
 use Rattle.np_things.specs.Things.{Stage, Thing, show_all}
 use Rattle.np_levels.specs.Coupled.{Coupled, IsShaped, KnowsOnly, View, chips, is_channel, is_child_of, may_know, scene, whereabouts}
 use Rattle.np_levels.proofs.Applies.{takes_nothing}
+use Rattle.np_levels.proofs.Letters.{same-letters}
 use Rattle.np_levels.proofs.Marks.{at_mark, same_chips, step_at}
 use Rattle.np_levels.proofs.Quiet.{any_kept, quiet}
 use Rattle.np_levels.proofs.Shapes.{of_actor, same_role}
+use Rattle.np_levels.specs.Letters.{SameLetters}
 
 -- what a Send does, by the parts of its atom
 pub record IsSending (low : Config) (e : Event) (next : Config) : Type 0 where
@@ -157,7 +159,7 @@ module _ {n from first : ℕ} {low high : Config} {v : View} (c : Coupled n from
           let none : whereabouts (map.get high.places x) ≡ Whereabouts.nowhere = ap whereabouts (ap (map.get high.places) (same_name-is x (daemon_agent n) e) ∙ c.no_daemon) in
           absurd (let bad : false ≡ true = ap is_there (sym none) ∙ c.protocol.placed x ∙ ap is_present r in cc)
 
-  pub sends : (e : Event) (next : Config) → e.kind ≡ kind.Send → e.tag.role ≡ role.Infra → apply low e ≡ Some next → (w : View) × (w.stands_for ≡ v.stands_for) × Coupled n from first next high w
+  pub sends : (e : Event) (next : Config) → e.kind ≡ kind.Send → e.tag.role ≡ role.Infra → apply low e ≡ Some next → (w : View) × (w.stands_for ≡ v.stands_for) × Coupled n from first next high w × SameLetters v w
   sends e next is_send infra h =
       let s = sending low e next (ap (λ k. row k low e) (sym is_send) ∙ h) in
       let o = of_actor c e.actor s.atom kind.Send role.Infra s.acts.there (ap begun_by s.form) (same_role s.atom.proc.tag e.tag s.acts.tag ∙ infra) (λ k r. cc) in
@@ -187,4 +189,5 @@ module _ {n from first : ℕ} {low high : Config} {v : View} (c : Coupled n from
           children = λ a b. any_kept (is_child_of a b) step (λ any. absurd (let none = no_child a b m x in cc));
           known = All-from_recursion (λ t. KnowsOnly (may_know v.lock (chips things) t) (is_channel n high.born) from t) us (known.0, tt);
         })),
+        same-letters v.things e.actor us (Thing.mail m (Stage.in_agent x) ∷ []) there refl,
       )

@@ -52,6 +52,7 @@ use Rattle.np_levels.proofs.Marks.{same_chips, step_at}
 use Rattle.np_levels.proofs.Outputs.{by_number, given_by, is-own, number-of}
 use Rattle.np_levels.proofs.Shapes.{of_actor, of_atom, same_role}
 use Rattle.np_levels.proofs.Values.{agent-is, bind-one, bind-two, channel-is, here_is, named_kept, pair-is, there_is, variable-is}
+use Rattle.np_levels.specs.Letters.{SameLetters}
 
 -- what a server's event does
 pub record IsRepeating (low : Config) (e : Event) (next : Config) : Type 0 where
@@ -149,7 +150,7 @@ module _ {n from first : ℕ} {low high : Config} {v : View} (c : Coupled n from
       let claim = (recursion_from_All (IsTrueOf (scene v high) v.phase) (Chip.free l s ∷ []) (all_taken (step_at v.things m (Thing.free l s ∷ []) [] at) (IsTrueOf (scene v high) v.phase) c.protocol.true_chips)).0 in
       other (number-of n i 13 (c.locks_apart claim.0 (own n i) (claim.1 ∙ ap Some on) (is-own n i own_one)))
 
-  served : (e : Event) (next : Config) (s : IsRepeating low e next) (k : Service) → IsServing n first k s.atom → apply low e ≡ Some next → (w : View) × (w.stands_for ≡ v.stands_for) × Coupled n from first next high w
+  served : (e : Event) (next : Config) (s : IsRepeating low e next) (k : Service) → IsServing n first k s.atom → apply low e ≡ Some next → (w : View) × (w.stands_for ≡ v.stands_for) × Coupled n from first next high w × SameLetters v w
   served e next s k i h =
       let d = desk n first k in
       let form : ProcForm-F.Rep s.on s.pattern s.body ≡ ProcForm-F.Rep d.chan d.pattern (takes_map n d) = sym s.form ∙ ap layer i.is ∙ forms.outs-Rep d.chan d.pattern (takes_map n d) in
@@ -162,7 +163,7 @@ module _ {n from first : ℕ} {low high : Config} {v : View} (c : Coupled n from
       let chan : s.chan ≡ own n (number_of k) = done (sym (ap (λ x. chan_of x s.atom.env) (on ∙ desk-chan n first k) ∙ channel-is (own n (number_of k)) s.atom.env) ∙ s.its_chan) in
       by_number n (number_of k) s.offers.mate s.offers.sent.0 s.offers.sent.1 g.thing (listed k) (not_nine k) (not_ten k) (no_lock_at s.other (number_of k) g.thing (listed k) (not_thirteen k) there)
       (sym (same_name-is s.chan s.offers.sent.0 s.offers.agree) ∙ chan) g.gift λ m thing number content for.
-      becomes c next e s.other (goes_under s.atom s.body s.env) (Thing.mail m Stage.there ∷ []) (Thing.taken m ∷ []) (record {
+      becomes c next e s.other (goes_under s.atom s.body s.env) (Thing.mail m Stage.there ∷ []) (Thing.taken m ∷ []) refl (record {
         applies = h;
         is = s.is;
         no_packet = o.no_packet;
@@ -211,7 +212,7 @@ letter_mail (Mail.deliver p s) e r = r p s refl
 letter_mail _ e r = absurd (let bad : ⊥ = omega arith in bad)
 
 module _ {n from first : ℕ} {low high : Config} {v : View} (c : Coupled n from first low high v) where
-  handed : (e : Event) (next : Config) (s : IsRepeating low e next) (x : Name) → IsLetters n from x s.atom → apply low e ≡ Some next → (w : View) × (w.stands_for ≡ v.stands_for) × Coupled n from first next high w
+  handed : (e : Event) (next : Config) (s : IsRepeating low e next) (x : Name) → IsLetters n from x s.atom → apply low e ≡ Some next → (w : View) × (w.stands_for ≡ v.stands_for) × Coupled n from first next high w × SameLetters v w
   handed e next s x i h =
       let left : Proc = infra i.node (form.Open (variable i.letter)) in
       let right : Proc = tells n i.node (dack n) (pair i.named (variable i.place)) in
@@ -238,7 +239,7 @@ module _ {n from first : ℕ} {low high : Config} {v : View} (c : Coupled n from
       let named_is : eval i.named s.env ≡ Some (value.Agent p.agent) =
       ap (eval i.named) env ∙ named_kept n from i.named (map.insert s.atom.env i.letter (value.Letter p.chan p.value)) i.place (value.Site t) i.names i.place_above
       ∙ named_kept n from i.named s.atom.env i.letter (value.Letter p.chan p.value) i.names i.letter_above ∙ i.calls ∙ ap (λ a. Some (value.Agent a)) (sym i.agent ∙ agent) in
-      becomes c next e s.other (goes_under s.atom s.body s.env) (Thing.mail (Mail.deliver p t) Stage.there ∷ []) (Thing.opening p ∷ Thing.mail (Mail.dack p.agent t) (Stage.in_agent x) ∷ []) (record {
+      becomes c next e s.other (goes_under s.atom s.body s.env) (Thing.mail (Mail.deliver p t) Stage.there ∷ []) (Thing.opening p ∷ Thing.mail (Mail.dack p.agent t) (Stage.in_agent x) ∷ []) refl (record {
         applies = h;
         is = s.is;
         no_packet = o.no_packet;
@@ -279,7 +280,7 @@ module _ {n from first : ℕ} {low high : Config} {v : View} (c : Coupled n from
         known = λ k. (k.0, (tt, tt));
       })
 
-  pub serves : (e : Event) (next : Config) → e.kind ≡ kind.Rep → e.tag.role ≡ role.Infra → apply low e ≡ Some next → (w : View) × (w.stands_for ≡ v.stands_for) × Coupled n from first next high w
+  pub serves : (e : Event) (next : Config) → e.kind ≡ kind.Rep → e.tag.role ≡ role.Infra → apply low e ≡ Some next → (w : View) × (w.stands_for ≡ v.stands_for) × Coupled n from first next high w × SameLetters v w
   serves e next is_rep infra h =
       let s = repeating low e next (ap (λ k. row k low e) (sym is_rep) ∙ h) in
       let o = of_actor c e.actor s.atom kind.Rep role.Infra s.acts.there (ap begun_by s.form) (same_role s.atom.proc.tag e.tag s.acts.tag ∙ infra) (λ k r. cc) in

@@ -45,8 +45,9 @@ use Rattle.np_calculus.specs.Starts.{daemon_agent}
 use Rattle.np_protocol.specs.Phases.{Phase}
 use Rattle.np_protocol.specs.Protocol.{Protocol}
 use Rattle.np_things.specs.Shapes.{Are, Is, IsUnderWay}
-use Rattle.np_things.specs.Things.{Thing, first_atom_of, first_packet_of, high_atom, high_packet, show_all, shows}
+use Rattle.np_things.specs.Things.{Thing, carried, first_atom_of, first_packet_of, high_atom, high_packet, show_all, shows}
 use Rattle.np_levels.specs.Coupled.{Coupled, IsShaped, KnowsOnly, View, chips, is_channel, is_child_of, may_know, scene}
+use Rattle.np_levels.specs.Letters.{SameLetters, first_letter_of, letter_under}
 use Rattle.np_levels.specs.Mirrors.{Mirrors}
 use Rattle.np_levels.proofs.Marks.{may_know_more, reshape}
 use Rattle.np_levels.proofs.Orders.{Reordered, and_then, backwards, entries_at, entries_put, flat, kept, permuted}
@@ -57,6 +58,10 @@ use Rattle.np_levels.proofs.Writes.{IsOnly, get-rewritten, mirror_at, mirrors_wr
 
 no_value : {A B : Type 0} {x : A} → None ≡ Some x → B
 no_value e = absurd cc
+
+-- a thing that shows no chips and carries no letter
+abbrev pub IsSilent : Thing → Type 0
+IsSilent t = (shows t ≡ []) × (carried t ≡ None)
 
 -- what stands under a mark for one thing at most
 pub data Holds (n from first : ℕ) : Option Atom → Option Packet → Option Thing → Type 0 where
@@ -89,6 +94,7 @@ module _ {n from first : ℕ} {low high : Config} {v : View} (c : Coupled n from
     pub mirrored_packets : Mirrors v.stands_for (λ m. map.get things m >>= first_packet_of) (map.get high_packets)
     pub old_or_new : (m : Name) (ts : List Thing) → map.get things m ≡ Some ts → IsOldOrNew c m
     pub order : Reordered (chips things) (chips v.things)
+    pub letters : (m : Name) → letter_under things m ≡ letter_under v.things m
     pub known : (m : Name) (ts : List Thing) → map.get things m ≡ Some ts → All Knowing ts
 
   pub stands : Stands low.atoms low.packets high.atoms high.packets v.things
@@ -98,15 +104,16 @@ module _ {n from first : ℕ} {low high : Config} {v : View} (c : Coupled n from
     mirrored_packets = c.mirrored_packets;
     old_or_new = λ m ts h. inl (ts, h);
     order = kept;
+    letters = λ m. refl;
     known = λ m ts h. All-weaker (λ t. KnowsOnly (may_know v.lock (chips v.things) t) (is_channel n high.born) from t) Knowing
         (λ t k. knows_wider (may_know v.lock (chips v.things) t) (may_know v.lock (chips v.things) t) (is_channel n high.born)
         (is_channel n (with_made high.born e.made)) from (λ a h. h) (more_channels n high.born e.made) t k) ts (c.known m ts h);
   }
 
-  -- a mark that may be written: a new one, or one of a thing that shows no chips
+  -- a mark that may be written: a new one, or one of a thing that shows no chips and carries no letter
   pub data Free (things : NameMap (List Thing)) (m : Name) : Type 0 where
     new : map.get things m ≡ None → set.contains low.born m ≡ false → Free things m
-    old : {ts : List Thing} → map.get things m ≡ Some ts → show_all ts ≡ [] → Free things m
+    old : {ts : List Thing} → map.get things m ≡ Some ts → show_all ts ≡ [] → first_letter_of ts ≡ None → Free things m
 
   module _ {atoms : NameMap Atom} {packets : NameMap Packet} {high_atoms : NameMap Atom} {high_packets : NameMap Packet} {things : NameMap (List Thing)}
       (s : Stands atoms packets high_atoms high_packets things) (m : Name) (free : Free things m) where
@@ -115,7 +122,7 @@ module _ {n from first : ℕ} {low high : Config} {v : View} (c : Coupled n from
       where
         go : Free things m → IsOldOrNew c m
         go (Free.new none f) = inr f
-        go (Free.old {ts = ts} h silent) = s.old_or_new m ts h
+        go (Free.old {ts = ts} h silent none) = s.old_or_new m ts h
 
     only : {X : Type 0} (f : List Thing → Option X) → IsOnly v.stands_for (λ q. map.get things q >>= f) m
     only f q y h same = go (map.get things q) refl h
@@ -131,7 +138,7 @@ module _ {n from first : ℕ} {low high : Config} {v : View} (c : Coupled n from
     pub high_packet_at : map.get high_packets (v.stands_for m) ≡ (map.get things m >>= first_packet_of)
     high_packet_at = mirror_at v.stands_for (λ q. map.get things q >>= first_packet_of) (map.get high_packets) m s.mirrored_packets (only first_packet_of)
 
-    module _ (a : Option Atom) (k : Option Packet) (u : Option Thing) (holds : Holds n from first a k u) (silent : IfSome u (λ t. shows t ≡ []))
+    module _ (a : Option Atom) (k : Option Packet) (u : Option Thing) (holds : Holds n from first a k u) (silent : IfSome u IsSilent)
         (knows : IfSome u Knowing) where
       abbrev after : NameMap (List Thing)
       after = rewritten things m (listed u)
@@ -182,18 +189,33 @@ module _ {n from first : ℕ} {low high : Config} {v : View} (c : Coupled n from
         where
           go : Free things m → Reordered (chips (map.remove things m)) (chips things)
           go (Free.new none f) = subst (λ (t : NameMap (List Thing)). Reordered (chips t) (chips things)) (sym (cut_absent things m none)) kept
-          go (Free.old {ts = ts} h quiet) = backwards
+          go (Free.old {ts = ts} h quiet none) = backwards
               (subst (λ l. Reordered (chips things) (l ++ chips (map.remove things m))) quiet
               (flat (λ (e : Name × List Thing). show_all e.1) (entries_at things m ts h)))
 
       order : Reordered (chips after) (chips things)
       order = go u silent
         where
-          go : (u : Option Thing) → IfSome u (λ t. shows t ≡ []) → Reordered (chips (rewritten things m (listed u))) (chips things)
+          go : (u : Option Thing) → IfSome u IsSilent → Reordered (chips (rewritten things m (listed u))) (chips things)
           go None quiet = without
           go (Some t) quiet =
-              and_then (subst (λ l. Reordered (chips (map.insert things m (t ∷ []))) (l ++ chips (map.remove things m))) (ap (λ l. l ++ []) quiet)
+              and_then (subst (λ l. Reordered (chips (map.insert things m (t ∷ []))) (l ++ chips (map.remove things m))) (ap (λ l. l ++ []) quiet.0)
               (flat (λ (e : Name × List Thing). show_all e.1) (entries_put things m (t ∷ [])))) without
+
+      letters : (q : Name) → letter_under after q ≡ letter_under v.things q
+      letters q = first_of first_letter_of None (none u silent) q ∙ go (same_name q m) refl
+        where
+          none : (u : Option Thing) → IfSome u IsSilent → (listed u >>= first_letter_of) ≡ None
+          none None quiet = refl
+          none (Some t) quiet = quiet.1
+
+          none_there : Free things m → letter_under things m ≡ None
+          none_there (Free.new absent f) = ap (λ o. o >>= first_letter_of) absent
+          none_there (Free.old h quiet none) = ap (λ o. o >>= first_letter_of) h ∙ none
+
+          go : (t : Bool) → same_name q m ≡ t → cond t None (letter_under things q) ≡ letter_under v.things q
+          go true e = sym (ap (letter_under things) (same_name-is q m e) ∙ none_there free) ∙ s.letters q
+          go false e = s.letters q
 
       pub write : Stands (rewritten atoms m a) (rewritten packets m k) (rewritten high_atoms (v.stands_for m) (u >>= high_atom))
           (rewritten high_packets (v.stands_for m) (u >>= high_packet)) after
@@ -209,11 +231,12 @@ module _ {n from first : ℕ} {low high : Config} {v : View} (c : Coupled n from
             (get-rewritten high_packets (v.stands_for m) (u >>= high_packet)) (only first_packet_of);
         old_or_new = λ q ts h. old_or_new q ts (same_name q m) refl h;
         order = and_then order s.order;
+        letters = letters;
         known = λ q ts h. known q ts (same_name q m) refl h;
       }
 
     -- an atom stands there then, and no packet did
-    pub put_atom : (a : Atom) (t : Thing) (h : Atom) → Is n from first t a → high_atom t ≡ Some h → high_packet t ≡ None → shows t ≡ [] → Knowing t
+    pub put_atom : (a : Atom) (t : Thing) (h : Atom) → Is n from first t a → high_atom t ≡ Some h → high_packet t ≡ None → IsSilent t → Knowing t
         → map.get packets m ≡ None → (map.get things m >>= first_packet_of) ≡ None
         → Stands (map.insert atoms m a) packets (map.insert high_atoms (v.stands_for m) h) high_packets (map.insert things m (t ∷ []))
     put_atom a t h is its_atom no_packet silent knows none high_none =
@@ -286,7 +309,7 @@ module _ {n from first : ℕ} {low high : Config} {v : View} (c : Coupled n from
       → (next : Config) (said high_said : List (ℕ × Value)) → apply low e ≡ Some next
       → next ≡ record low { atoms = atoms; packets = packets; born = with_made low.born e.made; said = said } → said ≡ high_said
       → (w : View) × (w.stands_for ≡ v.stands_for) × Coupled n from first next
-      (record high { atoms = high_atoms; packets = high_packets; born = with_made high.born e.made; said = high_said }) w
+      (record high { atoms = high_atoms; packets = high_packets; born = with_made high.born e.made; said = high_said }) w × SameLetters v w
   leave {atoms} {packets} {high_atoms} {high_packets} {things} s next said high_said applies is same = (
     record v { things = things; phase = protocol.0 },
     refl,
@@ -310,6 +333,7 @@ module _ {n from first : ℕ} {low high : Config} {v : View} (c : Coupled n from
               (λ t k. knows_more (may_know v.lock (chips v.things) t) (may_know v.lock (chips things) t) (is_channel n (with_made high.born e.made)) from
               (more t) t k) ts (s.known m ts h);
         }),
+    s.letters,
   )
     where
       protocol : (phase : Name → Phase) × Protocol (scene v high) phase (chips things)

@@ -63,6 +63,7 @@ module _ {n from first : ℕ} {low high : Config} {v : View} (c : Coupled n from
         w.0,
         w.1,
         w.2,
+        w.3,
       )
 
 pub stops-are-events : IsEvent kind.Stop

@@ -34,7 +34,7 @@ use Rattle.np_source_values.proofs.Values.{same-value}
 use Rattle.daemon_encode.specs.Translates.{Translates}
 use Rattle.np_things.specs.Mail.{Posted, as_output}
 use Rattle.np_things.specs.Shapes.{Is, IsAgents, IsOfSource, IsOpened}
-use Rattle.np_things.specs.Things.{Thing, first_atom_of, first_packet_of, high_packet, shows}
+use Rattle.np_things.specs.Things.{Thing, first_atom_of, first_packet_of, high_packet}
 use Rattle.np_levels.specs.Coupled.{Coupled, KnowsOnly, View, chips, is_channel, may_know}
 use Rattle.np_levels.specs.Laws.{IsEvent, event_of}
 use Rattle.np_levels.proofs.Actors.{Actor, actor, agents, known_channel, parts_of, same_here}
@@ -47,7 +47,8 @@ use Rattle.np_levels.proofs.Meets.{IsMeeting, meeting}
 use Rattle.np_levels.proofs.Outputs.{IsOutput, by_source, given_by, is_of_source, is_output, not_own, translated-out}
 use Rattle.np_levels.proofs.Serves.{IsRepeating, repeating}
 use Rattle.np_levels.proofs.Shapes.{of_atom}
-use Rattle.np_levels.proofs.Stands.{Free, cut_atom, leave, put_atom, stands}
+use Rattle.np_levels.proofs.Stands.{Free, IsSilent, cut_atom, leave, put_atom, stands}
+use Rattle.np_levels.specs.Letters.{SameLetters}
 
 -- ---- the output
 
@@ -57,7 +58,7 @@ module _ {n from first : ℕ} {low high : Config} {v : View} (c : Coupled n from
     pub no_packet : map.get low.packets m ≡ None
     pub thing : Thing
     pub there : map.get v.things m ≡ Some (thing ∷ [])
-    pub silent : shows thing ≡ []
+    pub silent : IsSilent thing
     pub no_high_packet : high_packet thing ≡ None
     pub offers : Offers high (v.stands_for m) agent chan what
     pub known : IsKnown (agents c e) (is_channel n high.born) what
@@ -92,7 +93,7 @@ module _ {n from first : ℕ} {low high : Config} {v : View} (c : Coupled n from
           no_packet = none;
           thing = Thing.source x hi;
           there = there;
-          silent = refl;
+          silent = (refl, refl);
           no_high_packet = refl;
           offers = offers_there hi (c.mirrored.up m hi (ap (λ o. o >>= first_atom_of) there)) i.stands.agent (rw (form, on, gives) refl);
           known = subst (IsKnown (agents c e) (is_channel n high.born)) (sym s.is)
@@ -108,7 +109,7 @@ module _ {n from first : ℕ} {low high : Config} {v : View} (c : Coupled n from
           no_packet = none;
           thing = Thing.opened p;
           there = there;
-          silent = refl;
+          silent = (refl, refl);
           no_high_packet = refl;
           offers = offers_there (as_output p) (c.mirrored.up m (as_output p) (ap (λ o. o >>= first_atom_of) there)) (ap (λ (a : Atom). a.agent) i.is)
               (output-gives p.agent p.chan p.value p.tag ∙ ap Some (sym same));
@@ -177,10 +178,11 @@ module _ {n from first : ℕ} {low high : Config} {v : View} (c : Coupled n from
       → next ≡ effect low e (record still { atoms = put e.actor goes_low ∷ cut s.other ∷ [] })
       → (w : View) × (w.stands_for ≡ v.stands_for) × Coupled n from first next
       (effect high (event_of v e) (record still { atoms = put (v.stands_for e.actor) goes_high ∷ cut (v.stands_for s.other) ∷ [] })) w
+      × SameLetters v w
   met_both goes_low goes_high g goes knows is =
-      let first = put_atom c e (stands c e) e.actor (Free.old {ts = Thing.source o.named o.atom ∷ []} o.there refl) goes_low
-      (Thing.source o.named goes_high) goes_high goes refl refl refl knows o.no_packet (ap (λ l. l >>= first_packet_of) o.there) in
-      let second = cut_atom c e first s.other (Free.old {ts = g.thing ∷ []} there (ap (λ l. l ++ []) g.silent)) g.no_packet
+      let first = put_atom c e (stands c e) e.actor (Free.old {ts = Thing.source o.named o.atom ∷ []} o.there refl refl) goes_low
+      (Thing.source o.named goes_high) goes_high goes refl refl (refl, refl) knows o.no_packet (ap (λ l. l >>= first_packet_of) o.there) in
+      let second = cut_atom c e first s.other (Free.old {ts = g.thing ∷ []} there (ap (λ l. l ++ []) g.silent.0) g.silent.1) g.no_packet
       (ap (λ l. l >>= first_packet_of) there ∙ g.no_high_packet) in
       leave c e second next low.said high.said h is c.said
     where
@@ -202,6 +204,7 @@ module _ {n from first : ℕ} {low high : Config} {v : View} (c : Coupled n from
         w.0,
         w.1,
         w.2,
+        w.3,
       )
 
 pub communications-are-events : IsEvent kind.Comm
@@ -219,9 +222,9 @@ module _ {n from first : ℕ} {low high : Config} {v : View} (c : Coupled n from
     (translates : Translates n from o.named p s.body) (t : Taken c e o s.on s.pattern s.chan s.other s.value s.env s.its_chan s.offers s.binds p) where
   copies_both : IsSame c e next
   copies_both =
-      let r = put_atom c e (stands c e) s.other (Free.old {ts = t.given.thing ∷ []} t.given.there (ap (λ l. l ++ []) t.given.silent))
+      let r = put_atom c e (stands c e) s.other (Free.old {ts = t.given.thing ∷ []} t.given.there (ap (λ l. l ++ []) t.given.silent.0) t.given.silent.1)
       (goes_under s.atom s.body s.env) (Thing.source o.named (goes_under o.atom p t.bound.env)) (goes_under o.atom p t.bound.env)
-      (record { stands = goes_on_under s.body o.is.stands t.bound; translates = translates }) refl refl refl t.knows t.given.no_packet
+      (record { stands = goes_on_under s.body o.is.stands t.bound; translates = translates }) refl refl (refl, refl) t.knows t.given.no_packet
       (ap (λ l. l >>= first_packet_of) t.given.there ∙ t.given.no_high_packet) in
       let w = leave c e r next low.said high.said h s.is c.said in (
         effect high (event_of v e) (record still { atoms = put (v.stands_for s.other) (goes_under o.atom p t.bound.env) ∷ [] }),
@@ -231,6 +234,7 @@ module _ {n from first : ℕ} {low high : Config} {v : View} (c : Coupled n from
         w.0,
         w.1,
         w.2,
+        w.3,
       )
 
 pub copies-are-events : IsEvent kind.Rep

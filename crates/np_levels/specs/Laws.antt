@@ -17,6 +17,7 @@ use Rattle.np_calculus.specs.Starts.{start_high, start_low}
 use Rattle.np_scope.specs.Sound.{IsSound}
 use Rattle.daemon_encode.specs.Translates.{IsLowOf}
 use Rattle.np_levels.specs.Coupled.{Coupled, View}
+use Rattle.np_levels.specs.Letters.{IsPosting, LettersAfter, SameLetters}
 use Rattle.np_levels.specs.Roles.{occurs}
 
 -- no infrastructure passed a mark on: each mark of the low level stands for itself
@@ -33,10 +34,10 @@ abbrev pub RolesOfEvents : Type 0
 RolesOfEvents = (n from first : ℕ) (low high : Config) (v : View) → Coupled n from first low high v → (e : Event) (next : Config) → apply low e ≡ Some next
     → occurs e.tag.role e.kind ≡ true
 
--- after an event of this kind and role the low level still belongs to the same configuration of the high level
+-- after an event of this kind and role the low level still belongs to the same configuration of the high level, and the letters are as such an event leaves them
 abbrev pub IsQuiet : Kind → Role → Type 0
 IsQuiet k r = (n from first : ℕ) (low high : Config) (v : View) → Coupled n from first low high v → (e : Event) (next : Config) → e.kind ≡ k → e.tag.role ≡ r → apply low e ≡ Some next
-    → (w : View) × (w.stands_for ≡ v.stands_for) × Coupled n from first next high w
+    → (w : View) × (w.stands_for ≡ v.stands_for) × Coupled n from first next high w × LettersAfter k r low next e v w
 
 -- The post that a Send is, at the mark of the high level: it is an event of the high level, where no value of a wrong type is met, and the two
 -- configurations stay coupled.
@@ -45,7 +46,7 @@ post_of v e = record (posted e) { actor = v.stands_for e.actor }
 
 abbrev pub PostsAreEvents : Type 0
 PostsAreEvents = (n from first : ℕ) (low high : Config) (v : View) → Coupled n from first low high v → Well high → (e : Event) (next : Config) → e.kind ≡ kind.Send → e.tag.role ≡ role.Post → apply low e ≡ Some next
-    → (then : Config) × (apply high (post_of v e) ≡ Some then) × (w : View) × (w.stands_for ≡ v.stands_for) × Coupled n from first next then w
+    → (then : Config) × (apply high (post_of v e) ≡ Some then) × (w : View) × (w.stands_for ≡ v.stands_for) × Coupled n from first next then w × IsPosting low e v w
 
 -- the same event at the marks of the high level
 abbrev pub event_of : View → Event → Event
@@ -56,9 +57,10 @@ abbrev pub IsEvent : Kind → Type 0
 IsEvent k = (n from first : ℕ) (low high : Config) (v : View) → Coupled n from first low high v → Well high → (e : Event) (next : Config)
     → e.kind ≡ k → e.tag.role ≡ role.Plain → apply low e ≡ Some next
     → (then : Config) × (apply high (event_of v e) ≡ Some then) × (w : View) × (w.stands_for ≡ v.stands_for) × Coupled n from first next then w
+    × LettersAfter k role.Plain low next e v w
 
 -- The same of arrivals: the actor of an arrival is an agent and no mark, and so it stays itself.
 abbrev pub ArrivalsAreEvents : Type 0
 ArrivalsAreEvents = (n from first : ℕ) (low high : Config) (v : View) → Coupled n from first low high v → Well high → (e : Event) (next : Config)
     → e.kind ≡ kind.Arrive → e.tag.role ≡ role.Plain → apply low e ≡ Some next
-    → (then : Config) × (apply high e ≡ Some then) × (w : View) × (w.stands_for ≡ v.stands_for) × Coupled n from first next then w
+    → (then : Config) × (apply high e ≡ Some then) × (w : View) × (w.stands_for ≡ v.stands_for) × Coupled n from first next then w × SameLetters v w

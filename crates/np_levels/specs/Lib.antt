@@ -1,4 +1,5 @@
 pub mod Coupled
 pub mod Laws
+pub mod Letters
 pub mod Mirrors
 pub mod Roles

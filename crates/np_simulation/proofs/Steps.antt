@@ -1,5 +1,5 @@
 -- One event of the low level is one of the high level, or none.
-use Rattle.std.proofs.Common.{◌≡◌, ℕ, true, Option, None, Some, List, [], ◌∷◌, ◌++◌, option_map, refl, sym, ap, ◌∙◌}
+use Rattle.std.proofs.Common.{◌≡◌, ℕ, true, Option, None, Some, List, [], ◌∷◌, ◌++◌, option_map, refl, sym, ap, subst, ◌∙◌}
 use Rattle.np_syntax.specs.declared.value.Name.{Name}
 use Rattle.np_syntax.specs.declared.process.Role.{Role}
 use Rattle.np_syntax.specs.declared.process.Role.TheVariants as role
@@ -14,6 +14,7 @@ use Rattle.np_lift.specs.Lift.{lift, lifted, posted}
 use Rattle.np_lift.proofs.Lifted.{lifted-by-table}
 use Rattle.np_levels.specs.Coupled.{Coupled, View}
 use Rattle.np_levels.specs.Laws.{IsEvent, StandForThemselves, event_of, post_of}
+use Rattle.np_levels.specs.Letters.{LettersAfter}
 use Rattle.np_levels.specs.Roles.{occurs}
 use Rattle.np_levels.proofs.Arrivals.{arrivals-are-events}
 use Rattle.np_levels.proofs.Creations.{creations-are-events}
@@ -53,8 +54,8 @@ lifts-one e d es h = rw h refl
 runs-on : (c d : Config) (e : Event) (es : List Event) → apply c e ≡ Some d → run c (e ∷ es) ≡ run d es
 runs-on c d e es h = ap (λ o. o >>= λ m. run m es) h
 
--- the events of the high level that an event of the low level is, and where they lead
-pub record Step (n from first : ℕ) (next high : Config) (e : Event) : Type 0 where
+-- the events of the high level that an event of the low level is, and where they lead; and the letters that are under way then
+pub record Step (n from first : ℕ) (low : Config) (v : View) (next high : Config) (e : Event) : Type 0 where
   pub made : List Event
   pub lifts : (es : List Event) → lift (e ∷ es) ≡ made ++ lift es
   pub then : Config
@@ -62,6 +63,7 @@ pub record Step (n from first : ℕ) (next high : Config) (e : Event) : Type 0 w
   pub view : View
   pub coupled : Coupled n from first next then view
   pub stand : StandForThemselves view
+  pub letters : LettersAfter e.kind e.tag.role low next e v view
 
 by-kind : (k : Kind) → occurs role.Plain k ≡ true → (k ≡ kind.Arrive → ⊥) → IsEvent k
 by-kind kind.Stop h other = stops-are-events
@@ -84,13 +86,30 @@ module _ {n from first : ℕ} {low high : Config} {v : View} (c : Coupled n from
   still : (w : View) → w.stands_for ≡ v.stands_for → StandForThemselves w
   still w same m = ap (λ (f : Name → Name). f m) same ∙ stand m
 
+  -- what an event of its kind and role makes of the letters it makes of them
+  at-event : (k : Kind) (r : Role) → e.kind ≡ k → e.tag.role ≡ r → (w : View) → LettersAfter k r low next e v w → LettersAfter e.kind e.tag.role low next e v w
+  at-event k r its-kind its-role w l =
+      subst (λ s. LettersAfter e.kind s low next e v w) (sym its-role) (subst (λ j. LettersAfter j r low next e v w) (sym its-kind) l)
+
   -- nothing at the high level
-  quiet : lifted e ≡ None → (w : View) × (w.stands_for ≡ v.stands_for) × Coupled n from first next high w → Step n from first next high e
-  quiet none w = record { made = []; lifts = λ es. lifts-none e es none; then = high; runs = λ es. refl; view = w.0; coupled = w.2; stand = still w.0 w.1 }
+  quiet : (k : Kind) (r : Role) → e.kind ≡ k → e.tag.role ≡ r → lifted e ≡ None
+      → (w : View) × (w.stands_for ≡ v.stands_for) × Coupled n from first next high w × LettersAfter k r low next e v w → Step n from first low v next high e
+  quiet k r its-kind its-role none w = record {
+    made = [];
+    lifts = λ es. lifts-none e es none;
+    then = high;
+    runs = λ es. refl;
+    view = w.0;
+    coupled = w.2;
+    stand = still w.0 w.1;
+    letters = at-event k r its-kind its-role w.0 w.3;
+  }
 
   -- one event
-  one : (d f : Event) → f ≡ d → lifted e ≡ Some d → (then : Config) × (apply high f ≡ Some then) × (w : View) × (w.stands_for ≡ v.stands_for) × Coupled n from first next then w → Step n from first next high e
-  one d f same is w = record {
+  one : (k : Kind) (r : Role) → e.kind ≡ k → e.tag.role ≡ r → (d f : Event) → f ≡ d → lifted e ≡ Some d
+      → (then : Config) × (apply high f ≡ Some then) × (w : View) × (w.stands_for ≡ v.stands_for) × Coupled n from first next then w × LettersAfter k r low next e v w
+      → Step n from first low v next high e
+  one k r its-kind its-role d f same is w = record {
     made = d ∷ [];
     lifts = λ es. lifts-one e d es is;
     then = w.0;
@@ -98,24 +117,25 @@ module _ {n from first : ℕ} {low high : Config} {v : View} (c : Coupled n from
     view = w.2;
     coupled = w.4;
     stand = still w.2 w.3;
+    letters = at-event k r its-kind its-role w.2 w.5;
   }
 
-  its-kind : (r : Role) → e.tag.role ≡ r → occurs r e.kind ≡ true
-  its-kind r is = ap (λ s. occurs s e.kind) (sym is) ∙ roles-of-events n from first low high v c e next h
+  may-have : (r : Role) → e.tag.role ≡ r → occurs r e.kind ≡ true
+  may-have r is = ap (λ s. occurs s e.kind) (sym is) ∙ roles-of-events n from first low high v c e next h
 
-  of-post : e.tag.role ≡ role.Post → (k : Kind) → e.kind ≡ k → occurs role.Post k ≡ true → Step n from first next high e
-  of-post post kind.Send is may = one (posted e) (post_of v e) (same-post v stand e) (lifted-by-table.post e post is) (posts-are-events n from first low high v c well e next is post h)
-  of-post post kind.Land is may = quiet (lifted-by-table.landing e post is) (lands c e next is (λ plain. let bad : role.Plain ≡ role.Post = sym plain ∙ post in cc) h)
+  of-post : e.tag.role ≡ role.Post → (k : Kind) → e.kind ≡ k → occurs role.Post k ≡ true → Step n from first low v next high e
+  of-post post kind.Send is may = one kind.Send role.Post is post (posted e) (post_of v e) (same-post v stand e) (lifted-by-table.post e post is) (posts-are-events n from first low high v c well e next is post h)
+  of-post post kind.Land is may = quiet kind.Land role.Post is post (lifted-by-table.landing e post is) (lands c e next is (λ plain. let bad : role.Plain ≡ role.Post = sym plain ∙ post in cc) h)
   of-post post _ is may = absurd cc
 
-  of-source : e.tag.role ≡ role.Plain → (k : Kind) → e.kind ≡ k → occurs role.Plain k ≡ true → Step n from first next high e
-  of-source plain kind.Arrive is may = one e e refl (lifted-by-table.plain e plain) (arrivals-are-events n from first low high v c well e next is plain h)
-  of-source plain k is may = one e (event_of v e) (same-event v stand e) (lifted-by-table.plain e plain) (by-kind k may (λ a. absurd cc) n from first low high v c well e next is plain h)
+  of-source : e.tag.role ≡ role.Plain → (k : Kind) → e.kind ≡ k → occurs role.Plain k ≡ true → Step n from first low v next high e
+  of-source plain kind.Arrive is may = one kind.Arrive role.Plain is plain e e refl (lifted-by-table.plain e plain) (arrivals-are-events n from first low high v c well e next is plain h)
+  of-source plain k is may = one k role.Plain is plain e (event_of v e) (same-event v stand e) (lifted-by-table.plain e plain) (by-kind k may (λ a. absurd cc) n from first low high v c well e next is plain h)
 
-  by-role : (r : Role) → e.tag.role ≡ r → Step n from first next high e
-  by-role role.Infra is = quiet (lifted-by-table.infra e is) (infrastructure e.kind n from first low high v c e next refl is h)
-  by-role role.Post is = of-post is e.kind refl (its-kind role.Post is)
-  by-role role.Plain is = of-source is e.kind refl (its-kind role.Plain is)
+  by-role : (r : Role) → e.tag.role ≡ r → Step n from first low v next high e
+  by-role role.Infra is = quiet e.kind role.Infra refl is (lifted-by-table.infra e is) (infrastructure e.kind n from first low high v c e next refl is h)
+  by-role role.Post is = of-post is e.kind refl (may-have role.Post is)
+  by-role role.Plain is = of-source is e.kind refl (may-have role.Plain is)
 
-  pub step : Step n from first next high e
+  pub step : Step n from first low v next high e
   step = by-role e.tag.role refl
