@@ -41,6 +41,7 @@ use Rattle.np_things.specs.Things.{Thing, first_atom_of, first_packet_of, IsHead
 use Rattle.np_things.proofs.Starts.{own-apart, starts-with-things}
 use Rattle.np_levels.specs.Coupled.{Coupled, IsShaped, KnowsOnly, View, chips, is_channel, may_know, whereabouts}
 use Rattle.np_levels.specs.Laws.{StartsCoupled}
+use Rattle.np_levels.specs.Letters.{first_letter_of}
 use Rattle.np_levels.proofs.Orders.{Reordered, and_then, behind, entries_new, flat, past, permuted}
 
 -- the protocol does not see the order of chips
@@ -205,6 +206,14 @@ module _ (p : Program) (q : LowProgram) (low : IsLowOf p q) (sound : IsSound p) 
       go (ThingsAtStart.of_main e f) = no_value (ap first_packet_of (sym f) ∙ h)
       go (ThingsAtStart.of_daemon e f) = no_value (ap first_packet_of (sym f) ∙ h)
 
+  no-letter : (m : Name) (o : Option (List Thing)) → map.get things m ≡ o → (o >>= first_letter_of) ≡ None
+  no-letter m None e = refl
+  no-letter m (Some ts) e = go (its-things m ts e)
+    where
+      go : ThingsAtStart m ts → first_letter_of ts ≡ None
+      go (ThingsAtStart.of_main e f) = ap first_letter_of f
+      go (ThingsAtStart.of_daemon e f) = ap first_letter_of f
+
   is-known : (m : Name) (ts : List Thing) → ThingsAtStart m ts → All (λ t. KnowsOnly (may_know (first_locks main here) (chips things) t) (is_channel n high_start.born) p.binders t) ts
   is-known m ts (ThingsAtStart.of_main e f) = subst (All (λ t. KnowsOnly (may_know (first_locks main here) (chips things) t) (is_channel n high_start.born) p.binders t)) (sym f)
       (All-from_recursion (λ t. KnowsOnly (may_know (first_locks main here) (chips things) t) (is_channel n high_start.born) p.binders t) (main_things n p.at p.main)
@@ -264,8 +273,12 @@ module _ (p : Program) (q : LowProgram) (low : IsLowOf p q) (sound : IsSound p) 
 
 pub starts-coupled : StartsCoupled
 unfolding start_low start_high
-starts-coupled p q low sound =
-    (view p q low sound, subst (λ (c : Config). Coupled (length p.sites) p.binders low.first c (start_high p) (view p q low sound)) (sym same) (coupled p q low sound), λ m. refl)
+starts-coupled p q low sound = (
+  view p q low sound,
+  subst (λ (c : Config). Coupled (length p.sites) p.binders low.first c (start_high p) (view p q low sound)) (sym same) (coupled p q low sound),
+  λ m. refl,
+  λ m. no-letter p q low sound m (map.get (things p q low sound) m) refl,
+)
   where
     same : start_low q ≡ low_start p q low sound
     same = λ i. let m : ℕ = length (low.sites i) in with_agent (with_agent (names_alone m) (main_agent m) (low.at i) (main_mark m) q.main) (daemon_agent m) 0 (daemon_mark m) q.daemon

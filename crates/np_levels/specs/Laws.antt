@@ -17,17 +17,17 @@ use Rattle.np_calculus.specs.Starts.{start_high, start_low}
 use Rattle.np_scope.specs.Sound.{IsSound}
 use Rattle.daemon_encode.specs.Translates.{IsLowOf}
 use Rattle.np_levels.specs.Coupled.{Coupled, View}
-use Rattle.np_levels.specs.Letters.{IsPosting, LettersAfter, SameLetters}
+use Rattle.np_levels.specs.Letters.{IsPosting, LettersAfter, NoLetters, SameLetters}
 use Rattle.np_levels.specs.Roles.{occurs}
 
 -- no infrastructure passed a mark on: each mark of the low level stands for itself
 abbrev pub StandForThemselves : View → Type 0
 StandForThemselves v = (m : Name) → v.stands_for m ≡ m
 
--- the two starts are coupled, and each mark stands for itself
+-- the two starts are coupled, each mark stands for itself, and no letter is under way
 abbrev pub StartsCoupled : Type 0
 StartsCoupled = (p : Program) (q : LowProgram) (low : IsLowOf p q) → IsSound p
-    → (v : View) × Coupled (length p.sites) p.binders low.first (start_low q) (start_high p) v × StandForThemselves v
+    → (v : View) × Coupled (length p.sites) p.binders low.first (start_low q) (start_high p) v × StandForThemselves v × NoLetters v
 
 -- each event of the low level is of the infrastructure, of a post, or of the source's own, and of a kind that such events have
 abbrev pub RolesOfEvents : Type 0

@@ -33,6 +33,10 @@ SameLetters v w = (q : Name) → letter_under w.things q ≡ letter_under v.thin
 abbrev pub OtherLetter : View → View → Name → Option Posted → Type 0
 OtherLetter v w m o = (q : Name) → letter_under w.things q ≡ cond (same_name q m) o (letter_under v.things q)
 
+-- none is under way
+abbrev pub NoLetters : View → Type 0
+NoLetters v = (q : Name) → letter_under v.things q ≡ None
+
 -- a letter that was posted, without the tag of its output
 abbrev pub as_letter : Posted → Letter
 as_letter p = record { agent = p.agent; chan = p.chan; value = p.value }

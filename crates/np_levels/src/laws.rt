@@ -3,18 +3,20 @@ ghost use Rattle.np_syntax.specs.declared.event.Kind.{Kind};
 ghost use Rattle.np_syntax.specs.declared.event.Kind.TheVariants as kind;
 ghost use Rattle.np_syntax.specs.declared.process.Role.TheVariants as role;
 
-/// The starts of a sound program and of each low program of it are coupled, where each mark stands for itself.
+/// The starts of a sound program and of each low program of it are coupled, where each mark stands for itself and no letter
+/// is under way.
 pub fn law_coupled_starts()
     ensures { StartsCoupled }
 {}
 
-/// Each event of the infrastructure, and the landing of a post, is nothing at the high level: the two configurations stay coupled.
+/// Each event of the infrastructure, and the landing of a post, is nothing at the high level: the two configurations stay
+/// coupled. The opening of a letter hands it over, and all others leave the letters that are under way.
 pub fn law_quiet()
     ensures infrastructure { (k : Kind) → IsQuiet k role.Infra }
     ensures posts_land { IsQuiet kind.Land role.Post }
 {}
 
-/// A Send of a post is an event of the high level, and the two configurations stay coupled.
+/// A Send of a post is an event of the high level, and the two configurations stay coupled. Its letter is under way then.
 pub fn law_posts_are_events()
     ensures { PostsAreEvents }
 {}
