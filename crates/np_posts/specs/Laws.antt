@@ -1,0 +1,41 @@
+-- What the laws of posts say (docs/LANGUAGE.md, "Translation and daemon").
+use Rattle.std.specs.Prelude.{◌≡◌, List, Some, length}
+use Rattle.std.specs.FinMap as map
+use Rattle.np_syntax.specs.declared.value.Name.{Name}
+use Rattle.np_syntax.specs.declared.event.Event.{Event}
+use Rattle.np_syntax.specs.declared.program.Program.{Program}
+use Rattle.np_syntax.specs.declared.program.LowProgram.{LowProgram}
+use Rattle.np_calculus.specs.Config.{Config}
+use Rattle.np_calculus.specs.Idle.{Idle}
+use Rattle.np_calculus.specs.Parts.{IsLodged}
+use Rattle.np_calculus.specs.Reductions.{run}
+use Rattle.np_calculus.specs.Sight.{inside}
+use Rattle.np_calculus.specs.Starts.{start_high, start_low}
+use Rattle.np_lift.specs.Posts.{IsAllHanded, IsPaired, deeds, deeds_to}
+use Rattle.np_check.specs.Faults.{IsAccepted}
+use Rattle.daemon_encode.specs.Encoded.{encoded}
+use Rattle.daemon_encode.specs.Translates.{IsLowOf}
+use Rattle.np_simulation.specs.Laws.{IsLifted}
+use Rattle.np_posts.specs.UnderWay.{letters_of, under_way}
+
+-- each post of a run is handed over once at most, before the next one of its mark
+abbrev pub PostsArePaired : Type 0
+PostsArePaired = (p : Program) (q : LowProgram) (low : IsLowOf p q) → IsAccepted p → (events : List Event) (c : Config) → run (start_low q) events ≡ Some c
+    → IsPaired (start_low q) events
+
+-- The things of the mark of a post that was not opened yet carry its letter, one of them and once; and no things carry any other. The things are those
+-- by which the run's end belongs to that of the lifted run.
+abbrev pub LettersInPlace : Type 0
+LettersInPlace = (p : Program) (q : LowProgram) (low : IsLowOf p q) → IsAccepted p → (events : List Event) (c : Config) → run (start_low q) events ≡ Some c
+    → (l : IsLifted (length p.sites) p.binders low.first (start_high p) events c)
+    × ((mark : Name) → letters_of (map.get l.view.things mark) ≡ under_way (deeds_to mark (deeds (start_low q) events)))
+
+-- where no site can act, and each atom's agent has a place, each post was handed over
+abbrev pub RestsAllHanded : Type 0
+RestsAllHanded = (p : Program) (q : LowProgram) (low : IsLowOf p q) → IsAccepted p → (events : List Event) (c : Config) → run (start_low q) events ≡ Some c
+    → IsLodged (inside c) → Idle c → IsAllHanded (start_low q) events
+
+-- so it is with the low program that a program is encoded as
+abbrev pub EncodedAllHanded : Type 0
+EncodedAllHanded = (p : Program) → IsAccepted p → (events : List Event) (c : Config) → run (start_low (encoded p)) events ≡ Some c → Idle c
+    → IsAllHanded (start_low (encoded p)) events

@@ -1,0 +1,21 @@
+ghost use Rattle.np_posts.specs.Laws.{EncodedAllHanded, LettersInPlace, PostsArePaired, RestsAllHanded};
+
+/// In each run from the low start of an accepted program posts and openings take turns under each mark, a post first. Each
+/// opening hands over the post before it: the output of its letter stands in its agent then.
+pub fn law_posts_are_paired()
+    ensures { PostsArePaired }
+{}
+
+/// After each run from the low start of an accepted program a letter that was posted and not opened yet is carried by one
+/// thing, which is under the mark of its post; and no thing carries any other letter. The thing has the letter's agent,
+/// channel and value.
+pub fn law_one_place()
+    ensures { LettersInPlace }
+{}
+
+/// Where a run from the low start of an accepted program has come to rest, each of its posts was handed over, once. So it is
+/// for each low program of it, where each atom's agent has a place, and for the one that it is encoded as.
+pub fn law_all_handed()
+    ensures rests { RestsAllHanded }
+    ensures encoded { EncodedAllHanded }
+{}
