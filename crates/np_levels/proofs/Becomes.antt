@@ -128,7 +128,8 @@ opens_letter n from first (Thing.mail m (Stage.in_agent x)) a i h f = absurd cc
 opens_letter n from first _ a i h f = absurd cc
 
 module _ {n from first : ℕ} {low high : Config} {v : View} (c : Coupled n from first low high v) where
-  pub opens : (e : Event) (next : Config) → e.kind ≡ kind.Open → e.tag.role ≡ role.Infra → apply low e ≡ Some next → (w : View) × (w.stands_for ≡ v.stands_for) × Coupled n from first next high w × IsHanding next e v w
+  pub opens : (e : Event) (next : Config) → e.kind ≡ kind.Open → e.tag.role ≡ role.Infra → apply low e ≡ Some next
+      → (w : View) × (w.stands_for ≡ v.stands_for) × Coupled n from first next high w × IsHanding next e v w
   opens e next is_open infra h =
       let s = opening low e next (ap (λ k. row k low e) (sym is_open) ∙ h) in
       let o = of_actor c e.actor s.atom kind.Open role.Infra s.acts.there (ap begun_by s.form) (same_role s.atom.proc.tag e.tag s.acts.tag ∙ infra) (λ k r. cc) in
@@ -163,7 +164,8 @@ module _ {n from first : ℕ} {low high : Config} {v : View} (c : Coupled n from
           letter = p;
           was = ap (λ o. o >>= first_letter_of) there;
           tag = e.tag;
-          stands = ap (λ (d : Config). map.get d.atoms e.actor) s.is ∙ put_here low.atoms e.actor (output_in s.atom.agent s.held.0 s.held.1 e.tag) ∙ ap Some output;
+          stands = ap (λ (d : Config). map.get d.atoms e.actor) s.is ∙ put_here low.atoms e.actor (output_in s.atom.agent s.held.0 s.held.1 e.tag)
+              ∙ ap Some output;
           after = w.3;
         },
       )

@@ -579,7 +579,8 @@ module _ {n from first : ℕ} {low high : Config} {v : View} (c : Coupled n from
   by_thing (Thing.mail m (Stage.in_agent x)) infra i b there = absurd cc
   by_thing _ infra i b there = absurd cc
 
-pub communicates : {n from first : ℕ} {low high : Config} {v : View} → Coupled n from first low high v → (e : Event) (next : Config) → e.kind ≡ kind.Comm → e.tag.role ≡ role.Infra → apply low e ≡ Some next → (w : View) × (w.stands_for ≡ v.stands_for) × Coupled n from first next high w × SameLetters v w
+pub communicates : {n from first : ℕ} {low high : Config} {v : View} → Coupled n from first low high v → (e : Event) (next : Config) → e.kind ≡ kind.Comm → e.tag.role ≡ role.Infra → apply low e ≡ Some next
+    → (w : View) × (w.stands_for ≡ v.stands_for) × Coupled n from first next high w × SameLetters v w
 communicates {low = low} c e next is_comm infra h =
     let s = meeting low e next (ap (λ k. row k low e) (sym is_comm) ∙ h) in
     let its_role = same_role s.atom.proc.tag e.tag s.acts.tag ∙ infra in

@@ -553,8 +553,16 @@ module _ {n from first : ℕ} {low high : Config} {v : View} (c : Coupled n from
     known = λ q ts j. known q ts (same_name q m) (same_name q e.actor) refl refl j;
   })
 
-  made_one : (then : Config) × (apply high (event_of v e) ≡ Some then) × (w : View) × (w.stands_for ≡ v.stands_for) × Coupled n from first next then w × SameLetters v w
-  made_one = (then_high, applies, record v { things = things; phase = protocol.0 }, refl, coupled, λ q. letters q (same_name q m) (same_name q e.actor) refl refl)
+  made_one : (then : Config) × (apply high (event_of v e) ≡ Some then) × (w : View) × (w.stands_for ≡ v.stands_for) × Coupled n from first next then w
+      × SameLetters v w
+  made_one = (
+    then_high,
+    applies,
+    record v { things = things; phase = protocol.0 },
+    refl,
+    coupled,
+    λ q. letters q (same_name q m) (same_name q e.actor) refl refl,
+  )
 
 pub creations-are-events : IsEvent kind.Agent
 creations-are-events n from first low high v c well e next is_agent plain h =

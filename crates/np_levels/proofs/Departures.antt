@@ -302,8 +302,16 @@ module _ {n from first : ℕ} {low high : Config} {v : View} (c : Coupled n from
     known = λ q ts j. known q ts (same_name q e.actor) refl j;
   })
 
-  departed : (then : Config) × (apply high (event_of v e) ≡ Some then) × (w : View) × (w.stands_for ≡ v.stands_for) × Coupled n from first next then w × SameLetters v w
-  departed = (then_high, applies, record v { things = things; phase = protocol.0 }, refl, coupled, same-letters v.things e.actor us (Thing.leaving x hi ∷ []) there refl)
+  departed : (then : Config) × (apply high (event_of v e) ≡ Some then) × (w : View) × (w.stands_for ≡ v.stands_for) × Coupled n from first next then w
+      × SameLetters v w
+  departed = (
+    then_high,
+    applies,
+    record v { things = things; phase = protocol.0 },
+    refl,
+    coupled,
+    same-letters v.things e.actor us (Thing.leaving x hi ∷ []) there refl,
+  )
 
 pub departures-are-events : IsEvent kind.Depart
 departures-are-events n from first low high v c well e next is_depart plain h =

@@ -159,7 +159,8 @@ headed_parts left right f g h =
     }
 
 module _ {n from first : ℕ} {low high : Config} {v : View} (c : Coupled n from first low high v) where
-  pub forks : (e : Event) (next : Config) → e.kind ≡ kind.Fork → e.tag.role ≡ role.Infra → apply low e ≡ Some next → (w : View) × (w.stands_for ≡ v.stands_for) × Coupled n from first next high w × SameLetters v w
+  pub forks : (e : Event) (next : Config) → e.kind ≡ kind.Fork → e.tag.role ≡ role.Infra → apply low e ≡ Some next
+      → (w : View) × (w.stands_for ≡ v.stands_for) × Coupled n from first next high w × SameLetters v w
   forks e next is_fork infra h =
       let s = forking low e next (ap (λ k. row k low e) (sym is_fork) ∙ h) in
       let o = of_atom c e.actor s.atom s.acts.there in
@@ -169,7 +170,8 @@ module _ {n from first : ℕ} {low high : Config} {v : View} (c : Coupled n from
       forked e next s o.no_packet parts.left parts.right there parts.are_left parts.are_right headed h
     where
       forked : (e : Event) (next : Config) (s : IsForking low e next) → map.get low.packets e.actor ≡ None → (left right : List Thing) → map.get v.things e.actor ≡ Some (left ++ right)
-          → Are n from first (goes s.atom s.left) left → Are n from first (goes s.atom s.right) right → Headed left right → apply low e ≡ Some next → (w : View) × (w.stands_for ≡ v.stands_for) × Coupled n from first next high w × SameLetters v w
+          → Are n from first (goes s.atom s.left) left → Are n from first (goes s.atom s.right) right → Headed left right → apply low e ≡ Some next
+          → (w : View) × (w.stands_for ≡ v.stands_for) × Coupled n from first next high w × SameLetters v w
       forked e next s no_packet left right there are_left are_right headed h = (
         record v { things = things; phase = protocol.0 },
         refl,
@@ -279,8 +281,10 @@ module _ {n from first : ℕ} {low high : Config} {v : View} (c : Coupled n from
           packets q false false a b = ap (λ o. o >>= first_packet_of) (unchanged q a b)
 
           letters : (q : Name) (t u : Bool) → same_name q s.new ≡ t → same_name q e.actor ≡ u → letter_under things q ≡ letter_under v.things q
-          letters q true u a b = ap (λ o. o >>= first_letter_of) (new_at q a) ∙ headed.no_letter ∙ sym (ap (λ o. o >>= first_letter_of) (ap (map.get v.things) (same_name-is q s.new a) ∙ absent))
-          letters q false true a b = ap (λ o. o >>= first_letter_of) (left_at q a b) ∙ headed.letter ∙ sym (ap (λ o. o >>= first_letter_of) (ap (map.get v.things) (same_name-is q e.actor b) ∙ there))
+          letters q true u a b = ap (λ o. o >>= first_letter_of) (new_at q a) ∙ headed.no_letter
+              ∙ sym (ap (λ o. o >>= first_letter_of) (ap (map.get v.things) (same_name-is q s.new a) ∙ absent))
+          letters q false true a b = ap (λ o. o >>= first_letter_of) (left_at q a b) ∙ headed.letter
+              ∙ sym (ap (λ o. o >>= first_letter_of) (ap (map.get v.things) (same_name-is q e.actor b) ∙ there))
           letters q false false a b = ap (λ o. o >>= first_letter_of) (unchanged q a b)
 
           old : (q : Name) (ts : List Thing) (t u : Bool) → same_name q s.new ≡ t → same_name q e.actor ≡ u → map.get things q ≡ Some ts → ((us : List Thing) × (map.get v.things q ≡ Some us)) ⊎ (set.contains low.born q ≡ false)

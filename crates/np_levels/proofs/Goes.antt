@@ -27,7 +27,8 @@ module _ {n from first : ℕ} {low high : Config} {v : View} (c : Coupled n from
 
   -- the event at the marks of the high level is one of it, and what both leave is coupled
   abbrev pub IsSame : Config → Type 0
-  IsSame next = (after : Config) × (apply high (event_of v e) ≡ Some after) × (w : View) × (w.stands_for ≡ v.stands_for) × Coupled n from first next after w × SameLetters v w
+  IsSame next = (after : Config) × (apply high (event_of v e) ≡ Some after) × (w : View) × (w.stands_for ≡ v.stands_for) × Coupled n from first next after w
+      × SameLetters v w
 
   module _ (next : Config) {a : Atom} (o : Actor c e a) (applies : apply low e ≡ Some next) where
     pub goes_on_both : (goes_low goes_high : Atom) → next ≡ effect low e (becomes e goes_low) → IsOfSource n from o.named goes_high goes_low

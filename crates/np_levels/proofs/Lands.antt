@@ -126,7 +126,8 @@ module _ {n from first : ℕ} {low high : Config} {v : View} (c : Coupled n from
   mail_finds (Mail.deliver q t) step =
       low_place q.agent t (recursion_from_All (IsTrueOf (scene v high) v.phase) (Chip.delivery q.agent t ∷ Chip.knows q.agent ∷ []) (all_taken step (IsTrueOf (scene v high) v.phase) c.protocol.true_chips)).0
 
-  pub lands : (e : Event) (next : Config) → e.kind ≡ kind.Land → (e.tag.role ≡ role.Plain → ⊥) → apply low e ≡ Some next → (w : View) × (w.stands_for ≡ v.stands_for) × Coupled n from first next high w × SameLetters v w
+  pub lands : (e : Event) (next : Config) → e.kind ≡ kind.Land → (e.tag.role ≡ role.Plain → ⊥) → apply low e ≡ Some next
+      → (w : View) × (w.stands_for ≡ v.stands_for) × Coupled n from first next high w × SameLetters v w
   lands e next is_land apart h =
       let row_is : row kind.Land low e ≡ Some next = ap (λ k. row k low e) (sym is_land) ∙ h in
       let l = landing low e next row_is in

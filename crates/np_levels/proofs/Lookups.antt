@@ -274,7 +274,8 @@ module _ {n from first : ℕ} {low high : Config} {v : View} (c : Coupled n from
       go (Mail.deliver q u) Service.registers took map_is text at = absurd took
       go _ _ took map_is text at = absurd took
 
-  pub looks_up : (e : Event) (next : Config) → e.kind ≡ kind.Lookup → e.tag.role ≡ role.Infra → apply low e ≡ Some next → (w : View) × (w.stands_for ≡ v.stands_for) × Coupled n from first next high w × SameLetters v w
+  pub looks_up : (e : Event) (next : Config) → e.kind ≡ kind.Lookup → e.tag.role ≡ role.Infra → apply low e ≡ Some next
+      → (w : View) × (w.stands_for ≡ v.stands_for) × Coupled n from first next high w × SameLetters v w
   looks_up e next is_lookup infra h =
       let s = finding low e next (ap (λ k. row k low e) (sym is_lookup) ∙ h) in
       let o = of_actor c e.actor s.atom kind.Lookup role.Infra s.acts.there (ap begun_by s.form) (same_role s.atom.proc.tag e.tag s.acts.tag ∙ infra) (λ k r. cc) in

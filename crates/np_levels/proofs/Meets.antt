@@ -134,7 +134,8 @@ module _ {n from first : ℕ} {low high : Config} {v : View} (c : Coupled n from
     pub known : Step (chips v.things) (chips (left_things e.actor s.other us)) (show_all (u ∷ []) ++ show_all ts) (show_all us) → AllByRecursion (λ t. KnowsOnly (may_know v.lock (chips v.things) t) (is_channel n high.born) from t) ts
         → AllByRecursion (λ t. KnowsOnly (may_know v.lock (chips (left_things e.actor s.other us)) t) (is_channel n high.born) from t) us
 
-  pub meets : (next : Config) (e : Event) (s : IsMeeting low e next) (ts us : List Thing) (u : Thing) → Meets next e s ts us u → (w : View) × (w.stands_for ≡ v.stands_for) × Coupled n from first next high w × SameLetters v w
+  pub meets : (next : Config) (e : Event) (s : IsMeeting low e next) (ts us : List Thing) (u : Thing) → Meets next e s ts us u
+      → (w : View) × (w.stands_for ≡ v.stands_for) × Coupled n from first next high w × SameLetters v w
   meets next e s ts us u b = (
     record v { things = things; phase = protocol.0 },
     refl,
@@ -214,8 +215,10 @@ module _ {n from first : ℕ} {low high : Config} {v : View} (c : Coupled n from
       packets q false false x y = ap (λ o. o >>= first_packet_of) (unchanged q x y)
 
       letters : (q : Name) (t r : Bool) → same_name q s.other ≡ t → same_name q e.actor ≡ r → letter_under things q ≡ letter_under v.things q
-      letters q true r x y = ap (λ o. o >>= first_letter_of) (gone q x) ∙ sym (low-carries-none u b.no_atom) ∙ sym (ap (λ o. o >>= first_letter_of) (ap (map.get v.things) (same_name-is q s.other x) ∙ b.other_there))
-      letters q false true x y = ap (λ o. o >>= first_letter_of) (its q y) ∙ b.letters ∙ sym (ap (λ o. o >>= first_letter_of) (ap (map.get v.things) (same_name-is q e.actor y) ∙ b.there))
+      letters q true r x y = ap (λ o. o >>= first_letter_of) (gone q x) ∙ sym (low-carries-none u b.no_atom)
+          ∙ sym (ap (λ o. o >>= first_letter_of) (ap (map.get v.things) (same_name-is q s.other x) ∙ b.other_there))
+      letters q false true x y = ap (λ o. o >>= first_letter_of) (its q y) ∙ b.letters
+          ∙ sym (ap (λ o. o >>= first_letter_of) (ap (map.get v.things) (same_name-is q e.actor y) ∙ b.there))
       letters q false false x y = ap (λ o. o >>= first_letter_of) (unchanged q x y)
 
       no_value : {A B : Type 0} {x : A} → None ≡ Some x → B

@@ -72,8 +72,8 @@ module _ {n from first : ℕ} {low high : Config} {v : View} (c : Coupled n from
 
   sends_both : IsSame c e next
   sends_both =
-      let r = write c e (stands c e) e.actor (Free.old {ts = Thing.source o.named o.atom ∷ []} o.there refl refl) None (Some s.packet) (Some (Thing.packet s.packet))
-      (Holds.packet flies) (refl, refl) knows_packet in
+      let r = write c e (stands c e) e.actor (Free.old {ts = Thing.source o.named o.atom ∷ []} o.there refl refl) None (Some s.packet)
+      (Some (Thing.packet s.packet)) (Holds.packet flies) (refl, refl) knows_packet in
       let w = leave c e r next low.said high.said h s.is c.said in (
         effect high (event_of v e) (record still { atoms = cut (v.stands_for e.actor) ∷ []; packets = put (v.stands_for e.actor) s.packet ∷ [] }),
         ap (λ k. row k high (event_of v e)) is ∙ send_applies high (event_of v e) o.atom o.acts s.receiver s.to s.chan s.sent s.packet form agent site chan sent

@@ -166,7 +166,8 @@ module _ {n from first : ℕ} {low high : Config} {v : View} (c : Coupled n from
   content_is =
       let src = i.stands.source in
       let parts = subst (ProcParts n src.scope src.node src.after src.bound) form_is (proc-parts n src.sound) in
-      letter-is b ch va s.atom.env ready.0.0 ready.1.0 ready.2.0 (ap (λ o. o >>= λ u. as_agent (out-Value u)) (low_same b parts.1) ∙ ready.0.1) (ap (λ o. o >>= λ u. as_chan (out-Value u)) (low_same ch parts.2) ∙ ready.1.1) (low_same va parts.3 ∙ ready.2.1)
+      letter-is b ch va s.atom.env ready.0.0 ready.1.0 ready.2.0 (ap (λ o. o >>= λ u. as_agent (out-Value u)) (low_same b parts.1) ∙ ready.0.1)
+      (ap (λ o. o >>= λ u. as_chan (out-Value u)) (low_same ch parts.2) ∙ ready.1.1) (low_same va parts.3 ∙ ready.2.1)
 
   packet : s.packet ≡ packet_of n (Mail.message p) s.packet.tag
   packet =
@@ -276,7 +277,8 @@ module _ {n from first : ℕ} {low high : Config} {v : View} (c : Coupled n from
   -- its letter is what the text sends
   sent : letter_at low e.actor ≡ Some (as_letter p)
   sent =
-      ap (λ (o : Option Atom). o >>= λ a. letter_sent (layer a.proc) a.env) s.acts.there ∙ ap (λ l. letter_sent l s.atom.env) (ap layer text_is ∙ forms.outs-Send (daemon n) (site 0) (message n) (pair b (letter ch va)))
+      ap (λ (o : Option Atom). o >>= λ a. letter_sent (layer a.proc) a.env) s.acts.there
+      ∙ ap (λ l. letter_sent l s.atom.env) (ap layer text_is ∙ forms.outs-Send (daemon n) (site 0) (message n) (pair b (letter ch va)))
       ∙ rw (content_is, outs.outs-Tuple (value.Agent p.agent ∷ value.Letter p.chan p.value ∷ []), outs.outs-Agent p.agent, outs.outs-Letter p.chan p.value) refl
 
   still_coupled : (w : View) × (w.stands_for ≡ v.stands_for) × Coupled n from first next then_high w × IsPosting low e v w
@@ -284,7 +286,12 @@ module _ {n from first : ℕ} {low high : Config} {v : View} (c : Coupled n from
     record v { things = things; phase = protocol.0 },
     refl,
     coupled,
-    record { letter = p; sent = sent; none = ap (λ o. o >>= first_letter_of) there; after = letter-put v.things e.actor (Thing.mail (Mail.message p) Stage.on_the_way ∷ []) },
+    record {
+      letter = p;
+      sent = sent;
+      none = ap (λ o. o >>= first_letter_of) there;
+      after = letter-put v.things e.actor (Thing.mail (Mail.message p) Stage.on_the_way ∷ []);
+    },
   )
 
 pub posts-are-events : PostsAreEvents

@@ -133,7 +133,8 @@ names_by n from first _ a i h f = absurd cc
 
 module _ {n from first : ℕ} {low high : Config} {v : View} (c : Coupled n from first low high v) where
   entered : (e : Event) (next : Config) (s : IsNaming low e next) (b : Name) (t : ℕ) (ps : List (Name × Name)) → IsLooking n first (Mail.register b t) ps s.atom → s.atom.proc ≡ (desk n first Service.registers).body → Took first Service.registers (Mail.register b t) s.atom.env
-      → map.get s.atom.env (first + 2) ≡ Some (value.Places ps) → map.get low.packets e.actor ≡ None → map.get v.things e.actor ≡ Some (Thing.looking (Mail.register b t) ps ∷ []) → apply low e ≡ Some next → (w : View) × (w.stands_for ≡ v.stands_for) × Coupled n from first next high w × SameLetters v w
+      → map.get s.atom.env (first + 2) ≡ Some (value.Places ps) → map.get low.packets e.actor ≡ None → map.get v.things e.actor ≡ Some (Thing.looking (Mail.register b t) ps ∷ []) → apply low e ≡ Some next
+      → (w : View) × (w.stands_for ≡ v.stands_for) × Coupled n from first next high w × SameLetters v w
   entered e next s b t ps i text took map_is no_packet there h = (
     record v { things = things; lock = lock_now; phase = protocol.0 },
     refl,
@@ -293,7 +294,8 @@ module _ {n from first : ℕ} {low high : Config} {v : View} (c : Coupled n from
           (λ a m. lock_more x a (may_know_more v.lock (chips v.things) (chips things) (λ y z any. any_kept (is_child_of y z) step (λ w. w) any) x a m)) x k)
           vs (c.known q vs (sym (unchanged q f) ∙ j))
 
-  pub registers : (e : Event) (next : Config) → e.kind ≡ kind.New → e.tag.role ≡ role.Infra → apply low e ≡ Some next → (w : View) × (w.stands_for ≡ v.stands_for) × Coupled n from first next high w × SameLetters v w
+  pub registers : (e : Event) (next : Config) → e.kind ≡ kind.New → e.tag.role ≡ role.Infra → apply low e ≡ Some next
+      → (w : View) × (w.stands_for ≡ v.stands_for) × Coupled n from first next high w × SameLetters v w
   registers e next is_new infra h =
       let s = naming low e next (ap (λ k. row k low e) (sym is_new) ∙ h) in
       let o = of_actor c e.actor s.atom kind.New role.Infra s.acts.there (ap begun_by s.form) (same_role s.atom.proc.tag e.tag s.acts.tag ∙ infra) (λ k r. cc) in
@@ -304,7 +306,8 @@ module _ {n from first : ℕ} {low high : Config} {v : View} (c : Coupled n from
       no_new e next s a m x p q j = absurd (let bad = sym s.form ∙ j in cc)
 
       by_service : (e : Event) (next : Config) (s : IsNaming low e next) (m : Mail) (ps : List (Name × Name)) → IsLooking n first m ps s.atom → (k : Service) → Took first k m s.atom.env → map.get s.atom.env (desk n first k).map ≡ Some (value.Places ps)
-          → s.atom.proc ≡ (desk n first k).body → map.get low.packets e.actor ≡ None → map.get v.things e.actor ≡ Some (Thing.looking m ps ∷ []) → apply low e ≡ Some next → (w : View) × (w.stands_for ≡ v.stands_for) × Coupled n from first next high w × SameLetters v w
+          → s.atom.proc ≡ (desk n first k).body → map.get low.packets e.actor ≡ None → map.get v.things e.actor ≡ Some (Thing.looking m ps ∷ []) → apply low e ≡ Some next
+          → (w : View) × (w.stands_for ≡ v.stands_for) × Coupled n from first next high w × SameLetters v w
       by_service e next s (Mail.register b t) ps i Service.registers took map_is text no_packet there h = entered e next s b t ps i text took map_is no_packet there h
       by_service e next s m ps i Service.grants took map_is text no_packet there h = no_new e next s _ _ _ _ _ (ap layer text ∙ forms.outs-Lookup _ _ _ _ _)
       by_service e next s m ps i Service.notes_moves took map_is text no_packet there h = no_new e next s _ _ _ _ _ (ap layer text ∙ forms.outs-Lookup _ _ _ _ _)

@@ -159,7 +159,8 @@ module _ {n from first : ℕ} {low high : Config} {v : View} (c : Coupled n from
           let none : whereabouts (map.get high.places x) ≡ Whereabouts.nowhere = ap whereabouts (ap (map.get high.places) (same_name-is x (daemon_agent n) e) ∙ c.no_daemon) in
           absurd (let bad : false ≡ true = ap is_there (sym none) ∙ c.protocol.placed x ∙ ap is_present r in cc)
 
-  pub sends : (e : Event) (next : Config) → e.kind ≡ kind.Send → e.tag.role ≡ role.Infra → apply low e ≡ Some next → (w : View) × (w.stands_for ≡ v.stands_for) × Coupled n from first next high w × SameLetters v w
+  pub sends : (e : Event) (next : Config) → e.kind ≡ kind.Send → e.tag.role ≡ role.Infra → apply low e ≡ Some next
+      → (w : View) × (w.stands_for ≡ v.stands_for) × Coupled n from first next high w × SameLetters v w
   sends e next is_send infra h =
       let s = sending low e next (ap (λ k. row k low e) (sym is_send) ∙ h) in
       let o = of_actor c e.actor s.atom kind.Send role.Infra s.acts.there (ap begun_by s.form) (same_role s.atom.proc.tag e.tag s.acts.tag ∙ infra) (λ k r. cc) in

@@ -39,8 +39,8 @@ module _ {n from first : ℕ} {low high : Config} {v : View} (c : Coupled n from
   forks_both : IsSame c e next
   forks_both =
       let knows = still_knows c e o.knows in
-      let w = made_both c e next o h s.new (goes s.atom s.right) (goes o.atom q) (Thing.source o.named (goes o.atom q)) s.is_new right_is refl refl (refl, refl) knows
-      (goes s.atom s.left) (goes o.atom p) left_is knows s.is in (
+      let w = made_both c e next o h s.new (goes s.atom s.right) (goes o.atom q) (Thing.source o.named (goes o.atom q)) s.is_new right_is refl refl
+      (refl, refl) knows (goes s.atom s.left) (goes o.atom p) left_is knows s.is in (
         effect high (event_of v e) (record still { atoms = put s.new (goes o.atom q) ∷ put (v.stands_for e.actor) (goes o.atom p) ∷ [] }),
         ap (λ k. row k high (event_of v e)) is ∙ fork_applies high (event_of v e) o.atom o.acts p q s.new form s.made_one
             (ap (option_map v.stands_for) s.other_none) (new_mark c e s.new s.is_new).high_new,

@@ -34,7 +34,8 @@ abbrev pub RolesOfEvents : Type 0
 RolesOfEvents = (n from first : ℕ) (low high : Config) (v : View) → Coupled n from first low high v → (e : Event) (next : Config) → apply low e ≡ Some next
     → occurs e.tag.role e.kind ≡ true
 
--- after an event of this kind and role the low level still belongs to the same configuration of the high level, and the letters are as such an event leaves them
+-- after an event of this kind and role the low level still belongs to the same configuration of the high level, and the letters under way are those that
+-- such an event leaves
 abbrev pub IsQuiet : Kind → Role → Type 0
 IsQuiet k r = (n from first : ℕ) (low high : Config) (v : View) → Coupled n from first low high v → (e : Event) (next : Config) → e.kind ≡ k → e.tag.role ≡ r → apply low e ≡ Some next
     → (w : View) × (w.stands_for ≡ v.stands_for) × Coupled n from first next high w × LettersAfter k r low next e v w
@@ -46,7 +47,8 @@ post_of v e = record (posted e) { actor = v.stands_for e.actor }
 
 abbrev pub PostsAreEvents : Type 0
 PostsAreEvents = (n from first : ℕ) (low high : Config) (v : View) → Coupled n from first low high v → Well high → (e : Event) (next : Config) → e.kind ≡ kind.Send → e.tag.role ≡ role.Post → apply low e ≡ Some next
-    → (then : Config) × (apply high (post_of v e) ≡ Some then) × (w : View) × (w.stands_for ≡ v.stands_for) × Coupled n from first next then w × IsPosting low e v w
+    → (then : Config) × (apply high (post_of v e) ≡ Some then) × (w : View) × (w.stands_for ≡ v.stands_for) × Coupled n from first next then w
+    × IsPosting low e v w
 
 -- the same event at the marks of the high level
 abbrev pub event_of : View → Event → Event
