@@ -1,2 +1,3 @@
+pub mod Lodged
 pub mod Runs
 pub mod Steps

@@ -1,5 +1,5 @@
 -- Each run of the low level is a run of the high level, event by event.
-use Rattle.std.proofs.Common.{◌≡◌, ℕ, Some, List, [], ◌∷◌, ◌++◌, length, refl, sym, ap, subst, ◌∙◌}
+use Rattle.std.proofs.Common.{◌≡◌, ℕ, true, Some, List, [], ◌∷◌, ◌++◌, length, refl, sym, ap, subst, ◌∙◌}
 use Rattle.np_syntax.specs.declared.event.Event.{Event}
 use Rattle.np_syntax.specs.declared.program.Program.{Program}
 use Rattle.np_syntax.specs.declared.program.LowProgram.{LowProgram}
@@ -15,14 +15,17 @@ use Rattle.np_safety.proofs.Starts.{well-typed}
 use Rattle.np_levels.specs.Coupled.{Coupled, View}
 use Rattle.np_levels.specs.Laws.{StandForThemselves}
 use Rattle.np_levels.specs.Letters.{LettersAfter, NoLetters}
+use Rattle.np_levels.specs.Roles.{occurs}
+use Rattle.np_levels.proofs.Roles.{roles-of-events}
 use Rattle.np_levels.proofs.Starts.{starts-coupled}
 use Rattle.np_simulation.specs.Laws.{IsLifted, RunsAreLifted}
 use Rattle.np_simulation.proofs.Steps.{step}
 
--- what a run makes of the letters under way, event by event
+-- what a run makes, event by event, of the kinds that its events have and of the letters under way
 pub record Follows (Made : Config → View → List Event → View → Type 0) : Type 0 where
   pub none : (low : Config) (v : View) → Made low v [] v
-  pub more : (low next : Config) (v u w : View) (e : Event) (es : List Event) → apply low e ≡ Some next → LettersAfter e.kind e.tag.role low next e v u → Made next u es w
+  pub more : (low next : Config) (v u w : View) (e : Event) (es : List Event) → apply low e ≡ Some next → occurs e.tag.role e.kind ≡ true
+      → LettersAfter e.kind e.tag.role low next e v u → Made next u es w
       → Made low v (e ∷ es) w
 
 module _ (n from first : ℕ) (Made : Config → View → List Event → View → Type 0) (follows : Follows Made) where
@@ -52,7 +55,7 @@ module _ (n from first : ℕ) (Made : Config → View → List Event → View �
           coupled = l.0.coupled;
           stand = l.0.stand;
         },
-        follows.more low next v s.view l.0.view e es applies s.letters l.1,
+        follows.more low next v s.view l.0.view e es applies (roles-of-events n from first low high v coupled e next applies) s.letters l.1,
       )
 
 nothing-more : {A : Type 0} (xs : List A) → xs ≡ xs ++ []
@@ -76,4 +79,5 @@ from-starts Made follows p q low accepted events c h =
 
 pub runs-are-lifted : RunsAreLifted
 runs-are-lifted p q low accepted events c h =
-    (from-starts (λ low v es w. Unit {0}) (record { none = λ low v. tt; more = λ low next v u w e es applies letters made. tt }) p q low accepted events c h).0
+    (from-starts (λ low v es w. Unit {0}) (record { none = λ low v. tt; more = λ low next v u w e es applies may letters made. tt })
+    p q low accepted events c h).0

@@ -51,7 +51,7 @@ lifts-none e es h = rw h refl
 lifts-one : (e d : Event) (es : List Event) → lifted e ≡ Some d → lift (e ∷ es) ≡ d ∷ lift es
 lifts-one e d es h = rw h refl
 
-runs-on : (c d : Config) (e : Event) (es : List Event) → apply c e ≡ Some d → run c (e ∷ es) ≡ run d es
+pub runs-on : (c d : Config) (e : Event) (es : List Event) → apply c e ≡ Some d → run c (e ∷ es) ≡ run d es
 runs-on c d e es h = ap (λ o. o >>= λ m. run m es) h
 
 -- the events of the high level that an event of the low level is, and where they lead; and the letters that are under way then
@@ -107,7 +107,8 @@ module _ {n from first : ℕ} {low high : Config} {v : View} (c : Coupled n from
 
   -- one event
   one : (k : Kind) (r : Role) → e.kind ≡ k → e.tag.role ≡ r → (d f : Event) → f ≡ d → lifted e ≡ Some d
-      → (then : Config) × (apply high f ≡ Some then) × (w : View) × (w.stands_for ≡ v.stands_for) × Coupled n from first next then w × LettersAfter k r low next e v w
+      → (then : Config) × (apply high f ≡ Some then) × (w : View) × (w.stands_for ≡ v.stands_for) × Coupled n from first next then w
+      × LettersAfter k r low next e v w
       → Step n from first low v next high e
   one k r its-kind its-role d f same is w = record {
     made = d ∷ [];
@@ -124,13 +125,17 @@ module _ {n from first : ℕ} {low high : Config} {v : View} (c : Coupled n from
   may-have r is = ap (λ s. occurs s e.kind) (sym is) ∙ roles-of-events n from first low high v c e next h
 
   of-post : e.tag.role ≡ role.Post → (k : Kind) → e.kind ≡ k → occurs role.Post k ≡ true → Step n from first low v next high e
-  of-post post kind.Send is may = one kind.Send role.Post is post (posted e) (post_of v e) (same-post v stand e) (lifted-by-table.post e post is) (posts-are-events n from first low high v c well e next is post h)
-  of-post post kind.Land is may = quiet kind.Land role.Post is post (lifted-by-table.landing e post is) (lands c e next is (λ plain. let bad : role.Plain ≡ role.Post = sym plain ∙ post in cc) h)
+  of-post post kind.Send is may = one kind.Send role.Post is post (posted e) (post_of v e) (same-post v stand e) (lifted-by-table.post e post is)
+      (posts-are-events n from first low high v c well e next is post h)
+  of-post post kind.Land is may = quiet kind.Land role.Post is post (lifted-by-table.landing e post is)
+      (lands c e next is (λ plain. let bad : role.Plain ≡ role.Post = sym plain ∙ post in cc) h)
   of-post post _ is may = absurd cc
 
   of-source : e.tag.role ≡ role.Plain → (k : Kind) → e.kind ≡ k → occurs role.Plain k ≡ true → Step n from first low v next high e
-  of-source plain kind.Arrive is may = one kind.Arrive role.Plain is plain e e refl (lifted-by-table.plain e plain) (arrivals-are-events n from first low high v c well e next is plain h)
-  of-source plain k is may = one k role.Plain is plain e (event_of v e) (same-event v stand e) (lifted-by-table.plain e plain) (by-kind k may (λ a. absurd cc) n from first low high v c well e next is plain h)
+  of-source plain kind.Arrive is may = one kind.Arrive role.Plain is plain e e refl (lifted-by-table.plain e plain)
+      (arrivals-are-events n from first low high v c well e next is plain h)
+  of-source plain k is may = one k role.Plain is plain e (event_of v e) (same-event v stand e) (lifted-by-table.plain e plain)
+      (by-kind k may (λ a. absurd cc) n from first low high v c well e next is plain h)
 
   by-role : (r : Role) → e.tag.role ≡ r → Step n from first low v next high e
   by-role role.Infra is = quiet e.kind role.Infra refl is (lifted-by-table.infra e is) (infrastructure e.kind n from first low high v c e next refl is h)

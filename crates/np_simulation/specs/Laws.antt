@@ -4,7 +4,9 @@ use Rattle.np_syntax.specs.declared.event.Event.{Event}
 use Rattle.np_syntax.specs.declared.program.Program.{Program}
 use Rattle.np_syntax.specs.declared.program.LowProgram.{LowProgram}
 use Rattle.np_calculus.specs.Config.{Config}
+use Rattle.np_calculus.specs.Parts.{IsLodged}
 use Rattle.np_calculus.specs.Reductions.{run}
+use Rattle.np_calculus.specs.Sight.{inside}
 use Rattle.np_calculus.specs.Starts.{start_high, start_low}
 use Rattle.np_lift.specs.Lift.{lift}
 use Rattle.np_check.specs.Faults.{IsAccepted}
@@ -28,3 +30,8 @@ pub record IsLifted (n from first : ℕ) (start : Config) (events : List Event) 
 abbrev pub RunsAreLifted : Type 0
 RunsAreLifted = (p : Program) (q : LowProgram) (low : IsLowOf p q) → IsAccepted p → (events : List Event) (c : Config) → run (start_low q) events ≡ Some c
     → IsLifted (length p.sites) p.binders low.first (start_high p) events c
+
+-- each run of the low level leaves each atom with an agent that has a place
+abbrev pub RunsAreLodged : Type 0
+RunsAreLodged = (p : Program) (q : LowProgram) (low : IsLowOf p q) → IsAccepted p → (events : List Event) (c : Config) → run (start_low q) events ≡ Some c
+    → IsLodged (inside c)
