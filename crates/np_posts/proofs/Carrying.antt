@@ -8,14 +8,16 @@ use Rattle.np_levels.specs.Letters.{as_letter, first_letter_of}
 use Rattle.np_levels.proofs.Letters.{low-carries-none}
 use Rattle.np_posts.specs.UnderWay.{carried_letter, letters_of, listed}
 
-one-more : (o : Option Letter) (t : Thing) (ts : List Thing) → carried_letter t ≡ o → filter_map carried_letter ts ≡ [] → filter_map carried_letter (t ∷ ts) ≡ listed o
+one-more : (o : Option Letter) (t : Thing) (ts : List Thing) → carried_letter t ≡ o → filter_map carried_letter ts ≡ []
+    → filter_map carried_letter (t ∷ ts) ≡ listed o
 one-more None t ts e h = rw e h
 one-more (Some l) t ts e h = rw e (ap (λ x. l ∷ x) h)
 
 no-others : (ts : List Thing) → All (λ u. high_atom u ≡ None) ts → filter_map carried_letter ts ≡ []
 no-others [] h = refl
 no-others (t ∷ ts) h =
-    one-more None t ts (ap (option_map as_letter) (low-carries-none t (All-head (λ u. high_atom u ≡ None) t ts h))) (no-others ts (All-tail (λ u. high_atom u ≡ None) t ts h))
+    one-more None t ts (ap (option_map as_letter) (low-carries-none t (All-head (λ u. high_atom u ≡ None) t ts h)))
+    (no-others ts (All-tail (λ u. high_atom u ≡ None) t ts h))
 
 pub headed-letters : (ts : List Thing) → IsHeaded ts → letters_of (Some ts) ≡ listed (option_map as_letter (first_letter_of ts))
 headed-letters [] h = absurd h

@@ -18,18 +18,17 @@ use Rattle.np_calculus.specs.Reductions.{apply, run}
 use Rattle.np_calculus.specs.Starts.{start_high, start_low}
 use Rattle.np_lift.specs.Posts.{Deed, Letter, and_on, deed_by, deeds, deeds_to, letter_at, prepended}
 use Rattle.np_check.specs.Faults.{IsAccepted}
-use Rattle.daemon_encode.specs.Encoded.{encoded}
 use Rattle.daemon_encode.specs.Translates.{IsLowOf}
-use Rattle.daemon_encode.proofs.LowAgents.{encodes-runs-well}
-use Rattle.daemon_encode.proofs.Related.{encodes-itself}
 use Rattle.np_things.specs.Things.{Thing, carried, high_atom}
 use Rattle.np_levels.specs.Coupled.{IsShaped, View}
 use Rattle.np_levels.specs.Letters.{IsHanding, IsPosting, LettersAfter, NoLetters, SameLetters, as_letter, first_letter_of, letter_under}
+use Rattle.np_levels.specs.Roles.{occurs}
 use Rattle.np_rest.specs.Laws.{HasRest}
 use Rattle.np_rest.proofs.Highs.{rests-together}
 use Rattle.np_simulation.specs.Laws.{IsLifted}
+use Rattle.np_simulation.proofs.Lodged.{runs-are-lodged}
 use Rattle.np_simulation.proofs.Runs.{from-starts}
-use Rattle.np_posts.specs.Laws.{EncodedAllHanded, LettersInPlace, PostsArePaired, RestsAllHanded}
+use Rattle.np_posts.specs.Laws.{LettersInPlace, PostsArePaired, RestsAbove, RestsAllHanded}
 use Rattle.np_posts.specs.UnderWay.{letters_of, listed}
 use Rattle.np_posts.proofs.Carrying.{headed-letters}
 use Rattle.np_posts.proofs.Turns.{Turns, turns-alternate, turns-handed, turns-left}
@@ -46,7 +45,8 @@ to-its m x ds e = rw e refl
 to-others : (m : Name) (x : Name × Deed) (ds : List (Name × Deed)) → same_name x.0 m ≡ false → deeds_to m (x ∷ ds) ≡ deeds_to m ds
 to-others m x ds e = rw e refl
 
-module _ (low next : Config) (e : Event) (v w : View) (m : Name) (ds : List (Name × Deed)) (o : Option Letter) (rest : Turns (letter w m) (deeds_to m ds) o) where
+module _ (low next : Config) (e : Event) (v w : View) (m : Name) (ds : List (Name × Deed)) (o : Option Letter)
+    (rest : Turns (letter w m) (deeds_to m ds) o) where
   abbrev Turned : Option (Name × Deed) → Type 0
   Turned d = Turns (letter v m) (deeds_to m (prepended d ds)) o
 
@@ -93,13 +93,14 @@ module _ (low next : Config) (e : Event) (v w : View) (m : Name) (ds : List (Nam
 abbrev TakeTurns : Config → View → List Event → View → Type 0
 TakeTurns low v es w = (m : Name) → Turns (letter v m) (deeds_to m (deeds low es)) (letter w m)
 
-one-more : (low next : Config) (v u w : View) (e : Event) (es : List Event) → apply low e ≡ Some next → LettersAfter e.kind e.tag.role low next e v u
-    → TakeTurns next u es w → TakeTurns low v (e ∷ es) w
-one-more low next v u w e es applies letters turns m =
+one-more : (low next : Config) (v u w : View) (e : Event) (es : List Event) → apply low e ≡ Some next → occurs e.tag.role e.kind ≡ true
+    → LettersAfter e.kind e.tag.role low next e v u → TakeTurns next u es w → TakeTurns low v (e ∷ es) w
+one-more low next v u w e es applies may letters turns m =
     subst (λ xs. Turns (letter v m) (deeds_to m xs) (letter w m)) (sym (ap (λ o. and_on low e o (λ d. deeds d es)) applies))
     (turn low next e v u m (deeds next es) (letter w m) (turns m) e.kind e.tag.role letters)
 
-module _ (p : Program) (q : LowProgram) (low : IsLowOf p q) (accepted : IsAccepted p) (events : List Event) (c : Config) (h : run (start_low q) events ≡ Some c) where
+module _ (p : Program) (q : LowProgram) (low : IsLowOf p q) (accepted : IsAccepted p) (events : List Event) (c : Config)
+    (h : run (start_low q) events ≡ Some c) where
   lifted : (l : IsLifted (length p.sites) p.binders low.first (start_high p) events c) × (v : View) × NoLetters v × TakeTurns (start_low q) v events l.view
   lifted = from-starts TakeTurns (record { none = λ c v m. Turns.stays; more = one-more }) p q low accepted events c h
 
@@ -111,7 +112,8 @@ posts-are-paired p q low accepted events c h mark =
     turns-alternate (deeds_to mark (deeds (start_low q) events)) _ (turns p q low accepted events c h mark)
 
 -- the things of a mark carry the letter that is under way there, and no other
-in-place : {n from first : ℕ} {low : Config} (v : View) (m : Name) → IsShaped n from first low v.things m → letters_of (map.get v.things m) ≡ listed (letter v m)
+in-place : {n from first : ℕ} {low : Config} (v : View) (m : Name) → IsShaped n from first low v.things m
+    → letters_of (map.get v.things m) ≡ listed (letter v m)
 in-place v m (IsShaped.nothing a k none) = ap letters_of none ∙ sym (ap (λ o. listed (option_map as_letter (o >>= first_letter_of))) none)
 in-place v m (IsShaped.atom {ts = ts} a k there headed are) =
     ap letters_of there ∙ headed-letters ts headed ∙ sym (ap (λ o. listed (option_map as_letter (o >>= first_letter_of))) there)
@@ -137,13 +139,15 @@ none-left v rest m = go (map.get v.things m) refl
     go (Some []) e = refl
     go (Some (t ∷ ts)) e = ap (option_map as_letter) (All-head (λ t. carried t ≡ None) t ts (rest.letters m (t ∷ ts) e))
 
-pub rests-all-handed : RestsAllHanded
-rests-all-handed p q low accepted events c h lodged idle mark =
+pub rests-above : RestsAbove
+rests-above p q low accepted events c h idle =
     let l = (lifted p q low accepted events c h).0 in
-    let rest = (rests-together (length p.sites) p.binders low.first c l.high l.view l.coupled lodged idle).1 in
+    let r = rests-together (length p.sites) p.binders low.first c l.high l.view l.coupled (runs-are-lodged p q low accepted events c h) idle in
+    (l, r.0, r.1)
+
+pub rests-all-handed : RestsAllHanded
+rests-all-handed p q low accepted events c h idle mark =
+    let l = (lifted p q low accepted events c h).0 in
+    let rest = (rests-together (length p.sites) p.binders low.first c l.high l.view l.coupled (runs-are-lodged p q low accepted events c h) idle).1 in
     turns-handed (deeds_to mark (deeds (start_low q) events))
     (subst (Turns None (deeds_to mark (deeds (start_low q) events))) (none-left l.view rest mark) (turns p q low accepted events c h mark))
-
-pub encoded-all-handed : EncodedAllHanded
-encoded-all-handed p accepted events c h idle =
-    rests-all-handed p (encoded p) (encodes-itself p) accepted events c h ((encodes-runs-well p accepted).lodged events c h) idle

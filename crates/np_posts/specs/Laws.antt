@@ -7,14 +7,12 @@ use Rattle.np_syntax.specs.declared.program.Program.{Program}
 use Rattle.np_syntax.specs.declared.program.LowProgram.{LowProgram}
 use Rattle.np_calculus.specs.Config.{Config}
 use Rattle.np_calculus.specs.Idle.{Idle}
-use Rattle.np_calculus.specs.Parts.{IsLodged}
 use Rattle.np_calculus.specs.Reductions.{run}
-use Rattle.np_calculus.specs.Sight.{inside}
 use Rattle.np_calculus.specs.Starts.{start_high, start_low}
 use Rattle.np_lift.specs.Posts.{IsAllHanded, IsPaired, deeds, deeds_to}
 use Rattle.np_check.specs.Faults.{IsAccepted}
-use Rattle.daemon_encode.specs.Encoded.{encoded}
 use Rattle.daemon_encode.specs.Translates.{IsLowOf}
+use Rattle.np_rest.specs.Laws.{HasRest}
 use Rattle.np_simulation.specs.Laws.{IsLifted}
 use Rattle.np_posts.specs.UnderWay.{letters_of, under_way}
 
@@ -30,12 +28,12 @@ LettersInPlace = (p : Program) (q : LowProgram) (low : IsLowOf p q) → IsAccept
     → (l : IsLifted (length p.sites) p.binders low.first (start_high p) events c)
     × ((mark : Name) → letters_of (map.get l.view.things mark) ≡ under_way (deeds_to mark (deeds (start_low q) events)))
 
--- where no site can act, and each atom's agent has a place, each post was handed over
+-- where the run has come to rest each of its posts was handed over, once
 abbrev pub RestsAllHanded : Type 0
 RestsAllHanded = (p : Program) (q : LowProgram) (low : IsLowOf p q) → IsAccepted p → (events : List Event) (c : Config) → run (start_low q) events ≡ Some c
-    → IsLodged (inside c) → Idle c → IsAllHanded (start_low q) events
+    → Idle c → IsAllHanded (start_low q) events
 
--- so it is with the low program that a program is encoded as
-abbrev pub EncodedAllHanded : Type 0
-EncodedAllHanded = (p : Program) → IsAccepted p → (events : List Event) (c : Config) → run (start_low (encoded p)) events ≡ Some c → Idle c
-    → IsAllHanded (start_low (encoded p)) events
+-- and the lifted run has come to rest at the high level, where nothing is left of the infrastructure
+abbrev pub RestsAbove : Type 0
+RestsAbove = (p : Program) (q : LowProgram) (low : IsLowOf p q) → IsAccepted p → (events : List Event) (c : Config) → run (start_low q) events ≡ Some c
+    → Idle c → (l : IsLifted (length p.sites) p.binders low.first (start_high p) events c) × Idle l.high × HasRest l.view

@@ -1,4 +1,4 @@
-ghost use Rattle.np_posts.specs.Laws.{EncodedAllHanded, LettersInPlace, PostsArePaired, RestsAllHanded};
+ghost use Rattle.np_posts.specs.Laws.{LettersInPlace, PostsArePaired, RestsAbove, RestsAllHanded};
 
 /// In each run from the low start of an accepted program posts and openings take turns under each mark, a post first. Each
 /// opening hands over the post before it: the output of its letter stands in its agent then.
@@ -13,9 +13,9 @@ pub fn law_one_place()
     ensures { LettersInPlace }
 {}
 
-/// Where a run from the low start of an accepted program has come to rest, each of its posts was handed over, once. So it is
-/// for each low program of it, where each atom's agent has a place, and for the one that it is encoded as.
+/// Where a run from the low start of an accepted program has come to rest, each of its posts was handed over, once. The lifted
+/// run has come to rest at the high level then. No agent has an affair, the daemon's lock is free, and no letter is under way.
 pub fn law_all_handed()
-    ensures rests { RestsAllHanded }
-    ensures encoded { EncodedAllHanded }
+    ensures handed { RestsAllHanded }
+    ensures above { RestsAbove }
 {}
