@@ -11,14 +11,16 @@ use Rattle.np_syntax.specs.declared.event.Kind.TheVariants as kind
 use Rattle.np_syntax.specs.declared.program.Program.{Program}
 use Rattle.np_syntax.specs.declared.program.LowProgram.{LowProgram}
 use Rattle.np_syntax.specs.Options.{◌>>=◌}
+use Rattle.np_syntax.proofs.Options.{done}
 use Rattle.np_tables.specs.Names.{same_name}
 use Rattle.np_tables.proofs.Tables.{same_name-is, same_name-swap}
 use Rattle.np_calculus.specs.Config.{Config}
-use Rattle.np_calculus.specs.Reductions.{apply, run}
+use Rattle.np_calculus.specs.Reductions.{apply, output_in, run}
 use Rattle.np_calculus.specs.Starts.{start_high, start_low}
 use Rattle.np_lift.specs.Posts.{Deed, Letter, and_on, deed_by, deeds, deeds_to, letter_at, prepended}
 use Rattle.np_check.specs.Faults.{IsAccepted}
 use Rattle.daemon_encode.specs.Translates.{IsLowOf}
+use Rattle.np_things.specs.Mail.{as_output}
 use Rattle.np_things.specs.Things.{Thing, carried, high_atom}
 use Rattle.np_levels.specs.Coupled.{IsShaped, View}
 use Rattle.np_levels.specs.Letters.{IsHanding, IsPosting, LettersAfter, NoLetters, SameLetters, as_letter, first_letter_of, letter_under}
@@ -28,9 +30,9 @@ use Rattle.np_rest.proofs.Highs.{rests-together}
 use Rattle.np_simulation.specs.Laws.{IsLifted}
 use Rattle.np_simulation.proofs.Lodged.{runs-are-lodged}
 use Rattle.np_simulation.proofs.Runs.{from-starts}
-use Rattle.np_posts.specs.Laws.{LettersInPlace, PostsArePaired, RestsAbove, RestsAllHanded}
+use Rattle.np_posts.specs.Laws.{LettersInPlace, LettersStandAbove, PostsArePaired, RestsAbove, RestsAllHanded}
 use Rattle.np_posts.specs.UnderWay.{letters_of, listed}
-use Rattle.np_posts.proofs.Carrying.{headed-letters}
+use Rattle.np_posts.proofs.Carrying.{carries-first, headed-letters}
 use Rattle.np_posts.proofs.Turns.{Turns, turns-alternate, turns-handed, turns-left}
 
 -- the letter that is under way under a mark
@@ -127,6 +129,18 @@ letters-in-place p q low accepted events c h =
       l.0,
       λ mark. in-place l.0.view mark (l.0.coupled.shaped mark)
           ∙ ap listed (sym (turns-left None (deeds_to mark (deeds (start_low q) events)) _ (turns p q low accepted events c h mark))),
+    )
+
+pub letters-stand-above : LettersStandAbove
+letters-stand-above p q low accepted events c h high runs mark l left =
+    let v = (lifted p q low accepted events c h).0 in
+    let its : letter v.view mark ≡ Some l = sym (turns-left None (deeds_to mark (deeds (start_low q) events)) _ (turns p q low accepted events c h mark)) ∙ left in
+    let first = carries-first (map.get v.view.things mark) l its in
+    let there : map.get v.high.atoms mark ≡ Some (as_output first.letter) =
+    ap (map.get v.high.atoms) (sym (v.stand mark)) ∙ v.coupled.mirrored.up mark (as_output first.letter) first.stands in (
+      first.letter.tag,
+      ap (λ (d : Config). map.get d.atoms mark) (done (sym v.runs ∙ runs)) ∙ there
+          ∙ ap (λ (k : Letter). Some (output_in k.agent k.chan k.value first.letter.tag)) first.is,
     )
 
 -- ---- at rest

@@ -1,20 +1,22 @@
 -- What the laws of posts say (docs/LANGUAGE.md, "Translation and daemon").
-use Rattle.std.specs.Prelude.{◌≡◌, List, Some, length}
+use Rattle.std.specs.Prelude.{◌≡◌, List, None, Some, length}
 use Rattle.std.specs.FinMap as map
 use Rattle.np_syntax.specs.declared.value.Name.{Name}
+use Rattle.np_syntax.specs.declared.process.Tag.{Tag}
 use Rattle.np_syntax.specs.declared.event.Event.{Event}
 use Rattle.np_syntax.specs.declared.program.Program.{Program}
 use Rattle.np_syntax.specs.declared.program.LowProgram.{LowProgram}
 use Rattle.np_calculus.specs.Config.{Config}
 use Rattle.np_calculus.specs.Idle.{Idle}
-use Rattle.np_calculus.specs.Reductions.{run}
+use Rattle.np_calculus.specs.Reductions.{output_in, run}
 use Rattle.np_calculus.specs.Starts.{start_high, start_low}
-use Rattle.np_lift.specs.Posts.{IsAllHanded, IsPaired, deeds, deeds_to}
+use Rattle.np_lift.specs.Lift.{lift}
+use Rattle.np_lift.specs.Posts.{IsAllHanded, IsPaired, Letter, deeds, deeds_to}
 use Rattle.np_check.specs.Faults.{IsAccepted}
 use Rattle.daemon_encode.specs.Translates.{IsLowOf}
 use Rattle.np_rest.specs.Laws.{HasRest}
 use Rattle.np_simulation.specs.Laws.{IsLifted}
-use Rattle.np_posts.specs.UnderWay.{letters_of, under_way}
+use Rattle.np_posts.specs.UnderWay.{left_by, letters_of, under_way}
 
 -- each post of a run is handed over once at most, before the next one of its mark
 abbrev pub PostsArePaired : Type 0
@@ -27,6 +29,13 @@ abbrev pub LettersInPlace : Type 0
 LettersInPlace = (p : Program) (q : LowProgram) (low : IsLowOf p q) → IsAccepted p → (events : List Event) (c : Config) → run (start_low q) events ≡ Some c
     → (l : IsLifted (length p.sites) p.binders low.first (start_high p) events c)
     × ((mark : Name) → letters_of (map.get l.view.things mark) ≡ under_way (deeds_to mark (deeds (start_low q) events)))
+
+-- where the lifted run leads to, the output of each such letter stands in its agent already, under the mark of its post
+abbrev pub LettersStandAbove : Type 0
+LettersStandAbove = (p : Program) (q : LowProgram) (low : IsLowOf p q) → IsAccepted p → (events : List Event) (c : Config) → run (start_low q) events ≡ Some c
+    → (high : Config) → run (start_high p) (lift events) ≡ Some high → (mark : Name) (letter : Letter)
+    → left_by None (deeds_to mark (deeds (start_low q) events)) ≡ Some letter
+    → (tag : Tag) × (map.get high.atoms mark ≡ Some (output_in letter.agent letter.chan letter.value tag))
 
 -- where the run has come to rest each of its posts was handed over, once
 abbrev pub RestsAllHanded : Type 0

@@ -1,4 +1,4 @@
-ghost use Rattle.np_posts.specs.Laws.{LettersInPlace, PostsArePaired, RestsAbove, RestsAllHanded};
+ghost use Rattle.np_posts.specs.Laws.{LettersInPlace, LettersStandAbove, PostsArePaired, RestsAbove, RestsAllHanded};
 
 /// In each run from the low start of an accepted program posts and openings take turns under each mark, a post first. Each
 /// opening hands over the post before it: the output of its letter stands in its agent then.
@@ -8,9 +8,10 @@ pub fn law_posts_are_paired()
 
 /// After each run from the low start of an accepted program a letter that was posted and not opened yet is carried by one
 /// thing, which is under the mark of its post; and no thing carries any other letter. The thing has the letter's agent,
-/// channel and value.
+/// channel and value. Where the lifted run leads to, the output of such a letter stands in its agent already.
 pub fn law_one_place()
-    ensures { LettersInPlace }
+    ensures place { LettersInPlace }
+    ensures above { LettersStandAbove }
 {}
 
 /// Where a run from the low start of an accepted program has come to rest, each of its posts was handed over, once. The lifted
