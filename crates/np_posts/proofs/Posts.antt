@@ -134,7 +134,8 @@ letters-in-place p q low accepted events c h =
 pub letters-stand-above : LettersStandAbove
 letters-stand-above p q low accepted events c h high runs mark l left =
     let v = (lifted p q low accepted events c h).0 in
-    let its : letter v.view mark ≡ Some l = sym (turns-left None (deeds_to mark (deeds (start_low q) events)) _ (turns p q low accepted events c h mark)) ∙ left in
+    let its : letter v.view mark ≡ Some l =
+    sym (turns-left None (deeds_to mark (deeds (start_low q) events)) _ (turns p q low accepted events c h mark)) ∙ left in
     let first = carries-first (map.get v.view.things mark) l its in
     let there : map.get v.high.atoms mark ≡ Some (as_output first.letter) =
     ap (map.get v.high.atoms) (sym (v.stand mark)) ∙ v.coupled.mirrored.up mark (as_output first.letter) first.stands in (
