@@ -13,6 +13,7 @@ use Rattle.daemon_encode.specs.Encoded.{encoded}
 use Rattle.daemon_encode.proofs.LowAgents.{encodes-runs-well}
 use Rattle.daemon_encode.proofs.Related.{encodes-itself}
 use Rattle.np_lift.specs.Lift.{lift}
+use Rattle.np_posts.proofs.Posts.{posts-are-paired, rests-all-handed}
 use Rattle.np_rest.proofs.Highs.{rests-together}
 use Rattle.np_simulation.proofs.Runs.{runs-are-lifted, stays-well}
 use Rattle.simulate_laws.specs.Lifted.{EndsAtRest, ShowsHigh, ShowsRest}
@@ -27,6 +28,7 @@ module _ (p : Program) (accepted : IsAccepted p) (events : List Event) where
     runs = leads;
     said = λ low is. (let l = runs-are-lifted p (encoded p) (encodes-itself p) accepted events low is in l.said ∙ ap (λ (d : Config). d.said) (done (sym leads ∙ l.runs)));
     well = stays-well p accepted (lift events) high leads;
+    paired = posts-are-paired p (encoded p) (encodes-itself p) accepted events h.0 h.1;
   }
 
   pub shows-rest : EndsAtRest p events → (high : Config) → ShowsHigh p events high → ShowsRest p events high
@@ -37,4 +39,5 @@ module _ (p : Program) (accepted : IsAccepted p) (events : List Event) where
       record {
         shows = shows;
         rests = subst Idle (sym same) (rests-together (length p.sites) p.binders (encodes-itself p).first ends.last l.high l.view l.coupled lodged ends.rests).0;
+        handed = rests-all-handed p (encoded p) (encodes-itself p) accepted events ends.last ends.runs ends.rests;
       }

@@ -9,6 +9,7 @@ use Rattle.np_calculus.specs.Starts.{start_high, start_low}
 use Rattle.np_calculus.specs.Well.{Well}
 use Rattle.daemon_encode.specs.Encoded.{encoded}
 use Rattle.np_lift.specs.Lift.{lift}
+use Rattle.np_lift.specs.Posts.{IsAllHanded, IsPaired}
 
 -- the configuration that the lifted events of a run of the compiled program leave
 pub record ShowsHigh (p : Program) (events : List Event) (high : Config) : Type 0 where
@@ -17,6 +18,8 @@ pub record ShowsHigh (p : Program) (events : List Event) (high : Config) : Type 
   pub said : (low : Config) → run (start_low (encoded p)) events ≡ Some low → low.said ≡ high.said
   -- no value of a wrong type is met there
   pub well : Well high
+  -- each post was handed over once at most
+  pub paired : IsPaired (start_low (encoded p)) events
 
 -- the events are a run of the compiled program, after which no site can act
 pub record EndsAtRest (p : Program) (events : List Event) : Type 0 where
@@ -24,7 +27,8 @@ pub record EndsAtRest (p : Program) (events : List Event) : Type 0 where
   pub runs : run (start_low (encoded p)) events ≡ Some last
   pub rests : Idle last
 
--- and no site can act at the high level then
+-- no site can act at the high level then, and each post was handed over
 pub record ShowsRest (p : Program) (events : List Event) (high : Config) : Type 0 where
   pub shows : ShowsHigh p events high
   pub rests : Idle high
+  pub handed : IsAllHanded (start_low (encoded p)) events
