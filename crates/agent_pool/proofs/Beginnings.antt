@@ -1,10 +1,10 @@
 -- Where an atom begins an event alone, or with an output, the row is met; and where a row is met, it does.
-use Rattle.std.proofs.Common.{◌≡◌, Bool, true, false, cond, ◌&&◌, ◌⊎◌, inl, inr, length, Option, None, Some, IsSome, refl, sym, subst, ap, ◌∙◌}
+use Rattle.std.proofs.Common.{◌≡◌, ℕ, Bool, true, false, cond, ◌&&◌, ◌⊎◌, inl, inr, length, Option, None, Some, IsSome, refl, sym, subst, ap, ◌∙◌}
 use Rattle.std.specs.Prelude.{is_some}
 use Rattle.std.specs.FinMap as map
 use Rattle.np_calculus.proofs.Common.{Name, Value, Expr, Pat, Proc, ProcForm-F, Event, Kind, ◌>>=◌, ◌>>◌, need, then, when, done, NameMap, same_name, same_name-itself}
 use Rattle.np_calculus.proofs.Common.{chan_of, agent_of, truth_of, letter_of, places_of, eval, bind, Layer, layer, Sight, Change, same_tag, sends, offered_in}
-use Rattle.np_calculus.proofs.Common.{acting_in, act, here_row, away_row}
+use Rattle.np_calculus.proofs.Common.{acting_in, act, here_row, away_row, none_made, one_made, two_made, no_other}
 use Rattle.np_syntax.specs.declared.process.Tag.{Tag}
 use Rattle.np_syntax.specs.declared.event.Kind.TheVariants as kind
 use Rattle.np_syntax.specs.declared.event.Made.TheVariants as made
@@ -12,10 +12,11 @@ use Rattle.np_eval.specs.Eval.{Env}
 use Rattle.np_eval.specs.Fitting.{fits}
 use Rattle.np_calculus.specs.declared.config.Atom.{Atom}
 use Rattle.np_calculus.specs.Reductions.{role_index, site_in}
-use Rattle.np_calculus.proofs.Rows.{parts, taking}
+use Rattle.np_calculus.proofs.Rows.{parts}
 use Rattle.np_calculus.proofs.Steps.{same_site}
 use Rattle.np_code.specs.Programs.{ProgramTable}
 use Rattle.agent_pool.specs.declared.ready.Ready.{Ready}
+use Rattle.agent_pool.specs.Deciding.{posts, post_in}
 use Rattle.agent_pool.specs.Readies.{sight_of, IsReady, NothingReady, made_of, begins, alone_in, taken_by, offers_in, offers, meets, pair_in, NoneAlone, NoneMeet}
 use Rattle.agent_pool.specs.Rows.{event_of, change_in}
 
@@ -76,6 +77,13 @@ module _ (code : ProgramTable) (atoms : NameMap Atom) (mark : Name) (a : Atom) (
       so None h (rw (acts kind.Lookup None, is, names, among) refl)
   alone-met _ is k h = absurd cc
 
+  pub post-met : (l : Layer) → layer a.proc ≡ l → (k : Kind) → posts a.env l ≡ Some k → Met None k
+  unfolding act
+  post-met (ProcForm-F.Post b c e) is k h =
+      then (agent_of b a.env) _ h λ agent names h. then (chan_of c a.env) _ h λ chan on h. when (is_some (eval e a.env)) _ h λ has h.
+      is-there (eval e a.env) has λ v gives. so None h (rw (acts kind.Post None, is, names, on, gives) refl)
+  post-met _ is k h = absurd cc
+
   -- an output of the agent whose value on the channel fits
   module _ (other : Name) (b : Atom) (stands : map.get atoms other ≡ Some b) (together : b.agent ≡ a.agent) where
     offered : (n : Name) (sent : Name × Value) → sends b ≡ Some sent → same_name n sent.0 ≡ true → offered_in (map.get atoms) other a.agent n ≡ Some sent.1
@@ -102,10 +110,16 @@ module _ (code : ProgramTable) (atoms : NameMap Atom) (mark : Name) (a : Atom) (
         so (Some other) h (rw (acts kind.Rep (Some other), is, on, offered n sent gives same, binds) refl)
     pair-met _ is k h = absurd cc
 
+-- an atom begins the event alone
+pub record Lone (sites : ℕ) (a : Atom) (e : Event) (k : Kind) : Type 0 where
+  pub begun : begins sites a.env (layer a.proc) ≡ Some k
+  pub other : e.other ≡ None
+
 -- an output of the agent that the input takes
-pub record MetWith (code : ProgramTable) (atoms : NameMap Atom) (a : Atom) (k : Kind) : Type 0 where
+pub record MetWith (atoms : NameMap Atom) (a : Atom) (e : Event) (k : Kind) : Type 0 where
   pub mark : Name
   pub atom : Atom
+  pub other : e.other ≡ Some mark
   pub there : map.get atoms mark ≡ Some atom
   pub meet : meets a atom ≡ Some k
 
@@ -113,11 +127,18 @@ pub record MetWith (code : ProgramTable) (atoms : NameMap Atom) (a : Atom) (k : 
 pub record Begun (code : ProgramTable) (atoms : NameMap Atom) (e : Event) (k : Kind) : Type 0 where
   pub atom : Atom
   pub there : map.get atoms e.actor ≡ Some atom
-  pub how : (begins (length code.sites) atom.env (layer atom.proc) ≡ Some k) ⊎ MetWith code atoms atom k
+  pub how : Lone (length code.sites) atom e k ⊎ MetWith atoms atom e k
 
 module _ (code : ProgramTable) (atoms : NameMap Atom) (here : Bool) (e : Event) where
   abbrev w : Sight
   w = sight_of code atoms here
+
+  other-none : (o : Option Name) (u : Unit {0}) → no_other o ≡ Some u → o ≡ None
+  other-none None u h = refl
+  other-none (Some m) u h = absurd cc
+
+  lone-other : (y : Change) {x : Change} → (none_made e.made >> (no_other e.other >> Some y)) ≡ Some x → e.other ≡ None
+  lone-other y h = then (none_made e.made) _ h λ u made h. then (no_other e.other) _ h λ v other h. other-none e.other v other
 
   have : {A : Type 0} (o : Option A) (x : A) → o ≡ Some x → is_some o ≡ true
   have o x h = rw h refl
@@ -129,41 +150,57 @@ module _ (code : ProgramTable) (atoms : NameMap Atom) (here : Bool) (e : Event) 
     abbrev Alone : Kind → Layer → Type 0
     Alone k l = begins (length code.sites) a.env l ≡ Some k
 
-    alone : (k : Kind) → Alone k (layer a.proc) → Begun code atoms e k
-    alone k h = record { atom = a; there = there; how = inl h }
+    alone : (k : Kind) → Alone k (layer a.proc) → e.other ≡ None → Begun code atoms e k
+    alone k h none = record { atom = a; there = there; how = inl (record { begun = h; other = none }) }
 
     -- an input takes what the atom of a mark offers
-    met : (k : Kind) (c : Expr) (pat : Pat) (n o : Name) (v : Value) (env : Env) → taken_by (layer a.proc) ≡ Some (k, c, pat) → chan_of c a.env ≡ Some n
+    met : (k : Kind) (c : Expr) (pat : Pat) (n o : Name) (v : Value) (env : Env) → taken_by (layer a.proc) ≡ Some (k, c, pat) → chan_of c a.env ≡ Some n → e.other ≡ Some o
         → offered_in w.atom o a.agent n ≡ Some v → bind pat v a.env ≡ Some env → Begun code atoms e k
-    met k c pat n o v env form on offer binds =
+    met k c pat n o v env form on other offer binds =
         then (map.get atoms o) _ offer λ b stands h. when (same_name a.agent b.agent) _ h λ together h. then (sends b) _ h λ sent gives h.
         when (same_name n sent.0) _ h λ same h.
-        record { atom = a; there = there; how = inr (record { mark = o; atom = b; there = stands; meet = rw (form, on, gives, same, sym (done h), binds) refl }) }
+        record { atom = a; there = there; how = inr (record { mark = o; atom = b; other = other; there = stands; meet = rw (form, on, gives, same, sym (done h), binds) refl }) }
 
     pub row-begun : (k : Kind) → (k ≡ kind.Post → ⊥) → act k (layer a.proc) w e a ≡ Some d → Begun code atoms e k
     unfolding act
-    row-begun kind.Stop differs h = parts kind.Stop w e a h λ q form h. alone kind.Stop (rw form refl)
-    row-begun kind.Fork differs h = parts kind.Fork w e a h λ q form h. alone kind.Fork (rw form refl)
-    row-begun kind.New differs h = parts kind.New w e a h λ q form h. alone kind.New (rw form refl)
+    row-begun kind.Stop differs h = parts kind.Stop w e a h λ q form h. alone kind.Stop (rw form refl) (lone-other _ h)
+    row-begun kind.Fork differs h = parts kind.Fork w e a h λ q form h. then (one_made e.made) _ h λ m made h. then (no_other e.other) _ h λ u other h.
+        alone kind.Fork (rw form refl) (other-none e.other u other)
+    row-begun kind.New differs h = parts kind.New w e a h λ q form h. then (one_made e.made) _ h λ m made h. then (no_other e.other) _ h λ u other h.
+        alone kind.New (rw form refl) (other-none e.other u other)
     row-begun kind.Let differs h = parts kind.Let w e a h λ q form h. then (eval q.1 a.env) _ h λ v gives h. then (bind q.0 v a.env) _ h λ env binds h.
-        alone kind.Let (rw (form, fits-both q.0 q.1 a v env gives binds) refl)
-    row-begun kind.If differs h = parts kind.If w e a h λ q form h. then (truth_of q.0 a.env) _ h λ t truth h. alone kind.If (rw (form, have _ t truth) refl)
-    row-begun kind.Comm differs h = parts kind.Comm w e a h λ q form h. taking w e a q.0 q.1 _ h λ n o v env on offer binds h. met kind.Comm q.0 q.1 n o v env (rw form refl) on offer binds
-    row-begun kind.Rep differs h = parts kind.Rep w e a h λ q form h. taking w e a q.0 q.1 _ h λ n o v env on offer binds h. met kind.Rep q.0 q.1 n o v env (rw form refl) on offer binds
-    row-begun kind.Agent differs h = parts kind.Agent w e a h λ q form h. alone kind.Agent (rw form refl)
-    row-begun kind.Depart differs h = parts kind.Depart w e a h λ q form h. then (site_in (length code.sites) q.0 a.env) _ h λ t to h. alone kind.Depart (rw (form, to) refl)
+        alone kind.Let (rw (form, fits-both q.0 q.1 a v env gives binds) refl) (lone-other _ h)
+    row-begun kind.If differs h = parts kind.If w e a h λ q form h. then (truth_of q.0 a.env) _ h λ t truth h. alone kind.If (rw (form, have _ t truth) refl) (lone-other _ h)
+    row-begun kind.Comm differs h = parts kind.Comm w e a h λ q form h. then (chan_of q.0 a.env) _ h λ n on h. then e.other _ h λ o other h.
+        then (offered_in w.atom o a.agent n) _ h λ v offer h. then (bind q.1 v a.env) _ h λ env binds h. met kind.Comm q.0 q.1 n o v env (rw form refl) on other offer binds
+    row-begun kind.Rep differs h = parts kind.Rep w e a h λ q form h. then (chan_of q.0 a.env) _ h λ n on h. then e.other _ h λ o other h.
+        then (offered_in w.atom o a.agent n) _ h λ v offer h. then (bind q.1 v a.env) _ h λ env binds h. met kind.Rep q.0 q.1 n o v env (rw form refl) on other offer binds
+    row-begun kind.Agent differs h = parts kind.Agent w e a h λ q form h. then (two_made e.made) _ h λ m made h. then (no_other e.other) _ h λ u other h.
+        alone kind.Agent (rw form refl) (other-none e.other u other)
+    row-begun kind.Depart differs h = parts kind.Depart w e a h λ q form h. then (site_in (length code.sites) q.0 a.env) _ h λ t to h. alone kind.Depart (rw (form, to) refl) (lone-other _ h)
     row-begun kind.Local differs h = parts kind.Local w e a h λ q form h. then (agent_of q.0 a.env) _ h λ b names h. then (chan_of q.1 a.env) _ h λ n on h. then (eval q.2 a.env) _ h λ v gives h.
-        alone kind.Local (rw (form, names, on, have _ v gives) refl)
+        then (no_other e.other) _ h λ u other h. alone kind.Local (rw (form, names, on, have _ v gives) refl) (other-none e.other u other)
     row-begun kind.Send differs h = parts kind.Send w e a h λ q form h. then (agent_of q.0 a.env) _ h λ b names h. then (site_in (length code.sites) q.1 a.env) _ h λ t to h.
-        then (chan_of q.2 a.env) _ h λ n on h. then (eval q.3 a.env) _ h λ v gives h. alone kind.Send (rw (form, names, to, on, have _ v gives) refl)
-    row-begun kind.Print differs h = parts kind.Print w e a h λ q form h. then (eval q a.env) _ h λ v gives h. alone kind.Print (rw (form, have _ v gives) refl)
-    row-begun kind.Open differs h = parts kind.Open w e a h λ q form h. then (letter_of q a.env) _ h λ v gives h. alone kind.Open (rw (form, have _ v gives) refl)
+        then (chan_of q.2 a.env) _ h λ n on h. then (eval q.3 a.env) _ h λ v gives h. alone kind.Send (rw (form, names, to, on, have _ v gives) refl) (lone-other _ h)
+    row-begun kind.Print differs h = parts kind.Print w e a h λ q form h. then (eval q a.env) _ h λ v gives h. alone kind.Print (rw (form, have _ v gives) refl) (lone-other _ h)
+    row-begun kind.Open differs h = parts kind.Open w e a h λ q form h. then (letter_of q a.env) _ h λ v gives h. alone kind.Open (rw (form, have _ v gives) refl) (lone-other _ h)
     row-begun kind.Lookup differs h = parts kind.Lookup w e a h λ q form h. then (agent_of q.0 a.env) _ h λ b names h. then (places_of q.1 a.env) _ h λ ps among h.
-        alone kind.Lookup (rw (form, names, have _ ps among) refl)
+        alone kind.Lookup (rw (form, names, have _ ps among) refl) (lone-other _ h)
     row-begun kind.Post differs h = absurd (differs refl)
     row-begun _ differs h = absurd cc
 
+    -- a post whose row is met
+    pub post-begun : act kind.Post (layer a.proc) w e a ≡ Some d → (posts a.env (layer a.proc) ≡ Some kind.Post) × (e.other ≡ None)
+    unfolding act
+    post-begun h = parts kind.Post w e a h λ q form h. then (agent_of q.0 a.env) _ h λ b names h. then (chan_of q.1 a.env) _ h λ n on h. then (eval q.2 a.env) _ h λ v gives h.
+        (rw (form, names, on, have _ v gives) refl, lone-other _ h)
+
 -- what a ready that is found says
+pub post-ready : (code : ProgramTable) (atoms : NameMap Atom) (mark : Name) (r : Ready) → post_in atoms mark ≡ Some r → IsReady code atoms r
+post-ready code atoms mark r h =
+    then (map.get atoms mark) _ h λ a there h. then (posts a.env (layer a.proc)) _ h λ k begun h.
+    subst (IsReady code atoms) (sym (done h)) λ here first second. post-met code atoms mark a there here first second (layer a.proc) refl k begun
+
 pub alone-ready : (code : ProgramTable) (atoms : NameMap Atom) (mark : Name) (r : Ready) → alone_in (length code.sites) atoms mark ≡ Some r → IsReady code atoms r
 alone-ready code atoms mark r h =
     then (map.get atoms mark) _ h λ a there h. then (begins (length code.sites) a.env (layer a.proc)) _ h λ k begun h.
@@ -185,9 +222,9 @@ nothing-ready code atoms no_lone no_meet = record { none = λ here e no_post. by
     impossible : (e : Event) (k : Kind) → Begun code atoms e k → ⊥
     impossible e k b = from b.how
       where
-        from : (begins (length code.sites) b.atom.env (layer b.atom.proc) ≡ Some k) ⊎ MetWith code atoms b.atom k → ⊥
-        from (inl begun) =
-            some-none (alone_in (length code.sites) atoms e.actor) (record { kind = k; actor = e.actor; other = None; tag = b.atom.proc.tag }) (no_lone.each e.actor) (rw (b.there, begun) refl)
+        from : Lone (length code.sites) b.atom e k ⊎ MetWith atoms b.atom e k → ⊥
+        from (inl l) =
+            some-none (alone_in (length code.sites) atoms e.actor) (record { kind = k; actor = e.actor; other = None; tag = b.atom.proc.tag }) (no_lone.each e.actor) (rw (b.there, l.begun) refl)
         from (inr m) =
             some-none (pair_in atoms e.actor m.mark) (record { kind = k; actor = e.actor; other = Some m.mark; tag = b.atom.proc.tag }) (no_meet.each e.actor m.mark)
             (rw (b.there, m.there, m.meet) refl)

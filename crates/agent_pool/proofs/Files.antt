@@ -2,14 +2,20 @@
 use Rattle.std.proofs.Common.{◌≡◌, Bool, true, false, cond, List, Option, None, Some, refl, sym, subst, ◌∙◌}
 use Rattle.std.specs.FinMap as map
 use Rattle.np_syntax.specs.declared.value.Name.{Name}
+use Rattle.np_syntax.specs.declared.value.Value.{Value}
+use Rattle.np_syntax.specs.declared.process.Tag.{Tag}
 use Rattle.np_syntax.specs.declared.process.Proc.{Proc}
 use Rattle.np_syntax.proofs.Options.{done}
 use Rattle.np_tables.specs.Names.{NameMap, same_name}
-use Rattle.np_tables.proofs.Tables.{get-put, get-cut}
+use Rattle.np_tables.proofs.Tables.{get-none, get-put, get-cut}
+use Rattle.agent_index.specs.declared.wait.Wait.{Wait}
+use Rattle.agent_index.specs.declared.wait.Wait.TheVariants as wait
 use Rattle.agent_index.specs.Shelves.{Kept}
 use Rattle.agent_pool.specs.declared.held.Held.{Held}
+use Rattle.agent_pool.specs.declared.held.Held.TheVariants as held
 use Rattle.agent_pool.specs.Held.{wait_of}
 use Rattle.agent_pool.specs.Pools.{IsFiled}
+use Rattle.agent_pool.proofs.Layers.{wait-given}
 
 abbrev Filed : List Proc → Option (Kept Held) → Type 0
 Filed ts o = (kept : Kept Held) → o ≡ Some kept → kept.0 ≡ wait_of ts kept.1
@@ -29,4 +35,16 @@ module _ (ts : List Proc) (atoms : NameMap (Kept Held)) (m : Name) (filed : IsFi
   pub filed-cut : IsFiled ts (map.remove atoms m)
   filed-cut = record { each = λ k kept e. cut_filed ts (same_name k m) (map.get atoms k) (λ x. filed.each k x) kept (sym (get-cut atoms m k) ∙ e) }
 
+  -- an output that came from outside
+  pub filed-given : (chan : Name) (v : Value) (tag : Tag) → IsFiled ts (map.insert atoms m (wait.Gives chan, held.Given chan v tag))
+  filed-given chan v tag = subst (λ w. IsFiled ts (map.insert atoms m (w, held.Given chan v tag))) (wait-given ts chan v tag) (filed-put (held.Given chan v tag))
+
+-- one atom, filed under what it waits for
+pub filed-one : (ts : List Proc) (m : Name) (h : Held) (w : Wait) → wait_of ts h ≡ w → IsFiled ts (map.insert map.empty m (w, h))
+filed-one ts m h w is = subst (λ v. IsFiled ts (map.insert map.empty m (v, h))) is (filed-put ts map.empty m (record { each = λ k kept e. absurd (let x = sym (get-none k) ∙ e in cc) }) h)
+
 pub ruleset files = (filed-put, filed-cut)
+
+pub ruleset received = (filed-given, wait-given)
+
+pub ruleset beginnings = (filed-one, filed-put)

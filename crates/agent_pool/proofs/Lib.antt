@@ -1,5 +1,6 @@
 pub mod Beginnings
 pub mod Calms
+pub mod Deciding
 pub mod Files
 pub mod Layers
 pub mod Lending
@@ -8,5 +9,7 @@ pub mod Missing
 pub mod Naming
 pub mod Offers
 pub mod Outputs
+pub mod Same
+pub mod Settling
 pub mod Showing
 pub mod Walking

@@ -1,10 +1,12 @@
 pub mod Calm
+pub mod Deciding
 pub mod Held
 pub mod Idle
 pub mod Moves
 pub mod Operands
 pub mod Pools
 pub mod Readies
+pub mod Resting
 pub mod Rows
 pub mod Shown
 pub mod Waiting

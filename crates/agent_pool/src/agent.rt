@@ -9,9 +9,10 @@ ghost use Rattle.agent_pool.specs.Pools.{Unchanged, IsFiled, atoms_of};
 ghost use Rattle.agent_pool.specs.Readies.{IsReady, NothingReady};
 ghost use Rattle.agent_pool.specs.Waiting.{NoneWaitsOn, WaitOn};
 
+use super::decide::can_do;
 use super::held::{Held, wait_of};
-use super::idle::is_idle;
 use super::ready::Ready;
+use super::resting::idle_in;
 use super::search::{likely_in, ready_in};
 use agent_index::{Index, Wait, Waiters};
 use np_code::Code;
@@ -49,11 +50,31 @@ impl Agent {
     ) -> Result<Agent, Memory>
         ensures name { IfOk result (λ agent. agent.name ≡ name) }
         ensures atoms { IfOk result (λ agent. agent.atoms ≡ map.insert map.empty mark (wait.Acts, held.Node root frame)) }
+        ensures filed { IfOk result (λ agent. (code : ProgramTable) → wait_of code.processes (held.Node root frame) ≡ wait.Acts → IsFiled code.processes agent.atoms) }
     {
         Agent::with_atom(alloc, name, mark, Held::Node(root, frame), Wait::Acts)
     }
 
+    /// An agent with one atom, filed by the code.
+    pub fn start(
+        alloc: Global,
+        code: &Code,
+        name: Name,
+        mark: Name,
+        root: u32,
+        frame: Frame,
+    ) -> Result<Agent, Memory>
+        ensures name { IfOk result (λ agent. agent.name ≡ name) }
+        ensures atoms { IfOk result (λ agent. agent.atoms ≡ map.insert map.empty mark (wait_of code.now.processes (held.Node root frame), held.Node root frame)) }
+        ensures filed { IfOk result (λ agent. IsFiled code.now.processes agent.atoms) }
+    {
+        let held = Held::Node(root, frame);
+        let wait = wait_of(code, &held);
+        Agent::with_atom(alloc, name, mark, held, wait)
+    }
+
     /// An agent with one atom, filed under what it waits for.
+    #[tactic(auto, using(crate::proofs::Files::beginnings))]
     pub(super) fn with_atom(
         alloc: Global,
         name: Name,
@@ -63,6 +84,7 @@ impl Agent {
     ) -> Result<Agent, Memory>
         ensures name { IfOk result (λ agent. agent.name ≡ name) }
         ensures atoms { IfOk result (λ agent. agent.atoms ≡ map.insert map.empty mark (wait, held)) }
+        ensures filed { IfOk result (λ agent. (code : ProgramTable) → wait_of code.processes held ≡ wait → IsFiled code.processes agent.atoms) }
     {
         let mut atoms = Index::new(alloc);
         atoms.reserve(1)?;
@@ -79,6 +101,7 @@ impl Agent {
     /// Makes sure of a place for one more atom.
     pub fn make_room(&mut self) -> Result<(), Memory>
         ensures unchanged { Unchanged self.old self.new }
+        ensures filed { (code : ProgramTable) → IsFiled code.processes self.old.atoms → IsFiled code.processes self.new.atoms }
         ensures more { self.old.spare ≤ self.new.spare }
         ensures ok { OnOk result (1 ≤ self.new.spare) }
     {
@@ -86,6 +109,7 @@ impl Agent {
     }
 
     /// An output comes from outside. A refusal hands its value back, and leaves the agent as it was.
+    #[tactic(auto, using(crate::proofs::Files::received))]
     pub fn receive(
         &mut self,
         mark: Name,
@@ -95,6 +119,7 @@ impl Agent {
     ) -> Result<(), (Value, Memory)>
         ensures atoms { OnOk result (self.new.atoms ≡ map.insert self.old.atoms mark (wait.Gives chan, held.Given chan value tag)) }
         ensures name { self.new.name ≡ self.old.name }
+        ensures filed { (code : ProgramTable) → IsFiled code.processes self.old.atoms → IsFiled code.processes self.new.atoms }
         ensures err { OnErr result (Unchanged self.old self.new) }
         ensures returned { IfErr result (λ refused. refused.0 ≡ value) }
         ensures room { 1 ≤ self.old.spare → IsOk result }
@@ -126,12 +151,20 @@ impl Agent {
         likely_in(code, &self.atoms)
     }
 
+    /// Whether this is something that the agent can do. It takes no memory and walks over nothing.
+    pub fn is_ready(&self, code: &Code, r: Ready) -> bool
+        ensures { IsTrue result ↔ IsReady code.now (atoms_of code.now.processes self.now) r }
+    {
+        can_do(code, &self.atoms, r)
+    }
+
     /// Whether each atom is an output or an input, plain or replicated, and no output and input are on one channel. It
-    /// takes no memory. It walks over the atoms, and once more for each input.
+    /// takes no memory. Where the agent is filed by the code, it walks over the atoms once, and looks up each input's
+    /// channel.
     pub fn idle(&self, code: &Code) -> bool
         ensures { IsTrue result ↔ IsIdle code.now.processes self.now.atoms }
     {
-        is_idle(code, &self.atoms)
+        idle_in(code, &self.atoms)
     }
 
     /// Who waits on a channel, and none exactly where no one does. It takes no memory.

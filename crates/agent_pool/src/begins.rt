@@ -14,7 +14,7 @@ use np_eval::{Frame, chan_of, fits, matches};
 use np_syntax::{Expr, Kind, Name, Pat};
 
 /// The kind, where the test is met.
-fn only(test: bool, kind: Kind) -> Option<Kind>
+pub fn only(test: bool, kind: Kind) -> Option<Kind>
     ensures { result ≡ only test kind }
 {
     if test { Some(kind) } else { None }

@@ -8,7 +8,7 @@ use np_code::Code;
 use np_syntax::Name;
 
 /// What the atom of a mark waits for.
-fn waits_in(code: &Code, atoms: &Index<Held>, mark: Name) -> Option<Wait>
+pub fn waits_in(code: &Code, atoms: &Index<Held>, mark: Name) -> Option<Wait>
     ensures { result ≡ waits_in code.now.processes (map.get atoms.now.items mark) }
 {
     match atoms.get(mark) {
@@ -18,7 +18,7 @@ fn waits_in(code: &Code, atoms: &Index<Held>, mark: Name) -> Option<Wait>
 }
 
 /// Whether it is an output on a channel.
-fn is_output(wait: Option<Wait>, chan: Name) -> bool
+pub fn is_output(wait: Option<Wait>, chan: Name) -> bool
     ensures { result ≡ is_output wait chan }
 {
     match wait {
@@ -50,7 +50,7 @@ fn is_still(code: &Code, atoms: &Index<Held>, mark: Name) -> bool
     }
 }
 
-/// Whether that holds of every atom.
+/// Whether that holds of every atom. It walks over them, and once more for each input.
 pub fn is_idle(code: &Code, atoms: &Index<Held>) -> bool
     ensures { IsTrue result ↔ IsIdle code.now.processes atoms.now.items }
 {

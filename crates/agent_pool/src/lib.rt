@@ -4,6 +4,7 @@
 mod agent;
 mod alone;
 mod begins;
+mod decide;
 mod held;
 mod idle;
 mod laws;
@@ -12,6 +13,7 @@ mod meets;
 mod moves;
 mod operands;
 mod ready;
+mod resting;
 mod search;
 
 pub use agent::Agent;

@@ -258,6 +258,7 @@ impl Agent {
         ensures row { IfOk result (λ child. Births code.now self.old self.new r agent mark child) }
         ensures name { self.new.name ≡ self.old.name }
         ensures filed { IsFiled code.now.processes self.old.atoms → IsFiled code.now.processes self.new.atoms }
+        ensures child_filed { IfOk result (λ child. IsFiled code.now.processes child.atoms) }
         ensures err { OnErr result (Unchanged self.old self.new) }
     {
         let (body, rest) = self.after_child(alloc, code, r, agent, mark)?;

@@ -106,7 +106,7 @@ fn gives(atoms: &Index<Held>, chan: Name) -> bool
 }
 
 /// Whether the two wait for the same.
-fn same(first: Wait, second: Wait) -> bool
+pub fn same(first: Wait, second: Wait) -> bool
     ensures { IsTrue result → first ≡ second }
 {
     first == second
