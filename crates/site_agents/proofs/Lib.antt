@@ -1,0 +1,5 @@
+mod Comings
+mod Lendings
+mod Lines
+mod Reading
+mod Seatings

@@ -1,0 +1,93 @@
+-- Who waits in a queue after its steps.
+use Rattle.std.proofs.Common.{◌≡◌, ℕ, zero, suc, Bool, true, false, not, ◌||◌, List, [], ◌∷◌, ◌++◌, take, drop, refl, sym, ap, subst, ◌∙◌}
+use Rattle.std.specs.Prelude.{slice_index_or, remove}
+use Rattle.std.specs.List.{list_any}
+use Rattle.std.proofs.lemmas.List.Folds.{list_any-append}
+use Rattle.np_syntax.specs.declared.value.Name.{Name}
+use Rattle.np_tables.specs.Names.{same_name}
+use Rattle.np_tables.proofs.Keyed.{alike, alike-same}
+use Rattle.np_tables.proofs.Tables.{same_name-is, same_name-itself}
+use Rattle.site_agents.specs.Queues.{Waiting, listed, waits, Keeps, KeepsBut}
+
+or_true : (b : Bool) → (b || true) ≡ true
+or_true true = refl
+or_true false = refl
+
+or_left : (a b c : Bool) → (a || b) ≡ true → (b ≡ true → c ≡ true) → (a || c) ≡ true
+or_left true b c h f = refl
+or_left false b c h f = f h
+
+abbrev pub waiting : List Name → Bool → Waiting
+waiting names lost = record { names = names; lost = lost }
+
+-- where one may be missing, anyone may wait
+pub keeps_lost : (old : Waiting) (names : List Name) → Keeps old (waiting names true)
+keeps_lost old names = record { each = λ q h. refl }
+
+last_waits : (q : Name) (names : List Name) (n : Name) → same_name q n ≡ true → listed (names ++ n ∷ []) q ≡ true
+last_waits q names n t = list_any-append (same_name q) names (n ∷ []) ∙ ap (λ b. listed names q || (b || false)) t ∙ or_true (listed names q)
+
+pub waits_last : (names : List Name) (lost : Bool) (n : Name) → waits (waiting (names ++ n ∷ []) lost) n ≡ true
+waits_last names lost n = ap (λ b. lost || b) (last_waits n names n (same_name-itself n)) ∙ or_true lost
+
+longer : (q : Name) (names more : List Name) → listed names q ≡ true → listed (names ++ more) q ≡ true
+longer q names more h = list_any-append (same_name q) names more ∙ ap (λ b. b || listed more q) h
+
+pub keeps_push : (names : List Name) (lost : Bool) (n : Name) → Keeps (waiting names lost) (waiting (names ++ n ∷ []) lost)
+keeps_push names lost n = record { each = λ q h. or_left lost _ _ h (longer q names (n ∷ [])) }
+
+drop_or : (a b : Bool) → a ≡ false → (a || b) ≡ true → b ≡ true
+drop_or true b e h = absurd cc
+drop_or false b e h = h
+
+pub keeps_pop : (names : List Name) (lost : Bool) (n : Name) → KeepsBut n (waiting (n ∷ names) lost) (waiting names lost)
+keeps_pop names lost n = record { each = λ q apart h. or_left lost _ _ h (drop_or (same_name q n) (listed names q) apart) }
+
+or_false : (b : Bool) → (b || false) ≡ b
+or_false true = refl
+or_false false = refl
+
+shorter : (q : Name) (names : List Name) (n : Name) → same_name q n ≡ false → listed (names ++ n ∷ []) q ≡ true → listed names q ≡ true
+shorter q names n apart h =
+    sym (or_false (listed names q)) ∙ sym (ap (λ b. listed names q || (b || false)) apart) ∙ sym (list_any-append (same_name q) names (n ∷ [])) ∙ h
+
+pub keeps_pop_back : (names : List Name) (lost : Bool) (n : Name) → KeepsBut n (waiting (names ++ n ∷ []) lost) (waiting names lost)
+keeps_pop_back names lost n = record { each = λ q apart h. or_left lost _ _ h (shorter q names n apart) }
+
+cut_listed : (q : Name) (names : List Name) (i : ℕ) (n : Name) → n ≡ slice_index_or names i n → same_name q n ≡ false → listed names q ≡ true → listed (remove names i) q ≡ true
+cut_listed q [] i n e apart h = absurd cc
+cut_listed q (x ∷ xs) zero n e apart h = drop_or (same_name q x) (listed xs q) (subst (λ y. same_name q y ≡ false) e apart) h
+cut_listed q (x ∷ xs) (suc i) n e apart h = or_left (same_name q x) (listed xs q) _ h (cut_listed q xs i n e apart)
+
+pub keeps_cut : (names : List Name) (lost : Bool) (i : ℕ) (n : Name) → n ≡ slice_index_or names i n → KeepsBut n (waiting names lost) (waiting (remove names i) lost)
+keeps_cut names lost i n e = record { each = λ q apart h. or_left lost _ _ h (cut_listed q names i n e apart) }
+
+tie : (a b : Bool) → (a ≡ true → b ≡ true) → (a ≡ false → b ≡ true) → b ≡ true
+tie true b f g = f refl
+tie false b f g = g refl
+
+-- a name that went and comes again
+pub keeps_again : (old now new : Waiting) (n : Name) → KeepsBut n old now → Keeps now new → waits new n ≡ true → ((q : Name) → same_name q n ≡ true → q ≡ n) → Keeps old new
+keeps_again old now new n but keeps here same =
+    record { each = λ q h. tie (same_name q n) (waits new q) (λ t. subst (λ y. waits new y ≡ true) (sym (same q t)) here) (λ f. keeps.each q (but.each q f h)) }
+
+-- what keeps all keeps all but a name
+pub keeps_then : (old now new : Waiting) (n : Name) → Keeps old now → KeepsBut n now new → KeepsBut n old new
+keeps_then old now new n keeps but = record { each = λ q apart h. but.each q apart (keeps.each q h) }
+
+pub keeps_but : (old new : Waiting) (n : Name) → Keeps old new → KeepsBut n old new
+keeps_but old new n keeps = record { each = λ q apart h. keeps.each q h }
+
+pub keeps_cut_to : (names new : List Name) (lost : Bool) (i : ℕ) (n : Name) → n ≡ slice_index_or names i n → new ≡ remove names i → KeepsBut n (waiting names lost) (waiting new lost)
+keeps_cut_to names new lost i n e r = subst (λ ns. KeepsBut n (waiting names lost) (waiting ns lost)) (sym r) (keeps_cut names lost i n e)
+
+not_false : (r b : Bool) → r ≡ not b → r ≡ false → b ≡ true
+not_false r true e f = refl
+not_false r false e f = absurd (let x = sym f ∙ e in cc)
+
+-- a name that the derived comparison does not tell from another is that one
+pub same_by_test : (a b : Name) (r : Bool) → r ≡ not (alike a b) → r ≡ false → a ≡ b
+same_by_test a b r e f = same_name-is a b (sym (alike-same a b) ∙ not_false r (alike a b) e f)
+
+pub keeps_pop_back_to : (old names : List Name) (lost : Bool) (n : Name) → old ≡ names ++ n ∷ [] → KeepsBut n (waiting old lost) (waiting names lost)
+keeps_pop_back_to old names lost n e = subst (λ ns. KeepsBut n (waiting ns lost) (waiting names lost)) (sym e) (keeps_pop_back names lost n)

@@ -1,0 +1,4 @@
+pub mod Lent
+pub mod Queues
+pub mod Rounds
+pub mod Standings

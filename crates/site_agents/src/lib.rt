@@ -1,0 +1,10 @@
+//! The agents that stand at one site, by their names, and whose turn it is.
+#![tactic(auto)]
+
+mod agents;
+mod queue;
+mod seat;
+mod seats;
+mod serving;
+
+pub use agents::Agents;

@@ -1,0 +1,117 @@
+ghost use Rattle.std.specs.Prelude.{◌≡◌, ◌<◌, ◌≤◌, ◌+◌, length, slice_index_or, OnOk, IsOk, IsSome, is_some};
+ghost use Rattle.std.specs.Option.{option_copied, option_copied_mut};
+ghost use Rattle.std.specs.Borrow.{sem};
+ghost use Rattle.std.specs.FinMap as map;
+ghost use Rattle.np_tables.specs.Stored.{Covers};
+ghost use Rattle.site_agents.specs.Lent.{lends_item};
+
+use indexmap::IndexMap;
+use np_syntax::{Memory, Name};
+use std::alloc::Global;
+use std::marker::Model;
+
+/// A finite map from names, which lends its values to be changed in place. Its `spare` is how many new names are sure to
+/// find room, and its `keys` are the names in the order of a walk, which `take` changes.
+#[derive(Drop)]
+pub struct Seats<V> {
+    entries: IndexMap<Name, V>,
+}
+
+impl<V> Model for Seats<V> {
+    ghost use Rattle.np_tables.specs.Stored.{Stored, stored_code, map_of};
+    ghost use Rattle.indexmap.specs.IndexMap as indexed;
+
+    ghost Value = { Stored V };
+
+    ghost coded = { stored_code V.code };
+
+    ghost view = { λ seats. record { items = map_of seats.entries.entries; spare = indexed.spare seats.entries; keys = indexed.keys seats.entries } };
+}
+
+impl<V> Seats<V> {
+    /// The empty map, which takes no memory.
+    pub fn new(alloc: Global) -> Seats<V>
+        ensures { result.items ≡ map.empty }
+    {
+        Seats {
+            entries: IndexMap::new(alloc),
+        }
+    }
+
+    pub fn get(&self, key: Name) -> Option<&V>
+        ensures { option_copied result ≡ map.get self.now.items key }
+    {
+        self.entries.get(&key)
+    }
+
+    /// The value of a name, to be changed in place.
+    pub fn get_mut(&mut self, key: Name) -> Option<&mut V>
+        ensures* writes_back { sem 𝓛 (lends_item V.row self.entry key result) }
+        ensures value { option_copied_mut result ≡ map.get self.old.items key }
+    {
+        self.entries.get_mut(&key)
+    }
+
+    pub fn has(&self, key: Name) -> bool
+        ensures { result ≡ is_some (map.get self.now.items key) }
+    {
+        self.entries.contains_key(&key)
+    }
+
+    /// Makes sure of room for so many new names.
+    pub fn reserve(&mut self, more: usize) -> Result<(), Memory>
+        ensures items { self.new.items ≡ self.old.items }
+        ensures keys { self.new.keys ≡ self.old.keys }
+        ensures spare { self.old.spare ≤ self.new.spare }
+        ensures ok { OnOk result (more ≤ self.new.spare) }
+        ensures room { more ≤ self.old.spare → IsOk result }
+    {
+        match self.entries.reserve(more) {
+            Ok(()) => Ok(()),
+            Err(_) => Err(Memory),
+        }
+    }
+
+    /// Takes the value of a name out, with the name.
+    pub fn take(&mut self, key: Name) -> Option<V>
+        ensures value { result ≡ map.get self.old.items key }
+        ensures items { self.new.items ≡ map.remove self.old.items key }
+        ensures spare { self.old.spare ≤ self.new.spare }
+    {
+        self.entries.swap_remove(&key)
+    }
+
+    /// How many names there are. A walk over `key` below this number meets each of them.
+    pub fn len(&self) -> usize
+        ensures len { result ≡ length self.now.keys }
+        ensures covers { Covers self.now.items self.now.keys }
+    {
+        self.entries.len()
+    }
+
+    /// The name at an index of the walk.
+    pub fn key(&self, index: usize) -> Name
+        requires { index < length self.now.keys }
+        ensures at { result ≡ slice_index_or self.now.keys index result }
+        ensures there { IsSome (map.get self.now.items result) }
+    {
+        match self.entries.get_index(index) {
+            Some((key, _)) => *key,
+            None => unreachable!(),
+        }
+    }
+}
+
+impl<V: Drop> Seats<V> {
+    /// Puts a value under a name, where there is room.
+    pub fn put(&mut self, key: Name, value: V)
+        requires { 0 < self.old.spare }
+        ensures items { self.new.items ≡ map.insert self.old.items key value }
+        ensures spare { self.old.spare ≤ self.new.spare + 1 }
+    {
+        match self.entries.insert(key, value) {
+            Ok(_) => {}
+            Err(_) => unreachable!(),
+        }
+    }
+}
