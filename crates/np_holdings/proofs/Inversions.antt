@@ -32,7 +32,7 @@ module _ (w : Sight) (e : Event) where
         record { atom = a; there = actor-there a acts; atoms = ap (λ (d : Change). d.atoms) (done h); none = is-none e.made u made }
 
     -- the acting atom goes on as another one of its agent
-    pub record Goes_on : Type 0 where
+    pub record Onward : Type 0 where
       pub atom : Atom
       pub there : w.atom e.actor ≡ Some atom
       pub now : Atom
@@ -40,7 +40,7 @@ module _ (w : Sight) (e : Event) where
 
     -- a migration
     pub record Departed : Type 0 where
-      pub on : Goes_on
+      pub on : Onward
       pub atoms : d.atoms ≡ put e.actor on.now ∷ []
       pub none : e.made ≡ made.Nothing
 
@@ -56,7 +56,7 @@ module _ (w : Sight) (e : Event) where
 
     -- the making of an agent
     pub record Born : Type 0 where
-      pub on : Goes_on
+      pub on : Onward
       pub child : Name
       pub mark : Name
       pub first : Atom
@@ -81,7 +81,7 @@ module _ (w : Sight) (e : Event) where
 
     -- a location test that finds its agent
     pub record Told : Type 0 where
-      pub on : Goes_on
+      pub on : Onward
       pub agent : Name
       pub asks : asked_of on.atom ≡ Some agent
       pub mark : Name

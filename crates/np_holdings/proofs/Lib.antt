@@ -1,3 +1,4 @@
+pub mod Acting
 pub mod Holds
 pub mod Showing
 pub mod Parts
@@ -9,3 +10,4 @@ pub mod Telling
 pub mod Resting
 pub mod Making
 pub mod Loads
+pub mod Enabled

@@ -1,73 +1,26 @@
 -- When what a site holds can do nothing, and when it rests.
-use Rattle.std.proofs.Common.{◌≡◌, ℕ, Bool, true, false, inl, inr, Option, None, Some, option_map, refl, sym, ap, subst, ◌∙◌}
+use Rattle.std.proofs.Common.{◌≡◌, Bool, true, false, inl, inr, Option, None, Some, refl, sym, ap, subst, ◌∙◌}
 use Rattle.std.specs.FinMap as table
-use Rattle.np_calculus.proofs.Common.{Change, Config, Event, Expr, Kind, Name, NameMap, Pat, act, acting, acting_in, apply, arrive_row, at_site, change, chan_of, done, inside, land_row, layer, sight, then, way}
-use Rattle.np_syntax.specs.declared.event.Kind.TheVariants as kind
+use Rattle.np_calculus.proofs.Common.{Config, Expr, Name, Pat, apply, chan_of, done, layer, then}
 use Rattle.np_calculus.specs.declared.config.Atom.{Atom}
-use Rattle.np_calculus.specs.declared.config.Place.{Place}
-use Rattle.np_calculus.specs.declared.config.Place.TheVariants as place
 use Rattle.np_calculus.specs.Idle.{HasMeeting, HasWork, Idle, waits}
-use Rattle.np_calculus.proofs.Steps.{acting-step, row-step}
+use Rattle.np_calculus.proofs.Steps.{row-step}
 use Rattle.np_eval.specs.Forms.{given_on, taken_on}
 use Rattle.np_holdings.specs.Holdings.{Holding, IsHeld, IsPart}
-use Rattle.np_holdings.specs.Going.{asked_of, change_in, own_sight}
-use Rattle.np_holdings.specs.Resting.{HasNothingToDo, IdleByAgents, IsIdle, NoEventHere, OfEach, gives_on, takes_on}
-use Rattle.np_holdings.proofs.Parts.{place-of, shows}
-use Rattle.np_holdings.proofs.Showing.{IsTold, sees}
-
-module _ (h : Holding) (c : Config) (part : IsPart h c) where
-  -- where an agent stands, this is the site
-  its-site : (q : Name) (t : NameMap Atom) (site : ℕ) → table.get h.agents q ≡ Some t → table.get c.places q ≡ Some (place.At site) → site ≡ h.site
-  its-site q t site is stands = let e : Some (place.At h.site) ≡ Some (place.At site) = sym (place-of h c part q t is) ∙ stands in cc
-
-  -- no agent is under way
-  not-way : (q : Name) (s : ℕ) → table.get c.places q ≡ Some (place.Way s) → ⊥
-  not-way q s is = by (table.get h.agents q) (sym (part.places q) ∙ is)
-    where
-      by : (o : Option (NameMap Atom)) → option_map (λ t. place.At h.site) o ≡ Some (place.Way s) → ⊥
-      by None e = cc
-      by (Some t) e = cc
-
-  not-flying : (o : Option Place) → ((s : ℕ) → o ≡ Some (place.Way s) → ⊥) → (p : Place) → o ≡ Some p → (s : ℕ) → way p ≡ Some s → ⊥
-  not-flying o none (place.At t) is s h = cc
-  not-flying o none (place.Way t) is s h = none t is
-
-  module _ (none : OfEach h (HasNothingToDo h.sites)) (e : Event) (post : e.kind ≡ kind.Post → ⊥) (d : Change) where
-    -- whether an agent for which an atom asks is here
-    abbrev asked_here : Option Name → Bool
-    asked_here None = false
-    asked_here (Some b) = at_site (table.get c.places b) e.site
-
-    not-acting : (k : Kind) → e.kind ≡ k → (a : Atom) → acting c e ≡ Some a → act k (layer a.proc) (sight c.sites (inside c) e.site) e a ≡ Some d → ⊥
-    not-acting k is a acts row =
-        let s = acting-step c e a acts in
-        let held : IsHeld h e.actor a = part.only e.actor a s.there in
-        let here : Bool = asked_here (asked_of a) in
-        let own : acting_in (own_sight h.sites held.atoms here) e ≡ Some a = rw (held.has, s.tag) refl in
-        let told : IsTold (inside c) held.atoms e here = record {
-          each = λ b q there asks. sym (ap asked_here (ap asked_of (sym (done (sym held.has ∙ there))) ∙ asks));
-        } in
-        let seen : act k (layer a.proc) (own_sight h.sites held.atoms here) e a ≡ Some d =
-        sym (sees h.sites (inside c) a.agent held.atoms here e (shows h c part a.agent held.atoms e.site (its-site a.agent held.atoms e.site held.here s.stands) held.here) told k a own)
-        ∙ subst (λ n. act k (layer a.proc) (sight n (inside c) e.site) e a ≡ Some d) part.sites row in
-        let met : change_in k (own_sight h.sites held.atoms here) e ≡ Some d = rw own seen in
-        let nothing : change_in e.kind (own_sight h.sites held.atoms here) e ≡ None = (none a.agent held.atoms held.here).none here e post in
-        let x : Some d ≡ None = sym met ∙ ap (λ k. change_in k (own_sight h.sites held.atoms here) e) (sym is) ∙ nothing in
-        cc
-
-    not-changed : (k : Kind) → e.kind ≡ k → change k c.sites (inside c) e ≡ Some d → ⊥
-    unfolding arrive_row land_row
-    not-changed kind.Arrive is row = then (table.get c.places e.actor) _ row λ p there row. then (way p) _ row λ s comes row.
-        not-flying (table.get c.places e.actor) (not-way e.actor) p there s comes
-    not-changed kind.Land is row = then (table.get c.packets e.actor) _ row λ p flies row. let x : None ≡ Some p = sym (part.packets e.actor) ∙ flies in cc
-    not-changed k is row = then (acting c e) _ row λ a acts row. not-acting k is a acts row
+use Rattle.np_holdings.specs.Resting.{IdleByAgents, IsIdle, NoEventHere, OfEach, gives_on, takes_on}
+use Rattle.np_holdings.proofs.Parts.{place-of}
+use Rattle.np_holdings.proofs.Acting.{changed-here, not-way}
 
 pub no_event_here : NoEventHere
 no_event_here h c part none e post = by (apply c e) refl
   where
     by : (o : Option Config) → apply c e ≡ o → o ≡ None
     by None is = refl
-    by (Some after) is = let s = row-step c e after e.kind is in absurd (not-changed h c part none e post s.made e.kind refl s.gives)
+    by (Some after) is =
+        let s = row-step c e after e.kind is in
+        let a = changed-here h c part e s.made e.kind s.gives in
+        let x : None ≡ Some s.made = sym ((none a.agent a.atoms a.stands).none a.here e post) ∙ a.row in
+        absurd cc
 
 -- ---- rest
 

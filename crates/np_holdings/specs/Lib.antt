@@ -1,4 +1,5 @@
 pub mod Coming
+pub mod Enabled
 pub mod Going
 pub mod Holdings
 pub mod Laws

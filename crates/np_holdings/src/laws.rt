@@ -1,4 +1,5 @@
 ghost use Rattle.np_holdings.specs.Coming.{Arrives, IsLost, Lands};
+ghost use Rattle.np_holdings.specs.Enabled.{EnabledIsOfAgent};
 ghost use Rattle.np_holdings.specs.Laws.{NothingDone};
 ghost use Rattle.np_holdings.specs.Leaving.{Leaves, Sends};
 ghost use Rattle.np_holdings.specs.Loads.{AgentIsBrought, PacketIsBrought};
@@ -44,6 +45,11 @@ pub fn law_coming()
     ensures agent { Arrives }
     ensures packet { Lands }
     ensures lost { IsLost }
+{}
+
+/// An event that is enabled in what a site holds, but a post, is one for which an agent there is ready.
+pub fn law_enabled()
+    ensures { EnabledIsOfAgent }
 {}
 
 /// Where no agent at a site has anything to do, no event is enabled in what the site holds, but for posts. What it holds

@@ -4,6 +4,6 @@
 mod laws;
 
 pub use laws::{
-    law_coming, law_leaving, law_loads, law_names_made, law_nothing_done, law_own_events,
-    law_resting,
+    law_coming, law_enabled, law_leaving, law_loads, law_names_made, law_nothing_done,
+    law_own_events, law_resting,
 };
