@@ -1,5 +1,5 @@
 -- The names of a site's own that stand where it has its part of a whole.
-use Rattle.std.proofs.Common.{◌≡◌, ◌<◌, inl, inr, ℕ, true, ◌++◌, Some, IsSome, sym, ap, subst, ◌∙◌, arith}
+use Rattle.std.proofs.Common.{◌≡◌, ◌<◌, inl, ℕ, true, ◌++◌, Some, IsSome, sym, ap, ◌∙◌}
 use Rattle.std.specs.FinMap as table
 use Rattle.std.specs.FinSet as set
 use Rattle.np_calculus.proofs.Common.{Config, Contents, inside}
