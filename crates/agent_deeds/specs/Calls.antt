@@ -30,45 +30,52 @@ use Rattle.agent_deeds.specs.Standing.{IsCall, Received, holding}
 module _ (code : ProgramTable) (site : ℕ) (agents : NameMap Pool) (next : ℕ) (said : List Value) where
   -- an event within an agent
   abbrev pub GoesOn : Type 0
-  GoesOn = (x : Stamped) (old new : Pool) (r : Ready) (k : Kind) (made : Made) (value : Option Value) → IsCall (holding code site agents next said) agents old new r k made x.event
+  GoesOn = (x : Stamped) (old new : Pool) (r : Ready) (k : Kind) (made : Made) (value : Option Value)
+      → IsCall (holding code site agents next said) agents old new r k made x.event
       → (k ≡ kind.Local → ⊥) → (k ≡ kind.Post → ⊥) → Reduces k code old new r made (record still { said = value })
       → Does (holding code site agents next said) (inner x) (holding code site (map.insert agents old.name new) (next_after next made) (with_value said value))
 
   -- a location test whose agent is not here
   abbrev pub Passes : Type 0
-  Passes = (x : Stamped) (old new : Pool) (r : Ready) (mark other : Name) → IsCall (holding code site agents next said) agents old new r kind.Local made.Nothing x.event
+  Passes = (x : Stamped) (old new : Pool) (r : Ready) (mark other : Name)
+      → IsCall (holding code site agents next said) agents old new r kind.Local made.Nothing x.event
       → IsTarget code old r other → map.get agents other ≡ None → LocalLeaves code old new r mark false None
       → Does (holding code site agents next said) (inner x) (holding code site (map.insert agents old.name new) next said)
 
   -- one whose agent is here, maybe the same
   abbrev pub Tells : Type 0
-  Tells = (x : Stamped) (old new there then : Pool) (r : Ready) (mark : Name) (packet : Packet) → IsCall (holding code site agents next said) agents old new r kind.Local (made.One mark) x.event
+  Tells = (x : Stamped) (old new there then : Pool) (r : Ready) (mark : Name) (packet : Packet)
+      → IsCall (holding code site agents next said) agents old new r kind.Local (made.One mark) x.event
       → LocalLeaves code old new r mark true (Some packet)
       → map.get (map.insert agents old.name new) packet.agent ≡ Some there → Received there then mark packet
       → Does (holding code site agents next said) (inner x) (holding code site (map.insert (map.insert agents old.name new) packet.agent then) (next + 1) said)
 
   -- the making of an agent
   abbrev pub Makes : Type 0
-  Makes = (x : Stamped) (old new child : Pool) (r : Ready) (agent mark : Name) → IsCall (holding code site agents next said) agents old new r kind.Agent (made.Two agent mark) x.event
+  Makes = (x : Stamped) (old new child : Pool) (r : Ready) (agent mark : Name)
+      → IsCall (holding code site agents next said) agents old new r kind.Agent (made.Two agent mark) x.event
       → Births code old new r agent mark child
       → Does (holding code site agents next said) (inner x) (holding code site (map.insert (map.insert agents old.name new) agent child) (next + 2) said)
 
   -- a migration
   abbrev pub Leaves : Type 0
-  Leaves = (x : Stamped) (item : StampedItem) (old new : Pool) (r : Ready) (to : ℕ) → IsCall (holding code site agents next said) agents old new r kind.Depart made.Nothing x.event
+  Leaves = (x : Stamped) (item : StampedItem) (old new : Pool) (r : Ready) (to : ℕ)
+      → IsCall (holding code site agents next said) agents old new r kind.Depart made.Nothing x.event
       → Reduces kind.Depart code old new r made.Nothing (record still { places = put old.name (place.Way to) ∷ [] })
       → item.item.load ≡ agent_load new.name (atoms_of code.processes new) to
       → Does (holding code site agents next said) (putting x item) (holding code site (map.remove agents old.name) next said)
 
   -- a message
   abbrev pub Sends : Type 0
-  Sends = (x : Stamped) (item : StampedItem) (old new : Pool) (r : Ready) (packet : Packet) → IsCall (holding code site agents next said) agents old new r kind.Send made.Nothing x.event
+  Sends = (x : Stamped) (item : StampedItem) (old new : Pool) (r : Ready) (packet : Packet)
+      → IsCall (holding code site agents next said) agents old new r kind.Send made.Nothing x.event
       → Reduces kind.Send code old new r made.Nothing (record still { packets = put r.actor packet ∷ [] }) → item.item.load ≡ packet_load r.actor packet
       → Does (holding code site agents next said) (putting x item) (holding code site (map.insert agents old.name new) next said)
 
   -- an agent that arrives
   abbrev pub Arrives : Type 0
-  Arrives = (x : Stamped) (item : StampedItem) (new : Pool) → x.event ≡ arrival new.name site → item.item.load ≡ agent_load new.name (atoms_of code.processes new) site
+  Arrives = (x : Stamped) (item : StampedItem) (new : Pool) → x.event ≡ arrival new.name site
+      → item.item.load ≡ agent_load new.name (atoms_of code.processes new) site
       → Does (holding code site agents next said) (taking x item) (holding code site (map.insert agents new.name new) next said)
 
   -- a packet that lands

@@ -23,7 +23,8 @@ Arrives = (h : Holding) (x : Stamped) (item : StampedItem) (agent : Name) (atoms
 
 -- a packet that lands is an output of its agent under its mark, where this stands here
 abbrev pub Lands : Type 0
-Lands = (h : Holding) (x : Stamped) (item : StampedItem) (mark : Name) (packet : Packet) (there : NameMap Atom) → x.event ≡ landing mark packet → packet.to ≡ h.site
+Lands = (h : Holding) (x : Stamped) (item : StampedItem) (mark : Name) (packet : Packet) (there : NameMap Atom) → x.event ≡ landing mark packet
+    → packet.to ≡ h.site
     → item.item.load ≡ packet_load mark packet → table.get h.agents packet.agent ≡ Some there
     → Does h (taking x item) (given h packet.agent there mark (output_of packet))
 

@@ -41,7 +41,8 @@ gone_on h agent atoms e value =
 -- an event within an agent: what else changes is at most that a value is said
 abbrev pub GoesOn : Type 0
 GoesOn = (h : Holding) (x : Stamped) (agent : Name) (old new : NameMap Atom) (k : Kind) (value : Option Value) → IsOwnEvent h agent old k x.event
-    → (k ≡ kind.Local → ⊥) → (k ≡ kind.Post → ⊥) → Goes k h.sites old new x.event (record still { said = value }) → Does h (inner x) (gone_on h agent new x.event value)
+    → (k ≡ kind.Local → ⊥) → (k ≡ kind.Post → ⊥) → Goes k h.sites old new x.event (record still { said = value })
+    → Does h (inner x) (gone_on h agent new x.event value)
 
 -- so it is with a location test whose agent is not here
 abbrev pub GoesOnAlone : Type 0
