@@ -1,5 +1,5 @@
 -- Agents that come and go, and what stays of whose turn it is.
-use Rattle.std.proofs.Common.{◌≡◌, Bool, true, false, cond, ◌⊎◌, inl, inr, Option, None, Some, refl, sym, ap, subst, ◌∙◌}
+use Rattle.std.proofs.Common.{◌≡◌, Bool, true, false, cond, inl, inr, Option, None, Some, refl, sym, ap, subst, ◌∙◌}
 use Rattle.std.specs.FinMap as map
 use Rattle.np_syntax.specs.declared.value.Name.{Name}
 use Rattle.np_tables.specs.Names.{NameMap, same_name}
@@ -7,6 +7,7 @@ use Rattle.np_tables.proofs.Tables.{get-none, get-put, put_cases, cut_cases}
 use Rattle.np_code.specs.Programs.{ProgramTable}
 use Rattle.agent_pool.specs.Pools.{Pool}
 use Rattle.site_agents.specs.declared.seat.Seat.{Seat}
+use Rattle.site_agents.specs.LentAgents.{with_agent}
 use Rattle.site_agents.specs.Queues.{Waiting, waits, Keeps, KeepsBut}
 use Rattle.site_agents.specs.Rounds.{InTurn}
 use Rattle.site_agents.specs.Standings.{Standing, AreNamed, AreQuiet}
@@ -88,3 +89,10 @@ quiet_cut code old new k e f was = record {
   each = λ q x g h. was.each q x (cut_cases old.quiet k q true (ap (λ (m : NameMap Bool). map.get m q) (sym f) ∙ g)).1
       (cut_cases old.agents k q x (ap (λ (m : NameMap Pool). map.get m q) (sym e) ∙ h)).1;
 }
+
+-- an agent that is changed in place, and keeps its name
+pub named_with : (agents : NameMap Pool) (k : Name) (p : Pool) → p.name ≡ k → AreNamed agents → AreNamed (map.insert agents k p)
+named_with agents k p e was = subst (λ n. AreNamed (map.insert agents n p)) e (named_put agents p was)
+
+pub quiet_with : (code : ProgramTable) (s : Standing) (k : Name) (p : Pool) → AreQuiet code s → AreQuiet code (with_agent s k p)
+quiet_with code s k p was = quiet_put code s (with_agent s k p) k p refl refl was

@@ -1,10 +1,20 @@
 -- What a map of seats ends as, where one of its values was lent.
-use Rattle.std.proofs.Common.{◌≡◌, ℕ, List, Option, None, Some, refl, ap}
+use Rattle.std.proofs.Common.{◌≡◌, ℕ, ◌<◌, List, length, Option, None, Some, refl, sym, ap, subst, ◌∙◌}
+use Rattle.std.specs.Prelude.{MatchOption, position, slice_get}
+use Rattle.std.specs.FinMap as map
+use Rattle.std.specs.Cmp.{IsEquivalence, eq_by_cmp_equiv}
+use Rattle.std.specs.Map.{keys_of, values_of}
+use Rattle.std_collections.proofs.HashLookup.{first-lt, Updated-set}
+use Rattle.indexmap.specs.IndexMap.{set_value_at}
+use Rattle.indexmap.proofs.MapLemmas.{Found-position, Missing-position}
+use Rattle.np_tables.proofs.Keyed.{alike, alike-same, get-found, put_found}
+use Rattle.np_tables.proofs.Tables.{total}
+use Rattle.site_agents.specs.Lent.{IsPlace}
 use Rattle.std.specs.Borrow.{MutBor}
 use Rattle.std.specs.Option.{ghost_name_of}
 use Rattle.np_tables.specs.Names.{NameMap}
 use Rattle.np_syntax.specs.declared.value.Name.{Name}
-use Rattle.np_tables.specs.Stored.{Stored}
+use Rattle.np_tables.specs.Stored.{Stored, map_of}
 use borrow.Follows.Closed.{read_of}
 
 -- two ways to say what a lender ends as are one where they agree on each value that was lent, and where none was
@@ -18,3 +28,23 @@ stored m a ks = record { items = m; spare = a; keys = ks }
 
 pub same_stored : {X : Type 0} (m n : NameMap X) (a b : ℕ) (ks js : List Name) → m ≡ n → a ≡ b → ks ≡ js → stored m a ks ≡ stored n b js
 same_stored m n a b ks js e f g = λ i. stored (e i) (f i) (g i)
+
+-- the derived comparison of names is an equivalence
+pub alike_laws : IsEquivalence alike
+alike_laws = subst IsEquivalence (λ i a b. sym (alike-same a b) i) (eq_by_cmp_equiv total)
+
+module _ {X : Type 0} (es : List (Name × X)) (k : Name) (i : ℕ) (place : IsPlace (keys_of es) k i) where
+  pub place_within : i < length es
+  place_within = first-lt (alike k) es i (Found-position (alike k) es i place).first
+
+  -- a write at the place of a name
+  pub set_at : (w : X) → map_of (set_value_at es i w) ≡ map.insert (map_of es) k w
+  set_at w = put_found es (set_value_at es i w) k w (Updated-set alike alike_laws (alike k) (alike_laws.congr k) es i w (Found-position (alike k) es i place).first).0
+
+  pub value_at : (w : X) → slice_get (values_of es) i ≡ Some w → Some w ≡ map.get (map_of es) k
+  value_at w e = sym (get-found es k ∙ (Found-position (alike k) es i place).value ∙ e)
+
+-- a place tells that the name is there, and none that it is not
+pub place_tells : {X : Type 0} (es : List (Name × X)) (k : Name) (o : Option ℕ) → o ≡ position (alike k) (keys_of es) → MatchOption o (map.get (map_of es) k ≡ None) (IsPlace (keys_of es) k)
+place_tells es k None e = get-found es k ∙ (Missing-position (alike k) es (sym e)).value
+place_tells es k (Some i) e = sym e

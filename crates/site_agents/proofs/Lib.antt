@@ -1,5 +1,6 @@
-mod Comings
-mod Lendings
-mod Lines
-mod Reading
-mod Seatings
+pub mod Comings
+pub mod Lendings
+pub mod LentLaws
+pub mod Lines
+pub mod Reading
+pub mod Seatings

@@ -14,7 +14,7 @@ use Rattle.agent_pool.specs.Pools.{Pool}
 use Rattle.site_agents.specs.declared.seat.Seat.{Seat}
 use Rattle.site_agents.specs.Queues.{Waiting, waits, listed}
 use Rattle.site_agents.specs.Rounds.{InTurn, QuietCan}
-use Rattle.site_agents.specs.Standings.{Standing, is_quiet, agent_of, agents_of, quiet_of, AreNamed, AreQuiet, CanNothing, NoneCan, IdleAt, AreIdle}
+use Rattle.site_agents.specs.Standings.{Standing, is_quiet, agent_of, agents_of, quiet_of, AreQuiet, CanNothing, NoneCan, IdleAt}
 
 none_some : {A : Type 0} {x : A} → None ≡ Some x → ⊥
 none_some e = cc

@@ -1,5 +1,5 @@
 -- Seats of which one is changed, and what stays of whose turn it is.
-use Rattle.std.proofs.Common.{◌≡◌, Bool, true, false, cond, not, ◌||◌, ◌⊎◌, inl, inr, Option, None, Some, refl, sym, ap, subst, ◌∙◌}
+use Rattle.std.proofs.Common.{◌≡◌, Bool, true, false, cond, ◌⊎◌, inl, inr, Option, None, Some, refl, sym, ap, subst, ◌∙◌}
 use Rattle.std.specs.Prelude.{IfSome}
 use Rattle.std.specs.FinMap as map
 use Rattle.np_syntax.specs.declared.value.Name.{Name}
@@ -8,10 +8,11 @@ use Rattle.np_tables.specs.Stored.{Stored}
 use Rattle.np_tables.proofs.Mapped.{mapped_there, mapped-put}
 use Rattle.np_tables.proofs.Tables.{same_name-is, get-put, put-same}
 use Rattle.np_code.specs.Programs.{ProgramTable}
-use Rattle.agent_pool.specs.Pools.{Pool, atoms_of}
+use Rattle.agent_pool.specs.Pools.{atoms_of}
 use Rattle.agent_pool.specs.Readies.{IsReady}
 use Rattle.agent_pool.specs.declared.ready.Ready.{Ready}
 use Rattle.site_agents.specs.declared.seat.Seat.{Seat}
+use Rattle.site_agents.specs.Lent.{with_item}
 use Rattle.site_agents.specs.Queues.{Waiting, waits, Keeps, KeepsBut}
 use Rattle.site_agents.specs.Rounds.{InTurn, QuietCan, GoesOn, changed_in, changed, with_changed, doubted, called, settled}
 use Rattle.site_agents.specs.Standings.{is_quiet, agent_of, agents_of, CanDo, CanNothing}
@@ -81,7 +82,7 @@ module _ (seats : NameMap Seat) (k : Name) (f : Seat → Seat) where
 false_true : {A : Type 0} → false ≡ true → A
 false_true e = absurd (let x = e in cc)
 
-by_bool : {A : Type 0} (b : Bool) → (b ≡ true → A) → (b ≡ false → A) → A
+pub by_bool : {A : Type 0} (b : Bool) → (b ≡ true → A) → (b ≡ false → A) → A
 by_bool true f g = f refl
 by_bool false f g = g refl
 
@@ -132,3 +133,10 @@ module _ (code : ProgramTable) (s : Stored Seat) (t d : Waiting) where
       in_turn = λ h. in_turn_changed s.items k settled t t d d1 (record { each = λ q apart w. w }) but h (λ x i j. h.queued k x i j) (λ x i j. false_true j);
       quiet = λ h. quiet_changed s.items k settled code (λ x i j. none x i) h;
     }
+
+abbrev the_stored : Stored Seat → NameMap Seat → Stored Seat
+the_stored s items = record s { items = items }
+
+-- a seat that is there, changed
+pub changed_there : (s : Stored Seat) (k : Name) (x : Seat) (f : Seat → Seat) → Some x ≡ map.get s.items k → with_item s k (f x) ≡ with_changed s k f
+changed_there s k x f e = ap (λ o. the_stored s (changed_in s.items k f o)) e

@@ -1,4 +1,6 @@
 pub mod Lent
+pub mod LentAgents
+pub mod LentSeats
 pub mod Queues
 pub mod Rounds
 pub mod Standings

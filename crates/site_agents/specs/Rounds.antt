@@ -1,5 +1,5 @@
 -- The steps by which the agents at a site are served.
-use Rattle.std.specs.Prelude.{◌≡◌, Bool, true, false, Option, None, Some}
+use Rattle.std.specs.Prelude.{◌≡◌, true, false, Option, None, Some}
 use Rattle.std.specs.FinMap as map
 use Rattle.np_syntax.specs.declared.value.Name.{Name}
 use Rattle.np_tables.specs.Names.{NameMap}
@@ -46,5 +46,6 @@ called s = record s { queued = true; doubted = false }
 abbrev pub settled : Seat → Seat
 settled s = record s { doubted = false }
 
+-- a seat whose agent has a turn, whether or not it is doubtful
 abbrev pub again : Seat → Seat
 again s = record s { queued = true }

@@ -1,10 +1,13 @@
 ghost use Rattle.std.specs.Prelude.{◌≡◌, ◌<◌, ◌≤◌, ◌+◌, ◌↔◌, false, length, slice_index_or, is_some, IfSome, IfNone, IsTrue, IsOk, IsSome, OnOk, None};
-ghost use Rattle.std.specs.Option.{option_copied};
+ghost use Rattle.std.specs.Option.{option_copied, option_copied_mut};
+ghost use Rattle.std.specs.Borrow.{sem};
 ghost use Rattle.std.specs.FinMap as map;
 ghost use Rattle.np_code.specs.Programs.{ProgramTable};
 ghost use Rattle.np_tables.specs.Stored.{Covers};
+ghost use Rattle.site_agents.specs.LentAgents.{lends_agent};
 ghost use Rattle.site_agents.specs.Standings.{AreNamed, AreQuiet, AreIdle, CanDo, NoneCan};
 
+use super::lending::{agent_at, call_again};
 use super::queue::Queue;
 use super::seat::Seat;
 use super::seats::Seats;
@@ -127,6 +130,20 @@ impl Agents {
         ensures still { (code : ProgramTable) → AreQuiet code self.old → AreQuiet code self.new }
     {
         take_seat(&mut self.seats, &mut self.turns, &mut self.doubtful, name)
+    }
+
+    /// The agent of a name, to be changed in place, which has a turn then. The name is looked up once. It takes no memory.
+    pub fn get_mut(&mut self, name: Name) -> Option<&mut Agent>
+        ensures* writes_back { sem 𝓛 (lends_agent self.entry name result) }
+        ensures agent { option_copied_mut result ≡ map.get self.old.agents name }
+    {
+        match self.seats.place(name) {
+            Some(index) => {
+                call_again(&mut self.seats, &mut self.turns, name, index);
+                Some(agent_at(&mut self.seats, name, index))
+            }
+            None => None,
+        }
     }
 
     /// An agent that can do something, and what, and none exactly where none can do anything. The one that waits longest

@@ -2,6 +2,7 @@
 #![tactic(auto)]
 
 mod agents;
+mod lending;
 mod queue;
 mod seat;
 mod seats;

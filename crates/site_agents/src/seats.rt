@@ -1,9 +1,9 @@
-ghost use Rattle.std.specs.Prelude.{◌≡◌, ◌<◌, ◌≤◌, ◌+◌, length, slice_index_or, OnOk, IsOk, IsSome, is_some};
+ghost use Rattle.std.specs.Prelude.{◌≡◌, ◌<◌, ◌≤◌, ◌+◌, length, slice_index_or, OnOk, IsOk, IsSome, is_some, Some, None, MatchOption};
 ghost use Rattle.std.specs.Option.{option_copied, option_copied_mut};
 ghost use Rattle.std.specs.Borrow.{sem};
 ghost use Rattle.std.specs.FinMap as map;
 ghost use Rattle.np_tables.specs.Stored.{Covers};
-ghost use Rattle.site_agents.specs.Lent.{lends_item};
+ghost use Rattle.site_agents.specs.Lent.{IsPlace, lends_item, lends_there};
 
 use indexmap::IndexMap;
 use np_syntax::{Memory, Name};
@@ -50,6 +50,22 @@ impl<V> Seats<V> {
         ensures value { option_copied_mut result ≡ map.get self.old.items key }
     {
         self.entries.get_mut(&key)
+    }
+
+    /// At which index of the walk a name stands, if it does.
+    pub fn place(&self, key: Name) -> Option<usize>
+        ensures { MatchOption result (map.get self.now.items key ≡ None) (IsPlace self.now.keys key) }
+    {
+        self.entries.get_index_of(&key)
+    }
+
+    /// The value of the name at an index of the walk, to be changed in place. No name is looked up.
+    pub fn at(&mut self, key: Name, index: usize) -> &mut V
+        requires { IsPlace self.old.keys key index }
+        ensures* writes_back { sem 𝓛 (lends_there V.row self.entry key result) }
+        ensures value { Some result.now ≡ map.get self.old.items key }
+    {
+        &mut self.entries[index]
     }
 
     pub fn has(&self, key: Name) -> bool

@@ -1,5 +1,4 @@
 use Rattle.std.proofs.Common.{sym, ap, subst, refl, ◌∙◌}
-use Rattle.np_syntax.specs.declared.value.Name.{Name}
 use Rattle.np_tables.specs.Names.{NameMap}
 use Rattle.np_tables.specs.Stored.{Stored}
 use Rattle.agent_pool.specs.Pools.{Pool}

@@ -1,4 +1,3 @@
-use Rattle.std.proofs.Common.{IsSome, subst}
 use Rattle.site_agents.specs.Standings.{agent_of}
 use Rattle.site_agents.proofs.Reading.{is_some-mapped}
 use Rattle.site_agents.proofs.agents.Agents.key.Goals as goal

@@ -1,4 +1,4 @@
-use Rattle.std.proofs.Common.{◌≡◌, true, false, sym, ap, subst, refl, ◌∙◌}
+use Rattle.std.proofs.Common.{true, false, sym, ap, subst, refl, ◌∙◌}
 use Rattle.std.specs.FinMap as map
 use Rattle.np_tables.specs.Names.{NameMap}
 use Rattle.agent_pool.specs.Pools.{Pool}
