@@ -3,7 +3,9 @@
 
 mod following;
 mod lifting;
+mod merging;
 mod resting;
 
 pub use lifting::law_lift;
+pub use merging::law_merge;
 pub use resting::law_rest;

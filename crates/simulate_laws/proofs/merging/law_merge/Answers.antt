@@ -1,0 +1,9 @@
+use Rattle.std.proofs.Common.{ap, ◌∙◌}
+use Rattle.np_calculus.specs.Reductions.{run}
+use Rattle.simulate_laws.proofs.merging.law_merge.Goals as goal
+
+pub follow-requires : goal.follow-requires
+follow-requires c = (
+  c.requires.run.0,
+  ap (λ s. run s c.as_slice.result.now) c.in_ok-start.ensures ∙ ap (run _) (c.as_slice.ensures ∙ c.in_ok-events.ensures) ∙ c.requires.run.1,
+)
