@@ -44,20 +44,22 @@ pub trait Ends<I>: Sized + Drop {
         ensures taken { MatchOption result ((got self.new ≡ got self.old) × (known self.old ≡ []) × (known self.new ≡ []))
             (λ item. (got self.new ≡ got self.old ++ item ∷ []) × Begins (item ∷ known self.new) (known self.old)) };
 
-    /// Settles the link from these ends to others.
-    fn settle(&mut self, to: &mut Self)
+    /// Settles the link from these ends to others, and tells how many items wait on it.
+    fn settle(&mut self, to: &mut Self) -> usize
         requires { ∥ meets self.old to.old ∥₁ }
         ensures stays { (meets self.old to.old → meets self.new to.new) × (meets to.old self.old → meets to.new self.new) }
         ensures from { (sent self.new ≡ sent self.old) × (got self.new ≡ got self.old) × (known self.new ≡ known self.old) }
         ensures to { (sent to.new ≡ sent to.old) × (got to.new ≡ got to.old) × (room to.new ≡ room to.old) }
         ensures settled { got to.new ++ known to.new ≡ sent self.new }
-        ensures free { room self.new ≡ PLACES - length (known to.new) };
+        ensures free { room self.new ≡ PLACES - length (known to.new) }
+        ensures waiting { result ≡ length (known to.new) };
 
-    /// Settles the link from these ends to themselves.
-    fn settle_own(&mut self)
+    /// Settles the link from these ends to themselves, and tells how many items wait on it.
+    fn settle_own(&mut self) -> usize
         requires { ∥ meets self.old self.old ∥₁ }
         ensures stays { meets self.old self.old → meets self.new self.new }
         ensures same { (sent self.new ≡ sent self.old) × (got self.new ≡ got self.old) }
         ensures settled { got self.new ++ known self.new ≡ sent self.new }
-        ensures free { room self.new ≡ PLACES - length (known self.new) };
+        ensures free { room self.new ≡ PLACES - length (known self.new) }
+        ensures waiting { result ≡ length (known self.new) };
 }

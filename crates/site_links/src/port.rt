@@ -48,8 +48,9 @@ pub trait Port<R, I: Addressed>: Sized + Send + Drop {
         ensures taken { MatchOption result ((k : ℕ) → (got self.new k ≡ got self.old k) × (known self.old k ≡ []))
             (λ item. (from : ℕ) × (from < among self.old) × Takes (got self.old) (known self.old) (got self.new) (known self.new) from item) };
 
-    /// Settles the link from this port to another. What was put and not yet taken is known then.
-    fn settle(&mut self, rt: &R, to: &mut Self)
+    /// Settles the link from this port to another, and tells how many items wait on it. What was put and not yet taken is
+    /// known then.
+    fn settle(&mut self, rt: &R, to: &mut Self) -> usize
         requires { ∥ linked self.old to.old ∥₁ }
         ensures keeps { KeepsBut site among linked (site to.old) self.old self.new × KeepsBut site among linked (site self.old) to.old to.new }
         ensures between { (linked self.old to.old → linked self.new to.new) × (linked to.old self.old → linked to.new self.new) }
@@ -58,15 +59,17 @@ pub trait Port<R, I: Addressed>: Sized + Send + Drop {
         ensures known { (k : ℕ) → (known self.new k ≡ known self.old k) × (k ≢ site self.old → known to.new k ≡ known to.old k) }
         ensures room { (k : ℕ) → (k ≢ site to.old → room self.new k ≡ room self.old k) × (room to.new k ≡ room to.old k) }
         ensures settled { got to.new (site self.old) ++ known to.new (site self.old) ≡ sent self.new (site to.old) }
-        ensures free { room self.new (site to.old) ≡ PLACES - length (known to.new (site self.old)) };
+        ensures free { room self.new (site to.old) ≡ PLACES - length (known to.new (site self.old)) }
+        ensures waiting { result ≡ length (known to.new (site self.old)) };
 
-    /// Settles the link from the port's site to itself.
-    fn settle_own(&mut self, rt: &R)
+    /// Settles the link from the port's site to itself, and tells how many items wait on it.
+    fn settle_own(&mut self, rt: &R) -> usize
         requires { ∥ linked self.old self.old ∥₁ }
         ensures keeps { KeepsBut site among linked (site self.old) self.old self.new }
         ensures own { linked self.old self.old → linked self.new self.new }
         ensures same { (k : ℕ) → (sent self.new k ≡ sent self.old k) × (got self.new k ≡ got self.old k) }
         ensures others { (k : ℕ) → k ≢ site self.old → (known self.new k ≡ known self.old k) × (room self.new k ≡ room self.old k) }
         ensures settled { got self.new (site self.old) ++ known self.new (site self.old) ≡ sent self.new (site self.old) }
-        ensures free { room self.new (site self.old) ≡ PLACES - length (known self.new (site self.old)) };
+        ensures free { room self.new (site self.old) ≡ PLACES - length (known self.new (site self.old)) }
+        ensures waiting { result ≡ length (known self.new (site self.old)) };
 }

@@ -62,12 +62,12 @@ impl<R, I: Addressed, E: Ends<I> + Send> Port<R, I> for PortOf<E> {
         take_from(self, 0, start)
     }
 
-    fn settle(&mut self, _rt: &R, to: &mut Self) {
+    fn settle(&mut self, _rt: &R, to: &mut Self) -> usize {
         let out = &mut self.ends[to.site as usize];
-        out.settle(&mut to.ends[self.site as usize]);
+        out.settle(&mut to.ends[self.site as usize])
     }
 
-    fn settle_own(&mut self, _rt: &R) {
-        self.ends[self.site as usize].settle_own();
+    fn settle_own(&mut self, _rt: &R) -> usize {
+        self.ends[self.site as usize].settle_own()
     }
 }

@@ -77,29 +77,35 @@ impl<I: Drop> Ends<I> for RingEnds<I> {
         }
     }
 
-    fn settle(&mut self, to: &mut Self) {
-        self.spare = settle_ring(&mut self.to, &mut to.from, self.spare);
+    fn settle(&mut self, to: &mut Self) -> usize {
+        let (spare, waiting) = settle_ring(&mut self.to, &mut to.from, self.spare);
+        self.spare = spare;
+        waiting
     }
 
-    fn settle_own(&mut self) {
-        self.spare = settle_ring(&mut self.to, &mut self.from, self.spare);
+    fn settle_own(&mut self) -> usize {
+        let (spare, waiting) = settle_ring(&mut self.to, &mut self.from, self.spare);
+        self.spare = spare;
+        waiting
     }
 }
 
-/// Settles a ring, and tells how many of its places are free then.
-fn settle_ring<I>(to: &mut Producer<I>, from: &mut Consumer<I>, spare: u32) -> u32
+/// Settles a ring, and tells how many of its places are free then, and how many items wait in it.
+fn settle_ring<I>(to: &mut Producer<I>, from: &mut Consumer<I>, spare: u32) -> (u32, usize)
     requires { ∥ ring.IsPair to.old from.old ∥₁ × (ring.producer_capacity to.old ≡ PLACES) × (spare ≤ ring.known_free to.old) }
     ensures ring { ring.SameProducer to.old to.new × ring.SameConsumer from.old from.new }
     ensures same { (ring.sent to.new ≡ ring.sent to.old) × (ring.received from.new ≡ ring.received from.old) }
     ensures settled { ring.received from.new ++ ring.known_items from.new ≡ ring.sent to.new }
-    ensures free { result ≡ PLACES - length (ring.known_items from.new) }
-    ensures known { (spare ≤ ring.known_free to.new) × (result ≤ ring.known_free to.new) }
+    ensures free { result.0 ≡ PLACES - length (ring.known_items from.new) }
+    ensures waiting { result.1 ≡ length (ring.known_items from.new) }
+    ensures known { (spare ≤ ring.known_free to.new) × (result.0 ≤ ring.known_free to.new) }
 {
     to.slots_beside(from);
     let waiting = from.slots_beside(to);
-    if waiting < PLACES as usize {
+    let free = if waiting < PLACES as usize {
         PLACES - waiting as u32
     } else {
         0
-    }
+    };
+    (free, waiting)
 }

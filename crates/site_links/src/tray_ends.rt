@@ -75,19 +75,23 @@ impl<I: Drop> Ends<I> for TrayEnds<I> {
         }
     }
 
-    fn settle(&mut self, to: &mut Self) {
+    fn settle(&mut self, to: &mut Self) -> usize {
         hand_over(&mut self.out, &mut self.to, &mut to.from, &mut to.inside);
-        self.spare = PLACES - to.inside.len() as u32;
+        let waiting = to.inside.len();
+        self.spare = PLACES - waiting as u32;
+        waiting
     }
 
-    fn settle_own(&mut self) {
+    fn settle_own(&mut self) -> usize {
         hand_over(
             &mut self.out,
             &mut self.to,
             &mut self.from,
             &mut self.inside,
         );
-        self.spare = PLACES - self.inside.len() as u32;
+        let waiting = self.inside.len();
+        self.spare = PLACES - waiting as u32;
+        waiting
     }
 }
 

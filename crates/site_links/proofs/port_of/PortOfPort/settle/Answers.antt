@@ -32,4 +32,5 @@ returns g c =
       room = λ n. (same_elsewhere e _ _ i x y h e.room 0 n, same_everywhere e _ _ j z w k e.room 0 s.to.2 n);
       settled = rw (read_new e _ _ j z w k e.got [], read_new e _ _ j z w k e.known [], read_new e _ _ i x y h e.sent []) s.settled;
       free = rw (read_new e _ _ i x y h e.room 0, read_new e _ _ j z w k e.known []) s.free;
+      waiting = rw (read_new e _ _ j z w k e.known []) s.waiting;
     }

@@ -25,4 +25,5 @@ returns g c =
       others = λ n m. (same_elsewhere e _ _ i x y h e.known [] n m, same_elsewhere e _ _ i x y h e.room 0 n m);
       settled = rw (read_new e _ _ i x y h e.got [], read_new e _ _ i x y h e.known [], read_new e _ _ i x y h e.sent []) s.settled;
       free = rw (read_new e _ _ i x y h e.room 0, read_new e _ _ i x y h e.known []) s.free;
+      waiting = rw (read_new e _ _ i x y h e.known []) s.waiting;
     }
