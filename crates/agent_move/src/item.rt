@@ -15,6 +15,15 @@ pub struct Item {
     pub ghost addressed: { site_for load to ≡ to },
 }
 
+impl Item {
+    /// The stamp of the event that put it on its way.
+    pub fn stamp(&self) -> u64
+        ensures { result ≡ self.now.stamp }
+    {
+        self.stamp
+    }
+}
+
 impl Addressed for Item {
     ghost sender = { λ item. item.from };
 
