@@ -1,0 +1,74 @@
+-- What an event does to a site (docs/LANGUAGE.md, "History text").
+use Rattle.std.specs.Prelude.{◌≡◌, ◌<◌, List, length, option_map, Option, None, Some, IfSome}
+use Rattle.np_syntax.specs.declared.event.Event.{Event}
+use Rattle.np_syntax.specs.declared.value.Value.{Value}
+use Rattle.stamp_history.specs.declared.stamped.Stamped.{Stamped}
+use Rattle.stamp_history.specs.Histories.{Recorded, with_event, with_said}
+use Rattle.np_stamped_run.specs.Deeds.{Deed, ticked}
+use Rattle.np_holdings.specs.Holdings.{Does, Holding}
+use Rattle.np_holdings.specs.Making.{AreMade}
+use Rattle.np_code.specs.Programs.{ProgramTable}
+use Rattle.agent_move.specs.declared.item.Item.{Item}
+use Rattle.agent_move.specs.Items.{item_of}
+use Rattle.site_state.specs.declared.stepping.Stepped.{Stepped}
+use Rattle.site_state.specs.declared.stepping.Stepped.TheVariants as stepped
+use Rattle.site_state.specs.Lines.{Waiting, IsPut, SameLines}
+use Rattle.site_state.specs.Standings.{AreQuiet, KeepsQuiet, NoneCan, Standing, Stays, holding_of}
+
+-- an event with the item that it takes and the one that it puts out
+abbrev pub deed_of : ProgramTable → Stamped → Option Item → Option Item → Deed
+deed_of code e taken out = record { event = e; taken = option_map (item_of code) taken; put = option_map (item_of code) out }
+
+-- the history with one more event, and with the value that it printed, if any
+abbrev pub recorded : Recorded → Stamped → Option Value → Recorded
+recorded h e None = with_event h e
+recorded h e (Some v) = with_said (with_event h e) v
+
+-- an item that is put out stands behind all others for its site
+abbrev pub ArePut : List Waiting → Option Item → List Waiting → Type 0
+ArePut old None new = SameLines old new
+ArePut old (Some x) new = IsPut old x.to x new
+
+-- an item that the site has put out by its last event
+pub record IsSent (s : Standing) (x : Item) : Type 0 where
+  pub stamp : x.stamp ≡ s.clock
+  pub from : x.from ≡ s.site
+  pub to : x.to < length s.outgoing
+
+-- what a site does, if each name of its own that stands there is one that it has made
+abbrev pub DoesIfMade : Holding → Deed → Holding → Type 0
+DoesIfMade h d then = AreMade h → Does h d then
+
+-- what an event did to a site, with the item that it took and the one that it put out
+pub record Did (code : ProgramTable) (old new : Standing) (event : Event) (taken out : Option Item) : Type 0 where
+  pub site : new.site ≡ old.site
+  pub at : event.site ≡ old.site
+  pub clock : new.clock ≡ ticked old.clock (option_map (item_of code) taken)
+  -- the value that it printed, if any
+  pub value : Option Value
+  pub history : new.history ≡ recorded old.history (record { stamp = new.clock; event = event }) value
+  pub outgoing : ArePut old.outgoing out new.outgoing
+  pub put : IfSome out (IsSent new)
+  pub quiet : KeepsQuiet code old new
+  pub does : DoesIfMade (holding_of code old) (deed_of code (record { stamp = new.clock; event = event }) taken out) (holding_of code new)
+
+-- the site did an event of its own
+pub record HasDone (code : ProgramTable) (old new : Standing) : Type 0 where
+  pub event : Event
+  pub out : Option Item
+  pub did : Did code old new event None out
+
+-- there is room for one more event
+abbrev pub HasRoom : Standing → Type 0
+HasRoom s = length s.history.events < s.history.budget
+
+-- by a step an event is done, or there is none, or no room for it
+abbrev pub IsStepped : ProgramTable → Standing → Standing → Stepped → Type 0
+IsStepped code old new stepped.Did = HasRoom old × HasDone code old new
+IsStepped code old new stepped.Quiet = HasRoom old × Stays code old new × (AreQuiet code old → NoneCan code old.agents)
+IsStepped code old new stepped.Spent = (length old.history.events ≡ old.history.budget) × Stays code old new
+
+-- an item was taken, whatever the code of as many sites
+pub record HasTaken (old new : Standing) (x : Item) : Type 0 where
+  pub event : Event
+  pub did : (code : ProgramTable) → length code.sites ≡ length old.outgoing → Did code old new event (Some x) None

@@ -1,0 +1,10 @@
+//! One site: the agents that stand there, what it made and printed, and the items that it has to put on its links.
+#![tactic(auto)]
+
+mod line;
+mod outgoing;
+mod site;
+mod stepping;
+
+pub use site::Site;
+pub use stepping::Stepped;

@@ -1,0 +1,133 @@
+ghost use Rattle.std.specs.Prelude.{◌≡◌, ◌<◌, ◌≤◌, ◌^◌, ◌+◌, [], length, IfOk, OnOk, MatchOption};
+ghost use Rattle.site_state.specs.declared.line.TheConstants.{PLACES};
+ghost use Rattle.site_state.specs.Lines.{queue_at, room_at, AreEmpty, AreGrown, HaveRoom, HaveRoomBelow, SameLines, IsPut, IsTaken};
+
+use super::line::{Line, PLACES};
+use agent_move::Item;
+use np_syntax::Memory;
+use std::alloc::Global;
+use std::marker::Model;
+
+/// The items that a site has to put on its links, in a line for each site. `sure` is for how many more there is room in
+/// each line.
+#[derive(Drop)]
+pub struct Outgoing {
+    lines: Vec<Line>,
+    sure: u32,
+}
+
+impl Model for Outgoing {
+    ghost use Rattle.site_state.specs.Lines.{Queues, queues_code, HaveRoom};
+
+    ghost Value = { Queues };
+
+    ghost coded = { queues_code };
+
+    ghost view = { λ outgoing. record { lines = outgoing.lines.items; sure = outgoing.sure } };
+
+    ghost invariant = { λ outgoing. HaveRoom outgoing.sure outgoing.lines.items };
+}
+
+impl Outgoing {
+    /// No items for any of the sites.
+    pub fn new(alloc: Global, sites: u32) -> Result<Outgoing, Memory>
+        ensures { IfOk result (λ outgoing. AreEmpty sites outgoing.lines) }
+    {
+        let lines = lines_for(alloc, sites)?;
+        Ok(Outgoing {
+            lines,
+            sure: PLACES,
+        })
+    }
+
+    /// For how many sites there is a line.
+    pub fn sites(&self) -> u32
+        requires { length self.now.lines < 2 ^ 32 }
+        ensures { result ≡ length self.now.lines }
+    {
+        self.lines.len() as u32
+    }
+
+    /// Makes sure of room for one more item, whatever site it is for.
+    pub fn reserve(&mut self) -> Result<(), Memory>
+        ensures lines { SameLines self.old.lines self.new.lines }
+        ensures ok { OnOk result (0 < self.new.sure) }
+    {
+        if self.sure == 0 {
+            reserve_each(&mut self.lines)?;
+            self.sure = PLACES;
+        }
+        Ok(())
+    }
+
+    /// An item comes last in the line for a site.
+    pub fn put(&mut self, to: u32, item: Item)
+        requires to { to < length self.old.lines }
+        requires room { 0 < self.old.sure }
+        ensures { IsPut self.old.lines to item self.new.lines }
+    {
+        self.sure -= 1;
+        self.lines[to as usize].put(item);
+    }
+
+    /// Takes the first item for a site, if there is one.
+    pub fn take(&mut self, to: u32) -> Option<Item>
+        requires { to < length self.old.lines }
+        ensures { MatchOption result ((queue_at self.old.lines to ≡ []) × SameLines self.old.lines self.new.lines) (λ item. IsTaken self.old.lines to item self.new.lines) }
+    {
+        self.lines[to as usize].take()
+    }
+
+    /// An item comes first in the line for a site.
+    pub fn put_first(&mut self, to: u32, item: Item)
+        requires to { to < length self.old.lines }
+        requires room { 0 < room_at self.old.lines to }
+        ensures { IsTaken self.new.lines to item self.old.lines }
+    {
+        self.sure = self.sure.saturating_sub(1);
+        self.lines[to as usize].put_first(item);
+    }
+}
+
+/// A line with no items for each site.
+#[tactic(auto, using(crate::proofs::Lines::lines))]
+fn lines_for(alloc: Global, sites: u32) -> Result<Vec<Line>, Memory>
+    ensures lines { IfOk result (λ lines. AreEmpty sites lines.items) }
+    ensures room { IfOk result (λ lines. HaveRoom PLACES lines.items) }
+{
+    let mut lines = Vec::with_capacity(alloc, sites as usize)?;
+    for _ in 0..sites {
+        add_line(alloc, &mut lines)?;
+    }
+    Ok(lines)
+}
+
+/// One more line, with no items.
+fn add_line(alloc: Global, lines: &mut Vec<Line>) -> Result<(), Memory>
+    ensures lines { OnOk result (AreGrown lines.old.items lines.new.items) }
+{
+    let line = Line::new(alloc)?;
+    lines.push(line)?;
+    Ok(())
+}
+
+/// Makes sure of room for some more items in each line.
+#[tactic(auto, using(crate::proofs::Lines::lines))]
+fn reserve_each(lines: &mut Vec<Line>) -> Result<(), Memory>
+    ensures lines { SameLines lines.old.items lines.new.items }
+    ensures ok { OnOk result (HaveRoom PLACES lines.new.items) }
+{
+    for i in 0..lines.len() {
+        reserve_at(lines, i)?;
+    }
+    Ok(())
+}
+
+/// Makes sure of room for some more items in one of the lines, and takes no room from the others.
+fn reserve_at(lines: &mut Vec<Line>, at: usize) -> Result<(), Memory>
+    requires { at < length lines.old.items }
+    ensures lines { SameLines lines.old.items lines.new.items }
+    ensures room { HaveRoomBelow at PLACES lines.old.items → OnOk result (HaveRoomBelow (at + 1) PLACES lines.new.items) }
+{
+    lines[at].reserve(PLACES)
+}

@@ -1,0 +1,149 @@
+ghost use Rattle.std.specs.Prelude.{◌≡◌, ◌<◌, ◌≤◌, ◌^◌, ◌↔◌, None, length, IfOk, IfErr, OnOk, OnErr, IsTrue, MatchOption};
+ghost use Rattle.std.specs.FinMap as map;
+ghost use Rattle.np_syntax.specs.declared.limits.TheConstants.{LARGEST_BUDGET};
+ghost use Rattle.site_state.specs.Lines.{room_at};
+ghost use Rattle.site_state.specs.Standings.{AreIdle, IsIdleAt, IsNew, IsSettled, IsStanding, NoneOut, IsOut, StaysForAll};
+
+use super::outgoing::Outgoing;
+use agent_move::Item;
+use agent_pool::Agent;
+use np_code::Code;
+use np_syntax::{Memory, Name};
+use np_tables::Table;
+use site_links::Addressed;
+use stamp_history::{Clock, History};
+use std::alloc::Global;
+use std::marker::Model;
+
+/// One site: the agents that stand there, the number of the next name that it makes, its clock, what it made and printed,
+/// and the items that it has to put on its links.
+#[derive(Drop)]
+pub struct Site {
+    pub(super) site: u32,
+    pub(super) agents: Table<Agent>,
+    pub(super) next: u32,
+    pub(super) clock: Clock,
+    pub(super) history: History,
+    pub(super) outgoing: Outgoing,
+}
+
+impl Model for Site {
+    ghost use Rattle.std.specs.FinMap as map;
+    ghost use Rattle.site_state.specs.Standings.{Standing, standing_code, IsStanding};
+
+    ghost Value = { Standing };
+
+    ghost coded = { standing_code };
+
+    ghost view = { λ s. record { site = s.site; agents = s.agents.items; quiet = map.empty; next = s.next; clock = s.clock; history = s.history.history; outgoing = s.outgoing.lines } };
+
+    ghost invariant = { λ s. IsStanding (record { site = s.site; agents = s.agents.items; quiet = map.empty; next = s.next; clock = s.clock; history = s.history.history; outgoing = s.outgoing.lines }) };
+}
+
+impl Site {
+    /// A site with no agents, which has done nothing.
+    #[tactic(auto, using(crate::proofs::Sites::sites))]
+    pub fn new(alloc: Global, site: u32, sites: u32, budget: u32) -> Result<Site, Memory>
+        requires site { site < sites }
+        requires budget { budget ≤ LARGEST_BUDGET }
+        ensures { IfOk result (IsNew site sites budget) }
+    {
+        let history = History::new(alloc, site, budget)?;
+        let outgoing = Outgoing::new(alloc, sites)?;
+        Ok(Site {
+            site,
+            agents: Table::new(alloc),
+            next: 0,
+            clock: Clock::new(),
+            history,
+            outgoing,
+        })
+    }
+
+    /// The number of the site.
+    pub fn number(&self) -> u32
+        ensures number { result ≡ self.now.site }
+        ensures standing { IsStanding self.now }
+    {
+        self.site
+    }
+
+    /// Adds an agent before the run.
+    #[tactic(auto, using(crate::proofs::Sites::sites))]
+    pub fn settle_agent(&mut self, agent: Agent) -> Result<(), (Agent, Memory)>
+        requires { map.get self.old.agents agent.name ≡ None }
+        ensures ok { OnOk result (IsSettled self.old agent self.new) }
+        ensures err { OnErr result (StaysForAll self.old self.new) }
+        ensures returned { IfErr result (λ refused. refused.0 ≡ agent) }
+    {
+        match self.agents.reserve(1) {
+            Ok(()) => {
+                self.agents.put(agent.name(), agent);
+                Ok(())
+            }
+            Err(memory) => Err((agent, memory)),
+        }
+    }
+
+    /// Takes the first item for a site that waits to be put on its link.
+    pub fn next_out(&mut self, to: u32) -> Option<Item>
+        requires { to < length self.old.outgoing }
+        ensures { MatchOption result (NoneOut to self.old self.new) (λ item. IsOut to item self.old self.new) }
+    {
+        self.outgoing.take(to)
+    }
+
+    /// An item that was taken is again the first one for its site, where the place that it left is free.
+    pub fn give_back(&mut self, item: Item)
+        requires to { item.to < length self.old.outgoing }
+        requires place { 0 < room_at self.old.outgoing item.to }
+        ensures { IsOut item.to item self.new self.old }
+    {
+        let to = item.to_site();
+        self.outgoing.put_first(to, item);
+    }
+
+    /// The events that the site made, and what it printed.
+    pub fn history(&self) -> &History
+        ensures history { result.now.history ≡ self.now.history }
+        ensures standing { IsStanding self.now }
+    {
+        &self.history
+    }
+
+    pub fn into_history(self) -> History
+        ensures history { result.history ≡ self.history }
+        ensures standing { IsStanding self }
+    {
+        self.history
+    }
+
+    /// Whether all agents that stand here are idle. It takes no memory.
+    pub fn idle(&self, code: &Code) -> bool
+        ensures { IsTrue result ↔ AreIdle code.now.processes self.now.agents }
+    {
+        are_idle(code, &self.agents)
+    }
+}
+
+/// Whether all agents of a table are idle.
+fn are_idle(code: &Code, agents: &Table<Agent>) -> bool
+    ensures { IsTrue result ↔ AreIdle code.now.processes agents.now.items }
+{
+    for at in 0..agents.len() {
+        if !is_idle(code, agents, agents.key(at)) {
+            return false;
+        }
+    }
+    true
+}
+
+/// Whether the agent of a name is idle.
+fn is_idle(code: &Code, agents: &Table<Agent>, name: Name) -> bool
+    ensures { IsTrue result ↔ IsIdleAt code.now.processes agents.now.items name }
+{
+    match agents.get(name) {
+        Some(agent) => agent.idle(code),
+        None => true,
+    }
+}
