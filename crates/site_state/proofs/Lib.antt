@@ -1,2 +1,6 @@
+pub mod Done
 pub mod Lines
+pub mod Seats
 pub mod Sites
+pub mod Noted
+pub mod Rows

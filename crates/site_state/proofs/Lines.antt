@@ -29,4 +29,7 @@ roomy-more old new g h = rw g.is record { each = room-more old g.line PLACES g.r
 pub same-lines : (a b c : List Waiting) → SameLines a b → SameLines b c → SameLines a c
 same-lines a b c h k = record { sites = k.sites ∙ h.sites; queues = λ t. k.queues t ∙ h.queues t }
 
+pub lines_same : (a : List Waiting) → SameLines a a
+lines_same a = record { sites = refl; queues = λ t. refl }
+
 pub ruleset lines = (empty-more, roomy-more, same-lines)

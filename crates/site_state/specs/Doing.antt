@@ -13,7 +13,8 @@ use Rattle.agent_move.specs.Items.{item_of}
 use Rattle.site_state.specs.declared.stepping.Stepped.{Stepped}
 use Rattle.site_state.specs.declared.stepping.Stepped.TheVariants as stepped
 use Rattle.site_state.specs.Lines.{Waiting, IsPut, SameLines}
-use Rattle.site_state.specs.Standings.{AreQuiet, KeepsQuiet, NoneCan, Standing, Stays, holding_of}
+use Rattle.site_state.specs.Seated.{NoneCan}
+use Rattle.site_state.specs.Standings.{IsQuiet, KeepsQuiet, Standing, Stays, holding_of}
 
 -- an event with the item that it takes and the one that it puts out
 abbrev pub deed_of : ProgramTable → Stamped → Option Item → Option Item → Deed
@@ -65,7 +66,7 @@ HasRoom s = length s.history.events < s.history.budget
 -- by a step an event is done, or there is none, or no room for it
 abbrev pub IsStepped : ProgramTable → Standing → Standing → Stepped → Type 0
 IsStepped code old new stepped.Did = HasRoom old × HasDone code old new
-IsStepped code old new stepped.Quiet = HasRoom old × Stays code old new × (AreQuiet code old → NoneCan code old.agents)
+IsStepped code old new stepped.Quiet = HasRoom old × Stays code old new × (IsQuiet code old → NoneCan code old.agents)
 IsStepped code old new stepped.Spent = (length old.history.events ≡ old.history.budget) × Stays code old new
 
 -- an item was taken, whatever the code of as many sites

@@ -1,3 +1,5 @@
 pub mod Doing
 pub mod Lines
+pub mod Parts
+pub mod Seated
 pub mod Standings

@@ -5,7 +5,6 @@ use Rattle.std.specs.FinMap as map
 use Rattle.np_syntax.specs.declared.limits.TheConstants.{LARGEST_BUDGET}
 use Rattle.np_syntax.specs.declared.value.Name.{Name}
 use Rattle.np_syntax.specs.contracts.value.Name as name
-use Rattle.np_syntax.specs.declared.process.Proc.{Proc}
 use Rattle.np_tables.specs.Names.{NameMap}
 use Rattle.np_tables.specs.Mapped.{mapped}
 use Rattle.stamp_history.specs.Histories.{IsAboveLast, Recorded, recorded_code, without_events}
@@ -13,10 +12,9 @@ use Rattle.np_holdings.specs.Holdings.{Holding}
 use Rattle.np_code.specs.Programs.{ProgramTable}
 use Rattle.agent_index.specs.Shelves.{Kept}
 use Rattle.agent_pool.specs.declared.held.Held.{Held}
-use Rattle.agent_pool.specs.Idle.{IsIdle}
 use Rattle.agent_pool.specs.Pools.{Pool, pool_code, atoms_of}
-use Rattle.agent_pool.specs.Readies.{NothingReady}
 use Rattle.agent_move.specs.declared.item.Item.{Item}
+use Rattle.site_state.specs.Seated.{AreNamed, AreQuiet, Seated}
 use Rattle.site_state.specs.Lines.{Waiting, waiting_code, AreEmpty, SameLines, IsTaken, queue_at}
 
 -- its number, its agents by their names, for each whether it was found to be quiet, the number of the next name that it makes, its clock, what it made and printed, and what it has to put on
@@ -38,10 +36,6 @@ standing_code =
     (λ s. (s.site, (s.agents, (s.quiet, (s.next, (s.clock, (s.history, s.outgoing)))))))
     (λ p. record { site = p.0; agents = p.1.0; quiet = p.1.1.0; next = p.1.1.1.0; clock = p.1.1.1.1.0; history = p.1.1.1.1.1.0; outgoing = p.1.1.1.1.1.1 }) (λ _. refl)
 
--- each agent stands under its own name
-pub record AreNamed (agents : NameMap Pool) : Type 0 where
-  pub each : (q : Name) (p : Pool) → map.get agents q ≡ Some p → p.name ≡ q
-
 -- what each site keeps to
 pub record IsStanding (s : Standing) : Type 0 where
   pub site : s.history.site ≡ s.site
@@ -56,17 +50,17 @@ abbrev pub holding_of : ProgramTable → Standing → Holding
 holding_of code s =
     record { site = s.site; sites = length code.sites; agents = mapped (atoms_of code.processes) s.agents; next = s.next; said = s.history.said }
 
--- the agent can do nothing
-abbrev pub CanNothing : ProgramTable → Pool → Type 0
-CanNothing code p = NothingReady code (atoms_of code.processes p)
+-- the agents, with room for some more
+abbrev pub seated : Standing → ℕ → Seated
+seated s room = record { agents = s.agents; quiet = s.quiet; room = room }
 
 -- each agent that was found to be quiet can do nothing by this code
-pub record AreQuiet (code : ProgramTable) (s : Standing) : Type 0 where
-  pub each : (q : Name) (p : Pool) → map.get s.quiet q ≡ Some true → map.get s.agents q ≡ Some p → CanNothing code p
+abbrev pub IsQuiet : ProgramTable → Standing → Type 0
+IsQuiet code s = AreQuiet code (seated s 0)
 
 -- so it is then, if it was
 abbrev pub KeepsQuiet : ProgramTable → Standing → Standing → Type 0
-KeepsQuiet code old new = AreQuiet code old → AreQuiet code new
+KeepsQuiet code old new = IsQuiet code old → IsQuiet code new
 
 -- an agent but for its room
 abbrev pub without_room : Pool → Name × NameMap (Kept Held)
@@ -105,7 +99,7 @@ pub record IsNew (site sites budget : ℕ) (s : Standing) : Type 0 where
   pub outgoing : AreEmpty sites s.outgoing
 
 -- all but the agents and what it has to put on its links
-pub record SameButItems (old new : Standing) : Type 0 where
+pub record SameRecords (old new : Standing) : Type 0 where
   pub site : new.site ≡ old.site
   pub next : new.next ≡ old.next
   pub clock : new.clock ≡ old.clock
@@ -115,7 +109,7 @@ pub record SameButItems (old new : Standing) : Type 0 where
 pub record IsSettled (old : Standing) (agent : Pool) (new : Standing) : Type 0 where
   pub agents : new.agents ≡ map.insert old.agents agent.name agent
   pub quiet : (code : ProgramTable) → KeepsQuiet code old new
-  pub same : SameButItems old new
+  pub same : SameRecords old new
   pub outgoing : new.outgoing ≡ old.outgoing
 
 -- nothing is to be put on the link to a site
@@ -127,17 +121,5 @@ pub record NoneOut (to : ℕ) (old new : Standing) : Type 0 where
 pub record IsOut (to : ℕ) (item : Item) (old new : Standing) : Type 0 where
   pub agents : new.agents ≡ old.agents
   pub quiet : new.quiet ≡ old.quiet
-  pub same : SameButItems old new
+  pub same : SameRecords old new
   pub outgoing : IsTaken old.outgoing to item new.outgoing
-
--- the agent of a name is idle, if there is one
-abbrev pub IsIdleAt : List Proc → NameMap Pool → Name → Type 0
-IsIdleAt ts agents q = (p : Pool) → map.get agents q ≡ Some p → IsIdle ts p.atoms
-
--- each agent is idle
-pub record AreIdle (ts : List Proc) (agents : NameMap Pool) : Type 0 where
-  pub each : (q : Name) → IsIdleAt ts agents q
-
--- no agent can do anything
-pub record NoneCan (code : ProgramTable) (agents : NameMap Pool) : Type 0 where
-  pub each : (q : Name) (p : Pool) → map.get agents q ≡ Some p → CanNothing code p

@@ -1,10 +1,14 @@
 //! One site: the agents that stand there, what it made and printed, and the items that it has to put on its links.
 #![tactic(auto)]
 
+mod agents;
+mod inner;
 mod line;
+mod noting;
 mod outgoing;
 mod site;
 mod stepping;
+mod within;
 
 pub use site::Site;
 pub use stepping::Stepped;

@@ -1,26 +1,28 @@
 ghost use Rattle.std.specs.Prelude.{◌≡◌, ◌<◌, ◌≤◌, ◌^◌, ◌↔◌, None, length, IfOk, IfErr, OnOk, OnErr, IsTrue, MatchOption};
 ghost use Rattle.std.specs.FinMap as map;
 ghost use Rattle.np_syntax.specs.declared.limits.TheConstants.{LARGEST_BUDGET};
+ghost use Rattle.site_state.specs.Seated.{AreIdle};
 ghost use Rattle.site_state.specs.Lines.{room_at};
-ghost use Rattle.site_state.specs.Standings.{AreIdle, IsIdleAt, IsNew, IsSettled, IsStanding, NoneOut, IsOut, StaysForAll};
+ghost use Rattle.site_state.specs.Standings.{IsNew, IsSettled, IsStanding, NoneOut, IsOut, StaysForAll};
 
+use super::agents::Agents;
 use super::outgoing::Outgoing;
 use agent_move::Item;
 use agent_pool::Agent;
 use np_code::Code;
-use np_syntax::{Memory, Name};
-use np_tables::Table;
+use np_syntax::Memory;
 use site_links::Addressed;
 use stamp_history::{Clock, History};
 use std::alloc::Global;
 use std::marker::Model;
 
-/// One site: the agents that stand there, the number of the next name that it makes, its clock, what it made and printed,
+/// One site: for how many events it has room, the agents that stand there, the number of the next name that it makes, its clock, what it made and printed,
 /// and the items that it has to put on its links.
 #[derive(Drop)]
 pub struct Site {
     pub(super) site: u32,
-    pub(super) agents: Table<Agent>,
+    pub(super) budget: u32,
+    pub(super) agents: Agents,
     pub(super) next: u32,
     pub(super) clock: Clock,
     pub(super) history: History,
@@ -28,16 +30,16 @@ pub struct Site {
 }
 
 impl Model for Site {
-    ghost use Rattle.std.specs.FinMap as map;
+    ghost use Rattle.std.specs.Prelude.{◌≡◌};
     ghost use Rattle.site_state.specs.Standings.{Standing, standing_code, IsStanding};
 
     ghost Value = { Standing };
 
     ghost coded = { standing_code };
 
-    ghost view = { λ s. record { site = s.site; agents = s.agents.items; quiet = map.empty; next = s.next; clock = s.clock; history = s.history.history; outgoing = s.outgoing.lines } };
+    ghost view = { λ s. record { site = s.site; agents = s.agents.agents; quiet = s.agents.quiet; next = s.next; clock = s.clock; history = s.history.history; outgoing = s.outgoing.lines } };
 
-    ghost invariant = { λ s. IsStanding (record { site = s.site; agents = s.agents.items; quiet = map.empty; next = s.next; clock = s.clock; history = s.history.history; outgoing = s.outgoing.lines }) };
+    ghost invariant = { λ s. IsStanding (record { site = s.site; agents = s.agents.agents; quiet = s.agents.quiet; next = s.next; clock = s.clock; history = s.history.history; outgoing = s.outgoing.lines }) × (s.history.history.budget ≡ s.budget) };
 }
 
 impl Site {
@@ -52,7 +54,8 @@ impl Site {
         let outgoing = Outgoing::new(alloc, sites)?;
         Ok(Site {
             site,
-            agents: Table::new(alloc),
+            budget,
+            agents: Agents::new(alloc),
             next: 0,
             clock: Clock::new(),
             history,
@@ -78,7 +81,7 @@ impl Site {
     {
         match self.agents.reserve(1) {
             Ok(()) => {
-                self.agents.put(agent.name(), agent);
+                self.agents.put(agent);
                 Ok(())
             }
             Err(memory) => Err((agent, memory)),
@@ -122,28 +125,6 @@ impl Site {
     pub fn idle(&self, code: &Code) -> bool
         ensures { IsTrue result ↔ AreIdle code.now.processes self.now.agents }
     {
-        are_idle(code, &self.agents)
-    }
-}
-
-/// Whether all agents of a table are idle.
-fn are_idle(code: &Code, agents: &Table<Agent>) -> bool
-    ensures { IsTrue result ↔ AreIdle code.now.processes agents.now.items }
-{
-    for at in 0..agents.len() {
-        if !is_idle(code, agents, agents.key(at)) {
-            return false;
-        }
-    }
-    true
-}
-
-/// Whether the agent of a name is idle.
-fn is_idle(code: &Code, agents: &Table<Agent>, name: Name) -> bool
-    ensures { IsTrue result ↔ IsIdleAt code.now.processes agents.now.items name }
-{
-    match agents.get(name) {
-        Some(agent) => agent.idle(code),
-        None => true,
+        self.agents.idle(code)
     }
 }

@@ -1,11 +1,15 @@
-ghost use Rattle.std.specs.Prelude.{◌≡◌, ◌<◌, ◌^◌, length, IfOk, IfErr, OnOk, OnErr};
-ghost use Rattle.site_state.specs.Doing.{HasRoom, HasTaken, IsStepped};
-ghost use Rattle.site_state.specs.Standings.{Stays, StaysForAll};
+ghost use Rattle.std.specs.Prelude.{◌≡◌, ◌<◌, ◌^◌, length, IfOk, IfErr, OnOk, OnErr, IfSome, IfNone, IsTrue, IsFalse};
+ghost use Rattle.site_state.specs.Doing.{HasDone, HasRoom, HasTaken, IsStepped};
+ghost use Rattle.site_state.specs.Parts.{IsLooked};
+ghost use Rattle.site_state.specs.Seated.{CanDo, NoneCan};
+ghost use Rattle.site_state.specs.Standings.{IsQuiet, Stays, StaysForAll};
 
 use super::site::Site;
+use super::within::is_inner;
 use agent_move::Item;
+use agent_pool::Ready;
 use np_code::Code;
-use np_syntax::Memory;
+use np_syntax::{Memory, Name};
 use std::alloc::Global;
 
 /// What came of a step: an event was done, no agent could do anything, or there was no room for an event.
@@ -23,7 +27,44 @@ impl Site {
         ensures ok { IfOk result (IsStepped code.now self.old self.new) }
         ensures err { OnErr result (Stays code.now self.old self.new) }
     {
-        let _ = alloc;
+        if self.is_spent() {
+            return Ok(Stepped::Spent);
+        }
+        let Some((name, ready)) = self.next_ready(code) else {
+            return Ok(Stepped::Quiet);
+        };
+        self.do_event(alloc, code, name, ready)?;
+        Ok(Stepped::Did)
+    }
+
+    /// Whether there is no room for one more event.
+    pub fn is_spent(&self) -> bool
+        ensures spent { IsTrue result → length self.now.history.events ≡ self.now.history.budget }
+        ensures room { IsFalse result → HasRoom self.now }
+    {
+        self.history.len() == self.budget
+    }
+
+    /// An agent that can do something, and what.
+    fn next_ready(&mut self, code: &Code) -> Option<(Name, Ready)>
+        ensures stays { IsLooked code.now self.old self.new }
+        ensures some { IfSome result (λ found. CanDo code.now self.new.agents found.0 found.1) }
+        ensures none { IfNone result (IsQuiet code.now self.old → NoneCan code.now self.old.agents) }
+    {
+        self.agents.next_ready(code)
+    }
+
+    /// Does the event of an agent that stands here and can do this.
+    fn do_event(&mut self, alloc: Global, code: &Code, name: Name, r: Ready) -> Result<(), Memory>
+        requires sites { length code.now.sites ≡ length self.old.outgoing }
+        requires room { HasRoom self.old }
+        requires can { CanDo code.now self.old.agents name r }
+        ensures ok { OnOk result (HasDone code.now self.old self.new) }
+        ensures err { OnErr result (Stays code.now self.old self.new) }
+    {
+        if is_inner(r.kind) {
+            return self.do_inner(alloc, code, name, r);
+        }
         Err(Memory)
     }
 

@@ -1,7 +1,7 @@
 use Rattle.std.proofs.Common.{◌<◌, subst, arith, refl}
 use Rattle.np_tables.proofs.Walks.{one-more}
-use Rattle.site_state.specs.Standings.{IsIdleAt}
-use Rattle.site_state.proofs.site.are_idle.Goals as goal
+use Rattle.site_state.specs.Seated.{IsIdleAt}
+use Rattle.site_state.proofs.agents.are_idle.Goals as goal
 
 pub loop-at-preserved : goal.loop-at-preserved
 loop-at-preserved c =

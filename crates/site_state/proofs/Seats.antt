@@ -1,0 +1,51 @@
+-- Agents that come to a site and leave it.
+use Rattle.std.proofs.Common.{◌≡◌, Bool, true, false, cond, Option, None, Some, refl, sym, ap, ◌∙◌}
+use Rattle.std.specs.Prelude.{option_map}
+use Rattle.std.specs.FinMap as map
+use Rattle.np_syntax.specs.declared.value.Name.{Name}
+use Rattle.np_tables.specs.Names.{NameMap, same_name}
+use Rattle.np_tables.proofs.Tables.{get-none, get-put, put-cut, same_name-is, cut_cases, cut_here}
+use Rattle.np_code.specs.Programs.{ProgramTable}
+use Rattle.agent_pool.specs.Pools.{Pool, Unchanged}
+use Rattle.site_state.specs.Seated.{AreNamed, AreQuiet, Seated}
+use Rattle.site_state.specs.Standings.{SameAgents, without_room}
+
+named_at : (agents : NameMap Pool) (k : Name) (p : Pool) → AreNamed agents → p.name ≡ k → (q : Name) (t : Bool) (x : Pool) → same_name q k ≡ t
+    → cond t (Some p) (map.get agents q) ≡ Some x → x.name ≡ q
+named_at agents k p h n q true x s e = let same = same_name-is q k s in cc
+named_at agents k p h n q false x s e = h.each q x e
+
+-- an agent comes under its own name
+pub named-put : (agents : NameMap Pool) (k : Name) (p : Pool) → AreNamed agents → p.name ≡ k → AreNamed (map.insert agents k p)
+named-put agents k p h n = record { each = λ q x e. named_at agents k p h n q (same_name q k) x refl (sym (get-put agents k p q) ∙ e) }
+
+pub named-none : (agents : NameMap Pool) → agents ≡ map.empty → AreNamed agents
+named-none agents e = record { each = λ q x f. let none : map.get agents q ≡ None = ap (λ m. map.get m q) e ∙ get-none q in absurd cc }
+
+pub named-cut : (agents : NameMap Pool) (k : Name) → AreNamed agents → AreNamed (map.remove agents k)
+named-cut agents k h = record { each = λ q x e. h.each q x (cut_cases agents k q x e).1 }
+
+-- nothing is found to be quiet
+pub none_quiet : (code : ProgramTable) (s : Seated) → s.quiet ≡ map.empty → AreQuiet code s
+none_quiet code s e = record { each = λ q p f g. let none : map.get s.quiet q ≡ None = ap (λ m. map.get m q) e ∙ get-none q in absurd cc }
+
+pub absent_again : (b c : NameMap Pool) (k j : Name) → c ≡ map.remove b k → j ≡ k → map.get c j ≡ None
+absent_again b c k j bc same = (λ i. map.get (bc i) (same i)) ∙ cut_here b k
+
+-- an agent that was taken out and comes again, changed
+pub back_again : (a b c d : NameMap Pool) (k j : Name) (p : Pool) → b ≡ a → c ≡ map.remove b k → j ≡ k → d ≡ map.insert c j p → d ≡ map.insert a k p
+back_again a b c d k j p ab bc same cd = cd ∙ (λ i. map.insert (bc i) (same i) p) ∙ put-cut b k p ∙ ap (λ m. map.insert m k p) ab
+
+at_back : (a : NameMap Pool) (k : Name) (p x : Pool) → map.get a k ≡ Some x → without_room p ≡ without_room x → (q : Name) (t : Bool) → same_name q k ≡ t
+    → option_map without_room (cond t (Some p) (map.get a q)) ≡ option_map without_room (map.get a q)
+at_back a k p x e same q true s = let here : map.get a q ≡ Some x = ap (map.get a) (same_name-is q k s) ∙ e in rw here (ap Some same)
+at_back a k p x e same q false s = refl
+
+-- and unchanged but for its room
+pub same_again : (a d : NameMap Pool) (k : Name) (p x : Pool) → map.get a k ≡ Some x → d ≡ map.insert a k p → Unchanged x p → SameAgents a d
+same_again a d k p x e is same = record {
+  each = λ q. ap (λ m. option_map without_room (map.get m q)) is ∙ ap (option_map without_room) (get-put a k p q)
+      ∙ at_back a k p x e (λ i. (same.name i, same.atoms i)) q (same_name q k) refl;
+}
+
+pub ruleset seats = (named-put, named-cut, none_quiet)
