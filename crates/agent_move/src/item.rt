@@ -22,6 +22,13 @@ impl Item {
     {
         self.stamp
     }
+
+    /// What is under way.
+    pub fn load(&self) -> &Load
+        ensures { result.now ≡ self.now.load }
+    {
+        &self.load
+    }
 }
 
 impl Addressed for Item {

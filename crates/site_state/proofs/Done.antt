@@ -24,7 +24,8 @@ use Rattle.agent_pool.specs.Rows.{event_of}
 use Rattle.site_state.specs.Doing.{ArePut, Did, DoesIfMade, HasDone, deed_of, recorded}
 use Rattle.site_state.specs.Lines.{SameLines}
 use Rattle.site_state.specs.Parts.{HasReduced, IsLooked, IsNoted}
-use Rattle.site_state.specs.Seated.{AreQuiet, Seated}
+use Rattle.site_state.specs.Coming.{KeepsSeats}
+use Rattle.site_state.specs.Seated.{AreNamed, AreQuiet, Seated}
 use Rattle.site_state.specs.Standings.{KeepsQuiet, Standing, holding_of}
 
 pub said_of : (h : Recorded) (e : Stamped) (value : Option Value) → (recorded h e value).said ≡ with_value h.said value
@@ -34,6 +35,11 @@ said_of h e (Some v) = refl
 -- whether agents are quiet is a fact of them and of what was found
 pub same_quiet : (code : ProgramTable) (s t : Seated) → t.agents ≡ s.agents → t.quiet ≡ s.quiet → AreQuiet code s → AreQuiet code t
 same_quiet code s t agents quiet h = record { each = λ q p f g. h.each q p (ap (λ m. map.get m q) (sym quiet) ∙ f) (ap (λ m. map.get m q) (sym agents) ∙ g) }
+
+-- agents that were changed after room was made
+pub keeps_after : (a b c : Seated) → b.agents ≡ a.agents → b.quiet ≡ a.quiet → (AreNamed b.agents → AreNamed c.agents) → ((code : ProgramTable) → AreQuiet code b → AreQuiet code c)
+    → KeepsSeats a c
+keeps_after a b c agents quiet named still = record { named = λ h. named (subst AreNamed (sym agents) h); quiet = λ code h. still code (same_quiet code a b agents quiet h) }
 
 pub lines_are : (old mid new : Standing) → new.outgoing ≡ mid.outgoing → SameLines old.outgoing mid.outgoing → SameLines old.outgoing new.outgoing
 lines_are old mid new e h = subst (SameLines old.outgoing) (sym e) h

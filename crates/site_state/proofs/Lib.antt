@@ -1,3 +1,4 @@
+pub mod Arrivals
 pub mod Done
 pub mod Lines
 pub mod Seats

@@ -1,12 +1,16 @@
 -- Agents that come to a site and leave it.
-use Rattle.std.proofs.Common.{◌≡◌, Bool, true, false, cond, Option, None, Some, refl, sym, ap, ◌∙◌}
-use Rattle.std.specs.Prelude.{option_map}
+use Rattle.std.proofs.Common.{◌≡◌, Bool, true, false, cond, Option, None, Some, refl, sym, ap, subst, ◌≤◌, ◌∙◌}
+use Rattle.std.specs.Prelude.{MatchOption, option_map}
+use Rattle.std.proofs.lemmas.Option.{same_Some}
 use Rattle.std.specs.FinMap as map
 use Rattle.np_syntax.specs.declared.value.Name.{Name}
+use Rattle.np_syntax.specs.declared.process.Tag.{Tag}
+use Rattle.np_syntax.specs.declared.value.Value.{Value}
 use Rattle.np_tables.specs.Names.{NameMap, same_name}
-use Rattle.np_tables.proofs.Tables.{get-none, get-put, put-cut, same_name-is, cut_cases, cut_here}
+use Rattle.np_tables.proofs.Tables.{get-none, get-put, put-cut, same_name-is, cut_absent, cut_cases, cut_here, put_here}
 use Rattle.np_code.specs.Programs.{ProgramTable}
 use Rattle.agent_pool.specs.Pools.{Pool, Unchanged}
+use Rattle.site_state.specs.Coming.{HasGot, HasSpare, IsGiven}
 use Rattle.site_state.specs.Seated.{AreNamed, AreQuiet, Seated}
 use Rattle.site_state.specs.Standings.{SameAgents, without_room}
 
@@ -47,5 +51,20 @@ same_again a d k p x e is same = record {
   each = λ q. ap (λ m. option_map without_room (map.get m q)) is ∙ ap (option_map without_room) (get-put a k p q)
       ∙ at_back a k p x e (λ i. (same.name i, same.atoms i)) q (same_name q k) refl;
 }
+
+pub spare_none : (d : NameMap Pool) (k : Name) → map.get d k ≡ None → HasSpare d k
+spare_none d k e = record { each = λ x f. absurd cc }
+
+pub spare_back : (d a : NameMap Pool) (k : Name) (p : Pool) → d ≡ map.insert a k p → 1 ≤ p.spare → HasSpare d k
+spare_back d a k p e l = record {
+  each = λ x f. let h : Some p ≡ Some x = sym (put_here a k p) ∙ ap (λ m. map.get m k) (sym e) ∙ f in subst (λ (y : Pool). 1 ≤ y.spare) (same_Some p x h) l;
+}
+
+pub given_none : (old new : NameMap Pool) (to mark chan : Name) (value : Value) (tag : Tag) → map.get old to ≡ None → new ≡ map.remove old to → IsGiven old to mark chan value tag new
+given_none old new to mark chan value tag e n = subst (λ o. MatchOption o (new ≡ old) (λ b. HasGot old to b mark chan value tag new)) (sym e) (n ∙ cut_absent old to e)
+
+pub given_some : (old new : NameMap Pool) (to mark chan : Name) (value : Value) (tag : Tag) (before : Pool) → map.get old to ≡ Some before
+    → HasGot old to before mark chan value tag new → IsGiven old to mark chan value tag new
+given_some old new to mark chan value tag before e g = subst (λ o. MatchOption o (new ≡ old) (λ b. HasGot old to b mark chan value tag new)) (sym e) g
 
 pub ruleset seats = (named-put, named-cut, none_quiet)

@@ -1,3 +1,4 @@
+pub mod Coming
 pub mod Doing
 pub mod Lines
 pub mod Parts

@@ -1,5 +1,5 @@
 -- The parts of an event of a site: what an agent does, and what is recorded (docs/LANGUAGE.md, "Reductions", "History text").
-use Rattle.std.specs.Prelude.{◌≡◌, ◌+◌, Bool, true, false, ℕ, Option, None, Some}
+use Rattle.std.specs.Prelude.{◌≡◌, ◌+◌, Bool, true, false, ℕ, [], ◌∷◌, Option, None, Some}
 use Rattle.std.specs.FinMap as map
 use Rattle.np_syntax.specs.declared.event.Event.{Event}
 use Rattle.np_syntax.specs.declared.event.Kind.{Kind}
@@ -8,7 +8,9 @@ use Rattle.np_syntax.specs.declared.event.Made.{Made}
 use Rattle.np_syntax.specs.declared.event.Made.TheVariants as made
 use Rattle.np_syntax.specs.declared.value.Name.{Name}
 use Rattle.np_syntax.specs.declared.value.Value.{Value}
-use Rattle.np_calculus.specs.Changes.{Change}
+use Rattle.np_tables.specs.Names.{NameMap}
+use Rattle.np_calculus.specs.declared.config.Place.TheVariants as place
+use Rattle.np_calculus.specs.Changes.{Change, put, still}
 use Rattle.np_holdings.specs.Making.{next_after}
 use Rattle.np_code.specs.Programs.{ProgramTable}
 use Rattle.agent_pool.specs.declared.ready.Ready.{Ready}
@@ -65,3 +67,20 @@ pub record IsNoted (old : Standing) (stamp : ℕ) (e : Event) (value : Option Va
   pub clock : new.clock ≡ stamp
   pub history : new.history ≡ recorded old.history (record { stamp = stamp; event = e }) value
   pub outgoing : new.outgoing ≡ old.outgoing
+
+-- by the row of a kind the agent of a name went on, and this is all else that it changed
+pub record HasGone (code : ProgramTable) (old : NameMap Pool) (name : Name) (k : Kind) (r : Ready) (made : Made) (rest : Change) (new : NameMap Pool) : Type 0 where
+  pub before : Pool
+  pub after : Pool
+  pub stood : map.get old name ≡ Some before
+  pub goes : Reduces k code before after r made rest
+  pub agents : new ≡ map.insert old name after
+
+-- by a migration the agent of a name left for a site
+pub record HasDeparted (code : ProgramTable) (old : NameMap Pool) (name : Name) (r : Ready) (to : ℕ) (after : Pool) (new : NameMap Pool) : Type 0 where
+  pub before : Pool
+  pub stood : map.get old name ≡ Some before
+  pub named : before.name ≡ name
+  pub still_named : after.name ≡ name
+  pub goes : Reduces kind.Depart code before after r made.Nothing (record still { places = put before.name (place.Way to) ∷ [] })
+  pub agents : new ≡ map.remove old name

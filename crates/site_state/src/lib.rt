@@ -1,7 +1,9 @@
 //! One site: the agents that stand there, what it made and printed, and the items that it has to put on its links.
 #![tactic(auto)]
 
+mod accepting;
 mod agents;
+mod coming;
 mod inner;
 mod line;
 mod noting;

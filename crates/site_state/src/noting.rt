@@ -21,7 +21,7 @@ fn names_in(made: Made) -> u32
 }
 
 /// The event of a ready at a site, with the names that it makes.
-fn event_of(site: u32, r: Ready, made: Made) -> Event
+pub fn event_of(site: u32, r: Ready, made: Made) -> Event
     ensures { result ≡ event_of site r made }
 {
     Event {

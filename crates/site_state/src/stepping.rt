@@ -1,12 +1,11 @@
-ghost use Rattle.std.specs.Prelude.{◌≡◌, ◌<◌, ◌^◌, length, IfOk, IfErr, OnOk, OnErr, IfSome, IfNone, IsTrue, IsFalse};
-ghost use Rattle.site_state.specs.Doing.{HasDone, HasRoom, HasTaken, IsStepped};
+ghost use Rattle.std.specs.Prelude.{◌≡◌, length, IfOk, OnOk, OnErr, IfSome, IfNone, IsTrue, IsFalse};
+ghost use Rattle.site_state.specs.Doing.{HasDone, HasRoom, IsStepped};
 ghost use Rattle.site_state.specs.Parts.{IsLooked};
 ghost use Rattle.site_state.specs.Seated.{CanDo, NoneCan};
-ghost use Rattle.site_state.specs.Standings.{IsQuiet, Stays, StaysForAll};
+ghost use Rattle.site_state.specs.Standings.{IsQuiet, Stays};
 
 use super::site::Site;
 use super::within::is_inner;
-use agent_move::Item;
 use agent_pool::Ready;
 use np_code::Code;
 use np_syntax::{Memory, Name};
@@ -66,17 +65,5 @@ impl Site {
             return self.do_inner(alloc, code, name, r);
         }
         Err(Memory)
-    }
-
-    /// Takes an item: the agent stands here then, or the packet is an output of its agent.
-    pub fn accept(&mut self, item: Item) -> Result<(), (Item, Memory)>
-        requires room { HasRoom self.old }
-        requires to { item.to ≡ self.old.site }
-        requires stamp { item.stamp < 2 ^ 40 }
-        ensures ok { OnOk result (HasTaken self.old self.new item) }
-        ensures err { OnErr result (StaysForAll self.old self.new) }
-        ensures returned { IfErr result (λ refused. refused.0 ≡ item) }
-    {
-        Err((item, Memory))
     }
 }

@@ -1,0 +1,134 @@
+//! What comes to the agents at a site.
+
+ghost use Rattle.std.specs.Prelude.{◌≡◌, ◌<◌, ◌≤◌, OnOk};
+ghost use Rattle.std.specs.FinMap as map;
+ghost use Rattle.np_calculus.specs.Begins.{arrival, landing};
+ghost use Rattle.site_state.specs.Coming.{HasCome, HasSpare, HasSpareFor, IsGiven, KeepsSeats, event_for};
+ghost use Rattle.site_state.specs.Seated.{AreNamed};
+ghost use Rattle.site_state.specs.Standings.{SameAgents};
+
+use super::agents::Agents;
+use agent_move::{Item, Load};
+use agent_pool::Agent;
+use np_calculus::Packet;
+use np_syntax::{Event, Kind, Made, Memory, Name, Role, Tag, Value};
+
+/// The event of an agent that arrives.
+fn arrival(agent: Name, site: u32) -> Event
+    ensures { result ≡ arrival agent site }
+{
+    Event {
+        site,
+        kind: Kind::Arrive,
+        actor: agent,
+        other: None,
+        tag: Tag {
+            node: 0,
+            role: Role::Plain,
+        },
+        made: Made::Nothing,
+    }
+}
+
+/// The event of a packet that lands.
+fn landing(mark: Name, packet: &Packet) -> Event
+    ensures { result ≡ landing mark packet.now }
+{
+    Event {
+        site: packet.to,
+        kind: Kind::Land,
+        actor: mark,
+        other: None,
+        tag: packet.tag,
+        made: Made::Nothing,
+    }
+}
+
+/// Makes sure of a place for one more atom of the agent of a name, if there is one, and of room for one more agent.
+pub fn make_room(agents: &mut Agents, name: Name) -> Result<(), Memory>
+    requires named { AreNamed agents.old.agents }
+    ensures same { SameAgents agents.old.agents agents.new.agents }
+    ensures keeps { KeepsSeats agents.old agents.new }
+    ensures room { OnOk result (0 < agents.new.room) }
+    ensures spare { OnOk result (HasSpare agents.new.agents name) }
+{
+    agents.reserve(2)?;
+    let Some(mut agent) = agents.take(name) else {
+        return Ok(());
+    };
+    let made = agent.make_room();
+    agents.put(agent);
+    made
+}
+
+/// Makes sure of room for what is under way.
+pub fn room_for(agents: &mut Agents, item: &Item) -> Result<(), Memory>
+    requires named { AreNamed agents.old.agents }
+    ensures same { SameAgents agents.old.agents agents.new.agents }
+    ensures keeps { KeepsSeats agents.old agents.new }
+    ensures room { OnOk result (0 < agents.new.room) }
+    ensures spare { OnOk result (HasSpareFor agents.new.agents item.now.load) }
+{
+    match item.load() {
+        Load::Agent(_) => agents.reserve(1),
+        Load::Packet(_, packet) => make_room(agents, packet.agent),
+    }
+}
+
+/// An agent comes, in the place of one of its name if there is one.
+pub fn settle(agents: &mut Agents, agent: Agent)
+    requires { 0 < agents.old.room }
+    ensures agents { agents.new.agents ≡ map.insert agents.old.agents agent.name agent }
+    ensures keeps { KeepsSeats agents.old agents.new }
+{
+    let _ = agents.take(agent.name());
+    agents.put(agent);
+}
+
+/// An agent gets an output, if it is there.
+pub fn give(agents: &mut Agents, to: Name, mark: Name, chan: Name, value: Value, tag: Tag)
+    requires named { AreNamed agents.old.agents }
+    requires room { 0 < agents.old.room }
+    requires spare { HasSpare agents.old.agents to }
+    ensures given { IsGiven agents.old.agents to mark chan value tag agents.new.agents }
+    ensures keeps { KeepsSeats agents.old agents.new }
+{
+    let Some(mut agent) = agents.take(to) else {
+        return;
+    };
+    match agent.receive(mark, chan, value, tag) {
+        Ok(()) => {}
+        Err(_) => unreachable!(),
+    }
+    agents.put(agent);
+}
+
+/// What is under way comes, and its event is answered.
+pub fn take_in(agents: &mut Agents, site: u32, load: Load) -> Event
+    requires named { AreNamed agents.old.agents }
+    requires room { 0 < agents.old.room }
+    requires spare { HasSpareFor agents.old.agents load }
+    ensures event { result ≡ event_for site load }
+    ensures come { HasCome agents.old.agents load agents.new.agents }
+    ensures keeps { KeepsSeats agents.old agents.new }
+{
+    match load {
+        Load::Agent(agent) => {
+            let event = arrival(agent.name(), site);
+            settle(agents, agent);
+            event
+        }
+        Load::Packet(mark, packet) => {
+            let event = landing(mark, &packet);
+            give(
+                agents,
+                packet.agent,
+                mark,
+                packet.chan,
+                packet.value,
+                packet.tag,
+            );
+            event
+        }
+    }
+}
