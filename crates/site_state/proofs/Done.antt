@@ -26,7 +26,7 @@ use Rattle.site_state.specs.Lines.{SameLines}
 use Rattle.site_state.specs.Parts.{HasReduced, IsLooked, IsNoted}
 use Rattle.site_state.specs.Coming.{KeepsSeats}
 use Rattle.site_state.specs.Seated.{AreNamed, AreQuiet, Seated}
-use Rattle.site_state.specs.Standings.{KeepsQuiet, Standing, holding_of}
+use Rattle.site_state.specs.Standings.{KeepsQuiet, SameRecords, Standing, holding_of}
 
 pub said_of : (h : Recorded) (e : Stamped) (value : Option Value) → (recorded h e value).said ≡ with_value h.said value
 said_of h e None = refl
@@ -109,3 +109,24 @@ done_from code old mid new l h =
         does = subst (λ x. DoesIfMade x (deed_of code (record { stamp = new.clock; event = h.event }) None h.out) (holding_of code new)) same d.does;
       };
     }
+
+-- an event that takes no item and puts none out, from what is recorded of it
+pub done_inner : (code : ProgramTable) (old mid new : Standing) (e : Event) (value : Option Value) → SameRecords old mid → SameLines old.outgoing mid.outgoing → KeepsQuiet code old mid
+    → IsNoted mid (mid.clock + 1) e value new → e.site ≡ old.site
+    → DoesIfMade (holding_of code old) (deed_of code (record { stamp = new.clock; event = e }) None None) (holding_of code new) → HasDone code old new
+done_inner code old mid new e value records lines quiet noted at does = record {
+  event = e;
+  out = None;
+  did = record {
+    site = noted.site ∙ records.site;
+    at = at;
+    clock = noted.clock ∙ ap (λ n. n + 1) records.clock;
+    value = value;
+    history = subst (λ h. new.history ≡ recorded h (record { stamp = new.clock; event = e }) value) records.history
+        (subst (λ n. new.history ≡ recorded mid.history (record { stamp = n; event = e }) value) (sym noted.clock) noted.history);
+    outgoing = lines_are old mid new noted.outgoing lines;
+    put = tt;
+    quiet = λ q. same_quiet code _ _ noted.agents noted.quiet (quiet q);
+    does = does;
+  };
+}

@@ -1,7 +1,11 @@
+pub mod Aims
 pub mod Arrivals
+pub mod Births
 pub mod Done
+pub mod Left
 pub mod Lines
 pub mod Seats
 pub mod Sites
 pub mod Noted
 pub mod Rows
+pub mod Tellings

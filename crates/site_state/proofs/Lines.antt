@@ -1,8 +1,9 @@
 -- Lines that are made one after the other.
-use Rattle.std.proofs.Common.{◌≡◌, ◌<◌, ◌≤◌, ◌+◌, ℕ, zero, suc, List, [], ◌∷◌, ◌++◌, length, refl, ◌∙◌, arith}
+use Rattle.std.proofs.Common.{◌≡◌, ◌<◌, ◌≤◌, ◌+◌, ℕ, zero, suc, List, [], ◌∷◌, ◌++◌, length, refl, ap, ◌∙◌, arith}
 use Rattle.std.proofs.lemmas.Grind.{common_steps}
+use Rattle.agent_move.specs.declared.item.Item.{Item}
 use Rattle.site_state.specs.declared.line.TheConstants.{PLACES}
-use Rattle.site_state.specs.Lines.{Waiting, queue_at, room_at, AreEmpty, AreGrown, HaveRoom, SameLines}
+use Rattle.site_state.specs.Lines.{Waiting, queue_at, room_at, AreEmpty, AreGrown, HaveRoom, IsPut, SameLines}
 
 pub queue-more : (lines : List Waiting) (x : Waiting) → x.items ≡ [] → ((to : ℕ) → queue_at lines to ≡ []) → (to : ℕ) → queue_at (lines ++ x ∷ []) to ≡ []
 queue-more [] x e h zero = e
@@ -31,5 +32,11 @@ same-lines a b c h k = record { sites = k.sites ∙ h.sites; queues = λ t. k.qu
 
 pub lines_same : (a : List Waiting) → SameLines a a
 lines_same a = record { sites = refl; queues = λ t. refl }
+
+pub lines_are_same : (a b : List Waiting) → b ≡ a → SameLines a b
+lines_are_same a b e = record { sites = ap length e; queues = λ t. ap (λ m. queue_at m t) e }
+
+pub put_after : (a b c : List Waiting) (to : ℕ) (x : Item) → SameLines a b → IsPut b to x c → IsPut a to x c
+put_after a b c to x l p = record { sites = p.sites ∙ l.sites; there = p.there ∙ ap (λ q. q ++ x ∷ []) (l.queues to); others = λ t n. p.others t n ∙ l.queues t }
 
 pub ruleset lines = (empty-more, roomy-more, same-lines)

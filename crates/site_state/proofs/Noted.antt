@@ -57,3 +57,8 @@ noted_stands s t e value n h stamp few site named next clock history =
       clock = omega arith;
       last = subst (λ es. IsAboveLast es (t.clock + 1)) (sym events) (above_one s.history.events e (t.clock + 1) (omega arith));
     }
+
+-- and no more names
+pub noted_no_names : (s t : Standing) (e : Stamped) (value : Option Value) → IsStanding s → e.stamp ≤ 2 ^ 40 + length s.history.events + 1 → t.site ≡ s.site
+    → AreNamed t.agents → t.next ≡ s.next → t.clock ≡ e.stamp → t.history ≡ recorded s.history e value → IsStanding t
+noted_no_names s t e value h stamp site named next clock history = noted_stands s t e value 0 h stamp (omega arith) site named (omega arith) clock history

@@ -67,4 +67,8 @@ pub given_some : (old new : NameMap Pool) (to mark chan : Name) (value : Value) 
     → HasGot old to before mark chan value tag new → IsGiven old to mark chan value tag new
 given_some old new to mark chan value tag before e g = subst (λ o. MatchOption o (new ≡ old) (λ b. HasGot old to b mark chan value tag new)) (sym e) g
 
+pub got_at : (old new : NameMap Pool) (to mark chan : Name) (value : Value) (tag : Tag) (before : Pool) → map.get old to ≡ Some before → IsGiven old to mark chan value tag new
+    → HasGot old to before mark chan value tag new
+got_at old new to mark chan value tag before e g = subst (λ o. MatchOption o (new ≡ old) (λ b. HasGot old to b mark chan value tag new)) e g
+
 pub ruleset seats = (named-put, named-cut, none_quiet)

@@ -1,6 +1,6 @@
 -- What a site keeps to when it is made and when an agent comes.
 use Rattle.std.proofs.Common.{◌≡◌, ◌<◌, ◌≤◌, ◌+◌, ◌*◌, ◌^◌, ℕ, Bool, true, false, cond, List, [], length, Option, None, Some, refl, sym, ap, ◌∙◌, arith}
-use Rattle.std.specs.Prelude.{IfNone, MatchOption, option_map}
+use Rattle.std.specs.Prelude.{IfNone, MatchOption, OnErr, Result, Ok, Err, option_map}
 use Rattle.std.specs.FinMap as map
 use Rattle.np_syntax.specs.declared.limits.TheConstants.{LARGEST_BUDGET}
 use Rattle.np_syntax.specs.declared.value.Name.{Name}
@@ -31,6 +31,10 @@ match_weaker (Some a) f g h = g a h
 pub none_given : {X : Type 0} (A B : Type 0) (o : Option X) → (A → IfNone o B) → IfNone o (A → B)
 none_given A B None f = f
 none_given A B (Some x) f = tt
+
+pub on_any : {P T E : Type 0} (r : Result T E) → P → OnErr r P
+on_any (Ok x) p = tt
+on_any (Err x) p = p
 
 pub same_agents : (old new : NameMap Pool) → new ≡ old → SameAgents old new
 same_agents old new e = record { each = λ q. ap (λ m. option_map without_room (map.get m q)) e }

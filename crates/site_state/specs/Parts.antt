@@ -1,5 +1,5 @@
 -- The parts of an event of a site: what an agent does, and what is recorded (docs/LANGUAGE.md, "Reductions", "History text").
-use Rattle.std.specs.Prelude.{◌≡◌, ◌+◌, Bool, true, false, ℕ, [], ◌∷◌, Option, None, Some}
+use Rattle.std.specs.Prelude.{◌≡◌, ◌≤◌, Bool, true, false, ℕ, [], ◌∷◌, Option, None, Some}
 use Rattle.std.specs.FinMap as map
 use Rattle.np_syntax.specs.declared.event.Event.{Event}
 use Rattle.np_syntax.specs.declared.event.Kind.{Kind}
@@ -9,11 +9,13 @@ use Rattle.np_syntax.specs.declared.event.Made.TheVariants as made
 use Rattle.np_syntax.specs.declared.value.Name.{Name}
 use Rattle.np_syntax.specs.declared.value.Value.{Value}
 use Rattle.np_tables.specs.Names.{NameMap}
+use Rattle.np_calculus.specs.declared.config.Packet.{Packet}
 use Rattle.np_calculus.specs.declared.config.Place.TheVariants as place
 use Rattle.np_calculus.specs.Changes.{Change, put, still}
 use Rattle.np_holdings.specs.Making.{next_after}
 use Rattle.np_code.specs.Programs.{ProgramTable}
 use Rattle.agent_pool.specs.declared.ready.Ready.{Ready}
+use Rattle.agent_pool.specs.Moves.{Births, IsTarget, LocalLeaves}
 use Rattle.agent_pool.specs.Pools.{Pool}
 use Rattle.agent_pool.specs.Readies.{made_of}
 use Rattle.agent_pool.specs.Rows.{Reduces}
@@ -84,3 +86,25 @@ pub record HasDeparted (code : ProgramTable) (old : NameMap Pool) (name : Name) 
   pub still_named : after.name ≡ name
   pub goes : Reduces kind.Depart code before after r made.Nothing (record still { places = put before.name (place.Way to) ∷ [] })
   pub agents : new ≡ map.remove old name
+
+-- by the making of an agent the agent of a name went on, and the new one stands there with its first atom
+pub record HasBirth (code : ProgramTable) (old : NameMap Pool) (name : Name) (r : Ready) (child mark : Name) (new : NameMap Pool) : Type 0 where
+  pub before : Pool
+  pub after : Pool
+  pub born : Pool
+  pub stood : map.get old name ≡ Some before
+  pub births : Births code before after r child mark born
+  pub agents : new ≡ map.insert (map.insert old name after) child born
+
+-- the agent of a name asks for this agent by a location test
+pub record Asks (code : ProgramTable) (agents : NameMap Pool) (name : Name) (r : Ready) (target : Name) : Type 0 where
+  pub each : (p : Pool) → map.get agents name ≡ Some p → IsTarget code p r target
+
+-- by a location test that finds its agent the agent of a name went on, and the packet is the output for that agent
+pub record HasTold (code : ProgramTable) (old : NameMap Pool) (name : Name) (r : Ready) (mark : Name) (packet : Packet) (new : NameMap Pool) : Type 0 where
+  pub before : Pool
+  pub after : Pool
+  pub stood : map.get old name ≡ Some before
+  pub told : LocalLeaves code before after r mark true (Some packet)
+  pub spare : 1 ≤ after.spare
+  pub agents : new ≡ map.insert old name after

@@ -5,11 +5,15 @@ mod accepting;
 mod agents;
 mod coming;
 mod inner;
+mod leaving;
 mod line;
+mod making;
 mod noting;
 mod outgoing;
+mod sending;
 mod site;
 mod stepping;
+mod telling;
 mod within;
 
 pub use site::Site;

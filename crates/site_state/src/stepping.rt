@@ -8,7 +8,7 @@ use super::site::Site;
 use super::within::is_inner;
 use agent_pool::Ready;
 use np_code::Code;
-use np_syntax::{Memory, Name};
+use np_syntax::{Kind, Memory, Name};
 use std::alloc::Global;
 
 /// What came of a step: an event was done, no agent could do anything, or there was no room for an event.
@@ -64,6 +64,13 @@ impl Site {
         if is_inner(r.kind) {
             return self.do_inner(alloc, code, name, r);
         }
-        Err(Memory)
+        match r.kind {
+            Kind::Print => self.do_print(alloc, code, name, r),
+            Kind::Send => self.do_send(alloc, code, name, r),
+            Kind::Depart => self.do_depart(alloc, code, name, r),
+            Kind::Agent => self.do_child(alloc, code, name, r),
+            Kind::Local => self.do_local(alloc, code, name, r),
+            _ => Err(Memory),
+        }
     }
 }

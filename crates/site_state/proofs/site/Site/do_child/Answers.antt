@@ -1,0 +1,27 @@
+use Rattle.std.proofs.Common.{◌≡◌, ◌+◌, refl, sym, ap, ◌∙◌}
+use Rattle.np_syntax.specs.declared.value.Name.{Name}
+use Rattle.site_state.specs.Standings.{Standing}
+use Rattle.site_state.proofs.Births.{has_born}
+use Rattle.site_state.proofs.Done.{same_quiet}
+use Rattle.site_state.proofs.Lines.{lines_same}
+use Rattle.site_state.proofs.Sites.{on_any}
+use Rattle.site_state.proofs.site.Site.do_child.Goals as goal
+
+pub returns-in_err-child_in-clause-err : goal.returns-in_err-child_in-clause-err
+returns-in_err-child_in-clause-err c =
+    let code = c.args.code.now in
+    rw (← c.self.view_is) (on_any c.from_residual.result record {
+      same = record { site = refl; agents = c.in_err-child_in.ensures.err; next = refl; clock = refl; history = refl; outgoing = lines_same _ };
+      quiet = λ q. same_quiet code _ _ refl refl (c.child_in.ensures.keeps.quiet code (same_quiet code _ _ refl refl q));
+    })
+
+pub returns-clause-ok : goal.returns-clause-ok
+returns-clause-ok c =
+    let s = c.self.inside in
+    let code = c.args.code.now in
+    let agents = c.child_in.new.agents in
+    let mid : Standing = record { site = s.site; agents = agents.agents; quiet = agents.quiet; next = s.next; clock = s.clock; history = s.history.history; outgoing = s.outgoing.lines } in
+    let child : Name = record { site = s.site; n = s.next } in
+    let mark : Name = record { site = s.site; n = s.next + 1 } in
+    rw (← c.self.view_is) (has_born c.law_own_events.ensures.makes code _ mid c.note.new.self c.args.name c.args.r child mark c.in_ok-child_in.ensures.ok
+    (record { site = refl; next = refl; clock = refl; history = refl }) refl (λ q. same_quiet code _ _ refl refl (c.child_in.ensures.keeps.quiet code (same_quiet code _ _ refl refl q))) c.requires.kind refl refl c.note.ensures.noted)
