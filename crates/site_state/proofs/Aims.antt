@@ -1,6 +1,6 @@
 -- What leaves a site goes to one of the program's sites.
-use Rattle.std.proofs.Common.{◌≡◌, ◌<◌, ℕ, false, true, List, [], ◌∷◌, Option, None, Some, length, refl, sym, ap, subst, ◌∙◌, nat_lt}
-use Rattle.np_calculus.proofs.Common.{Change, Event, Expr, Name, Sight, Env, ◌>>=◌, acting_in, agent_of, chan_of, done, eval, no_other, none_made, need, then, when}
+use Rattle.std.proofs.Common.{◌≡◌, ◌<◌, ℕ, false, List, [], ◌∷◌, Some, length, sym, ap, subst, ◌∙◌, nat_lt}
+use Rattle.np_calculus.proofs.Common.{Change, Event, Expr, Sight, Env, acting_in, agent_of, chan_of, done, eval, no_other, then, when}
 use Rattle.np_calculus.proofs.Common.{act}
 use Rattle.np_syntax.specs.declared.event.Kind.TheVariants as kind
 use Rattle.np_syntax.specs.declared.event.Made.TheVariants as made
@@ -9,7 +9,7 @@ use Rattle.np_eval.specs.Eval.{as_site}
 use Rattle.np_calculus.specs.declared.config.Packet.{Packet}
 use Rattle.np_calculus.specs.declared.config.Place.{Place}
 use Rattle.np_calculus.specs.declared.config.Place.TheVariants as place
-use Rattle.np_calculus.specs.Changes.{Write, cut, put, still}
+use Rattle.np_calculus.specs.Changes.{Write, put, still}
 use Rattle.np_calculus.specs.Reductions.{site_in}
 use Rattle.np_calculus.proofs.Rows.{parts}
 use Rattle.np_holdings.proofs.Parts.{below}

@@ -15,7 +15,7 @@ use Rattle.np_tables.proofs.Mapped.{get-mapped, mapped-put, mapped_there}
 use Rattle.np_tables.proofs.Tables.{same_tables}
 use Rattle.np_calculus.specs.declared.config.Atom.{Atom}
 use Rattle.np_calculus.specs.declared.config.Packet.{Packet}
-use Rattle.np_calculus.specs.Begins.{arrival, landing}
+use Rattle.np_calculus.specs.Begins.{landing}
 use Rattle.np_calculus.specs.Reductions.{output_in}
 use Rattle.stamp_history.specs.declared.stamped.Stamped.{Stamped}
 use Rattle.stamp_history.specs.Histories.{Recorded}
@@ -35,9 +35,9 @@ use Rattle.agent_move.specs.declared.load.Load.{Load}
 use Rattle.agent_move.specs.declared.load.Load.TheVariants as load
 use Rattle.agent_move.specs.Items.{contents_of, item_of}
 use Rattle.agent_move.specs.Loads.{site_for}
-use Rattle.site_state.specs.Coming.{HasCome, HasGot, IsGiven, event_for}
-use Rattle.site_state.specs.Doing.{Did, DoesIfMade, HasTaken, deed_of, recorded}
-use Rattle.site_state.specs.Lines.{SameLines, queue_at}
+use Rattle.site_state.specs.Coming.{HasCome, HasGot, event_for}
+use Rattle.site_state.specs.Doing.{DoesIfMade, HasTaken, deed_of, recorded}
+use Rattle.site_state.specs.Lines.{queue_at}
 use Rattle.site_state.specs.Parts.{IsNoted}
 use Rattle.site_state.specs.Seated.{AreNamed}
 use Rattle.site_state.specs.Standings.{KeepsQuiet, SameAgents, SameRecords, Standing, holding_of, without_room}

@@ -1,11 +1,9 @@
 -- The making of an agent at a site is what the calculus says.
-use Rattle.std.proofs.Common.{◌≡◌, ◌+◌, ℕ, false, [], ◌∷◌, length, Option, None, Some, refl, sym, ap, subst, ◌∙◌}
+use Rattle.std.proofs.Common.{◌≡◌, ◌+◌, false, [], ◌∷◌, length, None, sym, ap, subst, ◌∙◌}
 use Rattle.std.specs.FinMap as map
 use Rattle.np_syntax.specs.declared.event.Kind.TheVariants as kind
 use Rattle.np_syntax.specs.declared.event.Made.TheVariants as made
-use Rattle.np_syntax.specs.declared.process.Proc.{Proc}
 use Rattle.np_syntax.specs.declared.value.Name.{Name}
-use Rattle.np_tables.specs.Names.{NameMap}
 use Rattle.np_tables.specs.Mapped.{mapped}
 use Rattle.np_tables.proofs.Mapped.{mapped-put, mapped-empty, mapped_there}
 use Rattle.np_calculus.specs.declared.config.Atom.{Atom}
@@ -14,9 +12,9 @@ use Rattle.np_calculus.specs.Changes.{put, still}
 use Rattle.stamp_history.specs.declared.stamped.Stamped.{Stamped}
 use Rattle.stamp_history.specs.Histories.{Recorded}
 use Rattle.np_holdings.specs.Going.{GoesPast}
-use Rattle.np_holdings.specs.Holdings.{Does, Holding, name_of}
+use Rattle.np_holdings.specs.Holdings.{Does, name_of}
 use Rattle.np_holdings.specs.Making.{next_after}
-use Rattle.np_holdings.specs.Within.{IsOwnEvent, Makes, given, gone_on, inner}
+use Rattle.np_holdings.specs.Within.{Makes, given, gone_on, inner}
 use Rattle.np_code.specs.Programs.{ProgramTable}
 use Rattle.agent_pool.specs.declared.ready.Ready.{Ready}
 use Rattle.agent_pool.specs.Held.{atom_of, wait_of}
@@ -26,7 +24,7 @@ use Rattle.agent_pool.specs.Rows.{event_of}
 use Rattle.site_state.specs.Doing.{DoesIfMade, HasDone, deed_of}
 use Rattle.site_state.specs.Parts.{HasBirth, IsNoted}
 use Rattle.site_state.specs.Standings.{KeepsQuiet, SameRecords, Standing, holding_of}
-use Rattle.site_state.proofs.Done.{done_inner, said_of}
+use Rattle.site_state.proofs.Done.{done_inner}
 use Rattle.site_state.proofs.Lines.{lines_are_same}
 
 born_seen : (code : ProgramTable) (before after born : Pool) (r : Ready) (child mark : Name) → (b : Births code before after r child mark born)

@@ -1,27 +1,24 @@
 -- What an event of an agent does to a site is what the calculus says.
-use Rattle.std.proofs.Common.{◌≡◌, ◌≢◌, ◌+◌, ℕ, true, false, List, [], ◌∷◌, length, Option, None, Some, refl, sym, ap, subst, ◌∙◌}
+use Rattle.std.proofs.Common.{◌≡◌, ◌+◌, length, Option, None, Some, refl, sym, ap, subst, ◌∙◌}
 use Rattle.std.specs.FinMap as map
 use Rattle.np_syntax.specs.declared.event.Event.{Event}
-use Rattle.np_syntax.specs.declared.event.Kind.{Kind}
 use Rattle.np_syntax.specs.declared.event.Kind.TheVariants as kind
 use Rattle.np_syntax.specs.declared.event.Made.{Made}
-use Rattle.np_syntax.specs.declared.event.Made.TheVariants as made
 use Rattle.np_syntax.specs.declared.value.Name.{Name}
 use Rattle.np_syntax.specs.declared.value.Value.{Value}
-use Rattle.np_tables.specs.Names.{NameMap}
 use Rattle.np_tables.specs.Mapped.{mapped}
 use Rattle.np_tables.proofs.Mapped.{mapped-put, mapped_there}
 use Rattle.np_calculus.specs.Changes.{still}
 use Rattle.stamp_history.specs.declared.stamped.Stamped.{Stamped}
 use Rattle.stamp_history.specs.Histories.{Recorded}
-use Rattle.np_holdings.specs.Holdings.{Does, Holding}
+use Rattle.np_holdings.specs.Holdings.{Does}
 use Rattle.np_holdings.specs.Making.{AreNext, next_after}
-use Rattle.np_holdings.specs.Within.{GoesOn, IsOwnEvent, gone_on, inner, with_value}
+use Rattle.np_holdings.specs.Within.{GoesOn, gone_on, inner, with_value}
 use Rattle.np_code.specs.Programs.{ProgramTable}
 use Rattle.agent_pool.specs.declared.ready.Ready.{Ready}
-use Rattle.agent_pool.specs.Pools.{Pool, atoms_of}
+use Rattle.agent_pool.specs.Pools.{atoms_of}
 use Rattle.agent_pool.specs.Rows.{event_of}
-use Rattle.site_state.specs.Doing.{ArePut, Did, DoesIfMade, HasDone, deed_of, recorded}
+use Rattle.site_state.specs.Doing.{ArePut, DoesIfMade, HasDone, deed_of, recorded}
 use Rattle.site_state.specs.Lines.{SameLines}
 use Rattle.site_state.specs.Parts.{HasReduced, IsLooked, IsNoted}
 use Rattle.site_state.specs.Coming.{KeepsSeats}

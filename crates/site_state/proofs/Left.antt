@@ -1,12 +1,8 @@
 -- What leaves a site does what the calculus says.
-use Rattle.std.proofs.Common.{◌≡◌, ◌<◌, ◌+◌, ℕ, [], ◌∷◌, length, Option, None, Some, refl, sym, ap, subst, ◌∙◌}
-use Rattle.std.specs.FinMap as map
-use Rattle.np_syntax.specs.declared.event.Event.{Event}
-use Rattle.np_syntax.specs.declared.event.Kind.{Kind}
+use Rattle.std.proofs.Common.{◌≡◌, ◌<◌, ◌+◌, ℕ, [], ◌∷◌, length, None, Some, refl, sym, ap, subst, ◌∙◌}
 use Rattle.np_syntax.specs.declared.event.Kind.TheVariants as kind
 use Rattle.np_syntax.specs.declared.event.Made.TheVariants as made
 use Rattle.np_syntax.specs.declared.value.Name.{Name}
-use Rattle.np_tables.specs.Names.{NameMap}
 use Rattle.np_tables.specs.Mapped.{mapped}
 use Rattle.np_tables.proofs.Mapped.{mapped-put, mapped-cut, mapped_there}
 use Rattle.np_calculus.specs.declared.config.Packet.{Packet}
@@ -14,10 +10,10 @@ use Rattle.np_calculus.specs.declared.config.Place.TheVariants as place
 use Rattle.np_calculus.specs.Changes.{put, still}
 use Rattle.stamp_history.specs.declared.stamped.Stamped.{Stamped}
 use Rattle.stamp_history.specs.Histories.{Recorded, with_event}
-use Rattle.np_holdings.specs.Holdings.{Does, Holding}
+use Rattle.np_holdings.specs.Holdings.{Does}
 use Rattle.np_holdings.specs.Leaving.{Leaves, Sends, putting, without}
 use Rattle.np_holdings.specs.Loads.{agent_load}
-use Rattle.np_holdings.specs.Within.{IsOwnEvent, gone_on}
+use Rattle.np_holdings.specs.Within.{gone_on}
 use Rattle.np_code.specs.Programs.{ProgramTable}
 use Rattle.agent_pool.specs.declared.ready.Ready.{Ready}
 use Rattle.agent_pool.specs.Pools.{Pool, atoms_of}
@@ -25,7 +21,7 @@ use Rattle.agent_pool.specs.Rows.{Reduces, event_of}
 use Rattle.agent_move.specs.declared.item.Item.{Item}
 use Rattle.agent_move.specs.declared.load.Load.TheVariants as load
 use Rattle.agent_move.specs.Items.{contents_of, item_of}
-use Rattle.site_state.specs.Doing.{Did, DoesIfMade, HasDone, deed_of}
+use Rattle.site_state.specs.Doing.{DoesIfMade, HasDone, deed_of}
 use Rattle.site_state.specs.Lines.{IsPut}
 use Rattle.site_state.specs.Parts.{HasDeparted, HasGone}
 use Rattle.site_state.specs.Standings.{KeepsQuiet, Standing, holding_of}

@@ -1,13 +1,12 @@
 -- What a site keeps to when an event is recorded.
-use Rattle.std.proofs.Common.{◌≡◌, ◌<◌, ◌≤◌, ◌+◌, ◌*◌, ◌^◌, ℕ, List, [], ◌∷◌, ◌++◌, length, Option, None, Some, refl, sym, ap, subst, ◌∙◌, arith}
+use Rattle.std.proofs.Common.{◌≡◌, ◌<◌, ◌≤◌, ◌+◌, ◌^◌, ℕ, List, [], ◌∷◌, ◌++◌, length, Option, None, Some, refl, sym, ap, subst, ◌∙◌, arith}
 use Rattle.std.proofs.lemmas.Grind.{common_steps}
-use Rattle.np_syntax.specs.declared.event.Event.{Event}
 use Rattle.np_syntax.specs.declared.event.Made.{Made}
 use Rattle.np_syntax.specs.declared.event.Made.TheVariants as made
 use Rattle.np_syntax.specs.declared.value.Value.{Value}
 use Rattle.stamp_history.specs.declared.stamped.Stamped.{Stamped}
 use Rattle.stamp_history.specs.Histories.{IsAboveLast, Recorded}
-use Rattle.site_state.specs.Doing.{HasRoom, recorded}
+use Rattle.site_state.specs.Doing.{recorded}
 use Rattle.site_state.specs.Parts.{names_in}
 use Rattle.site_state.specs.Seated.{AreNamed}
 use Rattle.site_state.specs.Standings.{IsStanding, Standing}

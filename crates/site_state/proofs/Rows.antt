@@ -1,5 +1,5 @@
 -- A ready of a kind meets the row of that kind.
-use Rattle.std.proofs.Common.{◌≡◌, ℕ, true, false, subst, sym, ap, Some, IsSome, ◌∙◌}
+use Rattle.std.proofs.Common.{◌≡◌, true, false, subst, sym, ap, Some, IsSome, ◌∙◌}
 use Rattle.std.specs.FinMap as map
 use Rattle.std.proofs.lemmas.Option.{same_Some}
 use Rattle.np_syntax.specs.declared.event.Kind.{Kind}

@@ -1,15 +1,11 @@
 -- What a site keeps to when it is made and when an agent comes.
-use Rattle.std.proofs.Common.{◌≡◌, ◌<◌, ◌≤◌, ◌+◌, ◌*◌, ◌^◌, ℕ, Bool, true, false, cond, List, [], length, Option, None, Some, refl, sym, ap, ◌∙◌, arith}
+use Rattle.std.proofs.Common.{◌≡◌, ◌≤◌, ℕ, Option, None, Some, sym, ap, ◌∙◌, arith}
 use Rattle.std.specs.Prelude.{IfNone, MatchOption, OnErr, Result, Ok, Err, option_map}
 use Rattle.std.specs.FinMap as map
 use Rattle.np_syntax.specs.declared.limits.TheConstants.{LARGEST_BUDGET}
-use Rattle.np_syntax.specs.declared.value.Name.{Name}
-use Rattle.np_tables.specs.Names.{NameMap, same_name}
-use Rattle.np_tables.proofs.Tables.{get-none, get-put, same_name-is}
+use Rattle.np_tables.specs.Names.{NameMap}
 use Rattle.stamp_history.specs.Histories.{Recorded, without_events}
-use Rattle.np_code.specs.Programs.{ProgramTable}
 use Rattle.agent_pool.specs.Pools.{Pool}
-use Rattle.site_state.specs.Seated.{AreNamed}
 use Rattle.site_state.proofs.Seats.{named-none}
 use Rattle.site_state.specs.Standings.{IsStanding, SameAgents, Standing, without_room}
 

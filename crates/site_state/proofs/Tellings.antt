@@ -1,6 +1,6 @@
 -- A location test does what the calculus says.
-use Rattle.std.proofs.Common.{◌≡◌, ◌≤◌, ◌+◌, ℕ, Bool, true, false, cond, is_some, [], ◌∷◌, List, length, Option, None, Some, refl, sym, ap, subst, ◌∙◌}
-use Rattle.std.specs.Prelude.{MatchOption, option_map}
+use Rattle.std.proofs.Common.{◌≡◌, ◌≤◌, ◌+◌, Bool, true, false, cond, is_some, [], ◌∷◌, List, length, Option, None, Some, refl, sym, ap, subst, ◌∙◌}
+use Rattle.std.specs.Prelude.{option_map}
 use Rattle.std.proofs.lemmas.Option.{same_Some}
 use Rattle.std.specs.FinMap as map
 use Rattle.np_syntax.specs.declared.event.Event.{Event}
@@ -15,25 +15,25 @@ use Rattle.np_tables.proofs.Mapped.{get-mapped, mapped-put, mapped_there}
 use Rattle.np_tables.proofs.Tables.{get-put}
 use Rattle.np_calculus.specs.declared.config.Atom.{Atom}
 use Rattle.np_calculus.specs.declared.config.Packet.{Packet}
-use Rattle.np_calculus.specs.Changes.{Change, Write, put, still, written}
+use Rattle.np_calculus.specs.Changes.{Change, Write, put, still}
 use Rattle.np_calculus.specs.Reductions.{output_in}
 use Rattle.np_calculus.specs.Sight.{Sight}
 use Rattle.stamp_history.specs.declared.stamped.Stamped.{Stamped}
 use Rattle.stamp_history.specs.Histories.{Recorded}
-use Rattle.np_holdings.specs.Holdings.{Does, Holding, name_of}
+use Rattle.np_holdings.specs.Holdings.{Does, name_of}
 use Rattle.np_holdings.specs.Loads.{output_of}
 use Rattle.np_holdings.specs.Making.{next_after}
-use Rattle.np_holdings.specs.Within.{GoesOnAlone, IsOwnEvent, Tells, given, gone_on, inner}
+use Rattle.np_holdings.specs.Within.{GoesOnAlone, Tells, given, gone_on, inner}
 use Rattle.np_holdings.proofs.Inversions as inverted
 use Rattle.np_code.specs.Programs.{ProgramTable}
 use Rattle.agent_index.specs.Shelves.{Kept}
 use Rattle.agent_pool.specs.declared.held.Held.{Held}
 use Rattle.agent_pool.specs.declared.ready.Ready.{Ready}
-use Rattle.agent_pool.specs.Moves.{IsTarget, LocalLeaves, asked_of, leaves_outside, outside}
+use Rattle.agent_pool.specs.Moves.{IsTarget, LocalLeaves, asked_of, outside}
 use Rattle.agent_pool.specs.Pools.{Pool, atoms_of, seen_as}
 use Rattle.agent_pool.specs.Readies.{IsReady}
 use Rattle.agent_pool.specs.Rows.{Reduces, change_in, event_of, own_sight}
-use Rattle.site_state.specs.Coming.{HasGot, HasSpare, IsGiven}
+use Rattle.site_state.specs.Coming.{HasGot, HasSpare}
 use Rattle.site_state.specs.Doing.{DoesIfMade, HasDone, deed_of}
 use Rattle.site_state.specs.Parts.{Asks, HasGone, HasTold, IsNoted}
 use Rattle.site_state.specs.Seated.{AreNamed, CanDo}

@@ -6,7 +6,6 @@ use Rattle.np_syntax.specs.declared.process.Tag.{Tag}
 use Rattle.np_syntax.specs.declared.value.Name.{Name}
 use Rattle.np_syntax.specs.declared.value.Value.{Value}
 use Rattle.np_tables.specs.Names.{NameMap}
-use Rattle.np_calculus.specs.declared.config.Packet.{Packet}
 use Rattle.np_calculus.specs.Begins.{arrival, landing}
 use Rattle.np_code.specs.Programs.{ProgramTable}
 use Rattle.agent_index.specs.declared.wait.Wait.TheVariants as wait
@@ -15,7 +14,6 @@ use Rattle.agent_pool.specs.Pools.{Pool}
 use Rattle.agent_move.specs.declared.load.Load.{Load}
 use Rattle.agent_move.specs.declared.load.Load.TheVariants as load
 use Rattle.site_state.specs.Seated.{AreNamed, AreQuiet, Seated}
-use Rattle.site_state.specs.Standings.{SameAgents}
 
 -- the agent of a name, if there is one, is sure to find a place for one more atom
 pub record HasSpare (agents : NameMap Pool) (q : Name) : Type 0 where

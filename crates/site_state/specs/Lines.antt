@@ -70,3 +70,7 @@ pub record IsTaken (old : List Waiting) (to : ℕ) (item : Item) (new : List Wai
   pub there : queue_at old to ≡ item ∷ queue_at new to
   pub place : 0 < room_at new to
   pub others : (t : ℕ) → t ≢ to → queue_at new t ≡ queue_at old t
+
+-- no line has items
+pub record NothingOut (lines : List Waiting) : Type 0 where
+  pub each : (to : ℕ) → queue_at lines to ≡ []

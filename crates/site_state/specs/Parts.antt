@@ -1,5 +1,5 @@
 -- The parts of an event of a site: what an agent does, and what is recorded (docs/LANGUAGE.md, "Reductions", "History text").
-use Rattle.std.specs.Prelude.{◌≡◌, ◌≤◌, Bool, true, false, ℕ, [], ◌∷◌, Option, None, Some}
+use Rattle.std.specs.Prelude.{◌≡◌, ◌≤◌, Bool, true, false, ℕ, [], ◌∷◌, Option, Some}
 use Rattle.std.specs.FinMap as map
 use Rattle.np_syntax.specs.declared.event.Event.{Event}
 use Rattle.np_syntax.specs.declared.event.Kind.{Kind}
@@ -17,7 +17,6 @@ use Rattle.np_code.specs.Programs.{ProgramTable}
 use Rattle.agent_pool.specs.declared.ready.Ready.{Ready}
 use Rattle.agent_pool.specs.Moves.{Births, IsTarget, LocalLeaves}
 use Rattle.agent_pool.specs.Pools.{Pool}
-use Rattle.agent_pool.specs.Readies.{made_of}
 use Rattle.agent_pool.specs.Rows.{Reduces}
 use Rattle.site_state.specs.Doing.{recorded}
 use Rattle.site_state.specs.Lines.{SameLines}

@@ -1,5 +1,5 @@
 -- What contracts see of the agents at a site.
-use Rattle.std.specs.Prelude.{◌≡◌, ℕ, Bool, true, List, Option, Some, refl}
+use Rattle.std.specs.Prelude.{◌≡◌, ℕ, Bool, true, List, Some, refl}
 use Rattle.std.specs.Coded.{Coded, code_by, coded×, coded_ℕ, coded_bool}
 use Rattle.std.specs.FinMap as map
 use Rattle.np_syntax.specs.declared.value.Name.{Name}

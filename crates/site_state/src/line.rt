@@ -1,4 +1,4 @@
-ghost use Rattle.std.specs.Prelude.{◌≡◌, ◌<◌, ◌≤◌, ◌+◌, [], ◌∷◌, ◌++◌, IfOk, OnOk, MatchOption};
+ghost use Rattle.std.specs.Prelude.{◌≡◌, ◌<◌, ◌≤◌, ◌+◌, [], ◌∷◌, ◌++◌, ◌↔◌, IfOk, IsTrue, OnOk, MatchOption};
 ghost use Rattle.site_state.specs.declared.line.TheConstants.{PLACES};
 
 use agent_move::Item;
@@ -48,6 +48,12 @@ impl Line {
             Ok(()) => Ok(()),
             Err(_) => Err(Memory),
         }
+    }
+
+    pub fn is_empty(&self) -> bool
+        ensures { IsTrue result ↔ (self.now.items ≡ []) }
+    {
+        self.items.is_empty()
     }
 
     /// An item comes last.

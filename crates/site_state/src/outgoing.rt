@@ -1,6 +1,6 @@
-ghost use Rattle.std.specs.Prelude.{◌≡◌, ◌<◌, ◌≤◌, ◌^◌, ◌+◌, [], length, IfOk, OnOk, MatchOption};
+ghost use Rattle.std.specs.Prelude.{◌≡◌, ◌<◌, ◌≤◌, ◌^◌, ◌+◌, [], length, ◌↔◌, IfOk, IsTrue, OnOk, MatchOption};
 ghost use Rattle.site_state.specs.declared.line.TheConstants.{PLACES};
-ghost use Rattle.site_state.specs.Lines.{queue_at, room_at, AreEmpty, AreGrown, HaveRoom, HaveRoomBelow, SameLines, IsPut, IsTaken};
+ghost use Rattle.site_state.specs.Lines.{queue_at, room_at, AreEmpty, AreGrown, HaveRoom, HaveRoomBelow, NothingOut, SameLines, IsPut, IsTaken};
 
 use super::line::{Line, PLACES};
 use agent_move::Item;
@@ -46,6 +46,13 @@ impl Outgoing {
         ensures { result ≡ length self.now.lines }
     {
         self.lines.len() as u32
+    }
+
+    /// Whether there is no item for any site.
+    pub fn is_empty(&self) -> bool
+        ensures { IsTrue result ↔ NothingOut self.now.lines }
+    {
+        are_empty(&self.lines)
     }
 
     /// Makes sure of room for one more item, whatever site it is for.
@@ -130,4 +137,24 @@ fn reserve_at(lines: &mut Vec<Line>, at: usize) -> Result<(), Memory>
     ensures room { HaveRoomBelow at PLACES lines.old.items → OnOk result (HaveRoomBelow (at + 1) PLACES lines.new.items) }
 {
     lines[at].reserve(PLACES)
+}
+
+/// Whether each line has no items.
+fn are_empty(lines: &Vec<Line>) -> bool
+    ensures { IsTrue result ↔ NothingOut lines.now.items }
+{
+    for i in 0..lines.len() {
+        if !is_empty_at(lines, i) {
+            return false;
+        }
+    }
+    true
+}
+
+/// Whether one of the lines has no items.
+fn is_empty_at(lines: &Vec<Line>, at: usize) -> bool
+    requires { at < length lines.now.items }
+    ensures { IsTrue result ↔ (queue_at lines.now.items at ≡ []) }
+{
+    lines[at].is_empty()
 }

@@ -2,7 +2,7 @@ ghost use Rattle.std.specs.Prelude.{◌≡◌, ◌<◌, ◌≤◌, ◌^◌, ◌�
 ghost use Rattle.std.specs.FinMap as map;
 ghost use Rattle.np_syntax.specs.declared.limits.TheConstants.{LARGEST_BUDGET};
 ghost use Rattle.site_state.specs.Seated.{AreIdle};
-ghost use Rattle.site_state.specs.Lines.{room_at};
+ghost use Rattle.site_state.specs.Lines.{NothingOut, room_at};
 ghost use Rattle.site_state.specs.Standings.{IsNew, IsSettled, IsStanding, NoneOut, IsOut, StaysForAll};
 
 use super::agents::Agents;
@@ -119,6 +119,13 @@ impl Site {
         ensures standing { IsStanding self }
     {
         self.history
+    }
+
+    /// Whether no item waits to be put on its link.
+    pub fn all_sent(&self) -> bool
+        ensures { IsTrue result ↔ NothingOut self.now.outgoing }
+    {
+        self.outgoing.is_empty()
     }
 
     /// Whether all agents that stand here are idle. It takes no memory.

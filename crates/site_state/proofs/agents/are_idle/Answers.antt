@@ -1,4 +1,4 @@
-use Rattle.std.proofs.Common.{◌<◌, subst, arith, refl}
+use Rattle.std.proofs.Common.{◌<◌, subst}
 use Rattle.np_tables.proofs.Walks.{one-more}
 use Rattle.site_state.specs.Seated.{IsIdleAt}
 use Rattle.site_state.proofs.agents.are_idle.Goals as goal

@@ -1,6 +1,5 @@
-use Rattle.std.proofs.Common.{◌≡◌, true, Some, refl, sym, ap, subst, ◌∙◌}
+use Rattle.std.proofs.Common.{◌≡◌, true, Some, sym, ap, subst, ◌∙◌}
 use Rattle.std.specs.FinMap as map
-use Rattle.np_syntax.specs.declared.event.Kind.TheVariants as kind
 use Rattle.agent_pool.specs.Moves.{LocalLeaves}
 use Rattle.site_state.proofs.Done.{keeps_after}
 use Rattle.site_state.proofs.Rows.{met_told}

@@ -1,4 +1,4 @@
-use Rattle.std.proofs.Common.{◌≡◌, ◌+◌, refl, sym, ap, ◌∙◌}
+use Rattle.std.proofs.Common.{◌+◌, refl}
 use Rattle.np_syntax.specs.declared.value.Name.{Name}
 use Rattle.site_state.specs.Standings.{Standing}
 use Rattle.site_state.proofs.Births.{has_born}

@@ -1,4 +1,4 @@
-use Rattle.std.proofs.Common.{◌≡◌, ◌<◌, None, length, refl, sym, ap, subst, ◌∙◌, arith}
+use Rattle.std.proofs.Common.{◌<◌, None, length, refl, sym, ap, subst, ◌∙◌, arith}
 use Rattle.stamp_history.specs.Histories.{Recorded, with_event}
 use Rattle.site_state.specs.Standings.{Standing}
 use Rattle.site_state.proofs.Aims.{sends_within}

@@ -1,4 +1,4 @@
-use Rattle.std.proofs.Common.{refl, sym}
+use Rattle.std.proofs.Common.{refl}
 use Rattle.site_state.proofs.Done.{same_quiet}
 use Rattle.site_state.proofs.site.Site.settle_agent.Goals as goal
 
