@@ -39,7 +39,7 @@ use Rattle.site_state.specs.Coming.{HasCome, HasGot, event_for}
 use Rattle.site_state.specs.Doing.{DoesIfMade, HasTaken, deed_of, recorded}
 use Rattle.site_state.specs.Lines.{queue_at}
 use Rattle.site_state.specs.Parts.{IsNoted}
-use Rattle.site_state.specs.Seated.{AreNamed}
+use Rattle.site_agents.specs.Standings.{AreNamed}
 use Rattle.site_state.specs.Standings.{KeepsQuiet, SameAgents, SameRecords, Standing, holding_of, without_room}
 use Rattle.site_state.proofs.Done.{same_quiet}
 

@@ -22,7 +22,7 @@ use Rattle.site_state.specs.Doing.{ArePut, DoesIfMade, HasDone, deed_of, recorde
 use Rattle.site_state.specs.Lines.{SameLines}
 use Rattle.site_state.specs.Parts.{HasReduced, IsLooked, IsNoted}
 use Rattle.site_state.specs.Coming.{KeepsSeats}
-use Rattle.site_state.specs.Seated.{AreNamed, AreQuiet, Seated}
+use Rattle.site_agents.specs.Standings.{AreNamed, AreQuiet, Standing as Seated}
 use Rattle.site_state.specs.Standings.{KeepsQuiet, SameRecords, Standing, holding_of}
 
 pub said_of : (h : Recorded) (e : Stamped) (value : Option Value) → (recorded h e value).said ≡ with_value h.said value

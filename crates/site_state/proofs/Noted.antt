@@ -8,7 +8,7 @@ use Rattle.stamp_history.specs.declared.stamped.Stamped.{Stamped}
 use Rattle.stamp_history.specs.Histories.{IsAboveLast, Recorded}
 use Rattle.site_state.specs.Doing.{recorded}
 use Rattle.site_state.specs.Parts.{names_in}
-use Rattle.site_state.specs.Seated.{AreNamed}
+use Rattle.site_agents.specs.Standings.{AreNamed}
 use Rattle.site_state.specs.Standings.{IsStanding, Standing}
 
 pub above_more : (es : List Stamped) (m n : ℕ) → m ≤ n → IsAboveLast es m → IsAboveLast es n

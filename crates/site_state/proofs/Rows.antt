@@ -15,7 +15,7 @@ use Rattle.agent_pool.specs.Pools.{Pool, atoms_of}
 use Rattle.agent_pool.specs.Readies.{IsReady, made_of}
 use Rattle.agent_pool.specs.Rows.{IsMet, Reduces, change_in, event_of, own_sight}
 use Rattle.site_state.specs.Parts.{is_inner}
-use Rattle.site_state.specs.Seated.{CanDo}
+use Rattle.site_agents.specs.Standings.{CanDo}
 
 module _ (code : ProgramTable) (p q : Pool) (r : Ready) (k : Kind) (is : r.kind ≡ k) (first : Name) where
   pub met : IsReady code (atoms_of code.processes p) r → IsMet k code p r (made_of k false first first)

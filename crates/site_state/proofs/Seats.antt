@@ -11,7 +11,7 @@ use Rattle.np_tables.proofs.Tables.{get-none, get-put, put-cut, same_name-is, cu
 use Rattle.np_code.specs.Programs.{ProgramTable}
 use Rattle.agent_pool.specs.Pools.{Pool, Unchanged}
 use Rattle.site_state.specs.Coming.{HasGot, HasSpare, IsGiven}
-use Rattle.site_state.specs.Seated.{AreNamed, AreQuiet, Seated}
+use Rattle.site_agents.specs.Standings.{AreNamed, AreQuiet, Standing as Seated}
 use Rattle.site_state.specs.Standings.{SameAgents, without_room}
 
 named_at : (agents : NameMap Pool) (k : Name) (p : Pool) → AreNamed agents → p.name ≡ k → (q : Name) (t : Bool) (x : Pool) → same_name q k ≡ t
@@ -70,5 +70,3 @@ given_some old new to mark chan value tag before e g = subst (λ o. MatchOption 
 pub got_at : (old new : NameMap Pool) (to mark chan : Name) (value : Value) (tag : Tag) (before : Pool) → map.get old to ≡ Some before → IsGiven old to mark chan value tag new
     → HasGot old to before mark chan value tag new
 got_at old new to mark chan value tag before e g = subst (λ o. MatchOption o (new ≡ old) (λ b. HasGot old to b mark chan value tag new)) e g
-
-pub ruleset seats = (named-put, named-cut, none_quiet)

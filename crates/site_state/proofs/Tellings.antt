@@ -36,7 +36,7 @@ use Rattle.agent_pool.specs.Rows.{Reduces, change_in, event_of, own_sight}
 use Rattle.site_state.specs.Coming.{HasGot, HasSpare}
 use Rattle.site_state.specs.Doing.{DoesIfMade, HasDone, deed_of}
 use Rattle.site_state.specs.Parts.{Asks, HasGone, HasTold, IsNoted}
-use Rattle.site_state.specs.Seated.{AreNamed, CanDo}
+use Rattle.site_agents.specs.Standings.{AreNamed, CanDo}
 use Rattle.site_state.specs.Standings.{KeepsQuiet, SameAgents, SameRecords, Standing, holding_of, without_room}
 use Rattle.site_state.proofs.Arrivals.{got_seen, same_seen}
 use Rattle.site_state.proofs.Done.{done_inner}

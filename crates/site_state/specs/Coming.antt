@@ -13,7 +13,7 @@ use Rattle.agent_pool.specs.declared.held.Held.TheVariants as held
 use Rattle.agent_pool.specs.Pools.{Pool}
 use Rattle.agent_move.specs.declared.load.Load.{Load}
 use Rattle.agent_move.specs.declared.load.Load.TheVariants as load
-use Rattle.site_state.specs.Seated.{AreNamed, AreQuiet, Seated}
+use Rattle.site_agents.specs.Standings.{AreNamed, AreQuiet, Standing as Seated}
 
 -- the agent of a name, if there is one, is sure to find a place for one more atom
 pub record HasSpare (agents : NameMap Pool) (q : Name) : Type 0 where

@@ -13,7 +13,7 @@ use Rattle.agent_move.specs.Items.{item_of}
 use Rattle.site_state.specs.declared.stepping.Stepped.{Stepped}
 use Rattle.site_state.specs.declared.stepping.Stepped.TheVariants as stepped
 use Rattle.site_state.specs.Lines.{Waiting, IsPut, SameLines}
-use Rattle.site_state.specs.Seated.{NoneCan}
+use Rattle.site_agents.specs.Standings.{NoneCan}
 use Rattle.site_state.specs.Standings.{IsQuiet, KeepsQuiet, Standing, Stays, holding_of}
 
 -- an event with the item that it takes and the one that it puts out

@@ -2,5 +2,4 @@ pub mod Coming
 pub mod Doing
 pub mod Lines
 pub mod Parts
-pub mod Seated
 pub mod Standings

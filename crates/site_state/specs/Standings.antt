@@ -14,7 +14,7 @@ use Rattle.agent_index.specs.Shelves.{Kept}
 use Rattle.agent_pool.specs.declared.held.Held.{Held}
 use Rattle.agent_pool.specs.Pools.{Pool, pool_code, atoms_of}
 use Rattle.agent_move.specs.declared.item.Item.{Item}
-use Rattle.site_state.specs.Seated.{AreNamed, AreQuiet, Seated}
+use Rattle.site_agents.specs.Standings.{AreNamed, AreQuiet, Standing as Seated}
 use Rattle.site_state.specs.Lines.{Waiting, waiting_code, AreEmpty, SameLines, IsTaken, queue_at}
 
 -- its number, its agents by their names, for each whether it was found to be quiet, the number of the next name that it makes, its clock, what it made and printed, and what it has to put on
@@ -52,7 +52,7 @@ holding_of code s =
 
 -- the agents, with room for some more
 abbrev pub seated : Standing → ℕ → Seated
-seated s room = record { agents = s.agents; quiet = s.quiet; room = room }
+seated s room = record { agents = s.agents; quiet = s.quiet; room = room; keys = [] }
 
 -- each agent that was found to be quiet can do nothing by this code
 abbrev pub IsQuiet : ProgramTable → Standing → Type 0

@@ -4,14 +4,14 @@ ghost use Rattle.std.specs.Prelude.{◌≡◌, ◌<◌, ◌≤◌, OnOk};
 ghost use Rattle.std.specs.FinMap as map;
 ghost use Rattle.np_calculus.specs.Begins.{arrival, landing};
 ghost use Rattle.site_state.specs.Coming.{HasCome, HasSpare, HasSpareFor, IsGiven, KeepsSeats, event_for};
-ghost use Rattle.site_state.specs.Seated.{AreNamed};
+ghost use Rattle.site_agents.specs.Standings.{AreNamed};
 ghost use Rattle.site_state.specs.Standings.{SameAgents};
 
-use super::agents::Agents;
 use agent_move::{Item, Load};
 use agent_pool::Agent;
 use np_calculus::Packet;
 use np_syntax::{Event, Kind, Made, Memory, Name, Role, Tag, Value};
+use site_agents::Agents;
 
 /// The event of an agent that arrives.
 fn arrival(agent: Name, site: u32) -> Event

@@ -4,7 +4,7 @@ ghost use Rattle.np_holdings.specs.Holdings.{name_of};
 ghost use Rattle.agent_pool.specs.Readies.{made_of};
 ghost use Rattle.site_state.specs.Doing.{HasDone, HasRoom};
 ghost use Rattle.site_state.specs.Parts.{HasReduced, is_inner};
-ghost use Rattle.site_state.specs.Seated.{CanDo};
+ghost use Rattle.site_agents.specs.Standings.{CanDo};
 ghost use Rattle.site_state.specs.Standings.{Stays};
 
 use super::site::Site;

@@ -6,14 +6,14 @@ ghost use Rattle.np_syntax.specs.declared.event.Made.TheVariants as made;
 ghost use Rattle.np_calculus.specs.Changes.{put, still};
 ghost use Rattle.site_state.specs.Coming.{KeepsSeats};
 ghost use Rattle.site_state.specs.Parts.{HasDeparted, HasGone};
-ghost use Rattle.site_state.specs.Seated.{AreNamed, CanDo};
+ghost use Rattle.site_agents.specs.Standings.{AreNamed, CanDo};
 ghost use Rattle.site_state.specs.Standings.{SameAgents};
 
-use super::agents::Agents;
 use agent_pool::{Agent, Ready};
 use np_calculus::Packet;
 use np_code::Code;
 use np_syntax::{Memory, Name, Value};
+use site_agents::Agents;
 use std::alloc::Global;
 
 /// An agent prints a value, which is answered.

@@ -2,7 +2,6 @@
 #![tactic(auto)]
 
 mod accepting;
-mod agents;
 mod coming;
 mod inner;
 mod leaving;

@@ -5,16 +5,16 @@ ghost use Rattle.np_syntax.specs.declared.event.Kind.TheVariants as kind;
 ghost use Rattle.site_state.specs.Coming.{KeepsSeats};
 ghost use Rattle.site_state.specs.Doing.{HasDone, HasRoom};
 ghost use Rattle.site_state.specs.Parts.{HasBirth};
-ghost use Rattle.site_state.specs.Seated.{AreNamed, CanDo};
+ghost use Rattle.site_agents.specs.Standings.{AreNamed, CanDo};
 ghost use Rattle.site_state.specs.Standings.{SameAgents, Stays};
 
-use super::agents::Agents;
 use super::coming::settle;
 use super::site::Site;
 use agent_pool::Ready;
 use np_code::Code;
 use np_holdings::law_own_events;
 use np_syntax::{Made, Memory, Name};
+use site_agents::Agents;
 use std::alloc::Global;
 
 /// An agent makes another, which stands there then.

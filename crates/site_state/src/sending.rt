@@ -1,7 +1,7 @@
 ghost use Rattle.std.specs.Prelude.{◌≡◌, length, OnOk, OnErr};
 ghost use Rattle.np_syntax.specs.declared.event.Kind.TheVariants as kind;
 ghost use Rattle.site_state.specs.Doing.{HasDone, HasRoom};
-ghost use Rattle.site_state.specs.Seated.{CanDo};
+ghost use Rattle.site_agents.specs.Standings.{CanDo};
 ghost use Rattle.site_state.specs.Standings.{Stays};
 
 use super::leaving::{depart_in, print_in, send_in};

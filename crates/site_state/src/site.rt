@@ -1,16 +1,16 @@
 ghost use Rattle.std.specs.Prelude.{◌≡◌, ◌<◌, ◌≤◌, ◌^◌, ◌↔◌, None, length, IfOk, IfErr, OnOk, OnErr, IsTrue, MatchOption};
 ghost use Rattle.std.specs.FinMap as map;
 ghost use Rattle.np_syntax.specs.declared.limits.TheConstants.{LARGEST_BUDGET};
-ghost use Rattle.site_state.specs.Seated.{AreIdle};
+ghost use Rattle.site_agents.specs.Standings.{AreIdle};
 ghost use Rattle.site_state.specs.Lines.{NothingOut, room_at};
 ghost use Rattle.site_state.specs.Standings.{IsNew, IsSettled, IsStanding, NoneOut, IsOut, StaysForAll};
 
-use super::agents::Agents;
 use super::outgoing::Outgoing;
 use agent_move::Item;
 use agent_pool::Agent;
 use np_code::Code;
 use np_syntax::Memory;
+use site_agents::Agents;
 use site_links::Addressed;
 use stamp_history::{Clock, History};
 use std::alloc::Global;

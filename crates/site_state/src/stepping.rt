@@ -1,7 +1,7 @@
 ghost use Rattle.std.specs.Prelude.{◌≡◌, length, IfOk, OnOk, OnErr, IfSome, IfNone, IsTrue, IsFalse};
 ghost use Rattle.site_state.specs.Doing.{HasDone, HasRoom, IsStepped};
 ghost use Rattle.site_state.specs.Parts.{IsLooked};
-ghost use Rattle.site_state.specs.Seated.{CanDo, NoneCan};
+ghost use Rattle.site_agents.specs.Standings.{CanDo, NoneCan};
 ghost use Rattle.site_state.specs.Standings.{IsQuiet, Stays};
 
 use super::site::Site;

@@ -10,10 +10,9 @@ ghost use Rattle.agent_pool.specs.Rows.{IsMet, Reduces};
 ghost use Rattle.site_state.specs.Coming.{KeepsSeats};
 ghost use Rattle.site_state.specs.Doing.{HasDone, HasRoom};
 ghost use Rattle.site_state.specs.Parts.{Asks, HasGone, HasTold};
-ghost use Rattle.site_state.specs.Seated.{AreNamed, CanDo};
+ghost use Rattle.site_agents.specs.Standings.{AreNamed, CanDo};
 ghost use Rattle.site_state.specs.Standings.{SameAgents, Stays};
 
-use super::agents::Agents;
 use super::coming::{give, make_room};
 use super::site::Site;
 use agent_pool::{Agent, Ready};
@@ -21,6 +20,7 @@ use np_calculus::Packet;
 use np_code::Code;
 use np_holdings::law_own_events;
 use np_syntax::{Made, Memory, Name};
+use site_agents::Agents;
 use std::alloc::Global;
 
 /// A location test of an agent that does not find its agent.

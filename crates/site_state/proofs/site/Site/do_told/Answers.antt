@@ -2,7 +2,7 @@ use Rattle.std.proofs.Common.{◌≡◌, true, is_some, refl, sym, subst}
 use Rattle.std.specs.FinMap as map
 use Rattle.np_syntax.specs.declared.value.Name.{Name}
 use Rattle.site_state.specs.Parts.{Asks}
-use Rattle.site_state.specs.Seated.{CanDo}
+use Rattle.site_agents.specs.Standings.{CanDo}
 use Rattle.site_state.specs.Standings.{Standing}
 use Rattle.site_state.proofs.Done.{same_quiet}
 use Rattle.site_state.proofs.Lines.{lines_same}
