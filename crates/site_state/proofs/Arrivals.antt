@@ -36,7 +36,7 @@ use Rattle.agent_move.specs.declared.load.Load.TheVariants as load
 use Rattle.agent_move.specs.Items.{contents_of, item_of}
 use Rattle.agent_move.specs.Loads.{site_for}
 use Rattle.site_state.specs.Coming.{HasCome, HasGot, event_for}
-use Rattle.site_state.specs.Doing.{DoesIfMade, HasTaken, deed_of, recorded}
+use Rattle.site_state.specs.Doing.{HasTaken, deed_of, recorded}
 use Rattle.site_state.specs.Lines.{queue_at}
 use Rattle.site_state.specs.Parts.{IsNoted}
 use Rattle.site_agents.specs.Standings.{AreNamed}
@@ -125,8 +125,8 @@ module _ (arrives : Arrives) (lands : Lands) (lost : IsLost) (old mid new : Stan
       said = (sym (ap (λ (h : Recorded). h.said) noted.history ∙ ap (λ (h : Recorded). h.said) records.history)) i;
     }
 
-    pub does_take : DoesIfMade (holding_of code old) (deed_of code (record { stamp = new.clock; event = event }) (Some item) None) (holding_of code new)
-    does_take are = subst (Does (holding_of code old) (taking stamped (item_of code item))) ends
+    pub does_take : Does (holding_of code old) (deed_of code (record { stamp = new.clock; event = event }) (Some item) None) (holding_of code new)
+    does_take = subst (Does (holding_of code old) (taking stamped (item_of code item))) ends
         (come arrives lands lost code (holding_of code old) stamped item ready mid.agents (sym (same_seen code.processes old.agents ready same)) named for_site item.load refl addressed is has_come)
 
   pub has_taken : HasTaken old new item

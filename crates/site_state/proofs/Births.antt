@@ -21,7 +21,7 @@ use Rattle.agent_pool.specs.Held.{atom_of, wait_of}
 use Rattle.agent_pool.specs.Moves.{Births}
 use Rattle.agent_pool.specs.Pools.{Pool, atoms_of, seen_as}
 use Rattle.agent_pool.specs.Rows.{event_of}
-use Rattle.site_state.specs.Doing.{DoesIfMade, HasDone, deed_of}
+use Rattle.site_state.specs.Doing.{HasDone, deed_of}
 use Rattle.site_state.specs.Parts.{HasBirth, IsNoted}
 use Rattle.site_state.specs.Standings.{KeepsQuiet, SameRecords, Standing, holding_of}
 use Rattle.site_state.proofs.Done.{done_inner}
@@ -56,10 +56,10 @@ module _ (makes : Makes) (code : ProgramTable) (old mid new : Standing) (name : 
     said = (sym (ap (λ (h : Recorded). h.said) noted.history ∙ ap (λ (h : Recorded). h.said) records.history)) i;
   }
 
-  does : DoesIfMade (holding_of code old) (deed_of code (record { stamp = new.clock; event = event_of mid.site r (made.Two child mark) }) None None) (holding_of code new)
-  does are = subst (Does (holding_of code old) (inner stamped)) ends
+  does : Does (holding_of code old) (deed_of code (record { stamp = new.clock; event = event_of mid.site r (made.Two child mark) }) None None) (holding_of code new)
+  does = subst (Does (holding_of code old) (inner stamped)) ends
       (makes (holding_of code old) stamped name child mark first (atoms_of code.processes birth.before) (atoms_of code.processes birth.after)
-      (record { site = records.site; kind = is; stands = mapped_there (atoms_of code.processes) old.agents name birth.before birth.stood; makes = (first_is, second_is) }) are
+      (record { site = records.site; kind = is; stands = mapped_there (atoms_of code.processes) old.agents name birth.before birth.stood; makes = (first_is, second_is) })
       (subst (λ s. GoesPast kind.Agent (length code.sites) false (atoms_of code.processes birth.before) (atoms_of code.processes birth.after) stamped.event
       (record still { places = put child (place.At s) ∷ []; atoms = put mark first ∷ [] })) records.site (birth.births.row mid.site)))
 

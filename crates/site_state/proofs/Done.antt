@@ -18,7 +18,7 @@ use Rattle.np_code.specs.Programs.{ProgramTable}
 use Rattle.agent_pool.specs.declared.ready.Ready.{Ready}
 use Rattle.agent_pool.specs.Pools.{atoms_of}
 use Rattle.agent_pool.specs.Rows.{event_of}
-use Rattle.site_state.specs.Doing.{ArePut, DoesIfMade, HasDone, deed_of, recorded}
+use Rattle.site_state.specs.Doing.{ArePut, HasDone, deed_of, recorded}
 use Rattle.site_state.specs.Lines.{SameLines}
 use Rattle.site_state.specs.Parts.{HasReduced, IsLooked, IsNoted}
 use Rattle.site_state.specs.Coming.{KeepsSeats}
@@ -57,11 +57,11 @@ module _ (on : GoesOn) (code : ProgramTable) (old mid new : Standing) (name : Na
     said = (sym (ap (λ (h : Recorded). h.said) noted.history ∙ said_of mid.history _ value ∙ ap (λ (h : Recorded). with_value h.said value) reduced.same.history)) i;
   }
 
-  pub does : DoesIfMade (holding_of code old) (deed_of code stamped None None) (holding_of code new)
-  does are = subst (Does (holding_of code old) (inner stamped)) ends
+  pub does : Does (holding_of code old) (deed_of code stamped None None) (holding_of code new)
+  does = subst (Does (holding_of code old) (inner stamped)) ends
       (on (holding_of code old) stamped name (atoms_of code.processes reduced.before) (atoms_of code.processes reduced.after) r.kind value
       (record { site = reduced.same.site; kind = refl; stands = mapped_there (atoms_of code.processes) old.agents name reduced.before reduced.stood; makes = next })
-      are local post (reduced.goes mid.site))
+      local post (reduced.goes mid.site))
 
   pub has_done : HasDone code old new
   has_done = record {
@@ -103,14 +103,14 @@ done_from code old mid new l h =
         outgoing = subst (λ x. ArePut x h.out new.outgoing) l.outgoing d.outgoing;
         put = d.put;
         quiet = λ q. d.quiet (l.quiet q);
-        does = subst (λ x. DoesIfMade x (deed_of code (record { stamp = new.clock; event = h.event }) None h.out) (holding_of code new)) same d.does;
+        does = subst (λ x. Does x (deed_of code (record { stamp = new.clock; event = h.event }) None h.out) (holding_of code new)) same d.does;
       };
     }
 
 -- an event that takes no item and puts none out, from what is recorded of it
 pub done_inner : (code : ProgramTable) (old mid new : Standing) (e : Event) (value : Option Value) → SameRecords old mid → SameLines old.outgoing mid.outgoing → KeepsQuiet code old mid
     → IsNoted mid (mid.clock + 1) e value new → e.site ≡ old.site
-    → DoesIfMade (holding_of code old) (deed_of code (record { stamp = new.clock; event = e }) None None) (holding_of code new) → HasDone code old new
+    → Does (holding_of code old) (deed_of code (record { stamp = new.clock; event = e }) None None) (holding_of code new) → HasDone code old new
 done_inner code old mid new e value records lines quiet noted at does = record {
   event = e;
   out = None;

@@ -21,7 +21,7 @@ use Rattle.agent_pool.specs.Rows.{Reduces, event_of}
 use Rattle.agent_move.specs.declared.item.Item.{Item}
 use Rattle.agent_move.specs.declared.load.Load.TheVariants as load
 use Rattle.agent_move.specs.Items.{contents_of, item_of}
-use Rattle.site_state.specs.Doing.{DoesIfMade, HasDone, deed_of}
+use Rattle.site_state.specs.Doing.{HasDone, deed_of}
 use Rattle.site_state.specs.Lines.{IsPut}
 use Rattle.site_state.specs.Parts.{HasDeparted, HasGone}
 use Rattle.site_state.specs.Standings.{KeepsQuiet, Standing, holding_of}
@@ -43,7 +43,7 @@ module _ (code : ProgramTable) (old new : Standing) (r : Ready) (item : Item) (t
   abbrev stamped : Stamped
   stamped = record { stamp = new.clock; event = event_of old.site r made.Nothing }
 
-  put_out : DoesIfMade (holding_of code old) (deed_of code (record { stamp = new.clock; event = event_of old.site r made.Nothing }) None (Some item)) (holding_of code new) → HasDone code old new
+  put_out : Does (holding_of code old) (deed_of code (record { stamp = new.clock; event = event_of old.site r made.Nothing }) None (Some item)) (holding_of code new) → HasDone code old new
   put_out does = record {
     event = event_of old.site r made.Nothing;
     out = Some item;
@@ -72,10 +72,10 @@ module _ (code : ProgramTable) (old new : Standing) (r : Ready) (item : Item) (t
     }
 
     pub has_sent : HasDone code old new
-    has_sent = put_out λ are. subst (Does (holding_of code old) (putting stamped (item_of code item))) sent_ends
+    has_sent = put_out (subst (Does (holding_of code old) (putting stamped (item_of code item))) sent_ends
         (sends (holding_of code old) stamped (item_of code item) name packet (atoms_of code.processes gone.before) (atoms_of code.processes gone.after)
         (record { site = refl; kind = is; stands = mapped_there (atoms_of code.processes) old.agents name gone.before gone.stood; makes = tt })
-        (gone.goes old.site) (ap (λ l. contents_of code.processes l item.to) load_is))
+        (gone.goes old.site) (ap (λ l. contents_of code.processes l item.to) load_is)))
 
   module _ (leaves : Leaves) (name : Name) (after : Pool) (is : r.kind ≡ kind.Depart) (load_is : item.load ≡ load.Agent after)
       (gone : HasDeparted code old.agents name r to after new.agents) where
@@ -89,8 +89,8 @@ module _ (code : ProgramTable) (old new : Standing) (r : Ready) (item : Item) (t
     }
 
     pub has_left : HasDone code old new
-    has_left = put_out λ are. subst (Does (holding_of code old) (putting stamped (item_of code item))) left_ends
+    has_left = put_out (subst (Does (holding_of code old) (putting stamped (item_of code item))) left_ends
         (leaves (holding_of code old) stamped (item_of code item) name to (atoms_of code.processes gone.before) (atoms_of code.processes after)
         (record { site = refl; kind = is; stands = mapped_there (atoms_of code.processes) old.agents name gone.before gone.stood; makes = tt })
         (subst (λ n. Reduces kind.Depart code gone.before after r made.Nothing (record still { places = put n (place.Way to) ∷ [] })) gone.named gone.goes old.site)
-        (ap (λ l. contents_of code.processes l item.to) load_is ∙ (λ i. agent_load (gone.still_named i) (atoms_of code.processes after) (out.to_is i))))
+        (ap (λ l. contents_of code.processes l item.to) load_is ∙ (λ i. agent_load (gone.still_named i) (atoms_of code.processes after) (out.to_is i)))))

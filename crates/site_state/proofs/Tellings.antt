@@ -34,7 +34,7 @@ use Rattle.agent_pool.specs.Pools.{Pool, atoms_of, seen_as}
 use Rattle.agent_pool.specs.Readies.{IsReady}
 use Rattle.agent_pool.specs.Rows.{Reduces, change_in, event_of, own_sight}
 use Rattle.site_state.specs.Coming.{HasGot, HasSpare}
-use Rattle.site_state.specs.Doing.{DoesIfMade, HasDone, deed_of}
+use Rattle.site_state.specs.Doing.{HasDone, deed_of}
 use Rattle.site_state.specs.Parts.{Asks, HasGone, HasTold, IsNoted}
 use Rattle.site_agents.specs.Standings.{AreNamed, CanDo}
 use Rattle.site_state.specs.Standings.{KeepsQuiet, SameAgents, SameRecords, Standing, holding_of, without_room}
@@ -150,10 +150,10 @@ module _ (alone : GoesOnAlone) (code : ProgramTable) (old mid new : Standing) (n
     said = (sym (ap (λ (h : Recorded). h.said) noted.history ∙ ap (λ (h : Recorded). h.said) records.history)) i;
   }
 
-  passes : DoesIfMade (holding_of code old) (deed_of code (record { stamp = new.clock; event = event_of mid.site r made.Nothing }) None None) (holding_of code new)
-  passes are = subst (Does (holding_of code old) (inner passed)) passed_ends
+  passes : Does (holding_of code old) (deed_of code (record { stamp = new.clock; event = event_of mid.site r made.Nothing }) None None) (holding_of code new)
+  passes = subst (Does (holding_of code old) (inner passed)) passed_ends
       (alone (holding_of code old) passed name target (atoms_of code.processes gone.before) (atoms_of code.processes gone.after)
-      (record { site = records.site; kind = is; stands = mapped_there (atoms_of code.processes) old.agents name gone.before gone.stood; makes = tt }) are
+      (record { site = records.site; kind = is; stands = mapped_there (atoms_of code.processes) old.agents name gone.before gone.stood; makes = tt })
       (asks.each gone.before gone.stood) (get-mapped (atoms_of code.processes) old.agents target ∙ ap (option_map (atoms_of code.processes)) absent) (gone.goes mid.site))
 
   pub has_passed : HasDone code old new
@@ -186,10 +186,10 @@ module _ (tells : Tells) (code : ProgramTable) (old mid new : Standing) (name : 
     said = (sym (ap (λ (h : Recorded). h.said) noted.history ∙ ap (λ (h : Recorded). h.said) records.history)) i;
   }
 
-  tell : DoesIfMade (holding_of code old) (deed_of code (record { stamp = new.clock; event = event_of mid.site r (made.One mark) }) None None) (holding_of code new)
-  tell are = subst (Does (holding_of code old) (inner saying)) told_ends
+  tell : Does (holding_of code old) (deed_of code (record { stamp = new.clock; event = event_of mid.site r (made.One mark) }) None None) (holding_of code new)
+  tell = subst (Does (holding_of code old) (inner saying)) told_ends
       (tells (holding_of code old) saying name mark packet (atoms_of code.processes told.before) (atoms_of code.processes told.after) (atoms_of code.processes before)
-      (record { site = records.site; kind = is; stands = mapped_there (atoms_of code.processes) old.agents name stood stood_is ∙ ap Some (sym stood_same); makes = mark_is }) are
+      (record { site = records.site; kind = is; stands = mapped_there (atoms_of code.processes) old.agents name stood stood_is ∙ ap Some (sym stood_same); makes = mark_is })
       (told.told mid.site)
       (ap (λ m. map.get m packet.agent) (sym between_seen) ∙ ap (map.get (mapped (atoms_of code.processes) between)) for_it
       ∙ mapped_there (atoms_of code.processes) between target before there))

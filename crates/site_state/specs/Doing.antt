@@ -5,8 +5,7 @@ use Rattle.np_syntax.specs.declared.value.Value.{Value}
 use Rattle.stamp_history.specs.declared.stamped.Stamped.{Stamped}
 use Rattle.stamp_history.specs.Histories.{Recorded, with_event, with_said}
 use Rattle.np_stamped_run.specs.Deeds.{Deed, ticked}
-use Rattle.np_holdings.specs.Holdings.{Does, Holding}
-use Rattle.np_holdings.specs.Making.{AreMade}
+use Rattle.np_holdings.specs.Holdings.{Does}
 use Rattle.np_code.specs.Programs.{ProgramTable}
 use Rattle.agent_move.specs.declared.item.Item.{Item}
 use Rattle.agent_move.specs.Items.{item_of}
@@ -36,10 +35,6 @@ pub record IsSent (s : Standing) (x : Item) : Type 0 where
   pub from : x.from ≡ s.site
   pub to : x.to < length s.outgoing
 
--- what a site does, if each name of its own that stands there is one that it has made
-abbrev pub DoesIfMade : Holding → Deed → Holding → Type 0
-DoesIfMade h d then = AreMade h → Does h d then
-
 -- what an event did to a site, with the item that it took and the one that it put out
 pub record Did (code : ProgramTable) (old new : Standing) (event : Event) (taken out : Option Item) : Type 0 where
   pub site : new.site ≡ old.site
@@ -51,7 +46,7 @@ pub record Did (code : ProgramTable) (old new : Standing) (event : Event) (taken
   pub outgoing : ArePut old.outgoing out new.outgoing
   pub put : IfSome out (IsSent new)
   pub quiet : KeepsQuiet code old new
-  pub does : DoesIfMade (holding_of code old) (deed_of code (record { stamp = new.clock; event = event }) taken out) (holding_of code new)
+  pub does : Does (holding_of code old) (deed_of code (record { stamp = new.clock; event = event }) taken out) (holding_of code new)
 
 -- the site did an event of its own
 pub record HasDone (code : ProgramTable) (old new : Standing) : Type 0 where
