@@ -1,0 +1,64 @@
+-- What the calculus sees of a site of which nothing has changed but the room, and histories that have grown.
+use Rattle.std.proofs.Common.{◌≡◌, List, [], ◌∷◌, ◌++◌, map, Option, None, Some, option_map, refl, sym, ap, ◌∙◌, append_assoc, subst}
+use Rattle.np_syntax.specs.declared.value.Name.{Name}
+use Rattle.np_syntax.specs.declared.value.Value.{Value}
+use Rattle.np_syntax.specs.declared.process.Proc.{Proc}
+use Rattle.np_tables.specs.Names.{NameMap}
+use Rattle.np_tables.specs.Mapped.{mapped}
+use Rattle.np_tables.proofs.Mapped.{get-mapped}
+use Rattle.np_tables.proofs.Tables.{same_tables}
+use Rattle.np_calculus.specs.declared.config.Atom.{Atom}
+use Rattle.std.specs.FinMap as table
+use Rattle.stamp_history.specs.declared.stamped.Stamped.{Stamped}
+use Rattle.stamp_history.specs.Histories.{Recorded}
+use Rattle.site_links.specs.Words.{Begins}
+use Rattle.site_links.proofs.Kept.{Begins-same}
+use Rattle.np_holdings.specs.Holdings.{Holding}
+use Rattle.np_code.specs.Programs.{ProgramTable}
+use Rattle.agent_index.specs.Shelves.{Kept}
+use Rattle.agent_pool.specs.declared.held.Held.{Held}
+use Rattle.agent_pool.specs.Pools.{Pool, atoms_of, seen_as}
+use Rattle.site_state.specs.Doing.{recorded}
+use Rattle.site_state.specs.Standings.{SameAgents, SameSite, Standing, holding_of, without_room}
+use Rattle.site_turn.specs.Turns.{HistoryGrows}
+
+-- ---- lists
+
+pub begins_trans : {T : Type 0} {a b c : List T} → Begins b a → Begins c b → Begins c a
+begins_trans {T} {a} h k = record { rest = h.rest ++ k.rest; is = k.is ∙ (ap (λ x. x ++ k.rest) h.is ∙ append_assoc a h.rest k.rest) }
+
+pub history_same : (old new : Recorded) → new ≡ old → HistoryGrows old new
+history_same old new e =
+    let at : HistoryGrows old old = record { site = refl; budget = refl; events = Begins-same old.events old.events refl; said = Begins-same old.said old.said refl } in
+    subst (λ (h : Recorded). HistoryGrows old h) (sym e) at
+
+pub history_trans : {a b c : Recorded} → HistoryGrows a b → HistoryGrows b c → HistoryGrows a c
+history_trans h k = record { site = k.site ∙ h.site; budget = k.budget ∙ h.budget; events = begins_trans h.events k.events; said = begins_trans h.said k.said }
+
+-- an event more
+pub recorded_events : (h : Recorded) (e : Stamped) (v : Option Value) → (recorded h e v).events ≡ h.events ++ e ∷ []
+recorded_events h e None = refl
+recorded_events h e (Some v) = refl
+
+pub recorded_grows : (h : Recorded) (e : Stamped) (v : Option Value) → HistoryGrows h (recorded h e v)
+recorded_grows h e None = record { site = refl; budget = refl; events = record { rest = e ∷ []; is = refl }; said = Begins-same h.said h.said refl }
+recorded_grows h e (Some v) = record { site = refl; budget = refl; events = record { rest = e ∷ []; is = refl }; said = record { rest = v ∷ []; is = refl } }
+
+-- ---- agents
+
+-- the atoms of an agent that is told by its name and what it stores
+told-atoms : List Proc → Name × NameMap (Kept Held) → NameMap Atom
+told-atoms ts w = mapped (seen_as ts w.0) w.1
+
+told-again : (ts : List Proc) (o : Option Pool) → option_map (atoms_of ts) o ≡ option_map (told-atoms ts) (option_map without_room o)
+unfolding told-atoms
+told-again ts None = refl
+told-again ts (Some p) = refl
+
+pub atoms_same : (ts : List Proc) (old new : NameMap Pool) → SameAgents old new → mapped (atoms_of ts) new ≡ mapped (atoms_of ts) old
+atoms_same ts old new same =
+    same_tables _ _ λ q. get-mapped (atoms_of ts) new q ∙ told-again ts (table.get new q) ∙ ap (option_map (told-atoms ts)) (same.each q) ∙ sym (told-again ts (table.get old q))
+    ∙ sym (get-mapped (atoms_of ts) old q)
+
+pub holding_same : (code : ProgramTable) (old new : Standing) → SameSite old new → holding_of code new ≡ holding_of code old
+holding_same code old new s = rw (s.site, atoms_same code.processes old.agents new.agents s.agents, s.next, s.history) refl

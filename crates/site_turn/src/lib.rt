@@ -1,0 +1,12 @@
+//! A turn: a site beside its port goes on for some events.
+#![tactic(auto)]
+
+mod gate;
+mod receiving;
+mod seat;
+mod sending;
+mod turning;
+
+pub use gate::{Free, Gate};
+pub use seat::Seat;
+pub use turning::{LOOKS, turn};

@@ -1,0 +1,72 @@
+//! How a site puts out what is for others.
+ghost use Rattle.std.specs.Prelude.{◌≡◌, ◌<◌, length};
+ghost use Rattle.site_turn.specs.Turns.{Seated, Turned};
+
+use crate::seat::Seat;
+use agent_move::Item;
+use np_code::Code;
+use np_syntax::Kind;
+use site_links::{PLACES, Port};
+use site_state::Site;
+
+/// Puts what is outgoing on the links, as far as there is room.
+#[tactic(auto, using(crate::proofs::Steps::turned_refl))]
+pub fn send<R, P: Port<R, Item>>(rt: &R, code: &Code, seat: &mut Seat<P>)
+    requires { Seated P.Port code.now seat.old }
+    ensures { Turned P.Port code.now seat.old seat.new }
+{
+    for to in 0..code.sites() {
+        send_to(rt, code, seat, to);
+    }
+}
+
+/// Puts what is outgoing for a site on its link, as far as there is room.
+#[tactic(auto, using(crate::proofs::Steps::turned_refl))]
+fn send_to<R, P: Port<R, Item>>(rt: &R, code: &Code, seat: &mut Seat<P>, to: u32)
+    requires seated { Seated P.Port code.now seat.old }
+    requires to { to < length code.now.sites }
+    ensures { Turned P.Port code.now seat.old seat.new }
+{
+    for _ in 0..PLACES {
+        if !send_one(rt, code, seat, to) {
+            return;
+        }
+    }
+}
+
+/// Puts the first item for a site on its link. False where none is outgoing, or where there is no room.
+fn send_one<R, P: Port<R, Item>>(rt: &R, _code: &Code, seat: &mut Seat<P>, to: u32) -> bool
+    requires seated { Seated P.Port _code.now seat.old }
+    requires to { to < length _code.now.sites }
+    ensures { Turned P.Port _code.now seat.old seat.new }
+{
+    match seat.site.next_out(to) {
+        Some(item) => match seat.port.put(rt, to, item) {
+            Ok(()) => true,
+            Err(item) => {
+                seat.site.give_back(item);
+                false
+            }
+        },
+        None => false,
+    }
+}
+
+/// Puts what is outgoing on the links, if the last event of the site put an item out.
+#[tactic(auto, using(crate::proofs::Steps::turned_refl))]
+pub fn send_new<R, P: Port<R, Item>>(rt: &R, code: &Code, seat: &mut Seat<P>)
+    requires { Seated P.Port code.now seat.old }
+    ensures { Turned P.Port code.now seat.old seat.new }
+{
+    if has_put(&seat.site) {
+        send(rt, code, seat);
+    }
+}
+
+/// Whether the last event of a site put an item out.
+fn has_put(site: &Site) -> bool {
+    match site.history().events().last() {
+        Some(last) => matches!(last.event.kind, Kind::Depart | Kind::Send),
+        None => false,
+    }
+}

@@ -1,0 +1,116 @@
+//! A turn of a site.
+ghost use Rattle.std.specs.Prelude.{◌≡◌, ◌<◌, length};
+ghost use Rattle.site_turn.specs.Turns.{Seated, Turned};
+
+use crate::gate::Gate;
+use crate::receiving::receive;
+use crate::seat::Seat;
+use crate::sending::{send, send_new};
+use agent_move::Item;
+use np_code::Code;
+use site_links::Port;
+use site_state::Stepped;
+use std::alloc::Global;
+
+/// How many events a turn has at most.
+const EVENTS: u32 = 256;
+
+/// How often a site on a thread of its own looks at the links to it before its turn ends quiet.
+pub const LOOKS: u32 = 1_000;
+
+/// A turn of at most `EVENTS` events, which ends where the site can do nothing and nothing came in so many looks at the
+/// links to it. Where memory runs out the seat says so.
+pub fn turn<R, P: Port<R, Item>, G: Gate>(
+    rt: &R,
+    alloc: Global,
+    code: &Code,
+    gate: &G,
+    looks: u32,
+    seat: &mut Seat<P>,
+)
+    requires { Seated P.Port code.now seat.old }
+    ensures { Turned P.Port code.now seat.old seat.new }
+{
+    if !seat.failed {
+        events(rt, alloc, code, gate, looks, seat);
+    }
+}
+
+/// The events of a turn.
+#[tactic(auto, using(crate::proofs::Steps::turned_trans, crate::proofs::Steps::turned_refl, crate::proofs::Steps::seated_after))]
+fn events<R, P: Port<R, Item>, G: Gate>(
+    rt: &R,
+    alloc: Global,
+    code: &Code,
+    gate: &G,
+    looks: u32,
+    seat: &mut Seat<P>,
+)
+    requires { Seated P.Port code.now seat.old }
+    ensures { Turned P.Port code.now seat.old seat.new }
+{
+    send(rt, code, seat);
+    for _ in 0..EVENTS {
+        if !event(rt, alloc, code, looks, seat) {
+            return;
+        }
+        gate.event(seat.site.number(), seat.site.history().len());
+        send_new(rt, code, seat);
+    }
+}
+
+/// One event, if one is possible or becomes possible in so many looks.
+#[tactic(auto, using(crate::proofs::Steps::turned_trans, crate::proofs::Steps::turned_refl, crate::proofs::Steps::seated_after))]
+fn event<R, P: Port<R, Item>>(
+    rt: &R,
+    alloc: Global,
+    code: &Code,
+    looks: u32,
+    seat: &mut Seat<P>,
+) -> bool
+    requires { Seated P.Port code.now seat.old }
+    ensures { Turned P.Port code.now seat.old seat.new }
+{
+    if receive(rt, code, seat) {
+        return true;
+    }
+    if seat.failed || seat.aside.is_some() {
+        return false;
+    }
+    match step(rt, alloc, code, seat) {
+        Stepped::Did => true,
+        Stepped::Quiet => look(rt, code, looks, seat),
+        Stepped::Spent => false,
+    }
+}
+
+/// An event of the site's own, if one is possible.
+fn step<R, P: Port<R, Item>>(_rt: &R, alloc: Global, code: &Code, seat: &mut Seat<P>) -> Stepped
+    requires { Seated P.Port code.now seat.old }
+    ensures { Turned P.Port code.now seat.old seat.new }
+{
+    match seat.site.step(alloc, code) {
+        Ok(stepped) => stepped,
+        Err(_) => {
+            seat.failed = true;
+            Stepped::Spent
+        }
+    }
+}
+
+/// Looks so often for an item.
+#[tactic(auto, using(crate::proofs::Steps::turned_trans, crate::proofs::Steps::turned_refl, crate::proofs::Steps::seated_after))]
+fn look<R, P: Port<R, Item>>(rt: &R, code: &Code, looks: u32, seat: &mut Seat<P>) -> bool
+    requires { Seated P.Port code.now seat.old }
+    ensures { Turned P.Port code.now seat.old seat.new }
+{
+    for _ in 0..looks {
+        if receive(rt, code, seat) {
+            return true;
+        }
+        if seat.failed || seat.aside.is_some() {
+            return false;
+        }
+    }
+    false
+}
