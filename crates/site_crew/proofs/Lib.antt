@@ -1,0 +1,6 @@
+pub mod Counts
+pub mod First
+pub mod Goings
+pub mod Pairs
+pub mod Standing
+pub mod Whole

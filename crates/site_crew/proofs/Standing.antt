@@ -1,0 +1,91 @@
+-- A crew stands at the low start, and after each round.
+use Rattle.std.proofs.Common.{◌≡◌, ◌<◌, ℕ, List, [], ◌∷◌, ◌++◌, length, get_or, Option, None, Some, IfSome, refl, sym, ap, subst, subst₂, ◌∙◌, arith}
+use Rattle.std.specs.Prelude.{slice_get}
+use Rattle.stamp_history.specs.Histories.{IsHistory, without_events}
+use Rattle.site_links.specs.Words.{IsFullMake, IsUnused}
+use Rattle.site_links.specs.declared.port.Port as Port
+use Rattle.np_holdings.specs.Holdings.{Holding}
+use Rattle.np_site_runs.specs.Accounts.{IsAccount, came_on}
+use Rattle.np_site_runs.specs.Starting.{start_holding}
+use Rattle.np_site_runs.proofs.Accounts.{account_starts}
+use Rattle.np_code.specs.Programs.{ProgramTable, program}
+use Rattle.agent_move.specs.declared.item.Item.{Item}
+use Rattle.site_state.specs.Lines.{queue_at}
+use Rattle.site_state.specs.Standings.{holding_of}
+use Rattle.site_turn.specs.declared.seat.Seat.{Seat}
+use Rattle.site_turn.specs.Turns.{IsStrange, Kept, Placed, came_from, shown}
+use Rattle.site_crew.specs.Links.{AllStill, AreLinked, AreSettled}
+use Rattle.site_crew.specs.Seats.{AllTurned, AreFirst, AreSeats, AreWhole, IsFirst, IsSeat, Stand}
+use Rattle.site_crew.proofs.Pairs.{linked_after}
+use Rattle.site_crew.proofs.Goings.{seat_still, seats_turned}
+
+no_history : (k limit : ℕ) → IsHistory (without_events k limit)
+no_history k limit = record { within = omega arith; rising = tt; one_each = refl }
+
+module _ {P R : Type 0} {g : Port.Ghosts P R Item} {code : ProgramTable} where
+  first_kept : {limit k : ℕ} {p : P} {s : Seat P} → IsFirst code limit k p s → IsUnused (length code.sites) (g.sent p) (g.got p) (g.known p) (g.room p) → Kept g code (start_holding (program code) k) s
+  first_kept {limit} {k} {p} {s} is unused = record {
+    deeds = [];
+    came = [];
+    account = subst₂ (λ (m : ℕ) (e : Holding). IsAccount (length code.sites) m (start_holding (program code) k) [] e []) (sym is.site.number) (sym is.site.holding)
+        (account_starts (length code.sites) k (start_holding (program code) k) refl);
+    clock = is.site.clock;
+    events = ap (λ h. h.events) is.site.history;
+    from = 0;
+    within = subst (λ (o : Option Item). IfSome o (λ x. 0 < length code.sites)) (sym is.aside) tt;
+    got = λ i. ap (λ q. shown code (g.got q i)) is.port ∙ ap (shown code) (unused.got_none i) ∙ ap (λ o. came_on i ([] ++ came_from code 0 o)) (sym is.aside);
+    put = λ t. ap (λ q. shown code (g.sent q t ++ queue_at s.site.outgoing t)) is.port ∙ ap (λ l. shown code (l ++ queue_at s.site.outgoing t)) (unused.sent_none t)
+        ∙ ap (shown code) (is.site.outgoing.queues t);
+  }
+
+  pub stand_first : {limit : ℕ} {ports : List P} {xs : List (Seat P)} → IsFullMake g.site g.among g.linked (length code.sites) ports
+      → ((i : ℕ) (p : P) → slice_get ports i ≡ Some p → IsUnused (length code.sites) (g.sent p) (g.got p) (g.known p) (g.room p)) → AreFirst code limit ports xs → Stand g code limit xs
+  stand_first {limit} {ports} {xs} make unused first = record {
+    seats = record {
+      count = first.count ∙ make.count;
+      each = λ k s at.
+          let e = first.each k s at in let p = make.places k e.0 e.1 in record {
+            number = e.2.site.number;
+            owner = ap (λ h. h.site) e.2.site.history;
+            placed = record {
+              number = ap g.site e.2.port ∙ p.0 ∙ sym e.2.site.number;
+              among = ap g.among e.2.port ∙ p.1;
+              lines = e.2.site.outgoing.sites;
+              budget = e.2.budget ∙ sym (ap (λ h. h.budget) e.2.site.history);
+            };
+            kept = first_kept e.2 (unused k e.0 e.1);
+            budget = e.2.budget;
+            aside = λ ok. subst (λ (o : Option Item). IfSome o (IsStrange s.site.site)) (sym e.2.aside) tt;
+          };
+      linked = record {
+        placed = λ i s at. let e = first.each i s at in let p = make.places i e.0 e.1 in (ap g.site e.2.port ∙ p.0, ap g.among e.2.port ∙ (p.1 ∙ sym make.count ∙ sym first.count));
+        linked = λ i j s t at to.
+            let e = first.each i s at in let f = first.each j t to in
+            ∣ subst (λ (p : P). g.linked p t.port) (sym e.2.port) (subst (λ (p : P). g.linked e.0 p) (sym f.2.port) (make.pairs i j e.0 f.0 e.1 f.1)) ∣₁;
+      };
+    };
+    settled = record {
+      each = λ j h. record {
+        settled = λ i s t at to.
+            let e = first.each i s at in let f = first.each j t to in
+            rw (e.2.port, f.2.port, (unused j f.0 f.1).got_none i, (unused j f.0 f.1).known_none i, (unused i e.0 e.1).sent_none j) refl;
+        told = λ s at.
+            let e = first.each j s at in
+            record { none = λ h k lt. ap (λ q. g.known q k) e.2.port ∙ (unused j e.0 e.1).known_none k; some = λ none. e.2.waits };
+      };
+    };
+    whole = record { each = λ i s at. let e = first.each i s at in subst IsHistory (sym e.2.site.history) (no_history i limit) };
+  }
+
+  -- after turns, once the links are settled again
+  pub stand_again : {limit : ℕ} {xs ys zs : List (Seat P)} → AreSeats g code limit xs → AllTurned g code xs ys → AllStill g ys zs → AreSettled g zs → AreWhole zs → Stand g code limit zs
+  stand_again {limit} {xs} {ys} {zs} seats turned still settled whole =
+      let after = seats_turned seats turned in record {
+        seats = record {
+          count = still.count ∙ after.count;
+          each = λ i s at. let b = still.each i s at in seat_still b.still (after.each i b.before b.was);
+          linked = linked_after after.linked still;
+        };
+        settled = settled;
+        whole = whole;
+      }

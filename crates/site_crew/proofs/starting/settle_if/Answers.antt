@@ -1,0 +1,8 @@
+use Rattle.site_crew.proofs.First.{has_none}
+use Rattle.site_crew.proofs.starting.settle_if.Goals as goal
+
+pub returns-then-here : goal.returns-then-here
+returns-then-here c = rw c.if-here.true c.settle_first.ensures
+
+pub returns : goal.returns
+returns c = has_none _ _ _ _ _ _ c.if-here.false

@@ -1,0 +1,4 @@
+pub mod Links
+pub mod Runs
+pub mod Seats
+pub mod Starts

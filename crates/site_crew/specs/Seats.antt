@@ -1,0 +1,79 @@
+-- The seats of a crew between rounds.
+use Rattle.std.specs.Prelude.{◌≡◌, ◌<◌, ◌≤◌, ◌+◌, ℕ, Bool, false, List, [], ◌∷◌, length, map, get_or, Option, None, Some, slice_get}
+use Rattle.stamp_history.specs.Histories.{IsHistory, Recorded, without_events}
+use Rattle.site_links.specs.declared.port.Port as Port
+use Rattle.np_holdings.specs.Holdings.{Holding}
+use Rattle.np_site_runs.specs.Starting.{start_holding}
+use Rattle.np_code.specs.Programs.{ProgramTable, program}
+use Rattle.agent_move.specs.declared.item.Item.{Item}
+use Rattle.site_state.specs.Lines.{AreEmpty}
+use Rattle.site_state.specs.Standings.{IsStanding, Standing, holding_of}
+use Rattle.site_turn.specs.declared.seat.Seat.{Seat}
+use Rattle.site_turn.specs.Turns.{AsideIsStrange, HistoryGrows, Kept, Placed, Seated, Turned}
+use Rattle.site_crew.specs.Links.{AllStill, AreLinked, AreSettled}
+
+-- the histories of the seats
+abbrev pub histories : {P : Type 0} → List (Seat P) → List Recorded
+histories = map (λ s. s.site.history)
+
+-- how many events they have
+abbrev pub event_count : List Recorded → ℕ
+event_count [] = 0
+event_count (h ∷ hs) = length h.events + event_count hs
+
+-- a site that holds what it holds at the low start, and has done nothing
+pub record IsFirstSite (code : ProgramTable) (limit k : ℕ) (s : Standing) : Type 0 where
+  pub number : s.site ≡ k
+  pub holding : holding_of code s ≡ start_holding (program code) k
+  pub clock : s.clock ≡ 0
+  pub history : s.history ≡ without_events k limit
+  pub outgoing : AreEmpty (length code.sites) s.outgoing
+
+-- at its port
+pub record IsFirst {P : Type 0} (code : ProgramTable) (limit k : ℕ) (p : P) (s : Seat P) : Type 0 where
+  pub site : IsFirstSite code limit k s.site
+  pub port : s.port ≡ p
+  pub aside : s.aside ≡ None
+  pub budget : s.budget ≡ limit
+  pub failed : s.failed ≡ false
+  pub waits : s.waits ≡ false
+
+-- a seat for each port, in order
+pub record AreFirst {P : Type 0} (code : ProgramTable) (budget : ℕ) (ports : List P) (seats : List (Seat P)) : Type 0 where
+  pub count : length seats ≡ length ports
+  pub each : (k : ℕ) (s : Seat P) → slice_get seats k ≡ Some s → (p : P) × (slice_get ports k ≡ Some p) × IsFirst code budget k p s
+
+-- each history keeps to what histories keep to
+pub record AreWhole {P : Type 0} (xs : List (Seat P)) : Type 0 where
+  pub each : (i : ℕ) (s : Seat P) → slice_get xs i ≡ Some s → IsHistory s.site.history
+
+module _ {P R : Type 0} (g : Port.Ghosts P R Item) (code : ProgramTable) where
+  -- the seat of the site with this number, which has gone on from the low start
+  pub record IsSeat (limit k : ℕ) (s : Seat P) : Type 0 where
+    pub number : s.site.site ≡ k
+    pub owner : s.site.history.site ≡ k
+    pub placed : Placed g code s
+    pub kept : Kept g code (start_holding (program code) k) s
+    pub budget : s.budget ≡ limit
+    pub aside : AsideIsStrange s
+
+  pub record AreSeats (budget : ℕ) (xs : List (Seat P)) : Type 0 where
+    pub count : length xs ≡ length code.sites
+    pub each : (i : ℕ) (s : Seat P) → slice_get xs i ≡ Some s → IsSeat budget i s
+    pub linked : AreLinked g xs
+
+  -- between rounds all links are settled
+  pub record Stand (budget : ℕ) (xs : List (Seat P)) : Type 0 where
+    pub seats : AreSeats budget xs
+    pub settled : AreSettled g xs
+    pub whole : AreWhole xs
+
+  -- each seat is what a turn leaves
+  pub record AllTurned (xs ys : List (Seat P)) : Type 0 where
+    pub count : length ys ≡ length xs
+    pub each : (i : ℕ) (d : Seat P) → i < length xs → Turned g code (get_or xs i d) (get_or ys i d)
+
+-- each history at a later time
+pub record AllGrow (xs ys : List Recorded) : Type 0 where
+  pub count : length ys ≡ length xs
+  pub each : (i : ℕ) (d : Recorded) → i < length xs → HistoryGrows (get_or xs i d) (get_or ys i d)

@@ -1,0 +1,32 @@
+//! A round: all sites take their turns, and then the links are settled.
+ghost use Rattle.std.specs.Prelude.{◌≡◌, ◌≤◌, length};
+ghost use Rattle.np_syntax.specs.declared.limits.TheConstants.{MOST_SITES};
+ghost use Rattle.site_crew.specs.Seats.{Stand, event_count, histories};
+
+use crate::counting::events_of;
+use crate::settling::settle_all;
+use crate::turns::serial_turns;
+use agent_move::Item;
+use np_code::Code;
+use site_links::Port;
+use site_turn::Seat;
+use std::alloc::Global;
+
+/// The turns one after another. How many events all histories have then.
+pub fn serial_round<R, P: Port<R, Item>>(
+    rt: &R,
+    alloc: Global,
+    code: &Code,
+    _budget: u32,
+    seats: &mut [Seat<P>],
+) -> u64
+    requires stand { Stand P.Port code.now _budget seats.old }
+    requires few { length seats.old ≤ MOST_SITES }
+    ensures stand { Stand P.Port code.now _budget seats.new }
+    ensures count { length seats.new ≡ length seats.old }
+    ensures total { result ≡ event_count (histories seats.new) }
+{
+    serial_turns(rt, alloc, code, seats);
+    settle_all(rt, seats);
+    events_of(seats)
+}
