@@ -1,4 +1,5 @@
 pub mod Counts
+pub mod Crewing
 pub mod First
 pub mod Goings
 pub mod Pairs

@@ -22,16 +22,16 @@ use Rattle.site_state.specs.Standings.{holding_of}
 use Rattle.site_turn.specs.declared.seat.Seat.{Seat}
 use Rattle.site_turn.specs.Turns.{came_from, shown}
 use Rattle.site_crew.specs.Links.{AreSettled}
-use Rattle.site_crew.specs.Runs.{IsCrewRun, IsProgram}
+use Rattle.site_crew.specs.Runs.{AreHistoriesOf, IsCrewRun, IsProgram}
 use Rattle.site_crew.specs.Seats.{AreSeats, AreWhole, IsSeat, Stand, histories}
 use Rattle.site_crew.proofs.Pairs.{some_is}
 
-not-past : {T : Type 0} (xs : List T) (k : ℕ) → slice_get xs k ≡ None → k < length xs → ⊥
+pub not-past : {T : Type 0} (xs : List T) (k : ℕ) → slice_get xs k ≡ None → k < length xs → ⊥
 not-past [] k e h = absurd (omega arith)
 not-past (x ∷ xs) zero e h = absurd (let f = e in cc)
 not-past (x ∷ xs) (suc k) e h = not-past xs k e (omega arith)
 
-long-histories : {P : Type 0} (xs : List (Seat P)) → length (histories xs) ≡ length xs
+pub long-histories : {P : Type 0} (xs : List (Seat P)) → length (histories xs) ≡ length xs
 long-histories [] = refl
 long-histories (s ∷ ss) = ap (λ n. suc n) (long-histories ss)
 
@@ -100,6 +100,7 @@ module _ {P R : Type 0} (g : Port.Ghosts P R Item) (code : ProgramTable) (limit 
     history : IsHistory h
     events : h.events ≡ map (λ d. d.event) deeds
     printed : HasPrinted end h
+    budget : h.budget ≡ limit
 
   its : (k : ℕ) (o : Option (Seat P)) (h : SeatOf k o) → ((s : Seat P) → o ≡ Some s → IsHistory s.site.history) → (r : Recorded) → option_map (λ s. s.site.history) o ≡ Some r
       → Its k (deeds_of k o h) (end_of k o) r
@@ -107,7 +108,7 @@ module _ {P R : Type 0} (g : Port.Ghosts P R Item) (code : ProgramTable) (limit 
   its k (Some s) h whole r e =
       let is : s.site.history ≡ r = some_is (Some s.site.history) s.site.history r refl e in
       subst (Its k h.kept.deeds (holding_of code s.site)) is
-      (record { site = h.owner; history = whole s refl; events = h.kept.events; printed = record { site = h.number ∙ sym h.owner; said = refl } })
+      (record { site = h.owner; history = whole s refl; events = h.kept.events; printed = record { site = h.number ∙ sym h.owner; said = refl }; budget = sym h.placed.budget ∙ h.budget })
 
   seat-at : (k : ℕ) (o : Option (Seat P)) → ((s : Seat P) → o ≡ Some s → IsSeat g code limit k s) → SeatOf k o
   seat-at k None f = tt
@@ -137,21 +138,28 @@ module _ {P R : Type 0} (g : Port.Ghosts P R Item) (code : ProgramTable) (limit 
           (λ a b ea eb. (settled.each t (subst (λ (m : ℕ). t < m) (sym seats.count) k)).settled s a b ea eb);
     }
 
+    its_at : AreWhole xs → (s : ℕ) (d : Recorded) → s < length code.sites → Its s (deeds_of s (slice_get xs s) (here s)) (end_of s (slice_get xs s)) (get_or (histories xs) s d)
+    its_at whole s d h =
+        let long : s < length (histories xs) = subst (λ (m : ℕ). s < m) (sym (long-histories xs ∙ seats.count)) h in
+        its s (slice_get xs s) (here s) (whole.each s) (get_or (histories xs) s d) (sym (slice_get-map (λ s. s.site.history) xs s) ∙ slice_get-get_or (histories xs) s d long)
+
     are_theirs : AreWhole xs → AreTheirs (length code.sites) accounts (histories xs)
     unfolding accounts
     are_theirs whole = record {
       count = long-histories xs ∙ seats.count;
-      each = λ s d h.
-          let long : s < length (histories xs) = subst (λ (m : ℕ). s < m) (sym (long-histories xs ∙ seats.count)) h in
-          let r = its s (slice_get xs s) (here s) (whole.each s) (get_or (histories xs) s d)
-          (sym (slice_get-map (λ s. s.site.history) xs s) ∙ slice_get-get_or (histories xs) s d long) in
-          record { site = r.site; history = r.history; events = r.events; printed = r.printed };
+      each = λ s d h. let r = its_at whole s d h in record { site = r.site; history = r.history; events = r.events; printed = r.printed };
+    }
+
+    pub are_histories : AreWhole xs → AreHistoriesOf (length code.sites) limit (histories xs)
+    are_histories whole = record {
+      count = long-histories xs ∙ seats.count;
+      each = λ s d h. let r = its_at whole s d h in record { site = r.site; budget = r.budget; history = r.history };
     }
 
     pub sites_end : AreSettled g xs → AreWhole xs → code.at < length code.sites → SitesEnd (length code.sites) accounts (histories xs) (start_low (program code))
     sites_end settled whole at = low_sites_end (program code) accounts (histories xs) at (are_settled settled) (are_theirs whole)
 
-  pub crew_run : (xs : List (Seat P)) → Stand g code limit xs → IsProgram code → (end : Config) × IsCrewRun (program code) (histories xs) end
+  pub crew_run : (xs : List (Seat P)) → Stand g code limit xs → IsProgram code → (end : Config) × IsCrewRun (program code) limit (histories xs) end
   crew_run xs stand is =
       let e = sites_end xs stand.seats stand.settled stand.whole is.at in
-      (e.whole, record { runs = e.runs; said = e.said })
+      (e.whole, record { sites = are_histories xs stand.seats stand.whole; reaches = e.runs; said = e.said })

@@ -1,3 +1,4 @@
+pub mod Crews
 pub mod Links
 pub mod Runs
 pub mod Seats

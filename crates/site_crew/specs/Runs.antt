@@ -1,11 +1,11 @@
 -- What the histories of a crew are (docs/LANGUAGE.md, "History text").
-use Rattle.std.specs.Prelude.{◌≡◌, ◌<◌, ◌≤◌, List, length, Some}
+use Rattle.std.specs.Prelude.{◌≡◌, ◌<◌, ◌≤◌, ℕ, List, length, Some, slice_index_or}
 use Rattle.np_syntax.specs.declared.limits.TheConstants.{MOST_SITES}
 use Rattle.np_syntax.specs.declared.program.LowProgram.{LowProgram}
 use Rattle.np_calculus.specs.Config.{Config}
 use Rattle.np_calculus.specs.Reductions.{run}
 use Rattle.np_calculus.specs.Starts.{start_low}
-use Rattle.stamp_history.specs.Histories.{Recorded}
+use Rattle.stamp_history.specs.Histories.{IsHistory, Recorded}
 use Rattle.run_merge.specs.Merged.{items, merged, said}
 use Rattle.np_code.specs.Programs.{ProgramTable}
 
@@ -15,7 +15,20 @@ pub record IsProgram (code : ProgramTable) : Type 0 where
   pub few : length code.sites ≤ MOST_SITES
   pub at : code.at < length code.sites
 
--- the merged histories are a run from the low start to this end, in which the values are said that the histories have as printed, in their order
-pub record IsCrewRun (low : LowProgram) (hs : List Recorded) (end : Config) : Type 0 where
-  pub runs : run (start_low low) (items (merged hs)) ≡ Some end
+-- the history of the site with this number, within the budget
+pub record IsHistoryOf (s most : ℕ) (h : Recorded) : Type 0 where
+  pub site : h.site ≡ s
+  pub budget : h.budget ≡ most
+  pub history : IsHistory h
+
+-- one for each of n sites, in the order of their numbers
+pub record AreHistoriesOf (n most : ℕ) (hs : List Recorded) : Type 0 where
+  pub count : length hs ≡ n
+  pub each : (s : ℕ) (d : Recorded) → s < n → IsHistoryOf s most (slice_index_or hs s d)
+
+-- Each site has its history, within the budget. The merged histories are a run from the low start to this end, in which the values are said that the
+-- histories have as printed, in their order.
+pub record IsCrewRun (low : LowProgram) (most : ℕ) (hs : List Recorded) (end : Config) : Type 0 where
+  pub sites : AreHistoriesOf (length low.sites) most hs
+  pub reaches : run (start_low low) (items (merged hs)) ≡ Some end
   pub said : end.said ≡ said hs

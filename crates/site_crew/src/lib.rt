@@ -2,14 +2,18 @@
 #![tactic(auto)]
 
 mod counting;
+mod crew;
 mod laws;
+mod round;
 mod rounds;
 mod settling;
 mod starting;
 mod turns;
 
 pub use counting::events_of;
+pub use crew::Crew;
 pub use laws::law_crew_run;
+pub use round::Round;
 pub use rounds::serial_round;
 pub use settling::settle_all;
 pub use starting::seats_for;

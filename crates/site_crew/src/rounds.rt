@@ -1,7 +1,7 @@
 //! A round: all sites take their turns, and then the links are settled.
 ghost use Rattle.std.specs.Prelude.{◌≡◌, ◌≤◌, length};
 ghost use Rattle.np_syntax.specs.declared.limits.TheConstants.{MOST_SITES};
-ghost use Rattle.site_crew.specs.Seats.{Stand, event_count, histories};
+ghost use Rattle.site_crew.specs.Seats.{AllGrow, Stand, event_count, histories};
 
 use crate::counting::events_of;
 use crate::settling::settle_all;
@@ -24,6 +24,7 @@ pub fn serial_round<R, P: Port<R, Item>>(
     requires few { length seats.old ≤ MOST_SITES }
     ensures stand { Stand P.Port code.now _budget seats.new }
     ensures count { length seats.new ≡ length seats.old }
+    ensures grow { AllGrow (histories seats.old) (histories seats.new) }
     ensures total { result ≡ event_count (histories seats.new) }
 {
     serial_turns(rt, alloc, code, seats);

@@ -1,5 +1,6 @@
 use Rattle.std.proofs.Common.{◌∙◌}
 use Rattle.site_crew.proofs.Goings.{all_seated, seats_turned}
+use Rattle.site_crew.proofs.Crewing.{grows_again}
 use Rattle.site_crew.proofs.Standing.{stand_again}
 use Rattle.site_crew.proofs.rounds.serial_round.Goals as goal
 
@@ -14,3 +15,6 @@ returns-clause-stand g c = stand_again c.requires.stand.seats c.serial_turns.ens
 
 pub returns-clause-count : goal.returns-clause-count
 returns-clause-count g c = c.settle_all.ensures.still.count ∙ c.serial_turns.ensures.count
+
+pub returns-clause-grow : goal.returns-clause-grow
+returns-clause-grow g c = grows_again c.serial_turns.ensures c.settle_all.ensures.still

@@ -1,0 +1,69 @@
+-- A crew goes on by rounds.
+use Rattle.std.proofs.Common.{◌≡◌, ◌<◌, ◌≤◌, ◌++◌, ℕ, Bool, true, false, List, [], ◌∷◌, length, take, drop, get_or, Option, None, Some, option_map, refl, sym, ap, subst, subst₂, ◌∙◌, arith}
+use Rattle.std.specs.Prelude.{slice_get}
+use Rattle.std.proofs.lemmas.Grind.{common_steps}
+use Rattle.std.proofs.lemmas.Option.{get_or_from_slice_get, slice_get-get_or, slice_get-map}
+use Rattle.np_syntax.specs.declared.limits.TheConstants.{LARGEST_BUDGET}
+use Rattle.np_calculus.specs.Config.{Config}
+use Rattle.stamp_history.specs.Histories.{Recorded}
+use Rattle.site_links.specs.Words.{IsFullMake, IsUnused}
+use Rattle.site_links.specs.declared.port.Port as Port
+use Rattle.np_code.specs.Programs.{ProgramTable, program}
+use Rattle.agent_move.specs.declared.item.Item.{Item}
+use Rattle.site_state.specs.Standings.{Standing}
+use Rattle.site_turn.specs.declared.seat.Seat.{Seat}
+use Rattle.site_turn.specs.Turns.{HistoryGrows}
+use Rattle.site_turn.proofs.Holdings.{history_same}
+use Rattle.site_crew.specs.Crews.{CrewState, GoesOn, HasRun, IsCrew, NoneFailed}
+use Rattle.site_crew.specs.Links.{AllStill}
+use Rattle.site_crew.specs.Runs.{IsCrewRun, IsProgram}
+use Rattle.site_crew.specs.Seats.{AllGrow, AllTurned, AreFirst, Stand, histories}
+use Rattle.site_crew.proofs.Goings.{turned_at}
+use Rattle.site_crew.proofs.Standing.{stand_first}
+use Rattle.site_crew.proofs.Whole.{crew_run, long-histories, not-past}
+
+pub slice_whole : {T : Type 0} (items new : List T) (n : ℕ) → n ≡ length items → length new ≡ length items → take n (new ++ drop (length new) items) ≡ new
+slice_whole items new n e long = grind (arith, common_steps)
+
+-- the history in a place
+at_place : {P : Type 0} (xs : List (Seat P)) (i : ℕ) (s : Seat P) (d : Recorded) → slice_get xs i ≡ Some s → get_or (histories xs) i d ≡ s.site.history
+at_place xs i s d at = get_or_from_slice_get (histories xs) i s.site.history d (slice_get-map (λ s. s.site.history) xs i ∙ ap (λ o. option_map (λ s. s.site.history) o) at)
+
+pub grow_refl : (hs : List Recorded) → AllGrow hs hs
+grow_refl hs = record { count = refl; each = λ i d h. history_same (get_or hs i d) (get_or hs i d) refl }
+
+module _ {P R : Type 0} {g : Port.Ghosts P R Item} {code : ProgramTable} where
+  grow_of : {xs ys zs : List (Seat P)} → AllTurned g code xs ys → AllStill g ys zs → (i : ℕ) (d : Recorded) → i < length zs → (o : Option (Seat P)) → slice_get zs i ≡ o
+      → HistoryGrows (get_or (histories xs) i d) (get_or (histories zs) i d)
+  grow_of {xs} {ys} {zs} turned still i d h None e = absurd (not-past zs i e h)
+  grow_of {xs} {ys} {zs} turned still i d h (Some s) e =
+      let b = still.each i s e in let a = turned_at turned i b.before b.was in
+      subst₂ (λ (x y : Recorded). HistoryGrows x y) (sym (at_place xs i a.0 d a.1)) (sym (at_place zs i s d e ∙ ap (λ (v : Standing). v.history) b.still.site_same)) a.2.history
+
+  pub grows_again : {xs ys zs : List (Seat P)} → AllTurned g code xs ys → AllStill g ys zs → AllGrow (histories xs) (histories zs)
+  grows_again {xs} {ys} {zs} turned still =
+      let long : length zs ≡ length xs = still.count ∙ turned.count in record {
+        count = long-histories zs ∙ long ∙ sym (long-histories xs);
+        each = λ i d h.
+            let lx : i < length xs = subst (λ (m : ℕ). i < m) (long-histories xs) h in
+            let lz : i < length zs = subst (λ (m : ℕ). i < m) (sym long) lx in
+            grow_of turned still i d lz (slice_get zs i) refl;
+      }
+
+  -- ports as they were made, and first sites at them
+  pub stand_made : {n most : ℕ} {ports : List P} {xs : List (Seat P)} → n ≡ length code.sites → IsFullMake g.site g.among g.linked n ports
+      → ((i : ℕ) (p : P) → slice_get ports i ≡ Some p → IsUnused n (g.sent p) (g.got p) (g.known p) (g.room p)) → AreFirst code most ports xs → Stand g code most xs
+  stand_made {n} {most} {ports} {xs} e make unused first =
+      stand_first (subst (λ (m : ℕ). IsFullMake g.site g.among g.linked m ports) e make)
+      (λ i p at. subst (λ (m : ℕ). IsUnused m (g.sent p) (g.got p) (g.known p) (g.room p)) e (unused i p at)) first
+
+  -- its merged histories are a run
+  pub has_run : {most : ℕ} {failed : Bool} {xs : List (Seat P)} → IsCrew g code most failed xs → (end : Config) × IsCrewRun (program code) most (histories xs) end
+  has_run {most} {failed} {xs} is = crew_run g code most xs is.stand is.program
+
+  -- after a round
+  pub crew_again : {most : ℕ} {failed now : Bool} {xs ys : List (Seat P)} → IsCrew g code most failed xs → Stand g code most ys → (now ≡ false → NoneFailed ys) → IsCrew g code most now ys
+  crew_again is stand sound = record { program = is.program; budget = is.budget; stand = stand; sound = sound }
+
+pub none_failed : {P : Type 0} {code : ProgramTable} {most : ℕ} {ports : List P} {xs : List (Seat P)} → AreFirst code most ports xs → NoneFailed xs
+none_failed first = record { each = λ i s at. (first.each i s at).2.failed }

@@ -1,0 +1,16 @@
+use Rattle.site_crew.proofs.Crewing.{none_failed, stand_made}
+use Rattle.site_crew.proofs.Whole.{crew_run}
+use Rattle.site_crew.proofs.crew.Crew.new.Goals as goal
+
+pub invariant_of-result : goal.invariant_of-result
+invariant_of-result g c = record {
+  program = c.requires.program;
+  budget = c.requires.budget;
+  stand = stand_made c.sites.ensures c.in_ok-ports.ensures.ports c.in_ok-ports.ensures.unused c.in_ok-seats.ensures;
+  sound = λ e. none_failed c.in_ok-seats.ensures;
+}
+
+pub returns-clause-run : goal.returns-clause-run
+returns-clause-run g c =
+    crew_run g.P.Port c.args.code c.args.budget c.in_ok-seats.seats.items
+    (stand_made c.sites.ensures c.in_ok-ports.ensures.ports c.in_ok-ports.ensures.unused c.in_ok-seats.ensures) c.requires.program

@@ -1,0 +1,52 @@
+-- What contracts see of a crew.
+use Rattle.std.specs.Prelude.{◌≡◌, ◌<◌, ◌≤◌, ℕ, Bool, false, List, Some, slice_get, refl}
+use Rattle.std.specs.Coded.{Coded, code_by, coded×, coded_ℕ, coded_bool, coded_list}
+use Rattle.np_syntax.specs.declared.limits.TheConstants.{LARGEST_BUDGET}
+use Rattle.np_calculus.specs.Config.{Config}
+use Rattle.stamp_history.specs.Histories.{Recorded, recorded_code}
+use Rattle.site_links.specs.declared.port.Port as Port
+use Rattle.np_code.specs.Programs.{ProgramTable, program, table_code}
+use Rattle.agent_move.specs.declared.item.Item.{Item}
+use Rattle.site_turn.specs.declared.seat.Seat.{Seat}
+use Rattle.site_crew.specs.declared.round.Round.{Round}
+use Rattle.site_crew.specs.declared.round.Round.TheVariants as round
+use Rattle.site_crew.specs.Runs.{IsCrewRun, IsProgram}
+use Rattle.site_crew.specs.Seats.{AllGrow, Stand}
+
+-- the code that it runs, its budget, whether memory ran out, and the histories of its sites in the order of their numbers
+pub record CrewState : Type 0 where
+  pub code : ProgramTable
+  pub budget : ℕ
+  pub failed : Bool
+  pub histories : List Recorded
+
+abbrev pub crew_code : Coded CrewState
+crew_code =
+    code_by (ProgramTable × (ℕ × (Bool × List Recorded))) (coded× table_code (coded× coded_ℕ (coded× coded_bool (coded_list recorded_code))))
+    (λ c. (c.code, (c.budget, (c.failed, c.histories)))) (λ p. record { code = p.0; budget = p.1.0; failed = p.1.1.0; histories = p.1.1.1 }) (λ _. refl)
+
+-- no seat has wanted for memory
+pub record NoneFailed {P : Type 0} (xs : List (Seat P)) : Type 0 where
+  pub each : (i : ℕ) (s : Seat P) → slice_get xs i ≡ Some s → s.failed ≡ false
+
+-- what each crew keeps to
+pub record IsCrew {P R : Type 0} (g : Port.Ghosts P R Item) (code : ProgramTable) (most : ℕ) (failed : Bool) (xs : List (Seat P)) : Type 0 where
+  pub program : IsProgram code
+  pub budget : most ≤ LARGEST_BUDGET
+  pub stand : Stand g code most xs
+  pub sound : failed ≡ false → NoneFailed xs
+
+-- its merged histories are a run from the low start of its program
+abbrev pub HasRun : CrewState → Type 0
+HasRun c = (end : Config) × IsCrewRun (program c.code) c.budget c.histories end
+
+-- the crew at a later time
+pub record GoesOn (old new : CrewState) : Type 0 where
+  pub code : new.code ≡ old.code
+  pub budget : new.budget ≡ old.budget
+  pub histories : AllGrow old.histories new.histories
+
+-- whether an event was added
+abbrev pub Tells : ℕ → ℕ → Round → Type 0
+Tells before after round.Went = before < after
+Tells before after round.Still = after ≤ before

@@ -1,0 +1,155 @@
+ghost use Rattle.std.specs.Prelude.{◌≡◌, ◌≤◌, true, false, length, map, IfOk, OnOk, OnErr};
+ghost use Rattle.np_syntax.specs.declared.limits.TheConstants.{LARGEST_BUDGET};
+ghost use Rattle.np_code.specs.Programs.{program};
+ghost use Rattle.site_crew.specs.Crews.{GoesOn, HasRun, NoneFailed, Tells};
+ghost use Rattle.site_crew.specs.Runs.{IsProgram};
+ghost use Rattle.site_crew.specs.Seats.{event_count, histories};
+
+use crate::counting::events_of;
+use crate::round::Round;
+use crate::rounds::serial_round;
+use crate::starting::seats_for;
+use agent_move::Item;
+use np_code::Code;
+use np_syntax::{LowProgram, Memory};
+use site_links::Port;
+use site_turn::Seat;
+use stamp_history::History;
+use std::alloc::Global;
+use std::marker::{Model, PhantomData};
+
+/// All sites of a program, each at its port, while no thread has them.
+#[derive(Drop)]
+pub struct Crew<R, P: Port<R, Item>> {
+    alloc: Global,
+    code: Code,
+    budget: u32,
+    failed: bool,
+    seats: Vec<Seat<P>>,
+    marker: PhantomData<R>,
+}
+
+impl<R, P: Port<R, Item>> Model for Crew<R, P> {
+    ghost use Rattle.site_crew.specs.Crews.{CrewState, IsCrew, crew_code};
+    ghost use Rattle.site_crew.specs.Seats.{histories};
+
+    ghost Value = { CrewState };
+
+    ghost coded = { crew_code };
+
+    ghost view = { λ c. record { code = c.code; budget = c.budget; failed = c.failed; histories = histories c.seats.items } };
+
+    ghost invariant = { λ c. IsCrew P.Port c.code c.budget c.failed c.seats.items };
+}
+
+impl<R, P: Port<R, Item>> Crew<R, P> {
+    /// The sites of a program at its low start.
+    pub fn new(alloc: Global, _low: &LowProgram, code: Code, budget: u32) -> Result<Self, Memory>
+        requires table { program code ≡ _low.now }
+        requires program { IsProgram code }
+        requires budget { budget ≤ LARGEST_BUDGET }
+        ensures crew { IfOk result (λ crew. (crew.code ≡ code) × (crew.budget ≡ budget) × (crew.failed ≡ false)) }
+        ensures run { IfOk result HasRun }
+    {
+        let ports = P::make(alloc, code.sites())?;
+        let seats = seats_for(alloc, &code, budget, ports)?;
+        Ok(Crew {
+            alloc,
+            code,
+            budget,
+            failed: false,
+            seats,
+            marker: PhantomData,
+        })
+    }
+
+    /// A round in which the sites take their turns one after another. Where memory runs out, the crew has failed: its
+    /// histories are still a run, and each later round answers Memory and changes nothing.
+    pub fn serial_round(&mut self, rt: &R) -> Result<Round, Memory>
+        ensures on { GoesOn self.old self.new }
+        ensures run { HasRun self.new }
+        ensures ok { IfOk result (Tells (event_count self.old.histories) (event_count self.new.histories)) }
+        ensures sound { OnOk result (self.new.failed ≡ false) }
+        ensures err { OnErr result (self.new.failed ≡ true) }
+        ensures failed { self.old.failed ≡ true → self.new ≡ self.old }
+    {
+        if self.failed {
+            return Err(Memory);
+        }
+        let before = events_of(self.seats.as_slice());
+        let after = serial_round(
+            rt,
+            self.alloc,
+            &self.code,
+            self.budget,
+            self.seats.as_mut_slice(),
+        );
+        self.failed = any_failed(self.seats.as_slice());
+        told(self.failed, before, after)
+    }
+
+    /// The histories of the sites, in the order of their numbers.
+    pub fn into_histories(self) -> Result<Vec<History>, Memory>
+        ensures { IfOk result (λ out. map (λ h. h.history) out.items ≡ self.histories) }
+    {
+        histories_of(self.alloc, self.seats)
+    }
+
+    /// Whether memory ran out in a round.
+    pub fn failed(&self) -> bool
+        ensures { result ≡ self.now.failed }
+    {
+        self.failed
+    }
+}
+
+/// The histories of seats.
+fn histories_of<P>(alloc: Global, seats: Vec<Seat<P>>) -> Result<Vec<History>, Memory>
+where
+    P: Drop,
+    ensures { IfOk result (λ out. map (λ h. h.history) out.items ≡ histories seats.items) }
+{
+    let mut out = Vec::new(alloc);
+    for seat in seats {
+        let history = history_of(seat);
+        out.push(history)?;
+    }
+    Ok(out)
+}
+
+/// The history of a seat.
+fn history_of<P>(seat: Seat<P>) -> History
+where
+    P: Drop,
+    ensures { result.history ≡ seat.site.history }
+{
+    let Seat { site, .. } = seat;
+    site.into_history()
+}
+
+/// Whether a seat wanted for memory.
+fn any_failed<P>(seats: &[Seat<P>]) -> bool
+    ensures { result ≡ false → NoneFailed seats.now }
+{
+    for i in 0..seats.len() {
+        if seats[i].failed {
+            return true;
+        }
+    }
+    false
+}
+
+/// What a round answers.
+fn told(failed: bool, before: u64, after: u64) -> Result<Round, Memory>
+    ensures ok { IfOk result (Tells before after) }
+    ensures sound { OnOk result (failed ≡ false) }
+    ensures err { OnErr result (failed ≡ true) }
+{
+    if failed {
+        Err(Memory)
+    } else if before < after {
+        Ok(Round::Went)
+    } else {
+        Ok(Round::Still)
+    }
+}
