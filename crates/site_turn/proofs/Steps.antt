@@ -225,11 +225,6 @@ pub loads_bring : (ts : List Proc) (l : Load) (to : ℕ) → IsLoad (contents_of
 loads_bring ts (load.Agent agent) to = (to, inr (record { agent = agent.name; comes = ap (λ t. cond t (Some (place.Way to)) None) (same_name-itself agent.name) }))
 loads_bring ts (load.Packet mark packet) to = (packet.to, inl (record { mark = mark; packet = packet; flies = ap (λ t. cond t (Some packet) None) (same_name-itself mark); to = refl }))
 
--- an event of the site is what it does, if the names that stand there are made
-does_of : (code : ProgramTable) {old new : Standing} {event : Event} {taken out : Option Item} → Did code old new event taken out
-    → Does (holding_of code old) (deed_of code (record { stamp = new.clock; event = event }) taken out) (holding_of code new)
-does_of code did = (did.site, λ made. (did.does made).1 made)
-
 sent-within : (code : ProgramTable) (n : ℕ) (s : Standing) (o : Option Item) → IfSome o (IsSent s) → length s.outgoing ≡ n → IfSome (option_map (item_of code) o) (λ x. x.item.receiver < n)
 sent-within code n s None h e = tt
 sent-within code n s (Some x) h e = subst (λ (m : ℕ). x.to < m) e h.to
@@ -277,7 +272,7 @@ module _ (code : ProgramTable) (old new : Standing) (event : Event) (taken out :
       let stamps : HasStamps (clock_after 0 ds) deed =
       record { event = did.clock ∙ ap (λ c. ticked c (option_map (item_of code) taken)) clock; put = sent-stamp code new.clock new out did.put refl } in
       let next : IsNextDeed (length code.sites) old.site ds (holding_of code old) deed (holding_of code new) =
-      record { own = own; does = does_of code did; stamps = stamps } in
+      record { own = own; does = did.does; stamps = stamps } in
       subst (λ (n : ℕ). IsAccount (length code.sites) n start (ds ++ deed ∷ []) (holding_of code new) (came ++ taken_on from deed)) (sym did.site)
       (account_grows (length code.sites) old.site start (holding_of code old) (holding_of code new) ds deed came from account next (sent-loads code old.site new out did.put did.site) within)
 
