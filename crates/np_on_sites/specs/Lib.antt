@@ -1,0 +1,2 @@
+pub mod SitesRuns
+pub mod SourceRuns

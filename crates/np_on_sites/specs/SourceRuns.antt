@@ -1,0 +1,31 @@
+-- What a run of a compiled program on its sites is of the source (docs/LANGUAGE.md, "Translation and daemon").
+use Rattle.std.specs.Prelude.{◌≡◌, ℕ, List, Some}
+use Rattle.np_syntax.specs.declared.event.End.{End}
+use Rattle.np_syntax.specs.declared.event.End.TheVariants.{Rest}
+use Rattle.np_syntax.specs.declared.program.LowProgram.{LowProgram}
+use Rattle.np_syntax.specs.declared.program.Program.{Program}
+use Rattle.np_calculus.specs.Config.{Config}
+use Rattle.np_calculus.specs.Idle.{Idle}
+use Rattle.np_calculus.specs.Reductions.{run}
+use Rattle.np_calculus.specs.Starts.{start_high, start_low}
+use Rattle.np_calculus.specs.Well.{WellAlong}
+use Rattle.np_check.specs.Faults.{IsAccepted}
+use Rattle.daemon_encode.specs.Encoded.{encoded}
+use Rattle.np_lift.specs.Lift.{lift}
+use Rattle.stamp_history.specs.Histories.{Recorded}
+use Rattle.run_merge.specs.Merged.{said}
+use Rattle.np_on_sites.specs.SitesRuns.{IsSitesRun, events_of}
+
+-- The merged histories, in which no value of a wrong type is met, and the run of the source that is read off them: it prints the same, and where
+-- the low level is at rest it has ended.
+pub record IsSourceRun (p : Program) (low : LowProgram) (histories : List Recorded) (end : End) : Type 0 where
+  pub well : WellAlong (start_low low) (events_of histories)
+  pub high : Config
+  pub lifted : run (start_high p) (lift (events_of histories)) ≡ Some high
+  pub said : high.said ≡ said histories
+  pub rests : end ≡ Rest → Idle high
+
+-- each run of the low program of an accepted source
+abbrev pub SitesRunsAreSourceRuns : Type 0
+SitesRunsAreSourceRuns = (p : Program) (low : LowProgram) (budget : ℕ) (histories : List Recorded) (end : End) → IsAccepted p → low ≡ encoded p
+    → IsSitesRun low budget histories end → IsSourceRun p low histories end

@@ -1,0 +1,13 @@
+//! A low program on its sites: each makes its events on a thread of its own, or one site after another, and the histories
+//! that they leave are a run of the low program and of its source.
+#![tactic(auto)]
+
+mod gate;
+mod laws;
+mod record;
+mod running;
+
+pub use gate::{Free, Gate};
+pub use laws::law_source_runs;
+pub use record::Record;
+pub use running::run_on_sites;
