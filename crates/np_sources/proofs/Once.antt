@@ -8,7 +8,7 @@ use Rattle.daemon_encode.specs.Encoded.{encoded}
 use Rattle.np_verdict.specs.Faults.{Stage, Faulty}
 use Rattle.np_verdict.specs.Lines.{status_of}
 use Rattle.np_verdict.specs.declared.refusal.Refusal.{Refusal}
-use Rattle.np_verdict.specs.declared.refusal.Refusal.TheVariants.{Usage, TooLong, TooManyNodes, TooManyEvents}
+use Rattle.np_verdict.specs.declared.refusal.Refusal.TheVariants.{Usage, TooLong, TooManyNodes}
 use Rattle.np_verdict.proofs.Verdicts as verdicts
 use Rattle.np_sources.specs.Reaches.{Reach, HasFewEvents, HasManyEvents, HasNoLow, IsLowOf, IsTooLarge, TakenTo, FaultyTo}
 use Rattle.np_sources.specs.declared.limits.TheConstants.{MOST_EVENTS}
