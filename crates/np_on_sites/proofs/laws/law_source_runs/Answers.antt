@@ -18,5 +18,7 @@ returns c = λ p low budget histories end accepted is ran.
       high = high.high;
       lifted = high.runs;
       said = sym high.said ∙ run_of.said;
+      paired = c.law_posts_are_paired.ensures p (encoded p) of accepted events run_of.last run_of.reaches;
+      handed = λ rest. c.law_all_handed.ensures.handed p (encoded p) of accepted events run_of.last run_of.reaches (run_of.rests.0 rest);
       rests = λ rest. (c.law_rest.ensures (length p.sites) p.binders of.first run_of.last high.high high.view high.coupled lodged (run_of.rests.0 rest)).0;
     })
