@@ -27,12 +27,10 @@ pub use Rattle.np_calculus.specs.Starts.{main_mark}
 pub use Rattle.np_calculus.specs.declared.config.Atom.{Atom}
 pub use Rattle.np_calculus.specs.declared.config.Packet.{Packet}
 pub use Rattle.np_calculus.specs.declared.config.Place.{Place}
-pub use Rattle.np_calculus.proofs.Rows.{agent-row, comm-row, fork-row, lookup-row, open-row, rep-row}
 pub use Rattle.np_calculus.proofs.Steps.{acting-step}
 pub use Rattle.np_agents.specs.Moves.{body_at, way_at, way_in}
 pub use Rattle.np_agents.specs.Placed.{NoneTravels}
 pub use Rattle.np_configuration.specs.Errands.{IsKept, errand_of}
-pub use Rattle.np_configuration.specs.Found.{IsLookup, found_env}
+pub use Rattle.np_configuration.specs.Found.{found_env}
 pub use Rattle.np_configuration.specs.Going.{GivesAt, MayAct}
-pub use Rattle.np_configuration.specs.Rows.{local_row}
 pub use Rattle.np_configuration.specs.contracts.cfg.Cfg.{the_view}

@@ -13,22 +13,13 @@ none_covered P m keys covers none mark x there p =
     none s.index mark s.within (subst P (sym (s.is mark)) p)
 
 module _ (atoms : NameMap Atom) (mark : Name) where
-  pub gives-none : (meeting : Meeting) → map.get atoms mark ≡ None → GivesAt atoms meeting mark → ⊥
-  gives-none meeting none g = let e = sym none ∙ g.there in cc
-
   pub gives-is : (meeting : Meeting) (a : Atom) → map.get atoms mark ≡ Some a → GivesAt atoms meeting mark → errand_of a ≡ errand.Gives meeting
   gives-is meeting a there g = let same : g.atom ≡ a = (let e = sym g.there ∙ there in cc) in ap errand_of (sym same) ∙ g.gives
 
   module _ (places : NameMap Place) where
-    pub goes-none : map.get atoms mark ≡ None → MayAct atoms places mark → ⊥
-    goes-none none g = let e = sym none ∙ g.there in cc
-
     module _ (a : Atom) (there : map.get atoms mark ≡ Some a) where
       same : (g : MayAct atoms places mark) → g.atom ≡ a
       same g = let e = sym g.there ∙ there in cc
-
-      pub goes-away : map.get places a.agent ≡ None → MayAct atoms places mark → ⊥
-      goes-away none g = let h : IsSome (map.get places a.agent) = subst (λ (b : Atom). IsSome (map.get places b.agent)) (same g) g.housed in absurd (let x = subst IsSome none h in cc)
 
       -- what its errand is decides
       pub goes-as : (MayAct atoms places mark) → (errand_of a ≡ errand.Acts) ⊎ ((meeting : Meeting) × (errand_of a ≡ errand.Takes meeting) × AnyGives atoms meeting)
@@ -45,9 +36,3 @@ module _ (atoms : NameMap Atom) (mark : Name) where
         | inl acts ↦ absurd (let x = sym e ∙ acts in cc)
         | inr takes ↦ let is : takes.0 ≡ meeting = (let x = sym takes.1 ∙ e in cc) in subst (AnyGives atoms) is takes.2
       ]
-
-      pub stuck-stays : errand_of a ≡ errand.Stuck → MayAct atoms places mark → ⊥
-      stuck-stays e g = elim (goes-as g) [ inl acts ↦ absurd (let x = sym e ∙ acts in cc) | inr takes ↦ absurd (let x = sym e ∙ takes.1 in cc) ]
-
-      pub gives-stays : (meeting : Meeting) → errand_of a ≡ errand.Gives meeting → MayAct atoms places mark → ⊥
-      gives-stays meeting e g = elim (goes-as g) [ inl acts ↦ absurd (let x = sym e ∙ acts in cc) | inr takes ↦ absurd (let x = sym e ∙ takes.1 in cc) ]

@@ -1,13 +1,10 @@
 pub mod Common
-pub mod ByForm
 pub mod ErrandForms
 pub mod Goings
 pub mod Keeping
 pub mod NewOutputs
 pub mod RowSteps
+pub mod Finds
 pub mod Moved
-pub mod RowForms
 pub mod RestTests
 pub mod Rests
-pub mod Ways
-pub mod Finds

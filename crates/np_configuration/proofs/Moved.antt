@@ -11,10 +11,6 @@ use Rattle.np_agents.specs.Moves.{Enters, GoesOn, body_in}
 use Rattle.np_configuration.specs.Found.{CanEnter, CanGo}
 use Rattle.np_configuration.proofs.Keeping.{kept-born, kept-on}
 
--- the acting atom stands under its mark
-pub actor-there : {v c : Config} → v ≡ c → (e : Event) (a : Atom) → acting c e ≡ Some a → map.get v.atoms e.actor ≡ Some a
-actor-there {c = c} is e a acts = ap (λ (d : Config). map.get d.atoms e.actor) is ∙ (acting-step c e a acts).there
-
 pub kept-made : {work : NameMap Errand} {atoms : NameMap Atom} {packets : NameMap Packet} {born : NameSet} → IsKept work atoms packets born → (made : Made)
     → IsKept work atoms packets (with_made born made)
 kept-made k made.Nothing = k
@@ -26,9 +22,6 @@ module _ {v c : Config} (is : v ≡ c) (actor : Name) {errand : Errand} where
     pub there-to-enter : {atoms : NameMap Atom} → atoms ≡ v.atoms → map.get atoms actor ≡ Some s.atom
     there-to-enter same = ap (λ (x : NameMap Atom). map.get x actor) (same ∙ ap (λ (d : Config). d.atoms) is) ∙ s.there
 
-    pub may-enter : {atoms : NameMap Atom} → atoms ≡ v.atoms → IsSome (body_in atoms actor)
-    may-enter same = rw (there-to-enter same, s.form) refl
-
     pub atoms-entered : {atoms new : NameMap Atom} → atoms ≡ v.atoms → Enters atoms new actor env → new ≡ map.insert v.atoms actor (goes_under s.atom s.body env)
     atoms-entered same h = h.each s.atom s.body (there-to-enter same) s.form ∙ ap (λ (x : NameMap Atom). map.insert x actor (goes_under s.atom s.body env)) same
 
@@ -37,11 +30,6 @@ module _ {v c : Config} (is : v ≡ c) (actor : Name) {errand : Errand} where
     entered-kept k made f g h =
         rw (f, g, h, s.files)
         (kept-made (kept-on k actor s.atom (goes_under s.atom s.body env) (there-to-enter refl)) made)
-
-    pub entered-is : (made : Made) {new : NameMap Atom} {born : NameSet} → new ≡ map.insert v.atoms actor (goes_under s.atom s.body env) → born ≡ with_made v.born made
-        → record v { atoms = new; born = born } ≡ record c { atoms = map.insert c.atoms actor (goes_under s.atom s.body env); born = with_made c.born made }
-    entered-is made g h =
-        rw (g, h) (ap (λ (d : Config). record d { atoms = map.insert d.atoms actor (goes_under s.atom s.body env); born = with_made d.born made }) is)
 
   module _ {first : Bool} (s : CanGo c.atoms actor first errand) where
     pub there-to-go : {atoms : NameMap Atom} → atoms ≡ v.atoms → map.get atoms actor ≡ Some s.atom
@@ -56,10 +44,6 @@ module _ {v c : Config} (is : v ≡ c) (actor : Name) {errand : Errand} where
     pub gone-kept : {work : Work} {packets : NameMap Packet} {born : NameSet} → IsKept work v.atoms packets born → {work' : Work} {new : NameMap Atom}
         → work' ≡ map.insert work actor errand → new ≡ map.insert v.atoms actor (goes s.atom s.next) → IsKept work' new packets born
     gone-kept k f g = rw (f, g, s.files) (kept-on k actor s.atom (goes s.atom s.next) (there-to-go refl))
-
-    pub gone-is : {new : NameMap Atom} → new ≡ map.insert v.atoms actor (goes s.atom s.next)
-        → record v { atoms = new } ≡ record c { atoms = map.insert c.atoms actor (goes s.atom s.next) }
-    gone-is g = rw g (ap (λ (d : Config). record d { atoms = map.insert d.atoms actor (goes s.atom s.next) }) is)
 
 -- a mark under which an atom stands is born
 pub born-under : {v c : Config} → v ≡ c → {work : Work} → IsKept work v.atoms v.packets v.born → (m : Name) → IsSome (map.get c.atoms m) → set.contains v.born m ≡ true

@@ -1,6 +1,7 @@
-ghost use Rattle.np_configuration.specs.Rows.{fork_row, if_row, let_row, new_row, print_row, stop_row};
+ghost use Rattle.std.specs.Prelude.{◌≡◌, Some};
+ghost use Rattle.np_configuration.specs.Found.{ended, spoken};
+ghost use Rattle.np_configuration.specs.Rows.{IsFound, fork_found, fork_row, if_found, if_row, let_found, let_row, new_found, new_row, print_row, stop_row};
 ghost use Rattle.np_configuration.specs.Applied.{Applied, Finds};
-ghost use Rattle.np_configuration.specs.Found.{IsFork, IsIf, IsLet, IsNew, IsPrint, IsStop};
 
 use super::cfg::Cfg;
 use super::entries::Entry;
@@ -34,9 +35,8 @@ impl Cfg {
     }
 
     /// Whether the row of an atom that ends is met.
-    #[tactic(auto, unfolding(np_calculus::specs::Reductions::act))]
     fn find_stop(&self, e: &Event) -> Result<(), ApplyFail>
-        ensures { Finds (stop_row self.now e.now) (λ _. IsStop self.now e.now) result }
+        ensures { Finds (stop_row self.now e.now) (λ _. stop_row self.now e.now ≡ Some (ended self.now e.now.actor)) result }
     {
         let Some(atom) = self.acting(e) else {
             return Err(NotEnabled);
@@ -65,9 +65,8 @@ impl Cfg {
     }
 
     /// How a composition goes on, where the row is met.
-    #[tactic(auto, unfolding(np_calculus::specs::Reductions::act))]
     fn find_fork(&self, alloc: Global, e: &Event) -> Result<Fork, ApplyFail>
-        ensures { Finds (fork_row self.now e.now) (λ f. IsFork self.now e.now f.mark f.env f.comes f.stays) result }
+        ensures { Finds (fork_row self.now e.now) (IsFound (fork_found self.now e.now)) result }
     {
         let Some(atom) = self.acting(e) else {
             return Err(NotEnabled);
@@ -98,9 +97,8 @@ impl Cfg {
     }
 
     /// How an atom goes on that makes a channel, where the row is met.
-    #[tactic(auto, unfolding(np_calculus::specs::Reductions::act))]
     fn find_new(&self, alloc: Global, e: &Event) -> Result<Entry, ApplyFail>
-        ensures { Finds (new_row self.now e.now) (λ n. IsNew self.now e.now n.env n.errand) result }
+        ensures { Finds (new_row self.now e.now) (IsFound (new_found self.now e.now)) result }
     {
         let Some(atom) = self.acting(e) else {
             return Err(NotEnabled);
@@ -125,9 +123,8 @@ impl Cfg {
     }
 
     /// How an atom goes on that gives names to a value, where the row is met.
-    #[tactic(auto, unfolding(np_calculus::specs::Reductions::act))]
     fn find_let(&self, alloc: Global, e: &Event) -> Result<Entry, ApplyFail>
-        ensures { Finds (let_row self.now e.now) (λ n. IsLet self.now e.now n.env n.errand) result }
+        ensures { Finds (let_row self.now e.now) (IsFound (let_found self.now e.now)) result }
     {
         let Some(atom) = self.acting(e) else {
             return Err(NotEnabled);
@@ -154,9 +151,8 @@ impl Cfg {
     }
 
     /// How a test goes on, where the row is met.
-    #[tactic(auto, unfolding(np_calculus::specs::Reductions::act))]
     fn find_if(&self, alloc: Global, e: &Event) -> Result<(bool, Errand), ApplyFail>
-        ensures { Finds (if_row self.now e.now) (λ way. IsIf self.now e.now way.0 way.1) result }
+        ensures { Finds (if_row self.now e.now) (IsFound (if_found self.now e.now)) result }
     {
         let Some(atom) = self.acting(e) else {
             return Err(NotEnabled);
@@ -183,9 +179,8 @@ impl Cfg {
     }
 
     /// The value that an atom prints, where the row is met.
-    #[tactic(auto, unfolding(np_calculus::specs::Reductions::act))]
     fn find_print(&self, alloc: Global, e: &Event) -> Result<Value, ApplyFail>
-        ensures { Finds (print_row self.now e.now) (λ value. IsPrint self.now e.now value) result }
+        ensures { Finds (print_row self.now e.now) (λ value. print_row self.now e.now ≡ Some (spoken self.now e.now.actor e.now.site value)) result }
     {
         let Some(atom) = self.acting(e) else {
             return Err(NotEnabled);

@@ -1,7 +1,5 @@
-ghost use Rattle.np_configuration.specs.Rows.{lookup_row, open_row};
-ghost use Rattle.np_syntax.specs.declared.event.Kind.TheVariants as kind;
+ghost use Rattle.np_configuration.specs.Rows.{IsFound, lookup_found, lookup_row, open_found, open_row};
 ghost use Rattle.np_configuration.specs.Applied.{Applied, Finds};
-ghost use Rattle.np_configuration.specs.Found.{IsLookup, Stands};
 
 use super::cfg::Cfg;
 use super::fail::ApplyFail::{self, NotEnabled};
@@ -34,9 +32,8 @@ impl Cfg {
     }
 
     /// The output that an atom's letter gives, where the row is met.
-    #[tactic(auto, unfolding(np_calculus::specs::Reductions::act))]
     fn find_open(&self, alloc: Global, e: &Event) -> Result<Atom, ApplyFail>
-        ensures { Finds (open_row self.now e.now) (λ atom. Stands kind.Open self.now e.now e.now.actor atom) result }
+        ensures { Finds (open_row self.now e.now) (IsFound (open_found self.now e.now)) result }
     {
         let Some(atom) = self.acting(e) else {
             return Err(NotEnabled);
@@ -64,9 +61,8 @@ impl Cfg {
     }
 
     /// How a lookup goes on, where the row is met.
-    #[tactic(auto, unfolding(np_calculus::specs::Reductions::act))]
     fn find_lookup(&self, alloc: Global, e: &Event) -> Result<Lookup, ApplyFail>
-        ensures { Finds (lookup_row self.now e.now) (λ l. IsLookup self.now e.now l.first l.env l.errand) result }
+        ensures { Finds (lookup_row self.now e.now) (IsFound (lookup_found self.now e.now)) result }
     {
         let Some(atom) = self.acting(e) else {
             return Err(NotEnabled);

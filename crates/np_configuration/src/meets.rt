@@ -1,8 +1,6 @@
-ghost use Rattle.np_configuration.specs.Rows.{comm_row, rep_row};
+ghost use Rattle.np_configuration.specs.Rows.{IsFound, comm_found, comm_row, rep_found, rep_row};
 ghost use Rattle.std.specs.Prelude.{◌≡◌, IfOk};
-ghost use Rattle.np_syntax.specs.declared.event.Kind.TheVariants as kind;
 ghost use Rattle.np_configuration.specs.Applied.{Applied, Finds};
-ghost use Rattle.np_configuration.specs.Found.{IsComm, Stands};
 ghost use Rattle.np_configuration.specs.Views.{taken_by};
 
 use super::cfg::Cfg;
@@ -51,9 +49,8 @@ impl Cfg {
     }
 
     /// The output that an input takes, and how the input goes on, where the row is met.
-    #[tactic(auto, unfolding(np_calculus::specs::Reductions::act))]
     fn find_comm(&self, alloc: Global, e: &Event) -> Result<(Name, Entry), ApplyFail>
-        ensures { Finds (comm_row self.now e.now) (λ met. IsComm self.now e.now met.0 met.1.env met.1.errand) result }
+        ensures { Finds (comm_row self.now e.now) (IsFound (comm_found self.now e.now)) result }
     {
         let Some(atom) = self.acting(e) else {
             return Err(NotEnabled);
@@ -87,9 +84,8 @@ impl Cfg {
 
     /// The output that a replicated input takes, and the copy of its body that stands in its place, where the row is
     /// met.
-    #[tactic(auto, unfolding(np_calculus::specs::Reductions::act))]
     fn find_rep(&self, alloc: Global, e: &Event) -> Result<(Name, Atom), ApplyFail>
-        ensures { Finds (rep_row self.now e.now) (λ served. Stands kind.Rep self.now e.now served.0 served.1) result }
+        ensures { Finds (rep_row self.now e.now) (IsFound (rep_found self.now e.now)) result }
     {
         let Some(atom) = self.acting(e) else {
             return Err(NotEnabled);

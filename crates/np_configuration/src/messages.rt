@@ -1,9 +1,8 @@
-ghost use Rattle.np_configuration.specs.Rows.{local_row, post_row, send_row};
+ghost use Rattle.np_configuration.specs.Rows.{IsFound, IsLocal, local_found, local_row, post_found, post_row, send_found, send_row};
 ghost use Rattle.np_calculus.specs.Reductions.{row};
 ghost use Rattle.np_syntax.specs.declared.event.Kind.TheVariants as kind;
 ghost use Rattle.std.specs.Prelude.{true, false};
 ghost use Rattle.np_configuration.specs.Applied.{Applied, Finds};
-ghost use Rattle.np_configuration.specs.Found.{IsLocal, IsSend, Stands};
 
 use super::cfg::Cfg;
 use super::fail::ApplyFail::{self, NotEnabled};
@@ -38,9 +37,8 @@ impl Cfg {
     }
 
     /// The packet that an atom sends, where the row is met.
-    #[tactic(auto, unfolding(np_calculus::specs::Reductions::act))]
     fn find_send(&self, alloc: Global, e: &Event) -> Result<Packet, ApplyFail>
-        ensures { Finds (send_row self.now e.now) (λ packet. IsSend self.now e.now packet) result }
+        ensures { Finds (send_row self.now e.now) (IsFound (send_found self.now e.now)) result }
     {
         let Some(atom) = self.acting(e) else {
             return Err(NotEnabled);
@@ -82,9 +80,8 @@ impl Cfg {
     }
 
     /// The output that an atom makes in its own or another agent, where the row is met.
-    #[tactic(auto, unfolding(np_calculus::specs::Reductions::act))]
     fn find_post(&self, alloc: Global, e: &Event) -> Result<Atom, ApplyFail>
-        ensures { Finds (post_row self.now e.now) (λ atom. Stands kind.Post self.now e.now e.now.actor atom) result }
+        ensures { Finds (post_row self.now e.now) (IsFound (post_found self.now e.now)) result }
     {
         let Some(atom) = self.acting(e) else {
             return Err(NotEnabled);
@@ -145,9 +142,8 @@ impl Cfg {
     }
 
     /// What a location test finds, where the conditions are met that do not depend on it.
-    #[tactic(auto, unfolding(np_calculus::specs::Reductions::act))]
     fn find_local(&self, alloc: Global, e: &Event) -> Result<Local, ApplyFail>
-        ensures { Finds (local_row self.now e.now) (λ a. IsLocal self.now e.now a.agent a.chan a.value a.here a.errand) result }
+        ensures { Finds (local_row self.now e.now) (IsFound (local_found self.now e.now)) result }
     {
         let Some(atom) = self.acting(e) else {
             return Err(NotEnabled);
@@ -181,7 +177,7 @@ impl Cfg {
     /// A location test that finds its agent: the output is made in it, and the process goes on as the first.
     #[tactic(auto, using(np_tables::proofs::Tables::puts))]
     fn local_here(&mut self, alloc: Global, e: &Event, asked: Local) -> Result<(), ApplyFail>
-        requires { IsLocal self.old e.now asked.agent asked.chan asked.value true asked.errand }
+        requires { IsLocal self.old e.now asked true }
         ensures { Applied (local_row self.old e.now) self.old self.new result }
     {
         let mark = one_made(e.made).ok_or(NotEnabled)?;
@@ -205,7 +201,7 @@ impl Cfg {
 
     /// A location test that does not find its agent: the process goes on as the second.
     fn local_away(&mut self, e: &Event, asked: &Local) -> Result<(), ApplyFail>
-        requires { IsLocal self.old e.now asked.now.agent asked.now.chan asked.now.value false asked.now.errand }
+        requires { IsLocal self.old e.now asked.now false }
         ensures { Applied (local_row self.old e.now) self.old self.new result }
     {
         none_made(e.made).ok_or(NotEnabled)?;

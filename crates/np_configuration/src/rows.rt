@@ -1,5 +1,6 @@
 ghost use Rattle.np_calculus.specs.Reductions.{apply};
 ghost use Rattle.np_configuration.specs.Applied.{Applied};
+ghost use Rattle.np_configuration.specs.Rows.{row_of};
 
 use super::cfg::Cfg;
 use super::fail::ApplyFail;
@@ -10,6 +11,13 @@ use std::alloc::Global;
 /// leave the configuration as it was.
 pub fn apply(alloc: Global, c: &mut Cfg, e: &Event) -> Result<(), ApplyFail>
     ensures { Applied (apply c.old e.now) c.old c.new result }
+{
+    apply_row(alloc, c, e)
+}
+
+/// Makes an event by the row of its kind, in the steps in which each is taken.
+fn apply_row(alloc: Global, c: &mut Cfg, e: &Event) -> Result<(), ApplyFail>
+    ensures { Applied (row_of e.now.kind c.old e.now) c.old c.new result }
 {
     match e.kind {
         Kind::Stop => c.apply_stop(e),

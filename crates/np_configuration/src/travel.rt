@@ -1,8 +1,7 @@
-ghost use Rattle.np_configuration.specs.Rows.{agent_row, depart_row};
+ghost use Rattle.np_configuration.specs.Rows.{IsFound, agent_found, agent_row, depart_found, depart_row};
 ghost use Rattle.np_calculus.specs.Reductions.{row};
 ghost use Rattle.np_syntax.specs.declared.event.Kind.TheVariants as kind;
 ghost use Rattle.np_configuration.specs.Applied.{Applied, Finds};
-ghost use Rattle.np_configuration.specs.Found.{IsAgent, IsDepart};
 
 use super::cfg::Cfg;
 use super::fail::ApplyFail::{self, NotEnabled};
@@ -67,7 +66,7 @@ impl Cfg {
 
     /// The agent that an atom makes, where the row is met.
     fn find_agent(&self, alloc: Global, e: &Event) -> Result<NewAgent, ApplyFail>
-        ensures { Finds (agent_row self.now e.now) (λ m. IsAgent self.now e.now m.agent m.mark m.env m.own m.comes m.stays) result }
+        ensures { Finds (agent_row self.now e.now) (IsFound (agent_found self.now e.now)) result }
     {
         let Some(atom) = self.acting(e) else {
             return Err(NotEnabled);
@@ -104,9 +103,8 @@ impl Cfg {
     }
 
     /// Where an agent goes to, where the row is met.
-    #[tactic(auto, unfolding(np_calculus::specs::Reductions::act))]
     fn find_depart(&self, alloc: Global, e: &Event) -> Result<Departure, ApplyFail>
-        ensures { Finds (depart_row self.now e.now) (λ d. IsDepart self.now e.now d.agent d.to d.errand) result }
+        ensures { Finds (depart_row self.now e.now) (IsFound (depart_found self.now e.now)) result }
     {
         let Some(atom) = self.acting(e) else {
             return Err(NotEnabled);

@@ -1,28 +1,28 @@
 use Rattle.std.proofs.Common.{◌≡◌, Some, refl, sym, ap, ◌∙◌}
 use Rattle.std.specs.FinMap as map
 use Rattle.std.specs.FinSet as set
-use Rattle.np_configuration.proofs.Common.{NameMap, NameSet, the_view, Atom, Place, Config, goes_under, agent-row}
+use Rattle.np_configuration.proofs.Common.{NameMap, NameSet, the_view, Atom, Place, Config, goes_under}
 use Rattle.np_calculus.specs.declared.config.Place.TheVariants as place
-use Rattle.np_configuration.specs.Found.{IsAgent}
+use Rattle.np_configuration.specs.declared.travel.NewAgent.{NewAgent}
+use Rattle.np_configuration.proofs.Finds.{AgentStep, agent-step}
 use Rattle.np_configuration.proofs.Keeping.{kept-absent, kept-born, kept-more}
 use Rattle.np_configuration.proofs.Moved.{kept-equal, remade-placed, two-filed}
 use Rattle.np_configuration.proofs.cfg.Cfg.apply_agent.Goals as goal
 
 pub file_two-requires : goal.file_two-requires
 file_two-requires c =
-    kept-absent c.self.invariant c.in_ok-made.made.mark (ap (λ (d : Config). set.contains d.born c.in_ok-made.made.mark) c.self.view_is ∙ c.in_ok-made.ensures.new)
+    kept-absent c.self.invariant c.in_ok-made.made.mark (ap (λ (d : Config). set.contains d.born c.in_ok-made.made.mark) c.self.view_is ∙ (agent-step c.args.self.now c.args.e.now _ c.in_ok-made.ensures).new)
 
 pub split_agent-requires-clause-same : goal.split_agent-requires-clause-same
-split_agent-requires-clause-same c = c.in_ok-made.ensures.same
+split_agent-requires-clause-same c = ap (λ (n : NewAgent). n.own) (agent-step c.args.self.now c.args.e.now _ c.in_ok-made.ensures).is
 
 pub split_agent-requires-clause-whole : goal.split_agent-requires-clause-whole
 split_agent-requires-clause-whole c =
-    let s = c.in_ok-made.ensures in
+    let s = agent-step c.args.self.now c.args.e.now _ c.in_ok-made.ensures in
     rw (c.in_ok-file_two.ensures.atoms, ap (λ (d : Config). map.get d.atoms c.args.e.now.actor) c.self.view_is ∙ s.there, s.form) refl
 
-found : (c : goal.After-put-3)
-    → IsAgent c.args.self.now c.args.e.now c.in_ok-made.made.agent c.in_ok-made.made.mark c.in_ok-made.made.env c.in_ok-made.made.own c.in_ok-made.made.comes c.in_ok-made.made.stays
-found c = c.in_ok-made.ensures
+found : (c : goal.After-put-3) → AgentStep c.args.self.now c.args.e.now c.in_ok-made.made
+found c = agent-step c.args.self.now c.args.e.now _ c.in_ok-made.ensures
 
 there : (c : goal.After-put-3) → map.get c.self.inside.atoms.items c.args.e.now.actor ≡ Some (found c).atom
 there c = ap (λ (d : Config). map.get d.atoms c.args.e.now.actor) c.self.view_is ∙ (found c).there
@@ -52,17 +52,16 @@ members c =
 pub invariant_of-self-2 : goal.invariant_of-self-2
 invariant_of-self-2 c =
     kept-equal (kept-more (kept-born c.self.invariant c.in_ok-made.made.agent) c.args.e.now.actor c.in_ok-made.made.mark (found c).atom (stays c) (comes c) (there c))
-    (c.in_ok-file_two.ensures.ok ∙ two-filed c.self.inside.work c.in_ok-made.made.mark c.args.e.now.actor (found c).second (found c).first) (atoms c) (members c)
+    (c.in_ok-file_two.ensures.ok ∙ two-filed c.self.inside.work c.in_ok-made.made.mark c.args.e.now.actor (ap (λ (n : NewAgent). n.comes) (found c).is) (ap (λ (n : NewAgent). n.stays) (found c).is)) (atoms c) (members c)
 
 places : (c : goal.After-put-3) → c.put.new.self.items ≡ map.insert c.self.inside.places.items c.in_ok-made.made.agent (place.At c.args.e.now.site)
 places c = c.put.ensures.items ∙ ap (λ (x : NameMap Place). map.insert x c.in_ok-made.made.agent (place.At c.args.e.now.site)) c.in_ok-reserve.ensures.items
 
 pub returns : goal.returns
 returns c =
-    sym (agent-row c.args.self.now c.args.e.now) ∙ (found c).gives
-    ∙ ap Some (sym
+    rw ((found c).found) (ap Some (sym
     (remade-placed {c = the_view c.self.inside}
     (places c ∙ ap (λ (d : Config). map.insert d.places c.in_ok-made.made.agent (place.At c.args.e.now.site)) c.self.view_is)
     (atoms c ∙ ap (λ (d : Config). both c d.atoms) c.self.view_is)
     (members c ∙ ap (λ (d : Config). set.insert (set.insert d.born c.in_ok-made.made.agent) c.in_ok-made.made.mark) c.self.view_is)
-    c.self.view_is))
+    c.self.view_is)))

@@ -1,21 +1,20 @@
 use Rattle.std.proofs.Common.{◌≡◌, Some, refl, sym, ap, ◌∙◌}
 use Rattle.std.specs.FinMap as map
-use Rattle.np_configuration.proofs.Common.{NameMap, the_view, Atom, Config, IsLookup, goes_under, lookup-row}
+use Rattle.np_configuration.proofs.Common.{NameMap, the_view, Atom, Config, goes_under}
 use Rattle.np_configuration.proofs.Keeping.{kept-on, kept-as}
-use Rattle.np_configuration.proofs.Moved.{actor-there}
+use Rattle.np_configuration.proofs.Finds.{LookupStep, lookup-step}
 use Rattle.np_configuration.proofs.cfg.Cfg.apply_lookup.Goals as goal
 
 pub go_under-requires-clause-whole : goal.go_under-requires-clause-whole
 go_under-requires-clause-whole c =
-    let s = c.in_ok-looked.ensures in
-    rw (c.in_ok-file.ensures.atoms, actor-there c.self.view_is c.args.e.now s.atom s.acts, s.form) refl
+    let s = lookup-step c.args.self.now c.args.e.now _ c.in_ok-looked.ensures in
+    rw (c.in_ok-file.ensures.atoms, ap (λ (d : Config). map.get d.atoms c.args.e.now.actor) c.self.view_is ∙ s.there, s.form) refl
 
-looked : (c : goal.After-go_under)
-    → IsLookup c.args.self.now c.args.e.now c.in_ok-looked.looked.first c.in_ok-looked.looked.env c.in_ok-looked.looked.errand
-looked c = c.in_ok-looked.ensures
+looked : (c : goal.After-go_under) → LookupStep c.args.self.now c.args.e.now c.in_ok-looked.looked
+looked c = lookup-step c.args.self.now c.args.e.now _ c.in_ok-looked.ensures
 
 there : (c : goal.After-go_under) → map.get c.self.inside.atoms.items c.args.e.now.actor ≡ Some (looked c).atom
-there c = actor-there c.self.view_is c.args.e.now (looked c).atom (looked c).acts
+there c = ap (λ (d : Config). map.get d.atoms c.args.e.now.actor) c.self.view_is ∙ (looked c).there
 
 abbrev next : goal.After-go_under → Atom
 next c = goes_under (looked c).atom (looked c).next c.in_ok-looked.looked.env
@@ -36,7 +35,7 @@ invariant_of-self-2 c =
 
 pub returns : goal.returns
 returns c =
-    sym (lookup-row c.args.self.now c.args.e.now) ∙ (looked c).gives
+    (looked c).gives
     ∙ ap Some (sym
     (ap (λ (x : NameMap Atom). record (the_view c.self.inside) { atoms = x }) (atoms c)
     ∙ ap (λ (d : Config). record d { atoms = map.insert d.atoms c.args.e.now.actor (next c) }) c.self.view_is))

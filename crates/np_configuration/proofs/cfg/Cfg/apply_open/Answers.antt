@@ -1,9 +1,12 @@
 use Rattle.std.proofs.Common.{Some, sym, ap, ◌∙◌}
-use Rattle.np_configuration.proofs.Common.{open-row}
+use Rattle.np_eval.specs.FormParts.{as_open}
+use Rattle.np_configuration.specs.Found.{stood}
+use Rattle.np_configuration.specs.Rows.{open_more}
+use Rattle.np_configuration.proofs.Finds.{row-gives, stands}
 use Rattle.np_configuration.proofs.cfg.Cfg.apply_open.Goals as goal
 
 pub stand-requires : goal.stand-requires
-stand-requires c = c.in_ok-atom.ensures.there
+stand-requires c = stands as_open open_more c.args.self.now c.args.e.now _ c.in_ok-atom.ensures
 
 pub returns : goal.returns
-returns c = sym (open-row c.args.self.now c.args.e.now) ∙ c.in_ok-atom.ensures.gives ∙ ap Some (sym c.in_ok-stand.ensures.ok)
+returns c = row-gives _ _ (stood c.args.self.now c.args.e.now.actor) c.in_ok-atom.ensures ∙ ap Some (sym c.in_ok-stand.ensures.ok)

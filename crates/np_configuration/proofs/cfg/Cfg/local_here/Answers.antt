@@ -1,25 +1,12 @@
-use Rattle.std.proofs.Common.{◌≡◌, None, Some, rules, refl, ap, ◌∙◌}
+use Rattle.std.proofs.Common.{◌≡◌, Some, rules, refl, sym, ap, ◌∙◌}
 use Rattle.std.specs.FinMap as map
 use Rattle.std.specs.FinSet as set
-use Rattle.np_configuration.proofs.Common.{NameMap, NameSet, the_view, Atom, Config, goes, output_in, local_row}
+use Rattle.np_configuration.proofs.Common.{NameMap, NameSet, the_view, Atom, Config, goes, output_in}
 use Rattle.np_configuration.proofs.Keeping.{kept-absent}
 use Rattle.np_configuration.proofs.NewOutputs.{kept-passes, kept-output_more}
-use Rattle.np_configuration.proofs.Ways.{here-made, here-unmade, here-taken}
+use Rattle.np_calculus.specs.Reductions.{one_made}
+use Rattle.np_calculus.specs.Seen.{fresh}
 use Rattle.np_configuration.proofs.cfg.Cfg.local_here.Goals as goal
-
-pub returns-in_err-mark : goal.returns-in_err-mark
-returns-in_err-mark c =
-    let unmet : local_row c.args.self.now c.args.e.now ≡ None =
-    let a = c.args.asked in
-    here-unmade c.args.self.now c.args.e.now a.agent a.chan a.value a.errand c.requires (search rules) in
-    search rules
-
-pub returns-in_err-ok_or : goal.returns-in_err-ok_or
-returns-in_err-ok_or c =
-    let unmet : local_row c.args.self.now c.args.e.now ≡ None =
-    let a = c.args.asked in
-    here-taken c.args.self.now c.args.e.now a.agent a.chan a.value a.errand c.in_ok-mark.mark c.requires (search rules) (search rules) in
-    search rules
 
 pub file_two-requires : goal.file_two-requires
 file_two-requires c = kept-absent c.self.invariant c.in_ok-mark.mark (search rules)
@@ -69,18 +56,16 @@ invariant_of-self-2 c =
 pub returns : goal.returns
 returns c =
     let s = c.requires.can in
-    here-made c.args.self.now c.args.e.now c.args.asked.agent c.args.asked.chan c.args.asked.value c.args.asked.errand _ s.next c.requires (record {
-      mark = c.in_ok-mark.mark;
-      made = search rules;
-      new = search rules;
-      is =
-          ap (λ (x : NameMap Atom). record (the_view c.self.inside) { atoms = x; born = c.put-2.new.self.members }) (atoms c)
-          ∙ ap (λ (x : NameSet). record (the_view c.self.inside) {
-            atoms = map.insert (map.insert c.self.inside.atoms.items c.in_ok-mark.mark (output c)) c.args.e.now.actor (goes s.atom s.next);
-            born = x;
-          }) (members c)
-          ∙ ap (λ (d : Config). record d {
-            atoms = map.insert (map.insert d.atoms c.in_ok-mark.mark (output c)) c.args.e.now.actor (goes s.atom s.next);
-            born = set.insert d.born c.in_ok-mark.mark;
-          }) c.self.view_is;
-    })
+    let made : one_made c.args.e.now.made ≡ Some c.in_ok-mark.mark = search rules in
+    let new : fresh c.args.self.now c.in_ok-mark.mark ≡ Some tt = search rules in
+    rw (c.requires.gives, made, new)
+    (ap Some (sym
+    (ap (λ (x : NameMap Atom). record (the_view c.self.inside) { atoms = x; born = c.put-2.new.self.members }) (atoms c)
+    ∙ ap (λ (x : NameSet). record (the_view c.self.inside) {
+      atoms = map.insert (map.insert c.self.inside.atoms.items c.in_ok-mark.mark (output c)) c.args.e.now.actor (goes s.atom s.next);
+      born = x;
+    }) (members c)
+    ∙ ap (λ (d : Config). record d {
+      atoms = map.insert (map.insert d.atoms c.in_ok-mark.mark (output c)) c.args.e.now.actor (goes s.atom s.next);
+      born = set.insert d.born c.in_ok-mark.mark;
+    }) c.self.view_is)))
