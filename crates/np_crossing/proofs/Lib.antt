@@ -1,0 +1,5 @@
+pub mod Values
+pub mod Frames
+pub mod Agents
+pub mod Histories
+pub mod Codes
