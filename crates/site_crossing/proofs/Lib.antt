@@ -1,0 +1,4 @@
+pub mod Items
+pub mod Standings
+pub mod Sites
+pub mod Seats
