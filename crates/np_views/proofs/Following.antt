@@ -37,7 +37,8 @@ pub and-out : (a b : Bool) → (a && b) ≡ true → (a ≡ true) × (b ≡ true
 and-out true b h = (refl, h)
 and-out false b h = absurd cc
 
-insert-below : (a b : NameSet) (m : Name) → ((q : Name) → set.contains a q ≡ true → set.contains b q ≡ true) → (q : Name) → set.contains (set.insert a m) q ≡ true → set.contains (set.insert b m) q ≡ true
+insert-below : (a b : NameSet) (m : Name) → ((q : Name) → set.contains a q ≡ true → set.contains b q ≡ true) → (q : Name)
+    → set.contains (set.insert a m) q ≡ true → set.contains (set.insert b m) q ≡ true
 insert-below a b m sub q h = pick (same_name q m) (set.contains a q) (set.contains b q) (sym (born_insert a m q) ∙ h) (sub q) (born_insert b m q)
   where
     pick : (s p r : Bool) → (s || p) ≡ true → (p ≡ true → r ≡ true) → {o : Bool} → o ≡ (s || r) → o ≡ true
@@ -52,7 +53,8 @@ below-suc m j h = pick (nat_lt m j) refl
     pick false is = inr (let k = ltb-false m j is in omega arith)
 
 -- what is not written stays
-unwritten : {X : Type 0} (ws : List (Write X)) (ks : List Name) (q : Name) (o : Option X) → Every (λ w. is_among w.0 ks ≡ true) ws → is_among q ks ≡ false → left_by ws q o ≡ o
+unwritten : {X : Type 0} (ws : List (Write X)) (ks : List Name) (q : Name) (o : Option X) → Every (λ w. is_among w.0 ks ≡ true) ws → is_among q ks ≡ false
+    → left_by ws q o ≡ o
 unwritten {X} ws ks q o h far = left-by (λ v. v ≡ o) ws q o refl (every-map (λ (w : Write X). is_among w.0 ks ≡ true) (λ w. q ≡ w.0 → w.1 ≡ o) (λ w is same. false-true (is_among q ks) (ap (λ n. is_among n ks) same ∙ is) far) ws h)
 
 thing-stays : (k : Kind) (x : Contents) (e : Event) (d : Change) → Traced k x e d → (t : Thing) → is_in t (writes k x e) ≡ false → Same x (changed x d) t
@@ -137,7 +139,8 @@ module _ (sites : ℕ) (x : Contents) (e : Event) (d : Change) where
 -- ---- two configurations that agree on what the past has
 
 -- none of the two has a name that is made now
-made-same : (x y : Config) (e : Event) → AreBorn x → AreBorn y → are_new x.born e.made ≡ true → are_new y.born e.made ≡ true → (t : Thing) → MadeThing e t → Same (inside x) (inside y) t
+made-same : (x y : Config) (e : Event) → AreBorn x → AreBorn y → are_new x.born e.made ≡ true → are_new y.born e.made ≡ true → (t : Thing) → MadeThing e t
+    → Same (inside x) (inside y) t
 made-same x y e bx by nx ny (Thing.mark q) is = record { atom = p.atom ∙ sym r.atom; packet = p.packet ∙ sym r.packet }
   where
     p : LacksMark (inside x) q

@@ -68,7 +68,8 @@ module _ (c d : Config) (e : Event) (h : apply c e ≡ Some d) where
       }
 
 -- no later event of the run touches it
-pub gone-along : (q : Name) (es : List Event) (c last : Config) → IsGone q c → run c es ≡ Some last → (n : ℕ) → is_touched (traces c es) n (Thing.mark q) ≡ false
+pub gone-along : (q : Name) (es : List Event) (c last : Config) → IsGone q c → run c es ≡ Some last → (n : ℕ)
+    → is_touched (traces c es) n (Thing.mark q) ≡ false
 gone-along q [] c last gone h n = refl
 gone-along q (e ∷ es) c last gone h zero = then (apply c e) _ h λ d first h. gone-untouched c d e first q gone
 gone-along q (e ∷ es) c last gone h (suc n) = then (apply c e) _ h λ d first h.

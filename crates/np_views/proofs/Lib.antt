@@ -1,6 +1,9 @@
 pub mod Among
 pub mod Following
 pub mod Gone
+pub mod OneSteps
 pub mod PastRuns
 pub mod StartBorn
+pub mod TestForms
+pub mod TestFree
 pub mod Traced

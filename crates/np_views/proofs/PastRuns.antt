@@ -30,7 +30,8 @@ last-same [] x y h = cc
 last-same (z ∷ zs) x y h = last-same zs x y cc
 
 -- what an event says is the same, whatever was said before
-same-saying : (xs ys : List (ℕ × Value)) (site : ℕ) (o : Option Value) (item : ℕ × Value) → with_said xs site o ≡ xs ++ item ∷ [] → with_said ys site o ≡ ys ++ item ∷ []
+same-saying : (xs ys : List (ℕ × Value)) (site : ℕ) (o : Option Value) (item : ℕ × Value) → with_said xs site o ≡ xs ++ item ∷ []
+    → with_said ys site o ≡ ys ++ item ∷ []
 same-saying xs ys site None item h = absurd (no-longer xs item h)
 same-saying xs ys site (Some v) item h = ap (λ i. ys ++ i ∷ []) (last-same xs (site, v) item h)
 
@@ -103,7 +104,8 @@ module _ (ts : List Trace) (i : ℕ) (places : ℕ → Bool) (past : IsPast ts i
   -- a Print before the past's own place is not in it
   module _ (j : ℕ) (c next last : Config) (e : Event) (es : List Event) (stands : Stands j c (e ∷ es)) (born : AreBorn c) (single : HasSingleMarks c)
       (h : apply c e ≡ Some next) (rest : run next es ≡ Some last) where
-    print-writes : (k : Kind) → k ≡ kind.Print → e.other ≡ None → made_names e.made ≡ [] → (t : Thing) → is_in t (writes k (inside c) e) ≡ true → t ≡ Thing.mark e.actor
+    print-writes : (k : Kind) → k ≡ kind.Print → e.other ≡ None → made_names e.made ≡ [] → (t : Thing) → is_in t (writes k (inside c) e) ≡ true
+        → t ≡ Thing.mark e.actor
     print-writes k is none made (Thing.mark q) w =
         let w : is_among q (e.actor ∷ (listed e.other ++ made_names e.made)) ≡ true = subst (λ k. is_in (Thing.mark q) (writes k (inside c) e) ≡ true) is w in
         let w : is_among q (e.actor ∷ []) ≡ true = rw (none, made) at w in
@@ -128,7 +130,8 @@ module _ (ts : List Trace) (i : ℕ) (places : ℕ → Bool) (past : IsPast ts i
   quiet-kind _ h = refl
 
   -- what a Print of the later run says, from its first event on
-  says-later : (c next : Config) (e : Event) (es : List Event) (n : ℕ) (item : ℕ × Value) → apply c e ≡ Some next → Says c (e ∷ es) (suc n) item → Says next es n item
+  says-later : (c next : Config) (e : Event) (es : List Event) (n : ℕ) (item : ℕ × Value) → apply c e ≡ Some next → Says c (e ∷ es) (suc n) item
+      → Says next es n item
   says-later c next e es n item h s = record {
     before = s.before;
     comes = sym (ap (λ o. o >>= λ d. run d (take n es)) h) ∙ s.comes;
@@ -177,12 +180,14 @@ module _ (ts : List Trace) (i : ℕ) (places : ℕ → Bool) (past : IsPast ts i
         said = f.said ∙ ap (λ z. z ++ item ∷ []) (silent y.said e.site r.made.said quiet);
       })
     where
-      step : (b : Bool) → places j ≡ b → (places j ≡ false → SaysJust y (picked places (suc j) es) item) → (places j ≡ true → SaysJust y (e ∷ picked places (suc j) es) item)
+      step : (b : Bool) → places j ≡ b → (places j ≡ false → SaysJust y (picked places (suc j) es) item)
+          → (places j ≡ true → SaysJust y (e ∷ picked places (suc j) es) item)
           → SaysJust y (cond (places j) (e ∷ picked places (suc j) es) (picked places (suc j) es)) item
       step true is f g = rw is (g is)
       step false is f g = rw is (f is)
 
-past-of : (c last : Config) (events : List Event) (places : ℕ → Bool) (i : ℕ) (item : ℕ × Value) → AreBorn c → HasSingleMarks c → run c events ≡ Some last → Says c events i item
+past-of : (c last : Config) (events : List Event) (places : ℕ → Bool) (i : ℕ) (item : ℕ × Value) → AreBorn c → HasSingleMarks c → run c events ≡ Some last
+    → Says c events i item
     → IsPast (traces c events) i places → SaysJust c (picked places 0 events) item
 past-of c last events places i item born single h says past =
     follow (traces c events) i places past i 0 events c c last item (omega arith) (λ n. ap (trace_at (traces c events)) (omega arith)) (record {

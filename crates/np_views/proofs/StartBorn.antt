@@ -59,7 +59,8 @@ abbrev empty_map : (X : Type 0) → NameMap X
 empty_map X = table.empty
 
 -- what is under one of two names in a map with no others
-two-there : {X : Type 0} (a b : Name) (x y : X) (q : Name) (z : X) → table.get (table.insert (table.insert (empty_map X) a x) b y) q ≡ Some z → (q ≡ b) ⊎ (q ≡ a)
+two-there : {X : Type 0} (a b : Name) (x y : X) (q : Name) (z : X) → table.get (table.insert (table.insert (empty_map X) a x) b y) q ≡ Some z
+    → (q ≡ b) ⊎ (q ≡ a)
 two-there {X} a b x y q z h = ⊎_elim
     (λ last. inl last.0)
     (λ before. ⊎_elim (λ first. inr first.0) (λ none. absurd (let e = get-none {X = X} q in cc)) (put_cases (empty_map X) a x q z before))

@@ -102,7 +102,8 @@ module _ (sites : ℕ) (x : Contents) (e : Event) (d : Change) where
   abbrev Stands : Name → Type 0
   Stands q = IsSome (x.atom q) ⊎ IsMade e.made q
 
-  apart-by : (ps : List (Write Place)) (ws : List (Write Atom)) (v : Option Value) → Every (λ w. Stands w.0) ws → Apart x e (record { places = ps; atoms = ws; packets = []; said = v })
+  apart-by : (ps : List (Write Place)) (ws : List (Write Atom)) (v : Option Value) → Every (λ w. Stands w.0) ws
+      → Apart x e (record { places = ps; atoms = ws; packets = []; said = v })
   apart-by ps ws v h = record {
     after = λ old made q. left-by (λ o. IsSome o → x.packet q ≡ None) ws q (x.atom q) (old q)
         (every-map (λ (w : Write Atom). Stands w.0) (λ w. q ≡ w.0 → IsSome w.1 → x.packet q ≡ None)
@@ -145,7 +146,8 @@ module _ (sites : ℕ) (x : Contents) (e : Event) (d : Change) where
     actor-of : a.agent ≡ a.agent → is_among a.agent (agent_of_atom (x.atom e.actor)) ≡ true
     actor-of u = subst (λ o. is_among a.agent (agent_of_atom o) ≡ true) (sym (actor-seen sites x e a acts).there) (among-first a.agent [])
 
-    tested : (t : Bool) (met unmet : Proc) (b n : Name) (v : Value) → e.other ≡ None → cond t (here_row e a met b n v) (away_row e a unmet) ≡ Some d → Tr kind.Local d
+    tested : (t : Bool) (met unmet : Proc) (b n : Name) (v : Value) → e.other ≡ None → cond t (here_row e a met b n v) (away_row e a unmet) ≡ Some d
+        → Tr kind.Local d
     unfolding here_row away_row
     tested true met unmet b n v o h = then (one_made e.made) _ h λ m made h.
         so (Tr kind.Local) e h (record { own = record { places = tt; atoms = (later e m (one-later e m made), (actor e, tt)); packets = tt }; there = alone o; says = refl; apart = apart-by _ _ _ (inr (makes-one e.made m made), (inl stands, tt)) })

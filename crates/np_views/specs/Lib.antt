@@ -1,2 +1,4 @@
 pub mod Laws
+pub mod OneStep
 pub mod Past
+pub mod Tests
