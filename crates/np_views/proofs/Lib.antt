@@ -2,6 +2,7 @@ pub mod Among
 pub mod Following
 pub mod Gone
 pub mod OneSteps
+pub mod Parts
 pub mod PastRuns
 pub mod StartBorn
 pub mod TestForms

@@ -1,0 +1,50 @@
+-- Runs in parts, and the lists that are read off them.
+use Rattle.std.proofs.Common.{◌≡◌, ℕ, suc, ◌+◌, ◌<◌, List, [], ◌∷◌, ◌++◌, take, drop, get_or, length, Option, None, Some, IsSome, refl, sym, ap, subst, ◌∙◌, append_assoc, append-nil}
+use Rattle.std.proofs.lemmas.List.{take-append-drop, take_more}
+use Rattle.np_syntax.specs.Options.{◌>>=◌}
+use Rattle.np_syntax.proofs.Options.{done, then}
+use Rattle.np_syntax.specs.declared.event.Event.{Event}
+use Rattle.np_calculus.specs.Config.{Config}
+use Rattle.np_calculus.specs.Reductions.{apply, run}
+use Rattle.np_views.specs.OneStep.{in_place_of, one_step}
+use Rattle.np_views.specs.Past.{each_of}
+
+pub run-parts : (c : Config) (xs ys : List Event) → run c (xs ++ ys) ≡ (run c xs >>= λ d. run d ys)
+run-parts c [] ys = refl
+run-parts c (e ∷ xs) ys = on (apply c e) (λ d. run-parts d xs ys)
+  where
+    on : (o : Option Config) → ((d : Config) → run d (xs ++ ys) ≡ (run d xs >>= λ d. run d ys)) → (o >>= λ d. run d (xs ++ ys)) ≡ ((o >>= λ d. run d xs) >>= λ d. run d ys)
+    on None f = refl
+    on (Some d) f = f d
+
+pub one-parts : (c d : Config) (xs ys : List Event) → run c xs ≡ Some d → one_step c (xs ++ ys) ≡ one_step c xs ++ one_step d ys
+one-parts c d [] ys h = ap (λ c. one_step c ys) (sym (done h))
+one-parts c d (e ∷ xs) ys h = then (apply c e) _ h λ next first h.
+    let at : List Event = in_place_of e.kind c (apply c e) e in
+    ap (λ o. at ++ each_of o (λ d. one_step d (xs ++ ys))) first ∙ ap (λ l. at ++ l) (one-parts next d xs ys h)
+    ∙ sym (append_assoc at (one_step next xs) (one_step d ys)) ∙ ap (λ o. (at ++ each_of o (λ d. one_step d xs)) ++ one_step d ys) (sym first)
+
+-- ---- one event more
+
+module _ (start : Config) (events : List Event) (index : ℕ) (e : Event) (c : Config) (inside : index < length events) (reaches : run start (take index events) ≡ Some c) where
+  one-more : run start (take (index + 1) events) ≡ (apply c (get_or events index e) >>= λ d. Some d)
+  one-more = ap (run start) (take_more events index e inside) ∙ run-parts start (take index events) (get_or events index e ∷ []) ∙ ap (λ o. o >>= λ d. run d (get_or events index e ∷ [])) reaches
+
+  -- the event at this place is enabled, where all are a run
+  pub enabled-here : IsSome (run start events) → IsSome (apply c (get_or events index e))
+  enabled-here h = step (apply c (get_or events index e)) (subst (λ o. IsSome o)
+      (ap (run start) (sym (take-append-drop (index + 1) events)) ∙ run-parts start (take (index + 1) events) (drop (index + 1) events) ∙ ap (λ o. o >>= λ d. run d (drop (index + 1) events)) one-more) h)
+    where
+      step : (o : Option Config) → IsSome ((o >>= λ d. Some d) >>= λ d. run d (drop (index + 1) events)) → IsSome o
+      step None h = absurd cc
+      step (Some d) h = refl
+
+  pub goes-on : (d : Config) → apply c (get_or events index e) ≡ Some d → run start (take (index + 1) events) ≡ Some d
+  goes-on d h = one-more ∙ ap (λ o. o >>= λ d. Some d) h
+
+  -- the one-step list grows by what stands in place of the event
+  pub one-more-step : (d : Config) → apply c (get_or events index e) ≡ Some d
+      → one_step start (take (index + 1) events) ≡ one_step start (take index events) ++ in_place_of (get_or events index e).kind c (apply c (get_or events index e)) (get_or events index e)
+  one-more-step d h =
+      ap (one_step start) (take_more events index e inside) ∙ one-parts start c (take index events) (get_or events index e ∷ []) reaches
+      ∙ ap (λ l. one_step start (take index events) ++ l) (ap (λ o. in_place_of (get_or events index e).kind c (apply c (get_or events index e)) (get_or events index e) ++ each_of o (λ d. [])) h ∙ append-nil _)
