@@ -45,7 +45,7 @@ insert-below a b m sub q h = pick (same_name q m) (set.contains a q) (set.contai
     pick true p r h f is = is
     pick false p r h f is = is ∙ f h
 
-below-suc : (m j : ℕ) → m < suc j → (m < j) ⊎ (m ≡ j)
+pub below-suc : (m j : ℕ) → m < suc j → (m < j) ⊎ (m ≡ j)
 below-suc m j h = pick (nat_lt m j) refl
   where
     pick : (b : Bool) → nat_lt m j ≡ b → (m < j) ⊎ (m ≡ j)

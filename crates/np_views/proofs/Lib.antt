@@ -1,6 +1,7 @@
 pub mod Among
 pub mod Following
 pub mod Gone
+pub mod Indexing
 pub mod OneSteps
 pub mod Parts
 pub mod PastRuns
