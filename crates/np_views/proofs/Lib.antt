@@ -8,4 +8,5 @@ pub mod PastRuns
 pub mod StartBorn
 pub mod TestForms
 pub mod TestFree
+pub mod TestParts
 pub mod Traced
