@@ -1,5 +1,5 @@
 -- A run of a low program on its sites (docs/LANGUAGE.md, "History text").
-use Rattle.std.specs.Prelude.{◌≡◌, ◌<◌, ◌↔◌, ℕ, List, length, Some, slice_index_or}
+use Rattle.std.specs.Prelude.{◌≡◌, ◌↔◌, ℕ, List, length, Some}
 use Rattle.np_syntax.specs.declared.event.End.{End}
 use Rattle.np_syntax.specs.declared.event.End.TheVariants.{Rest}
 use Rattle.np_syntax.specs.declared.event.Event.{Event}
@@ -8,19 +8,9 @@ use Rattle.np_calculus.specs.Config.{Config}
 use Rattle.np_calculus.specs.Idle.{Idle}
 use Rattle.np_calculus.specs.Reductions.{run}
 use Rattle.np_calculus.specs.Starts.{start_low}
-use Rattle.stamp_history.specs.Histories.{IsHistory, Recorded}
+use Rattle.stamp_history.specs.Histories.{Recorded}
 use Rattle.run_merge.specs.Merged.{items, merged, said}
-
--- the history of the site with this number, within the budget
-pub record IsHistoryOf (s most : ℕ) (h : Recorded) : Type 0 where
-  pub site : h.site ≡ s
-  pub budget : h.budget ≡ most
-  pub history : IsHistory h
-
--- the history of each of n sites, in the order of their numbers
-pub record AreHistoriesOf (n budget : ℕ) (histories : List Recorded) : Type 0 where
-  pub count : length histories ≡ n
-  pub each : (s : ℕ) (d : Recorded) → s < n → IsHistoryOf s budget (slice_index_or histories s d)
+use Rattle.site_crew.specs.Runs.{AreHistoriesOf}
 
 -- all events, by stamp and then by site
 abbrev pub events_of : List Recorded → List Event

@@ -2,12 +2,11 @@
 //! that they leave are a run of the low program and of its source.
 #![tactic(auto)]
 
-mod gate;
 mod laws;
 mod record;
 mod running;
 
-pub use gate::{Free, Gate};
 pub use laws::law_source_runs;
 pub use record::Record;
 pub use running::run_on_sites;
+pub use site_turn::{Free, Gate};

@@ -6,11 +6,15 @@ ghost use Rattle.np_code.specs.Programs.{program};
 ghost use Rattle.run_merge.specs.Merged.{past};
 ghost use Rattle.np_on_sites.specs.SitesRuns.{IsSitesRun};
 
-use super::gate::Gate;
 use super::record::Record;
+use agent_move::Item;
 use np_code::Code;
-use np_syntax::{LowProgram, Memory};
+use np_syntax::{End, List, LowProgram, Memory};
 use np_words::Links;
+use site_crew::Crew;
+use site_links::{Port, Rings, Tray};
+use site_turn::Gate;
+use stamp_history::History;
 use std::alloc::Global;
 use std::thread::Threads;
 
@@ -33,12 +37,57 @@ pub fn run_on_sites<R: Threads + Sync, G: Gate>(
     requires within { budget ≤ LARGEST_BUDGET }
     ensures { IfOk result (λ kept. IsSitesRun low.now budget (past kept.histories) kept.end) }
 {
-    let _ = alloc;
-    let _ = rt;
+    match links {
+        Links::Tray => run_over::<R, Tray<Item>, G>(alloc, rt, gate, low, code, budget, serial),
+        Links::Rings => {
+            run_over::<R, Rings<Item>, G>(alloc, rt, gate, low, code, budget, serial)
+        }
+    }
+}
+
+/// The run over one kind of links.
+fn run_over<R: Threads + Sync, P: Port<R, Item>, G: Gate>(
+    alloc: Global,
+    rt: &R,
+    gate: &G,
+    low: &LowProgram,
+    code: Code,
+    budget: u32,
+    serial: bool,
+) -> Result<Record, Memory>
+    requires code { program code ≡ low.now }
+    requires sites { length low.now.sites ≤ MOST_SITES }
+    requires site { low.now.at < length low.now.sites }
+    requires some { 1 ≤ budget }
+    requires within { budget ≤ LARGEST_BUDGET }
+    ensures { IfOk result (λ kept. IsSitesRun low.now budget (past kept.histories) kept.end) }
+{
     let _ = gate;
-    let _ = low;
     let _ = serial;
-    let _ = links;
-    drop(code);
-    Err(Memory)
+    let mut crew: Crew<R, P> = Crew::new(alloc, low, code, budget)?;
+    let ended = crew.serial_run(rt);
+    match ended {
+        Ok(end) => kept(alloc, crew, end),
+        Err(memory) => Err(memory),
+    }
+}
+
+/// The record of a crew whose run has ended.
+fn kept<R, P: Port<R, Item>>(alloc: Global, crew: Crew<R, P>, end: End) -> Result<Record, Memory>
+    ensures histories { IfOk result (λ kept. past kept.histories ≡ crew.histories) }
+    ensures end { IfOk result (λ kept. kept.end ≡ end) }
+{
+    let histories = listed(alloc, crew.into_histories()?)?;
+    Ok(Record { histories, end })
+}
+
+/// The same histories as a list.
+fn listed(alloc: Global, histories: Vec<History>) -> Result<List<History>, Memory>
+    ensures { IfOk result (λ out. out ≡ histories.items) }
+{
+    let mut out = List::new(alloc);
+    for history in histories {
+        out.add(history)?;
+    }
+    Ok(out)
 }
