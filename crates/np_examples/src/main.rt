@@ -20,7 +20,7 @@ use example::Example;
 use fail::ExampleFail;
 use low_run::{came_of_low, print_history};
 use reader::examples_of;
-use replays::{replays_itself, try_replays};
+use replays::try_replays;
 use report::tell_failure;
 use std::alloc::Global;
 use std::rt::Files;
@@ -175,10 +175,7 @@ fn try_call<R: Print + Threads + Wait + Sync>(
     call: &Call<'_>,
 ) -> Result<bool, ExampleFail> {
     let came = came_of(rt, alloc, example, call)?;
-    let mut passed = meets(example, &came);
-    if example.replays_itself {
-        passed = passed && replays_itself(rt, alloc, example, call, &came)?;
-    }
+    let passed = meets(example, &came);
     if !passed {
         tell_failure(rt, file, example, call, &came)?;
     }

@@ -93,12 +93,8 @@ fn read_low(example: &mut Example, rest: &str, number: u32) -> Result<(), Exampl
     Ok(())
 }
 
-/// How the history of the low program's run is changed before it is replayed; or that the history that a call writes is.
+/// How the history of the low program's run is changed before it is replayed.
 fn read_replay(example: &mut Example, rest: &str, number: u32) -> Result<(), ExampleFail> {
-    if rest == "itself" {
-        example.replays_itself = true;
-        return Ok(());
-    }
     let change = match rest {
         "whole" => Change::Whole,
         "cut" => Change::Cut,

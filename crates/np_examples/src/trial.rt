@@ -104,7 +104,7 @@ pub(crate) fn came_of<R: Threads + Wait + Sync>(
     let Told { status, events } = answer.told();
     Ok(Came {
         status,
-        events: events.map(|count| count as usize),
+        events,
         opens: None,
         out,
         err,

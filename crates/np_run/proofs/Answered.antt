@@ -9,9 +9,9 @@ use Rattle.np_verdict.specs.Lines.{line_of, status_of}
 use Rattle.np_modes.specs.Causes.{Stands, texts_read}
 use Rattle.np_run.specs.Answers.{Call, HasCauses, IsDone, IsRefused, IsStatus, IsWanting, end_status, status_at}
 use Rattle.np_run.specs.declared.answer.Answer.{Answer}
-use Rattle.np_on_sites.specs.declared.record.Record.{Record}
+use Rattle.np_sources.specs.declared.record.Record.{Record}
 use Rattle.np_verdict.specs.declared.refusal.Refusal.{Refusal}
-use Rattle.np_verdict.specs.declared.refusal.Refusal.TheVariants.{Memory, Usage, ReadFault, TooLong, BadChar, BadString, BigNumber, Syntax, TooDeep, Unbound, SiteTwice, TooManySites, NotASite, TypeFault, TooManyNodes, TooManyEvents, HistoryTooLong, HistSyntax, NotARun}
+use Rattle.np_verdict.specs.declared.refusal.Refusal.TheVariants.{Memory, Usage, ReadFault, TooLong, BadChar, BadString, BigNumber, Syntax, TooDeep, Unbound, SiteTwice, TooManySites, NotASite, TypeFault, TooManyNodes, HistoryTooLong, HistSyntax, NotARun}
 
 abbrev refusing : ℕ → Answer
 refusing status = record { status = status; kept = None; high = None }
@@ -128,7 +128,6 @@ answered call status (TooManySites at) is t = of_source call status (TooManySite
 answered call status (NotASite at) is t = of_source call status (NotASite at) (λ e. cc) is refl t
 answered call status (TypeFault fault) is t = of_source call status (TypeFault fault) (λ e. cc) is refl t
 answered call status (TooManyNodes nodes) is t = of_source call status (TooManyNodes nodes) (λ e. cc) is refl t
-answered call status TooManyEvents is t = of_source call status TooManyEvents (λ e. cc) is refl t
 answered call status HistoryTooLong is t = of_history call status HistoryTooLong (λ e. cc) is refl t
 answered call status (HistSyntax line) is t = of_history call status (HistSyntax line) (λ e. cc) is refl t
 answered call status (NotARun index) is t = of_history call status (NotARun index) (λ e. cc) is refl t

@@ -11,7 +11,7 @@ use Rattle.np_histories.specs.Histories.{HasEvents, HasRun}
 use Rattle.np_histories.specs.declared.limits.TheConstants.{LONGEST_HISTORY}
 use Rattle.np_histories.proofs.Once as once
 use Rattle.np_sources.specs.Reaches.{Reach, IsLowOf}
-use Rattle.np_on_sites.specs.declared.record.Record.{Record}
+use Rattle.np_sources.specs.declared.record.Record.{Record}
 use Rattle.np_sources.proofs.Once as sources
 use Rattle.np_modes.specs.Readings.{IsUnread}
 use Rattle.np_modes.specs.Causes.{Does, HasMade, IsLowered, RefusesHistory, RefusesRun, RefusesPlan, Stands}

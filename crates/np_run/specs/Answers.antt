@@ -1,14 +1,13 @@
 -- The program's answers and their causes (docs/LANGUAGE.md, "Reports and refusals"). Want of memory alone has no cause.
-use Rattle.std.specs.Prelude.{◌≡◌, ℕ, ◌+◌, ◌-◌, ◌^◌, ◌≤◌, ◌⊎◌, min, List, length, sum_by, Option, Some, None}
+use Rattle.std.specs.Prelude.{◌≡◌, ℕ, ◌+◌, ◌≤◌, ◌⊎◌, List, length, Option, Some, None}
 use Rattle.std.specs.Io.KnownBytes.{Appends, Keeps}
 use Rattle.np_syntax.specs.declared.event.End.{End}
 use Rattle.np_syntax.specs.declared.event.End.TheVariants.{Rest, Spent}
-use Rattle.stamp_history.specs.Histories.{Stored}
 use Rattle.np_io.specs.Causes.{Rose}
 use Rattle.np_io.specs.Bytes.{AppendsPrefix}
 use Rattle.np_serial.specs.declared.serial.SerialRun.{SerialRun}
 use Rattle.np_words.specs.Plans.{plan}
-use Rattle.np_on_sites.specs.declared.record.Record.{Record}
+use Rattle.np_sources.specs.declared.record.Record.{Record}
 use Rattle.np_verdict.specs.Lines.{line_of, status_of}
 use Rattle.np_verdict.specs.declared.refusal.Refusal.{Refusal}
 use Rattle.np_verdict.specs.declared.refusal.Refusal.TheVariants.{Usage, ReadFault}
@@ -40,7 +39,7 @@ abbrev pub end_status : End → ℕ
 end_status Rest = DONE
 end_status Spent = BUDGET_SPENT
 
--- the status of what was made, where its text was written: a run may have spent its budget, and then it is not at rest
+-- the status of what was made, where its text was written: a run may have spent its budget
 abbrev pub status_at : Option Record → Option SerialRun → ℕ
 status_at (Some made) high = end_status made.end
 status_at None (Some made) = end_status made.end
@@ -112,13 +111,8 @@ pub record HasCauses (call : Call) (answer : Answer) : Type 0 where
 
 -- ---- what is told of an answer
 
--- how many events the histories have; the number stands still at the greatest one of 64 bits
-abbrev pub events_of : List Stored → ℕ
-events_of histories = min (sum_by (λ s. length s.history.events) histories) (2 ^ 64 - 1)
-
--- how many events the run has
 abbrev pub events_in : Option Record → Option SerialRun → Option ℕ
-events_in (Some made) high = Some (events_of made.histories)
+events_in (Some made) high = Some (length made.events)
 events_in None (Some made) = Some (length made.events)
 events_in None None = None
 

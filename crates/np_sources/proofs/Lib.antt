@@ -1,4 +1,2 @@
 pub mod Once
 pub mod Kept
-pub mod Headlines
-pub mod Short

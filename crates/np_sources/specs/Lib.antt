@@ -1,3 +1,2 @@
 pub mod Reaches
-pub mod Headline
 pub mod Makes

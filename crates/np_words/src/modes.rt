@@ -14,15 +14,14 @@ pub enum Mode {
     Replay,
     Upgrade,
     Gen,
-    Load,
 }
 
-/// What carries agents and packets from site to site: lists that are handed over while all sites pause, or a ring for each
-/// ordered pair of sites.
+/// What carries agents and packets from site to site.
 #[derive(Clone, Copy, Debug, PartialEq, Eq)]
 pub enum Links {
     Tray,
     Rings,
+    Inbox,
 }
 
 /// Which options a mode has.
@@ -53,10 +52,7 @@ const NO_OPTIONS: Options = Options {
 
 const RUN_OPTIONS: Options = Options {
     budget: true,
-    history: true,
-    high: true,
-    serial: true,
-    links: true,
+    ..NO_OPTIONS
 };
 
 const HIGH_OPTIONS: Options = Options {
@@ -65,14 +61,8 @@ const HIGH_OPTIONS: Options = Options {
     ..NO_OPTIONS
 };
 
-const LOAD_OPTIONS: Options = Options {
-    serial: true,
-    links: true,
-    ..NO_OPTIONS
-};
-
 /// The modes that are built.
-const MODES: [Entry; 9] = [
+const MODES: [Entry; 8] = [
     Entry {
         mode: Mode::Run,
         second: false,
@@ -113,15 +103,10 @@ const MODES: [Entry; 9] = [
         second: false,
         options: NO_OPTIONS,
     },
-    Entry {
-        mode: Mode::Load,
-        second: false,
-        options: LOAD_OPTIONS,
-    },
 ];
 
-/// The kinds of links that are built.
-const KINDS: [Links; 2] = [Links::Tray, Links::Rings];
+/// Each kind of links once.
+const KINDS: [Links; 3] = [Links::Tray, Links::Rings, Links::Inbox];
 
 fn mode_word(mode: Mode) -> &'static str
     ensures { result.now ≡ spec.mode_word mode }
@@ -135,7 +120,6 @@ fn mode_word(mode: Mode) -> &'static str
         Mode::Replay => "replay",
         Mode::Upgrade => "upgrade",
         Mode::Gen => "gen",
-        Mode::Load => "load",
     }
 }
 
@@ -155,6 +139,7 @@ fn links_word(links: Links) -> &'static str
     match links {
         Links::Tray => "tray",
         Links::Rings => "rings",
+        Links::Inbox => "inbox",
     }
 }
 

@@ -4,7 +4,7 @@ use Rattle.np_calculus.specs.Runs.{RunsWell}
 use Rattle.np_calculus.specs.Starts.{start_high}
 use Rattle.np_serial.specs.Serial.{IsSerialRun}
 use Rattle.np_report.specs.Report.{report_text}
-use Rattle.np_sources.specs.Headline.{high_part}
+use Rattle.np_sources.specs.Makes.{high_part}
 use Rattle.np_sources.proofs.runs.run.Goals as goal
 
 pub run_serial-requires : goal.run_serial-requires

@@ -1,6 +1,6 @@
 use Rattle.std.proofs.Common.{rules}
 use Rattle.np_run.proofs.Answered.{answered, done}
-use Rattle.np_run.proofs.top.np_gated.Goals as goal
+use Rattle.np_run.proofs.top.np.Goals as goal
 
 pub returns-in-Ok-write_all-2 : goal.returns-in-Ok-write_all-2
 returns-in-Ok-write_all-2 g c = answered _ c.status.result c.in-Err.refusal c.status.ensures
