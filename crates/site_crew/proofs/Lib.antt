@@ -3,5 +3,7 @@ pub mod Crewing
 pub mod First
 pub mod Goings
 pub mod Pairs
+pub mod Running
 pub mod Standing
+pub mod Stillness
 pub mod Whole

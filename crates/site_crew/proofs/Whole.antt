@@ -37,36 +37,36 @@ long-histories (s ∷ ss) = ap (λ n. suc n) (long-histories ss)
 
 module _ {P R : Type 0} (g : Port.Ghosts P R Item) (code : ProgramTable) (limit : ℕ) where
   -- what stands in a place is the seat of that site
-  abbrev SeatOf : ℕ → Option (Seat P) → Type 0
+  abbrev pub SeatOf : ℕ → Option (Seat P) → Type 0
   SeatOf k None = Unit {0}
   SeatOf k (Some s) = IsSeat g code limit k s
 
-  abbrev deeds_of : (k : ℕ) (o : Option (Seat P)) → SeatOf k o → List Deed
+  abbrev pub deeds_of : (k : ℕ) (o : Option (Seat P)) → SeatOf k o → List Deed
   deeds_of k None h = []
   deeds_of k (Some s) h = h.kept.deeds
 
-  abbrev came_of : (k : ℕ) (o : Option (Seat P)) → SeatOf k o → List Came
+  abbrev pub came_of : (k : ℕ) (o : Option (Seat P)) → SeatOf k o → List Came
   came_of k None h = []
   came_of k (Some s) h = h.kept.came
 
-  abbrev aside_of : (k : ℕ) (o : Option (Seat P)) → SeatOf k o → List Came
+  abbrev pub aside_of : (k : ℕ) (o : Option (Seat P)) → SeatOf k o → List Came
   aside_of k None h = []
   aside_of k (Some s) h = came_from code h.kept.from s.aside
 
-  abbrev end_of : ℕ → Option (Seat P) → Holding
+  abbrev pub end_of : ℕ → Option (Seat P) → Holding
   end_of k None = start_holding (program code) k
   end_of k (Some s) = holding_of code s.site
 
-  abbrev known_of : ℕ → Option (Seat P) → List Item
+  abbrev pub known_of : ℕ → Option (Seat P) → List Item
   known_of i None = []
   known_of i (Some s) = g.known s.port i
 
-  abbrev queue_of : ℕ → Option (Seat P) → List Item
+  abbrev pub queue_of : ℕ → Option (Seat P) → List Item
   queue_of j None = []
   queue_of j (Some s) = queue_at s.site.outgoing j
 
   -- what is left on the link from i to j
-  abbrev rest_of : (i j : ℕ) (o p : Option (Seat P)) → SeatOf j p → List StampedItem
+  abbrev pub rest_of : (i j : ℕ) (o p : Option (Seat P)) → SeatOf j p → List StampedItem
   rest_of i j o p hp = came_on i (aside_of j p hp) ++ (shown code (known_of i p) ++ shown code (queue_of j o))
 
   account : (k : ℕ) (o : Option (Seat P)) (h : SeatOf k o) → (o ≡ None → ⊥) → IsAccount (length code.sites) k (start_holding (program code) k) (deeds_of k o h) (end_of k o) (came_of k o h)
@@ -115,13 +115,13 @@ module _ {P R : Type 0} (g : Port.Ghosts P R Item) (code : ProgramTable) (limit 
   seat-at k (Some s) f = f s refl
 
   module _ (xs : List (Seat P)) (seats : AreSeats g code limit xs) where
-    here : (k : ℕ) → SeatOf k (slice_get xs k)
+    pub here : (k : ℕ) → SeatOf k (slice_get xs k)
     here k = seat-at k (slice_get xs k) (seats.each k)
 
-    some : (k : ℕ) → k < length code.sites → slice_get xs k ≡ None → ⊥
+    pub some : (k : ℕ) → k < length code.sites → slice_get xs k ≡ None → ⊥
     some k h e = not-past xs k e (subst (λ (m : ℕ). k < m) (sym seats.count) h)
 
-    pub accounts : Accounts
+    unfoldable pub accounts : Accounts
     accounts = record {
       deeds = λ s. deeds_of s (slice_get xs s) (here s);
       end = λ s. end_of s (slice_get xs s);

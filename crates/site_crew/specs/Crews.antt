@@ -1,8 +1,11 @@
 -- What contracts see of a crew.
-use Rattle.std.specs.Prelude.{◌≡◌, ◌<◌, ◌≤◌, ℕ, Bool, false, List, Some, slice_get, refl}
+use Rattle.std.specs.Prelude.{◌≡◌, ◌<◌, ◌≤◌, ◌↔◌, ℕ, Bool, true, false, List, Some, slice_get, refl}
 use Rattle.std.specs.Coded.{Coded, code_by, coded×, coded_ℕ, coded_bool, coded_list}
 use Rattle.np_syntax.specs.declared.limits.TheConstants.{LARGEST_BUDGET}
+use Rattle.np_syntax.specs.declared.event.End.{End}
+use Rattle.np_syntax.specs.declared.event.End.TheVariants as ends
 use Rattle.np_calculus.specs.Config.{Config}
+use Rattle.np_calculus.specs.Idle.{Idle}
 use Rattle.stamp_history.specs.Histories.{Recorded, recorded_code}
 use Rattle.site_links.specs.declared.port.Port as Port
 use Rattle.np_code.specs.Programs.{ProgramTable, program, table_code}
@@ -11,7 +14,7 @@ use Rattle.site_turn.specs.declared.seat.Seat.{Seat}
 use Rattle.site_crew.specs.declared.round.Round.{Round}
 use Rattle.site_crew.specs.declared.round.Round.TheVariants as round
 use Rattle.site_crew.specs.Runs.{IsCrewRun, IsProgram}
-use Rattle.site_crew.specs.Seats.{AllGrow, Stand}
+use Rattle.site_crew.specs.Seats.{AllGrow, Stand, event_count}
 
 -- the code that it runs, its budget, whether memory ran out, and the histories of its sites in the order of their numbers
 pub record CrewState : Type 0 where
@@ -46,7 +49,26 @@ pub record GoesOn (old new : CrewState) : Type 0 where
   pub budget : new.budget ≡ old.budget
   pub histories : AllGrow old.histories new.histories
 
--- whether an event was added
-abbrev pub Tells : ℕ → ℕ → Round → Type 0
-Tells before after round.Went = before < after
-Tells before after round.Still = after ≤ before
+-- whether an event was added, and if not whether the whole rests
+abbrev pub Tells : ℕ → ℕ → Config → Round → Type 0
+Tells before after end round.Went = before < after
+Tells before after end round.Rest = (after ≤ before) × Idle end
+Tells before after end round.Spent = (after ≤ before) × (Idle end → ⊥)
+
+-- what a round tells of the run that there is after it
+pub record IsRoundOf (old new : CrewState) (r : Round) : Type 0 where
+  pub end : Config
+  pub run : IsCrewRun (program new.code) new.budget new.histories end
+  pub tells : Tells (event_count old.histories) (event_count new.histories) end r
+
+-- the same by an answer whether all seats are quiet
+abbrev pub Answers : ℕ → ℕ → Bool → Round → Type 0
+Answers before after quiet round.Went = before < after
+Answers before after quiet round.Rest = (after ≤ before) × (quiet ≡ true)
+Answers before after quiet round.Spent = (after ≤ before) × (quiet ≡ false)
+
+-- where the run of a crew has ended, and whether the whole rests there
+pub record HasEnded (c : CrewState) (e : End) : Type 0 where
+  pub last : Config
+  pub run : IsCrewRun (program c.code) c.budget c.histories last
+  pub rests : (e ≡ ends.Rest) ↔ Idle last

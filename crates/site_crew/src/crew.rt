@@ -1,17 +1,18 @@
 ghost use Rattle.std.specs.Prelude.{◌≡◌, ◌≤◌, true, false, length, map, IfOk, OnOk, OnErr};
 ghost use Rattle.np_syntax.specs.declared.limits.TheConstants.{LARGEST_BUDGET};
 ghost use Rattle.np_code.specs.Programs.{program};
-ghost use Rattle.site_crew.specs.Crews.{GoesOn, HasRun, NoneFailed, Tells};
+ghost use Rattle.site_crew.specs.Crews.{Answers, GoesOn, HasEnded, HasRun, IsRoundOf, NoneFailed};
 ghost use Rattle.site_crew.specs.Runs.{IsProgram};
-ghost use Rattle.site_crew.specs.Seats.{event_count, histories};
+ghost use Rattle.site_crew.specs.Seats.{histories};
 
 use crate::counting::events_of;
+use crate::quiet::all_quiet;
 use crate::round::Round;
 use crate::rounds::serial_round;
 use crate::starting::seats_for;
 use agent_move::Item;
 use np_code::Code;
-use np_syntax::{LowProgram, Memory};
+use np_syntax::{End, LowProgram, Memory};
 use site_links::Port;
 use site_turn::Seat;
 use stamp_history::History;
@@ -68,7 +69,7 @@ impl<R, P: Port<R, Item>> Crew<R, P> {
     pub fn serial_round(&mut self, rt: &R) -> Result<Round, Memory>
         ensures on { GoesOn self.old self.new }
         ensures run { HasRun self.new }
-        ensures ok { IfOk result (Tells (event_count self.old.histories) (event_count self.new.histories)) }
+        ensures ok { IfOk result (IsRoundOf self.old self.new) }
         ensures sound { OnOk result (self.new.failed ≡ false) }
         ensures err { OnErr result (self.new.failed ≡ true) }
         ensures failed { self.old.failed ≡ true → self.new ≡ self.old }
@@ -85,7 +86,25 @@ impl<R, P: Port<R, Item>> Crew<R, P> {
             self.seats.as_mut_slice(),
         );
         self.failed = any_failed(self.seats.as_slice());
-        told(self.failed, before, after)
+        let quiet = all_quiet(&self.code, self.seats.as_slice());
+        told(self.failed, before, after, quiet)
+    }
+
+    /// Goes on by such rounds until one adds no event.
+    pub fn serial_run(&mut self, rt: &R) -> Result<End, Memory>
+        ensures on { GoesOn self.old self.new }
+        ensures run { HasRun self.new }
+        ensures ok { IfOk result (HasEnded self.new) }
+        ensures err { OnErr result (self.new.failed ≡ true) }
+        ensures failed { self.old.failed ≡ true → self.new ≡ self.old }
+    {
+        loop {
+            match self.serial_round(rt)? {
+                Round::Went => {}
+                Round::Rest => return Ok(End::Rest),
+                Round::Spent => return Ok(End::Spent),
+            }
+        }
     }
 
     /// The histories of the sites, in the order of their numbers.
@@ -140,8 +159,8 @@ fn any_failed<P>(seats: &[Seat<P>]) -> bool
 }
 
 /// What a round answers.
-fn told(failed: bool, before: u64, after: u64) -> Result<Round, Memory>
-    ensures ok { IfOk result (Tells before after) }
+fn told(failed: bool, before: u64, after: u64, quiet: bool) -> Result<Round, Memory>
+    ensures ok { IfOk result (Answers before after quiet) }
     ensures sound { OnOk result (failed ≡ false) }
     ensures err { OnErr result (failed ≡ true) }
 {
@@ -149,7 +168,9 @@ fn told(failed: bool, before: u64, after: u64) -> Result<Round, Memory>
         Err(Memory)
     } else if before < after {
         Ok(Round::Went)
+    } else if quiet {
+        Ok(Round::Rest)
     } else {
-        Ok(Round::Still)
+        Ok(Round::Spent)
     }
 }

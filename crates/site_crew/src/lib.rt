@@ -4,6 +4,7 @@
 mod counting;
 mod crew;
 mod laws;
+mod quiet;
 mod round;
 mod rounds;
 mod settling;
