@@ -1,2 +1,2 @@
-//! What may go to another thread: a site with all that stands there may be sent, and a seat at a port that may be sent.
+//! What may go to another thread: a site with all that stands there, a port that carries items, and a site beside its port.
 #![tactic(auto)]
