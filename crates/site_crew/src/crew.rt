@@ -8,16 +8,17 @@ ghost use Rattle.site_crew.specs.Seats.{histories};
 use crate::counting::events_of;
 use crate::quiet::all_quiet;
 use crate::round::Round;
-use crate::rounds::serial_round;
+use crate::rounds::{serial_round, threads_round};
 use crate::starting::seats_for;
 use agent_move::Item;
 use np_code::Code;
 use np_syntax::{End, LowProgram, Memory};
 use site_links::Port;
-use site_turn::Seat;
+use site_turn::{Gate, Seat};
 use stamp_history::History;
 use std::alloc::Global;
 use std::marker::{Model, PhantomData};
+use std::thread::Threads;
 
 /// All sites of a program, each at its port, while no thread has them.
 #[derive(Drop)]
@@ -119,6 +120,67 @@ impl<R, P: Port<R, Item>> Crew<R, P> {
         ensures { result ≡ self.now.failed }
     {
         self.failed
+    }
+}
+
+impl<R: Threads + Sync, P: Port<R, Item>> Crew<R, P> {
+    /// A round in which each site takes its turn on a thread of its own. Where memory runs out, the crew has failed: its
+    /// histories are still a run, and each later round answers Memory and changes nothing.
+    pub fn round<G: Gate>(&mut self, rt: &R, gate: &G) -> Result<Round, Memory>
+        ensures on { GoesOn self.old self.new }
+        ensures run { HasRun self.new }
+        ensures ok { IfOk result (IsRoundOf self.old self.new) }
+        ensures sound { OnOk result (self.new.failed ≡ false) }
+        ensures err { OnErr result (self.new.failed ≡ true) }
+        ensures failed { self.old.failed ≡ true → self.new ≡ self.old }
+    {
+        if self.failed {
+            return Err(Memory);
+        }
+        let before = events_of(self.seats.as_slice());
+        let after = threads_round(
+            rt,
+            self.alloc,
+            &self.code,
+            gate,
+            self.budget,
+            self.seats.as_mut_slice(),
+        );
+        self.failed = any_failed(self.seats.as_slice());
+        let quiet = all_quiet(&self.code, self.seats.as_slice());
+        told(self.failed, before, after, quiet)
+    }
+
+    /// Goes on by such rounds until one adds no event.
+    pub fn threads_run<G: Gate>(&mut self, rt: &R, gate: &G) -> Result<End, Memory>
+        ensures on { GoesOn self.old self.new }
+        ensures run { HasRun self.new }
+        ensures ok { IfOk result (HasEnded self.new) }
+        ensures err { OnErr result (self.new.failed ≡ true) }
+        ensures failed { self.old.failed ≡ true → self.new ≡ self.old }
+    {
+        loop {
+            match self.round(rt, gate)? {
+                Round::Went => {}
+                Round::Rest => return Ok(End::Rest),
+                Round::Spent => return Ok(End::Spent),
+            }
+        }
+    }
+
+    /// Goes on until a round adds no event: with `serial` the sites take their turns one after another, else on threads.
+    pub fn run<G: Gate>(&mut self, rt: &R, gate: &G, serial: bool) -> Result<End, Memory>
+        ensures on { GoesOn self.old self.new }
+        ensures run { HasRun self.new }
+        ensures ok { IfOk result (HasEnded self.new) }
+        ensures err { OnErr result (self.new.failed ≡ true) }
+        ensures failed { self.old.failed ≡ true → self.new ≡ self.old }
+    {
+        if serial {
+            self.serial_run(rt)
+        } else {
+            self.threads_run(rt, gate)
+        }
     }
 }
 

@@ -5,12 +5,34 @@ ghost use Rattle.site_crew.specs.Seats.{AllGrow, Stand, event_count, histories};
 
 use crate::counting::events_of;
 use crate::settling::settle_all;
-use crate::turns::serial_turns;
+use crate::turns::{serial_turns, threads_turns};
 use agent_move::Item;
 use np_code::Code;
 use site_links::Port;
-use site_turn::Seat;
+use site_turn::{Gate, Seat};
 use std::alloc::Global;
+use std::thread::Threads;
+
+/// The turns on threads. How many events all histories have then.
+pub fn threads_round<R: Threads + Sync, P: Port<R, Item>, G: Gate>(
+    rt: &R,
+    alloc: Global,
+    code: &Code,
+    gate: &G,
+    _budget: u32,
+    seats: &mut [Seat<P>],
+) -> u64
+    requires stand { Stand P.Port code.now _budget seats.old }
+    requires few { length seats.old ≤ MOST_SITES }
+    ensures stand { Stand P.Port code.now _budget seats.new }
+    ensures count { length seats.new ≡ length seats.old }
+    ensures grow { AllGrow (histories seats.old) (histories seats.new) }
+    ensures total { result ≡ event_count (histories seats.new) }
+{
+    threads_turns(rt, alloc, code, gate, seats);
+    settle_all(rt, seats);
+    events_of(seats)
+}
 
 /// The turns one after another. How many events all histories have then.
 pub fn serial_round<R, P: Port<R, Item>>(

@@ -1,13 +1,38 @@
 //! The turns of a round.
 ghost use Rattle.std.specs.Prelude.{All};
 ghost use Rattle.site_crew.specs.Seats.{AllTurned};
-ghost use Rattle.site_turn.specs.Turns.{Seated};
+ghost use Rattle.site_turn.specs.Turns.{Seated, Turned};
 
 use agent_move::Item;
 use np_code::Code;
 use site_links::Port;
-use site_turn::{Free, Seat, turn};
+use site_turn::{Free, Gate, LOOKS, Seat, turn};
 use std::alloc::Global;
+use std::thread;
+use std::thread::Threads;
+
+/// Each site takes its turn on a thread of its own.
+pub fn threads_turns<R: Threads + Sync, P: Port<R, Item>, G: Gate>(
+    rt: &R,
+    alloc: Global,
+    code: &Code,
+    gate: &G,
+    seats: &mut [Seat<P>],
+)
+    requires { All (λ s. Seated P.Port code.now s) seats.old }
+    ensures { AllTurned P.Port code.now seats.old seats.new }
+{
+    let threads = seats.len().max(1);
+    thread::for_each_mut(
+        rt,
+        seats,
+        threads,
+        &|_, seat: &mut Seat<P>|
+            requires { Seated P.Port code.now seat.old }
+            ensures { Turned P.Port code.entry.now seat.old seat.new }
+        { turn(rt, alloc, code, gate, LOOKS, seat) },
+    );
+}
 
 /// The sites take their turns one after another.
 pub fn serial_turns<R, P: Port<R, Item>>(rt: &R, alloc: Global, code: &Code, seats: &mut [Seat<P>])

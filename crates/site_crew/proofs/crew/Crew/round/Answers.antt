@@ -1,0 +1,34 @@
+use Rattle.std.proofs.Common.{◌≡◌, ◌++◌, List, ap, drop, length, refl, subst, sym, take, ◌∙◌}
+use Rattle.np_calculus.specs.Config.{Config}
+use Rattle.np_code.specs.Programs.{program}
+use Rattle.site_turn.specs.declared.seat.Seat.{Seat}
+use Rattle.site_crew.specs.Crews.{HasRun}
+use Rattle.site_crew.specs.Quiet.{AllQuiet}
+use Rattle.site_crew.specs.Runs.{IsCrewRun}
+use Rattle.site_crew.specs.Seats.{event_count, histories}
+use Rattle.site_crew.proofs.Crewing.{has_run, round_told, slice_whole}
+use Rattle.site_crew.proofs.Whole.{crew_run}
+use Rattle.site_crew.proofs.crew.Crew.round.Goals as goal
+
+pub returns-then-self-clause-run : goal.returns-then-self-clause-run
+returns-then-self-clause-run g c = subst HasRun c.self.view_is (has_run c.self.invariant)
+
+pub returns-clause-run : goal.returns-clause-run
+returns-clause-run g c =
+    let was = c.self.inside in
+    let now = c.threads_round-after.new.seats in
+    let same = c.threads_round-after.ensures.count ∙ ap length c.as_mut_slice.ensures.value in
+    subst (λ (xs : List (Seat _)). (end : Config) × IsCrewRun (program was.code) was.budget (histories xs) end) (sym (slice_whole was.seats.items now was.seats.len was.seats.ok.0 same))
+    (crew_run g.P.Port was.code was.budget now c.threads_round-after.ensures.stand c.self.invariant.program)
+
+pub returns-clause-ok : goal.returns-clause-ok
+returns-clause-ok g c =
+    let was = c.self.inside in
+    let now = c.threads_round-after.new.seats in
+    let same = c.threads_round-after.ensures.count ∙ ap length c.as_mut_slice.ensures.value in
+    let whole = slice_whole was.seats.items now was.seats.len was.seats.ok.0 same in
+    let slice = c.as_slice-3.ensures.value ∙ whole in
+    round_told g.P.Port was.code was.budget _ _ now c.threads_round-after.ensures.stand c.self.invariant.program c.all_quiet-quiet.result
+    (λ e. subst (AllQuiet was.code) slice (c.all_quiet-quiet.ensures.yes e)) (λ e all. c.all_quiet-quiet.ensures.no e (subst (AllQuiet was.code) (sym slice) all)) refl refl (ap histories whole)
+    _ _ (c.events_of-before.ensures.total ∙ ap (λ xs. event_count (histories xs)) c.as_slice.ensures.value ∙ ap (λ s. event_count s.histories) c.self.view_is)
+    (c.threads_round-after.ensures.total ∙ ap (λ xs. event_count (histories xs)) (sym whole)) c.told.result c.told.ensures.ok
