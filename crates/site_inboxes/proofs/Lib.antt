@@ -1,0 +1,3 @@
+pub mod NewViews
+pub mod Roles
+pub mod Waiting

@@ -1,0 +1,3 @@
+pub mod Views
+pub mod Ends
+pub mod Fresh
