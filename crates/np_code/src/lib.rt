@@ -2,14 +2,12 @@
 #![tactic(auto)]
 
 mod code;
-mod copies;
 mod fail;
 mod flattening;
 mod limits;
 mod node;
 mod node_forms;
 mod parts;
-mod process_forms;
 mod sizes;
 mod table;
 mod unflattening;

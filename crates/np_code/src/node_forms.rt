@@ -3,9 +3,8 @@
 ghost use Rattle.std.specs.Prelude.{◌≡◌, IfOk};
 ghost use Rattle.np_code.specs.declared.node.NodeForm.TheVariants as node;
 
-use super::copies::{copy_bound, copy_pair};
 use super::node::NodeForm;
-use np_syntax::{Expr, Memory, Pat, Ty};
+use np_syntax::{Expr, Memory, Pat, Ty, copy_bound, copy_pair};
 use std::alloc::Global;
 
 pub fn channel(alloc: Global, chan: u32, ty: &Ty, body: u32) -> Result<NodeForm, Memory>

@@ -5,11 +5,11 @@ ghost use Rattle.np_code.specs.Programs.{program};
 
 use super::code::Code;
 use super::node::NodeForm;
-use super::process_forms::{
+use super::table::Nodes;
+use np_syntax::process_forms::{
     bind, channel, iflocal, input, lookup, migrate, open_letter, output, post, print, replicated,
     send, test,
 };
-use super::table::Nodes;
 use np_syntax::{Boxed, LowProgram, Memory, Proc, ProcForm, copy_texts};
 use std::alloc::Global;
 

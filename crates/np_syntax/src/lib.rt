@@ -3,6 +3,7 @@
 #![tactic(auto)]
 
 mod boxed;
+mod copies;
 mod event;
 mod expression;
 mod limits;
@@ -11,11 +12,13 @@ mod memory;
 mod pattern;
 mod printed;
 mod process;
+pub mod process_forms;
 mod program;
 mod types;
 mod value;
 
 pub use boxed::Boxed;
+pub use copies::{copy_bound, copy_pair};
 pub use event::{End, Event, Kind, Made};
 pub use expression::{Expr, ExprForm, Op};
 pub use limits::{

@@ -4,6 +4,10 @@ use super::boxed::Boxed;
 use super::expression::Expr;
 use super::memory::Memory;
 use super::pattern::Pat;
+use super::process_forms::{
+    bind, channel, iflocal, input, lookup, migrate, open_letter, output, post, print, replicated,
+    send, test,
+};
 use super::types::Ty;
 use std::alloc::Global;
 
@@ -77,6 +81,19 @@ fn copy_boxed(alloc: Global, proc: &Boxed<Proc>) -> Result<Boxed<Proc>, Memory>
     Boxed::of(alloc, copied)
 }
 
+#[cycle(proc_copy)]
+fn copy_branches(
+    alloc: Global,
+    met: &Boxed<Proc>,
+    unmet: &Boxed<Proc>,
+) -> Result<(Boxed<Proc>, Boxed<Proc>), Memory>
+    ensures { IfOk result (λ copies. copies ≡ (met.now, unmet.now)) }
+{
+    let met = copy_boxed(alloc, met)?;
+    let unmet = copy_boxed(alloc, unmet)?;
+    Ok((met, unmet))
+}
+
 impl ProcForm {
     #[cycle(proc_copy)]
     pub fn copy(&self, alloc: Global) -> Result<ProcForm, Memory>
@@ -85,83 +102,36 @@ impl ProcForm {
         match self {
             ProcForm::Stop => Ok(ProcForm::Stop),
             ProcForm::Par(left, right) => {
-                let left = copy_boxed(alloc, left)?;
-                let right = copy_boxed(alloc, right)?;
+                let (left, right) = copy_branches(alloc, left, right)?;
                 Ok(ProcForm::Par(left, right))
             }
-            ProcForm::New(chan, ty, body) => {
-                let ty = ty.copy(alloc)?;
-                let body = copy_boxed(alloc, body)?;
-                Ok(ProcForm::New(*chan, ty, body))
-            }
-            ProcForm::Out(chan, value) => {
-                let chan = chan.copy(alloc)?;
-                let value = value.copy(alloc)?;
-                Ok(ProcForm::Out(chan, value))
-            }
-            ProcForm::Inp(chan, pat, body) => {
-                let chan = chan.copy(alloc)?;
-                let pat = pat.copy(alloc)?;
-                let body = copy_boxed(alloc, body)?;
-                Ok(ProcForm::Inp(chan, pat, body))
-            }
+            ProcForm::New(chan, ty, body) => channel(alloc, *chan, ty, copy_boxed(alloc, body)?),
+            ProcForm::Out(chan, value) => output(alloc, chan, value),
+            ProcForm::Inp(chan, pat, body) => input(alloc, chan, pat, copy_boxed(alloc, body)?),
             ProcForm::Rep(chan, pat, body) => {
-                let chan = chan.copy(alloc)?;
-                let pat = pat.copy(alloc)?;
-                let body = copy_boxed(alloc, body)?;
-                Ok(ProcForm::Rep(chan, pat, body))
+                replicated(alloc, chan, pat, copy_boxed(alloc, body)?)
             }
             ProcForm::Agent(agent, body, rest) => {
-                let body = copy_boxed(alloc, body)?;
-                let rest = copy_boxed(alloc, rest)?;
+                let (body, rest) = copy_branches(alloc, body, rest)?;
                 Ok(ProcForm::Agent(*agent, body, rest))
             }
-            ProcForm::Migrate(site, body) => {
-                let site = site.copy(alloc)?;
-                let body = copy_boxed(alloc, body)?;
-                Ok(ProcForm::Migrate(site, body))
+            ProcForm::Migrate(site, body) => migrate(alloc, site, copy_boxed(alloc, body)?),
+            ProcForm::IfLocal(agent, chan, value, met, unmet) => {
+                let (met, unmet) = copy_branches(alloc, met, unmet)?;
+                iflocal(alloc, agent, chan, value, met, unmet)
             }
-            ProcForm::IfLocal(agent, chan, value, yes, no) => {
-                let agent = agent.copy(alloc)?;
-                let chan = chan.copy(alloc)?;
-                let value = value.copy(alloc)?;
-                let yes = copy_boxed(alloc, yes)?;
-                let no = copy_boxed(alloc, no)?;
-                Ok(ProcForm::IfLocal(agent, chan, value, yes, no))
+            ProcForm::Send(agent, site, chan, value) => send(alloc, agent, site, chan, value),
+            ProcForm::Post(agent, chan, value) => post(alloc, agent, chan, value),
+            ProcForm::If(condition, met, unmet) => {
+                let (met, unmet) = copy_branches(alloc, met, unmet)?;
+                test(alloc, condition, met, unmet)
             }
-            ProcForm::Send(agent, site, chan, value) => {
-                let agent = agent.copy(alloc)?;
-                let site = site.copy(alloc)?;
-                let chan = chan.copy(alloc)?;
-                let value = value.copy(alloc)?;
-                Ok(ProcForm::Send(agent, site, chan, value))
-            }
-            ProcForm::Post(agent, chan, value) => {
-                let agent = agent.copy(alloc)?;
-                let chan = chan.copy(alloc)?;
-                let value = value.copy(alloc)?;
-                Ok(ProcForm::Post(agent, chan, value))
-            }
-            ProcForm::If(test, yes, no) => {
-                let test = test.copy(alloc)?;
-                let yes = copy_boxed(alloc, yes)?;
-                let no = copy_boxed(alloc, no)?;
-                Ok(ProcForm::If(test, yes, no))
-            }
-            ProcForm::Let(pat, value, body) => {
-                let pat = pat.copy(alloc)?;
-                let value = value.copy(alloc)?;
-                let body = copy_boxed(alloc, body)?;
-                Ok(ProcForm::Let(pat, value, body))
-            }
-            ProcForm::Print(value) => Ok(ProcForm::Print(value.copy(alloc)?)),
-            ProcForm::Open(letter) => Ok(ProcForm::Open(letter.copy(alloc)?)),
-            ProcForm::Lookup(agent, places, found, yes, no) => {
-                let agent = agent.copy(alloc)?;
-                let places = places.copy(alloc)?;
-                let yes = copy_boxed(alloc, yes)?;
-                let no = copy_boxed(alloc, no)?;
-                Ok(ProcForm::Lookup(agent, places, *found, yes, no))
+            ProcForm::Let(pat, value, body) => { bind(alloc, pat, value, copy_boxed(alloc, body)?) }
+            ProcForm::Print(value) => print(alloc, value),
+            ProcForm::Open(letter) => open_letter(alloc, letter),
+            ProcForm::Lookup(agent, places, found, met, unmet) => {
+                let (met, unmet) = copy_branches(alloc, met, unmet)?;
+                lookup(alloc, agent, places, *found, met, unmet)
             }
         }
     }

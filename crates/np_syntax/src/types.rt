@@ -1,4 +1,5 @@
 ghost use Rattle.std.specs.Prelude.{◌≡◌, ◌↔◌, IsTrue, IfOk};
+ghost use Rattle.np_syntax.specs.declared.types.Ty as shape;
 
 use super::boxed::Boxed;
 use super::list::List;
@@ -38,11 +39,8 @@ impl Ty {
             Ty::Str => Ok(Ty::Str),
             Ty::Site => Ok(Ty::Site),
             Ty::Agent => Ok(Ty::Agent),
-            Ty::Chan(cap, carried) => {
-                let carried = carried.get().copy(alloc)?;
-                Ok(Ty::Chan(*cap, Boxed::of(alloc, carried)?))
-            }
-            Ty::Tuple(parts) => Ok(Ty::Tuple(copy_types(alloc, parts.as_slice())?)),
+            Ty::Chan(cap, carried) => copy_chan(alloc, *cap, carried),
+            Ty::Tuple(parts) => copy_tuple(alloc, parts.as_slice()),
             Ty::Letter => Ok(Ty::Letter),
             Ty::Places => Ok(Ty::Places),
         }
@@ -71,6 +69,21 @@ impl Ty {
             Ty::Places => matches!(other, Ty::Places),
         }
     }
+}
+
+#[cycle(ty_copy)]
+fn copy_chan(alloc: Global, cap: Cap, carried: &Boxed<Ty>) -> Result<Ty, Memory>
+    ensures { IfOk result (λ copied. copied ≡ shape.Chan cap carried.now) }
+{
+    let carried = carried.get().copy(alloc)?;
+    Ok(Ty::Chan(cap, Boxed::of(alloc, carried)?))
+}
+
+#[cycle(ty_copy)]
+fn copy_tuple(alloc: Global, parts: &[Ty]) -> Result<Ty, Memory>
+    ensures { IfOk result (λ copied. copied ≡ shape.Tuple parts.now) }
+{
+    Ok(Ty::Tuple(copy_types(alloc, parts)?))
 }
 
 #[cycle(ty_copy)]

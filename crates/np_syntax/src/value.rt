@@ -1,4 +1,5 @@
 ghost use Rattle.std.specs.Prelude.{◌≡◌, ◌↔◌, IsTrue, IfOk};
+ghost use Rattle.np_syntax.specs.declared.value.Value as shape;
 
 use super::boxed::Boxed;
 use super::list::{List, Text};
@@ -36,18 +37,42 @@ impl Value {
         match self {
             Value::Int(number) => Ok(Value::Int(*number)),
             Value::Truth(truth) => Ok(Value::Truth(*truth)),
-            Value::Str(text) => Ok(Value::Str(text.copy(alloc)?)),
+            Value::Str(text) => copy_string(alloc, text),
             Value::Site(site) => Ok(Value::Site(*site)),
             Value::Agent(agent) => Ok(Value::Agent(*agent)),
             Value::Chan(chan) => Ok(Value::Chan(*chan)),
-            Value::Tuple(parts) => Ok(Value::Tuple(copy_values(alloc, parts.as_slice())?)),
-            Value::Letter(chan, value) => {
-                let value = value.get().copy(alloc)?;
-                Ok(Value::Letter(*chan, Boxed::of(alloc, value)?))
-            }
-            Value::Places(places) => Ok(Value::Places(places.copy(alloc)?)),
+            Value::Tuple(parts) => copy_tuple(alloc, parts.as_slice()),
+            Value::Letter(chan, value) => copy_letter(alloc, *chan, value),
+            Value::Places(places) => copy_places(alloc, places),
         }
     }
+}
+
+fn copy_string(alloc: Global, text: &Text) -> Result<Value, Memory>
+    ensures { IfOk result (λ copied. copied ≡ shape.Str text.now) }
+{
+    Ok(Value::Str(text.copy(alloc)?))
+}
+
+fn copy_places(alloc: Global, places: &List<(Name, Name)>) -> Result<Value, Memory>
+    ensures { IfOk result (λ copied. copied ≡ shape.Places places.now) }
+{
+    Ok(Value::Places(places.copy(alloc)?))
+}
+
+#[cycle(value_copy)]
+fn copy_tuple(alloc: Global, parts: &[Value]) -> Result<Value, Memory>
+    ensures { IfOk result (λ copied. copied ≡ shape.Tuple parts.now) }
+{
+    Ok(Value::Tuple(copy_values(alloc, parts)?))
+}
+
+#[cycle(value_copy)]
+fn copy_letter(alloc: Global, chan: Name, value: &Boxed<Value>) -> Result<Value, Memory>
+    ensures { IfOk result (λ copied. copied ≡ shape.Letter chan value.now) }
+{
+    let value = value.get().copy(alloc)?;
+    Ok(Value::Letter(chan, Boxed::of(alloc, value)?))
 }
 
 #[cycle(value_copy)]

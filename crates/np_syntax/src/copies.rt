@@ -2,7 +2,9 @@
 
 ghost use Rattle.std.specs.Prelude.{◌≡◌, IfOk};
 
-use np_syntax::{Expr, Memory, Pat};
+use super::expression::Expr;
+use super::memory::Memory;
+use super::pattern::Pat;
 use std::alloc::Global;
 
 /// Copies of two expressions.

@@ -3,8 +3,13 @@
 ghost use Rattle.std.specs.Prelude.{◌≡◌, IfOk};
 ghost use Rattle.np_syntax.specs.declared.process.ProcForm as shape;
 
+use super::boxed::Boxed;
 use super::copies::{copy_bound, copy_pair};
-use np_syntax::{Boxed, Expr, Memory, Pat, Proc, ProcForm, Ty};
+use super::expression::Expr;
+use super::memory::Memory;
+use super::pattern::Pat;
+use super::process::{Proc, ProcForm};
+use super::types::Ty;
 use std::alloc::Global;
 
 pub fn channel(alloc: Global, chan: u32, ty: &Ty, body: Boxed<Proc>) -> Result<ProcForm, Memory>
