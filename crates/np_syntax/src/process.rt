@@ -81,19 +81,6 @@ fn copy_boxed(alloc: Global, proc: &Boxed<Proc>) -> Result<Boxed<Proc>, Memory>
     Boxed::of(alloc, copied)
 }
 
-#[cycle(proc_copy)]
-fn copy_branches(
-    alloc: Global,
-    met: &Boxed<Proc>,
-    unmet: &Boxed<Proc>,
-) -> Result<(Boxed<Proc>, Boxed<Proc>), Memory>
-    ensures { IfOk result (λ copies. copies ≡ (met.now, unmet.now)) }
-{
-    let met = copy_boxed(alloc, met)?;
-    let unmet = copy_boxed(alloc, unmet)?;
-    Ok((met, unmet))
-}
-
 impl ProcForm {
     #[cycle(proc_copy)]
     pub fn copy(&self, alloc: Global) -> Result<ProcForm, Memory>
@@ -102,7 +89,8 @@ impl ProcForm {
         match self {
             ProcForm::Stop => Ok(ProcForm::Stop),
             ProcForm::Par(left, right) => {
-                let (left, right) = copy_branches(alloc, left, right)?;
+                let left = copy_boxed(alloc, left)?;
+                let right = copy_boxed(alloc, right)?;
                 Ok(ProcForm::Par(left, right))
             }
             ProcForm::New(chan, ty, body) => channel(alloc, *chan, ty, copy_boxed(alloc, body)?),
@@ -112,25 +100,29 @@ impl ProcForm {
                 replicated(alloc, chan, pat, copy_boxed(alloc, body)?)
             }
             ProcForm::Agent(agent, body, rest) => {
-                let (body, rest) = copy_branches(alloc, body, rest)?;
+                let body = copy_boxed(alloc, body)?;
+                let rest = copy_boxed(alloc, rest)?;
                 Ok(ProcForm::Agent(*agent, body, rest))
             }
             ProcForm::Migrate(site, body) => migrate(alloc, site, copy_boxed(alloc, body)?),
             ProcForm::IfLocal(agent, chan, value, met, unmet) => {
-                let (met, unmet) = copy_branches(alloc, met, unmet)?;
+                let met = copy_boxed(alloc, met)?;
+                let unmet = copy_boxed(alloc, unmet)?;
                 iflocal(alloc, agent, chan, value, met, unmet)
             }
             ProcForm::Send(agent, site, chan, value) => send(alloc, agent, site, chan, value),
             ProcForm::Post(agent, chan, value) => post(alloc, agent, chan, value),
             ProcForm::If(condition, met, unmet) => {
-                let (met, unmet) = copy_branches(alloc, met, unmet)?;
+                let met = copy_boxed(alloc, met)?;
+                let unmet = copy_boxed(alloc, unmet)?;
                 test(alloc, condition, met, unmet)
             }
             ProcForm::Let(pat, value, body) => { bind(alloc, pat, value, copy_boxed(alloc, body)?) }
             ProcForm::Print(value) => print(alloc, value),
             ProcForm::Open(letter) => open_letter(alloc, letter),
             ProcForm::Lookup(agent, places, found, met, unmet) => {
-                let (met, unmet) = copy_branches(alloc, met, unmet)?;
+                let met = copy_boxed(alloc, met)?;
+                let unmet = copy_boxed(alloc, unmet)?;
                 lookup(alloc, agent, places, *found, met, unmet)
             }
         }
