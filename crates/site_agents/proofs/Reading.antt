@@ -10,11 +10,13 @@ use Rattle.np_tables.specs.Stored.{Stored, Covers}
 use Rattle.np_tables.proofs.Mapped.{get-mapped, mapped_there, mapped-put, mapped-cut}
 use Rattle.np_code.specs.Programs.{ProgramTable}
 use Rattle.agent_pool.specs.Idle.{IsIdle}
-use Rattle.agent_pool.specs.Pools.{Pool}
+use Rattle.agent_pool.specs.Pools.{Pool, atoms_of}
+use Rattle.agent_pool.specs.Readies.{IsReady}
+use Rattle.agent_pool.specs.declared.ready.Ready.{Ready}
 use Rattle.site_agents.specs.declared.seat.Seat.{Seat}
 use Rattle.site_agents.specs.Queues.{Waiting, waits, listed}
 use Rattle.site_agents.specs.Rounds.{InTurn, QuietCan}
-use Rattle.site_agents.specs.Standings.{Standing, is_quiet, agent_of, agents_of, quiet_of, AreQuiet, CanNothing, NoneCan, IdleAt}
+use Rattle.site_agents.specs.Standings.{Standing, is_quiet, agent_of, agents_of, quiet_of, AreQuiet, CanDo, CanNothing, NoneCan, IdleAt}
 
 none_some : {A : Type 0} {x : A} → None ≡ Some x → ⊥
 none_some e = cc
@@ -76,6 +78,17 @@ idle_at ts seats q s b e h = (
 pub idle_absent : (ts : List Proc) (seats : NameMap Seat) (q : Name) → map.get seats q ≡ None → IdleAt ts (agents_of seats) q
 idle_absent ts seats q e p g = absurd (none_some (sym (mapped_none agent_of seats q e) ∙ g))
 
+-- whether the agent of a seat can do this
+pub can_here : (code : ProgramTable) (seats : NameMap Seat) (q : Name) (s : Seat) (r : Ready) (b : Bool) → Some s ≡ map.get seats q → (IsTrue b ↔ IsReady code (atoms_of code.processes s.agent) r)
+    → (IsTrue b ↔ CanDo code (agents_of seats) q r)
+can_here code seats q s r b e h = (
+  (λ t. record { agent = s.agent; here = mapped_there agent_of seats q s (sym e); ready = h.0 t }),
+  (λ can. h.1 (subst (λ (p : Pool). IsReady code (atoms_of code.processes p) r) (same_some (sym can.here ∙ mapped_there agent_of seats q s (sym e))) can.ready)),
+)
+
+pub can_nowhere : (code : ProgramTable) (seats : NameMap Seat) (q : Name) (r : Ready) → map.get seats q ≡ None → CanDo code (agents_of seats) q r → ⊥
+can_nowhere code seats q r e can = none_some (sym (mapped_none agent_of seats q e) ∙ can.here)
+
 some_map : {X Y : Type 0} (f : X → Y) (o : Option X) → is_some o ≡ is_some (option_map f o)
 some_map f None = refl
 some_map f (Some x) = refl
@@ -100,7 +113,8 @@ pub none_by : (code : ProgramTable) (now : Standing) (old new : Stored Seat) (tu
     → AreQuiet code now → NoneCan code now.agents
 none_by code now old new turns doubtful e same in_turn quiet a b c d h =
     subst (NoneCan code) (same ∙ ap (λ (s : Standing). s.agents) e)
-    (all_quiet code new.items turns doubtful in_turn (quiet (quiet_to code now old.items (ap (λ (s : Standing). s.agents) (sym e)) (ap (λ (s : Standing). s.quiet) (sym e)) h)) (no_one turns a b) (no_one doubtful c d))
+    (all_quiet code new.items turns doubtful in_turn (quiet (quiet_to code now old.items (ap (λ (s : Standing). s.agents) (sym e)) (ap (λ (s : Standing). s.quiet) (sym e)) h))
+    (no_one turns a b) (no_one doubtful c d))
 
 -- what contracts see after an agent came or went
 pub put_agents : (now : Standing) (old new : Stored Seat) (k : Name) (s : Seat) → seen old ≡ now → new.items ≡ map.insert old.items k s → agents_of new.items ≡ map.insert now.agents k s.agent

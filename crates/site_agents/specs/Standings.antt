@@ -58,6 +58,10 @@ pub record CanDo (code : ProgramTable) (agents : NameMap Pool) (q : Name) (r : R
   pub here : map.get agents q ≡ Some agent
   pub ready : IsReady code (atoms_of code.processes agent) r
 
+-- no agent can do this
+pub record NoneCanDo (code : ProgramTable) (agents : NameMap Pool) (r : Ready) : Type 0 where
+  pub each : (q : Name) → CanDo code agents q r → ⊥
+
 -- no agent can do anything
 pub record NoneCan (code : ProgramTable) (agents : NameMap Pool) : Type 0 where
   pub each : (q : Name) (p : Pool) → map.get agents q ≡ Some p → CanNothing code p

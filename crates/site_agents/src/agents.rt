@@ -5,13 +5,13 @@ ghost use Rattle.std.specs.FinMap as map;
 ghost use Rattle.np_code.specs.Programs.{ProgramTable};
 ghost use Rattle.np_tables.specs.Stored.{Covers};
 ghost use Rattle.site_agents.specs.LentAgents.{lends_agent};
-ghost use Rattle.site_agents.specs.Standings.{AreNamed, AreQuiet, AreIdle, CanDo, NoneCan};
+ghost use Rattle.site_agents.specs.Standings.{AreNamed, AreQuiet, AreIdle, CanDo, NoneCan, NoneCanDo};
 
 use super::lending::{agent_at, call_again};
 use super::queue::Queue;
 use super::seat::Seat;
 use super::seats::Seats;
-use super::serving::{all_idle, any_ready, next_doubtful, next_likely, take_seat};
+use super::serving::{all_idle, any_ready, next_doubtful, next_likely, take_seat, who_can};
 use agent_pool::{Agent, Ready};
 use np_code::Code;
 use np_syntax::{Memory, Name};
@@ -177,6 +177,14 @@ impl Agents {
         let (name, ready) = any_ready(code, &self.seats)?;
         self.turns.push(name);
         Some((name, ready))
+    }
+
+    /// An agent that can do this, and none exactly where none can. It takes no memory. It walks over the agents.
+    pub fn who_can(&self, code: &Code, r: Ready) -> Option<Name>
+        ensures some { IfSome result (λ name. CanDo code.now self.now.agents name r) }
+        ensures none { IfNone result (NoneCanDo code.now self.now.agents r) }
+    {
+        who_can(code, &self.seats, r)
     }
 
     /// Whether each agent is idle. It takes no memory. It walks over the agents, and over their atoms.

@@ -2,7 +2,7 @@ ghost use Rattle.std.specs.Prelude.{◌≡◌, ◌<◌, ◌≤◌, ◌↔◌, le
 ghost use Rattle.std.specs.FinMap as map;
 ghost use Rattle.site_agents.specs.Queues.{waits, Keeps, KeepsBut};
 ghost use Rattle.site_agents.specs.Rounds.{GoesOn, with_changed, doubted, called, settled};
-ghost use Rattle.site_agents.specs.Standings.{agents_of, CanDo, CanNothing, NoneCan, IdleAt, AreIdle};
+ghost use Rattle.site_agents.specs.Standings.{agents_of, CanDo, CanNothing, NoneCan, NoneCanDo, IdleAt, AreIdle};
 ghost use Rattle.site_agents.specs.declared.seat.Seat.{Seat as Sat};
 
 use super::queue::Queue;
@@ -130,6 +130,30 @@ pub fn any_ready(code: &Code, seats: &Seats<Seat>) -> Option<(Name, Ready)>
         }
     }
     None
+}
+
+/// An agent that can do this, and none exactly where none can. It walks over them.
+pub fn who_can(code: &Code, seats: &Seats<Seat>, r: Ready) -> Option<Name>
+    ensures some { IfSome result (λ name. CanDo code.now (agents_of seats.now.items) name r) }
+    ensures none { IfNone result (NoneCanDo code.now (agents_of seats.now.items) r) }
+{
+    for at in 0..seats.len() {
+        let name = seats.key(at);
+        if can_do(code, seats, name, r) {
+            return Some(name);
+        }
+    }
+    None
+}
+
+/// Whether the agent of a name can do this, if there is one.
+fn can_do(code: &Code, seats: &Seats<Seat>, name: Name, r: Ready) -> bool
+    ensures { IsTrue result ↔ CanDo code.now (agents_of seats.now.items) name r }
+{
+    match seats.get(name) {
+        Some(seat) => seat.agent.is_ready(code, r),
+        None => false,
+    }
 }
 
 /// Whether each agent is idle. It walks over them.

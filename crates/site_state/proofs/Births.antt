@@ -21,7 +21,7 @@ use Rattle.agent_pool.specs.Held.{atom_of, wait_of}
 use Rattle.agent_pool.specs.Moves.{Births}
 use Rattle.agent_pool.specs.Pools.{Pool, atoms_of, seen_as}
 use Rattle.agent_pool.specs.Rows.{event_of}
-use Rattle.site_state.specs.Doing.{HasDone, deed_of}
+use Rattle.site_state.specs.Doing.{HasDoneEvent, deed_of}
 use Rattle.site_state.specs.Parts.{HasBirth, IsNoted}
 use Rattle.site_state.specs.Standings.{KeepsQuiet, SameRecords, Standing, holding_of}
 use Rattle.site_state.proofs.Done.{done_inner}
@@ -63,5 +63,5 @@ module _ (makes : Makes) (code : ProgramTable) (old mid new : Standing) (name : 
       (subst (λ s. GoesPast kind.Agent (length code.sites) false (atoms_of code.processes birth.before) (atoms_of code.processes birth.after) stamped.event
       (record still { places = put child (place.At s) ∷ []; atoms = put mark first ∷ [] })) records.site (birth.births.row mid.site)))
 
-  pub has_born : HasDone code old new
+  pub has_born : HasDoneEvent code old new (event_of mid.site r (made.Two child mark))
   has_born = done_inner code old mid new stamped.event None records (lines_are_same _ _ outgoing) quiet noted records.site does

@@ -1,7 +1,8 @@
 -- What an event of an agent does to a site is what the calculus says.
-use Rattle.std.proofs.Common.{◌≡◌, ◌+◌, length, Option, None, Some, refl, sym, ap, subst, ◌∙◌}
+use Rattle.std.proofs.Common.{◌≡◌, ◌+◌, ℕ, length, Option, None, Some, refl, sym, ap, subst, ◌∙◌}
 use Rattle.std.specs.FinMap as map
 use Rattle.np_syntax.specs.declared.event.Event.{Event}
+use Rattle.np_syntax.specs.declared.event.Kind.{Kind}
 use Rattle.np_syntax.specs.declared.event.Kind.TheVariants as kind
 use Rattle.np_syntax.specs.declared.event.Made.{Made}
 use Rattle.np_syntax.specs.declared.value.Name.{Name}
@@ -11,14 +12,15 @@ use Rattle.np_tables.proofs.Mapped.{mapped-put, mapped_there}
 use Rattle.np_calculus.specs.Changes.{still}
 use Rattle.stamp_history.specs.declared.stamped.Stamped.{Stamped}
 use Rattle.stamp_history.specs.Histories.{Recorded}
-use Rattle.np_holdings.specs.Holdings.{Does}
+use Rattle.np_holdings.specs.Holdings.{Does, name_of}
 use Rattle.np_holdings.specs.Making.{AreNext, next_after}
 use Rattle.np_holdings.specs.Within.{GoesOn, gone_on, inner, with_value}
 use Rattle.np_code.specs.Programs.{ProgramTable}
 use Rattle.agent_pool.specs.declared.ready.Ready.{Ready}
 use Rattle.agent_pool.specs.Pools.{atoms_of}
+use Rattle.agent_pool.specs.Readies.{made_of}
 use Rattle.agent_pool.specs.Rows.{event_of}
-use Rattle.site_state.specs.Doing.{ArePut, HasDone, deed_of, recorded}
+use Rattle.site_state.specs.Doing.{ArePut, HasDone, HasDoneEvent, deed_of, event_at, finds, recorded}
 use Rattle.site_state.specs.Lines.{SameLines}
 use Rattle.site_state.specs.Parts.{HasReduced, IsLooked, IsNoted}
 use Rattle.site_state.specs.Coming.{KeepsSeats}
@@ -63,16 +65,16 @@ module _ (on : GoesOn) (code : ProgramTable) (old mid new : Standing) (name : Na
       (record { site = reduced.same.site; kind = refl; stands = mapped_there (atoms_of code.processes) old.agents name reduced.before reduced.stood; makes = next })
       local post (reduced.goes mid.site))
 
-  pub has_done : HasDone code old new
-  has_done = record {
-    event = stamped.event;
+  done_there : HasDoneEvent code old new stamped.event
+  done_there = record {
     out = None;
     did = record {
       site = noted.site ∙ reduced.same.site;
       at = reduced.same.site;
       clock = noted.clock ∙ ap (λ n. n + 1) reduced.same.clock;
       value = value;
-      history = subst (λ h. new.history ≡ recorded h stamped value) reduced.same.history (subst (λ n. new.history ≡ recorded mid.history (record { stamp = n; event = stamped.event }) value) (sym noted.clock) noted.history);
+      history = subst (λ h. new.history ≡ recorded h stamped value) reduced.same.history
+          (subst (λ n. new.history ≡ recorded mid.history (record { stamp = n; event = stamped.event }) value) (sym noted.clock) noted.history);
       outgoing = lines_are old mid new noted.outgoing reduced.outgoing;
       put = tt;
       quiet = λ q. same_quiet code _ _ noted.agents noted.quiet (reduced.quiet q);
@@ -80,9 +82,20 @@ module _ (on : GoesOn) (code : ProgramTable) (old mid new : Standing) (name : Na
     };
   }
 
+  pub has_done : HasDoneEvent code old new (event_of old.site r made)
+  has_done = subst (λ (n : ℕ). HasDoneEvent code old new (event_of n r made)) reduced.same.site done_there
+
+-- the event that an agent does, by what an event of its kind makes
+pub done_as : (code : ProgramTable) (old new : Standing) (name : Name) (r : Ready) (k : Kind) (made : Made) → r.kind ≡ k
+    → made_of k (finds code old.agents name r) (name_of old.site old.next) (name_of old.site (old.next + 1)) ≡ made
+    → HasDoneEvent code old new (event_of old.site r made) → HasDoneEvent code old new (event_at code old name r)
+done_as code old new name r k made is makes h =
+    subst (λ (m : Made). HasDoneEvent code old new (event_of old.site r m))
+    (sym (ap (λ (j : Kind). made_of j (finds code old.agents name r) (name_of old.site old.next) (name_of old.site (old.next + 1))) is ∙ makes)) h
+
 -- an event of a site after it was looked whose turn it is
-pub done_from : (code : ProgramTable) (old mid new : Standing) → IsLooked code old mid → HasDone code mid new → HasDone code old new
-done_from code old mid new l h =
+pub done_from : (code : ProgramTable) (old mid new : Standing) (e : Event) → IsLooked code old mid → HasDoneEvent code mid new e → HasDone code old new
+done_from code old mid new e l h =
     let d = h.did in
     let same : holding_of code mid ≡ holding_of code old = λ i. record {
       site = l.same.site i;
@@ -92,27 +105,26 @@ done_from code old mid new l h =
       said = (l.same.history i).said;
     } in
     record {
-      event = h.event;
+      event = e;
       out = h.out;
       did = record {
         site = d.site ∙ l.same.site;
         at = d.at ∙ l.same.site;
         clock = d.clock ∙ ap (λ n. n + 1) l.same.clock;
         value = d.value;
-        history = subst (λ x. new.history ≡ recorded x (record { stamp = new.clock; event = h.event }) d.value) l.same.history d.history;
+        history = subst (λ x. new.history ≡ recorded x (record { stamp = new.clock; event = e }) d.value) l.same.history d.history;
         outgoing = subst (λ x. ArePut x h.out new.outgoing) l.outgoing d.outgoing;
         put = d.put;
         quiet = λ q. d.quiet (l.quiet q);
-        does = subst (λ x. Does x (deed_of code (record { stamp = new.clock; event = h.event }) None h.out) (holding_of code new)) same d.does;
+        does = subst (λ x. Does x (deed_of code (record { stamp = new.clock; event = e }) None h.out) (holding_of code new)) same d.does;
       };
     }
 
 -- an event that takes no item and puts none out, from what is recorded of it
 pub done_inner : (code : ProgramTable) (old mid new : Standing) (e : Event) (value : Option Value) → SameRecords old mid → SameLines old.outgoing mid.outgoing → KeepsQuiet code old mid
     → IsNoted mid (mid.clock + 1) e value new → e.site ≡ old.site
-    → Does (holding_of code old) (deed_of code (record { stamp = new.clock; event = e }) None None) (holding_of code new) → HasDone code old new
+    → Does (holding_of code old) (deed_of code (record { stamp = new.clock; event = e }) None None) (holding_of code new) → HasDoneEvent code old new e
 done_inner code old mid new e value records lines quiet noted at does = record {
-  event = e;
   out = None;
   did = record {
     site = noted.site ∙ records.site;

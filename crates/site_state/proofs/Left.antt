@@ -21,7 +21,7 @@ use Rattle.agent_pool.specs.Rows.{Reduces, event_of}
 use Rattle.agent_move.specs.declared.item.Item.{Item}
 use Rattle.agent_move.specs.declared.load.Load.TheVariants as load
 use Rattle.agent_move.specs.Items.{contents_of, item_of}
-use Rattle.site_state.specs.Doing.{HasDone, deed_of}
+use Rattle.site_state.specs.Doing.{HasDoneEvent, deed_of}
 use Rattle.site_state.specs.Lines.{IsPut}
 use Rattle.site_state.specs.Parts.{HasDeparted, HasGone}
 use Rattle.site_state.specs.Standings.{KeepsQuiet, Standing, holding_of}
@@ -43,9 +43,9 @@ module _ (code : ProgramTable) (old new : Standing) (r : Ready) (item : Item) (t
   abbrev stamped : Stamped
   stamped = record { stamp = new.clock; event = event_of old.site r made.Nothing }
 
-  put_out : Does (holding_of code old) (deed_of code (record { stamp = new.clock; event = event_of old.site r made.Nothing }) None (Some item)) (holding_of code new) → HasDone code old new
+  put_out : Does (holding_of code old) (deed_of code (record { stamp = new.clock; event = event_of old.site r made.Nothing }) None (Some item)) (holding_of code new)
+      → HasDoneEvent code old new (event_of old.site r made.Nothing)
   put_out does = record {
-    event = event_of old.site r made.Nothing;
     out = Some item;
     did = record {
       site = out.site;
@@ -71,7 +71,7 @@ module _ (code : ProgramTable) (old new : Standing) (r : Ready) (item : Item) (t
       said = (sym (ap (λ (h : Recorded). h.said) out.history)) i;
     }
 
-    pub has_sent : HasDone code old new
+    pub has_sent : HasDoneEvent code old new (event_of old.site r made.Nothing)
     has_sent = put_out (subst (Does (holding_of code old) (putting stamped (item_of code item))) sent_ends
         (sends (holding_of code old) stamped (item_of code item) name packet (atoms_of code.processes gone.before) (atoms_of code.processes gone.after)
         (record { site = refl; kind = is; stands = mapped_there (atoms_of code.processes) old.agents name gone.before gone.stood; makes = tt })
@@ -88,7 +88,7 @@ module _ (code : ProgramTable) (old new : Standing) (r : Ready) (item : Item) (t
       said = (sym (ap (λ (h : Recorded). h.said) out.history)) i;
     }
 
-    pub has_left : HasDone code old new
+    pub has_left : HasDoneEvent code old new (event_of old.site r made.Nothing)
     has_left = put_out (subst (Does (holding_of code old) (putting stamped (item_of code item))) left_ends
         (leaves (holding_of code old) stamped (item_of code item) name to (atoms_of code.processes gone.before) (atoms_of code.processes after)
         (record { site = refl; kind = is; stands = mapped_there (atoms_of code.processes) old.agents name gone.before gone.stood; makes = tt })

@@ -2,6 +2,7 @@ pub mod Aims
 pub mod Arrivals
 pub mod Births
 pub mod Done
+pub mod Forced
 pub mod Left
 pub mod Lines
 pub mod Seats

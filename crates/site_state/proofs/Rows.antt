@@ -1,5 +1,5 @@
 -- A ready of a kind meets the row of that kind.
-use Rattle.std.proofs.Common.{◌≡◌, true, false, subst, sym, ap, Some, IsSome, ◌∙◌}
+use Rattle.std.proofs.Common.{◌≡◌, Bool, true, false, refl, subst, sym, ap, Some, IsSome, ◌∙◌}
 use Rattle.std.specs.FinMap as map
 use Rattle.std.proofs.lemmas.Option.{same_Some}
 use Rattle.np_syntax.specs.declared.event.Kind.{Kind}
@@ -43,6 +43,26 @@ inner_makes kind.Print h first i e = tt
 inner_makes kind.Open h first i e = tt
 inner_makes kind.Lookup h first i e = tt
 inner_makes kind.Post h first i e = tt
+
+-- whatever agent is here, and whatever name would be the second
+pub inner_made : (k : Kind) (here : Bool) (first second : Name) → is_inner k ≡ true → made_of k here first second ≡ made_of k false first first
+inner_made kind.Stop here first second i = refl
+inner_made kind.Fork here first second i = refl
+inner_made kind.New here first second i = refl
+inner_made kind.Let here first second i = refl
+inner_made kind.If here first second i = refl
+inner_made kind.Comm here first second i = refl
+inner_made kind.Rep here first second i = refl
+inner_made kind.Agent here first second i = absurd cc
+inner_made kind.Depart here first second i = refl
+inner_made kind.Arrive here first second i = refl
+inner_made kind.Local here first second i = absurd cc
+inner_made kind.Send here first second i = refl
+inner_made kind.Land here first second i = refl
+inner_made kind.Print here first second i = refl
+inner_made kind.Open here first second i = refl
+inner_made kind.Lookup here first second i = refl
+inner_made kind.Post here first second i = refl
 
 -- a kind that is none within an agent is not that of such an event
 pub not_inner : (k j : Kind) → is_inner k ≡ true → is_inner j ≡ false → k ≡ j → ⊥

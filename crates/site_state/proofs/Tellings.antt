@@ -31,10 +31,10 @@ use Rattle.agent_pool.specs.declared.held.Held.{Held}
 use Rattle.agent_pool.specs.declared.ready.Ready.{Ready}
 use Rattle.agent_pool.specs.Moves.{IsTarget, LocalLeaves, asked_of, outside}
 use Rattle.agent_pool.specs.Pools.{Pool, atoms_of, seen_as}
-use Rattle.agent_pool.specs.Readies.{IsReady}
+use Rattle.agent_pool.specs.Readies.{IsReady, made_of}
 use Rattle.agent_pool.specs.Rows.{Reduces, change_in, event_of, own_sight}
 use Rattle.site_state.specs.Coming.{HasGot, HasSpare}
-use Rattle.site_state.specs.Doing.{HasDone, deed_of}
+use Rattle.site_state.specs.Doing.{HasDoneEvent, deed_of, finds}
 use Rattle.site_state.specs.Parts.{Asks, HasGone, HasTold, IsNoted}
 use Rattle.site_agents.specs.Standings.{AreNamed, CanDo}
 use Rattle.site_state.specs.Standings.{KeepsQuiet, SameAgents, SameRecords, Standing, holding_of, without_room}
@@ -57,6 +57,17 @@ there_still old new q p h e = let w = some_was (map.get old q) p (sym (ap (optio
 
 pub same_atoms : (code : ProgramTable) (p q : Pool) → without_room p ≡ without_room q → atoms_of code.processes p ≡ atoms_of code.processes q
 same_atoms code p q e = ap (λ (x : Name × NameMap (Kept Held)). mapped (seen_as code.processes x.0) x.1) e
+
+-- whether the agent is here for which a location test asks, and what the test makes
+module _ (code : ProgramTable) (agents : NameMap Pool) (name : Name) (r : Ready) (target : Name) (can : CanDo code agents name r) (asks : Asks code agents name r target) where
+  finds_asked : finds code agents name r ≡ is_some (map.get agents target)
+  finds_asked =
+      ap (λ (o : Option Pool). is_some (o >>= λ p. map.get (atoms_of code.processes p) r.actor >>= asked_of >>= map.get agents)) can.here
+      ∙ ap (λ (o : Option Name). is_some (o >>= map.get agents)) (asks.each can.agent can.here)
+
+  pub local_makes : (here : Bool) (first second : Name) → is_some (map.get agents target) ≡ here
+      → made_of kind.Local (finds code agents name r) first second ≡ made_of kind.Local here first second
+  local_makes here first second e = ap (λ (t : Bool). made_of kind.Local t first second) (finds_asked ∙ e)
 
 same_sides : (old new : NameMap Pool) → SameAgents old new → SameAgents new old
 same_sides old new h = record { each = λ q. sym (h.each q) }
@@ -156,7 +167,7 @@ module _ (alone : GoesOnAlone) (code : ProgramTable) (old mid new : Standing) (n
       (record { site = records.site; kind = is; stands = mapped_there (atoms_of code.processes) old.agents name gone.before gone.stood; makes = tt })
       (asks.each gone.before gone.stood) (get-mapped (atoms_of code.processes) old.agents target ∙ ap (option_map (atoms_of code.processes)) absent) (gone.goes mid.site))
 
-  pub has_passed : HasDone code old new
+  pub has_passed : HasDoneEvent code old new (event_of mid.site r made.Nothing)
   has_passed = done_inner code old mid new passed.event None records (lines_are_same _ _ outgoing) quiet noted records.site passes
 
 module _ (tells : Tells) (code : ProgramTable) (old mid new : Standing) (name : Name) (r : Ready) (target mark : Name) (packet : Packet) (ready between : NameMap Pool)
@@ -194,5 +205,5 @@ module _ (tells : Tells) (code : ProgramTable) (old mid new : Standing) (name : 
       (ap (λ m. map.get m packet.agent) (sym between_seen) ∙ ap (map.get (mapped (atoms_of code.processes) between)) for_it
       ∙ mapped_there (atoms_of code.processes) between target before there))
 
-  pub has_told : HasDone code old new
+  pub has_told : HasDoneEvent code old new (event_of mid.site r (made.One mark))
   has_told = done_inner code old mid new saying.event None records (lines_are_same _ _ outgoing) quiet noted records.site tell

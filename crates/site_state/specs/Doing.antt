@@ -1,18 +1,27 @@
 -- What an event does to a site (docs/LANGUAGE.md, "History text").
-use Rattle.std.specs.Prelude.{◌≡◌, ◌<◌, List, length, option_map, Option, None, Some, IfSome}
+use Rattle.std.specs.Prelude.{◌≡◌, ◌<◌, ◌+◌, Bool, is_some, List, length, option_map, Option, None, Some, IfSome}
+use Rattle.std.specs.FinMap as map
 use Rattle.np_syntax.specs.declared.event.Event.{Event}
+use Rattle.np_syntax.specs.declared.value.Name.{Name}
 use Rattle.np_syntax.specs.declared.value.Value.{Value}
+use Rattle.np_syntax.specs.Options.{◌>>=◌}
+use Rattle.np_tables.specs.Names.{NameMap}
 use Rattle.stamp_history.specs.declared.stamped.Stamped.{Stamped}
 use Rattle.stamp_history.specs.Histories.{Recorded, with_event, with_said}
 use Rattle.np_stamped_run.specs.Deeds.{Deed, ticked}
-use Rattle.np_holdings.specs.Holdings.{Does}
+use Rattle.np_holdings.specs.Holdings.{Does, name_of}
 use Rattle.np_code.specs.Programs.{ProgramTable}
+use Rattle.agent_pool.specs.declared.ready.Ready.{Ready}
+use Rattle.agent_pool.specs.Moves.{asked_of}
+use Rattle.agent_pool.specs.Pools.{Pool, atoms_of}
+use Rattle.agent_pool.specs.Readies.{made_of}
+use Rattle.agent_pool.specs.Rows.{event_of}
 use Rattle.agent_move.specs.declared.item.Item.{Item}
 use Rattle.agent_move.specs.Items.{item_of}
 use Rattle.site_state.specs.declared.stepping.Stepped.{Stepped}
 use Rattle.site_state.specs.declared.stepping.Stepped.TheVariants as stepped
 use Rattle.site_state.specs.Lines.{Waiting, IsPut, SameLines}
-use Rattle.site_agents.specs.Standings.{NoneCan}
+use Rattle.site_agents.specs.Standings.{CanDo, NoneCan}
 use Rattle.site_state.specs.Standings.{IsQuiet, KeepsQuiet, Standing, Stays, holding_of}
 
 -- an event with the item that it takes and the one that it puts out
@@ -47,6 +56,29 @@ pub record Did (code : ProgramTable) (old new : Standing) (event : Event) (taken
   pub put : IfSome out (IsSent new)
   pub quiet : KeepsQuiet code old new
   pub does : Does (holding_of code old) (deed_of code (record { stamp = new.clock; event = event }) taken out) (holding_of code new)
+
+-- whether the agent is here for which the acting atom of another asks
+abbrev pub finds : ProgramTable → NameMap Pool → Name → Ready → Bool
+finds code agents name r = is_some (map.get agents name >>= λ p. map.get (atoms_of code.processes p) r.actor >>= asked_of >>= map.get agents)
+
+-- the event of the agent of a name that does this at the site: it makes the site's next names
+abbrev pub event_at : ProgramTable → Standing → Name → Ready → Event
+event_at code s name r = event_of s.site r (made_of r.kind (finds code s.agents name r) (name_of s.site s.next) (name_of s.site (s.next + 1)))
+
+-- what an event asks of the agent that does it
+abbrev pub ready_of : Event → Ready
+ready_of e = record { kind = e.kind; actor = e.actor; other = e.other; tag = e.tag }
+
+-- an agent that stands here can do the event, and whichever does it, it is this very event
+pub record IsPossible (code : ProgramTable) (s : Standing) (event : Event) : Type 0 where
+  pub agent : Name
+  pub can : CanDo code s.agents agent (ready_of event)
+  pub is : (name : Name) → CanDo code s.agents name (ready_of event) → event ≡ event_at code s name (ready_of event)
+
+-- the site did this event of its own
+pub record HasDoneEvent (code : ProgramTable) (old new : Standing) (event : Event) : Type 0 where
+  pub out : Option Item
+  pub did : Did code old new event None out
 
 -- the site did an event of its own
 pub record HasDone (code : ProgramTable) (old new : Standing) : Type 0 where

@@ -105,6 +105,10 @@ pub record SameRecords (old new : Standing) : Type 0 where
   pub clock : new.clock ≡ old.clock
   pub history : new.history ≡ old.history
 
+-- the clock is at this stamp, and all else is the same
+abbrev pub with_clock : Standing → ℕ → Standing
+with_clock s stamp = record s { clock = stamp }
+
 -- one more agent stands there
 pub record IsSettled (old : Standing) (agent : Pool) (new : Standing) : Type 0 where
   pub agents : new.agents ≡ map.insert old.agents agent.name agent

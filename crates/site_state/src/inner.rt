@@ -2,7 +2,7 @@ ghost use Rattle.std.specs.Prelude.{◌≡◌, true, false, length, OnOk, OnErr}
 ghost use Rattle.np_calculus.specs.Changes.{still};
 ghost use Rattle.np_holdings.specs.Holdings.{name_of};
 ghost use Rattle.agent_pool.specs.Readies.{made_of};
-ghost use Rattle.site_state.specs.Doing.{HasDone, HasRoom};
+ghost use Rattle.site_state.specs.Doing.{HasDoneEvent, HasRoom, event_at};
 ghost use Rattle.site_state.specs.Parts.{HasReduced, is_inner};
 ghost use Rattle.site_agents.specs.Standings.{CanDo};
 ghost use Rattle.site_state.specs.Standings.{Stays};
@@ -27,7 +27,7 @@ impl Site {
         requires room { HasRoom self.old }
         requires can { CanDo code.now self.old.agents name r }
         requires inner { is_inner r.kind ≡ true }
-        ensures ok { OnOk result (HasDone code.now self.old self.new) }
+        ensures ok { OnOk result (HasDoneEvent code.now self.old self.new (event_at code.now self.old name r)) }
         ensures err { OnErr result (Stays code.now self.old self.new) }
     {
         law_own_events();

@@ -3,6 +3,7 @@
 
 mod accepting;
 mod coming;
+mod forcing;
 mod inner;
 mod leaving;
 mod line;

@@ -3,7 +3,7 @@
 ghost use Rattle.std.specs.Prelude.{◌≡◌, OnOk, OnErr};
 ghost use Rattle.np_syntax.specs.declared.event.Kind.TheVariants as kind;
 ghost use Rattle.site_state.specs.Coming.{KeepsSeats};
-ghost use Rattle.site_state.specs.Doing.{HasDone, HasRoom};
+ghost use Rattle.site_state.specs.Doing.{HasDoneEvent, HasRoom, event_at};
 ghost use Rattle.site_state.specs.Parts.{HasBirth};
 ghost use Rattle.site_agents.specs.Standings.{AreNamed, CanDo};
 ghost use Rattle.site_state.specs.Standings.{SameAgents, Stays};
@@ -63,7 +63,7 @@ impl Site {
         requires room { HasRoom self.old }
         requires can { CanDo code.now self.old.agents name r }
         requires kind { r.kind ≡ kind.Agent }
-        ensures ok { OnOk result (HasDone code.now self.old self.new) }
+        ensures ok { OnOk result (HasDoneEvent code.now self.old self.new (event_at code.now self.old name r)) }
         ensures err { OnErr result (Stays code.now self.old self.new) }
     {
         law_own_events();

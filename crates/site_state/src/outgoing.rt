@@ -55,6 +55,16 @@ impl Outgoing {
         are_empty(&self.lines)
     }
 
+    /// Whether there is no item for a site.
+    pub fn has_none_for(&self, to: u32) -> bool
+        ensures { IsTrue result ↔ (queue_at self.now.lines to ≡ []) }
+    {
+        match self.lines.get(to as usize) {
+            Some(line) => line.is_empty(),
+            None => true,
+        }
+    }
+
     /// Makes sure of room for one more item, whatever site it is for.
     pub fn reserve(&mut self) -> Result<(), Memory>
         ensures lines { SameLines self.old.lines self.new.lines }

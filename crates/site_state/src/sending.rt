@@ -1,6 +1,6 @@
 ghost use Rattle.std.specs.Prelude.{◌≡◌, length, OnOk, OnErr};
 ghost use Rattle.np_syntax.specs.declared.event.Kind.TheVariants as kind;
-ghost use Rattle.site_state.specs.Doing.{HasDone, HasRoom};
+ghost use Rattle.site_state.specs.Doing.{HasDoneEvent, HasRoom, event_at};
 ghost use Rattle.site_agents.specs.Standings.{CanDo};
 ghost use Rattle.site_state.specs.Standings.{Stays};
 
@@ -27,7 +27,7 @@ impl Site {
         requires room { HasRoom self.old }
         requires can { CanDo code.now self.old.agents name r }
         requires kind { r.kind ≡ kind.Print }
-        ensures ok { OnOk result (HasDone code.now self.old self.new) }
+        ensures ok { OnOk result (HasDoneEvent code.now self.old self.new (event_at code.now self.old name r)) }
         ensures err { OnErr result (Stays code.now self.old self.new) }
     {
         law_own_events();
@@ -51,7 +51,7 @@ impl Site {
         requires room { HasRoom self.old }
         requires can { CanDo code.now self.old.agents name r }
         requires kind { r.kind ≡ kind.Send }
-        ensures ok { OnOk result (HasDone code.now self.old self.new) }
+        ensures ok { OnOk result (HasDoneEvent code.now self.old self.new (event_at code.now self.old name r)) }
         ensures err { OnErr result (Stays code.now self.old self.new) }
     {
         law_leaving();
@@ -78,7 +78,7 @@ impl Site {
         requires room { HasRoom self.old }
         requires can { CanDo code.now self.old.agents name r }
         requires kind { r.kind ≡ kind.Depart }
-        ensures ok { OnOk result (HasDone code.now self.old self.new) }
+        ensures ok { OnOk result (HasDoneEvent code.now self.old self.new (event_at code.now self.old name r)) }
         ensures err { OnErr result (Stays code.now self.old self.new) }
     {
         law_leaving();

@@ -1,8 +1,8 @@
-ghost use Rattle.std.specs.Prelude.{◌≡◌, ◌<◌, ◌≤◌, ◌^◌, ◌↔◌, None, length, IfOk, IfErr, OnOk, OnErr, IsTrue, MatchOption};
+ghost use Rattle.std.specs.Prelude.{◌≡◌, ◌<◌, ◌≤◌, ◌^◌, ◌↔◌, [], None, length, IfOk, IfErr, OnOk, OnErr, IsTrue, MatchOption};
 ghost use Rattle.std.specs.FinMap as map;
 ghost use Rattle.np_syntax.specs.declared.limits.TheConstants.{LARGEST_BUDGET};
 ghost use Rattle.site_agents.specs.Standings.{AreIdle};
-ghost use Rattle.site_state.specs.Lines.{NothingOut, room_at};
+ghost use Rattle.site_state.specs.Lines.{NothingOut, queue_at, room_at};
 ghost use Rattle.site_state.specs.Standings.{IsNew, IsSettled, IsStanding, NoneOut, IsOut, StaysForAll};
 
 use super::outgoing::Outgoing;
@@ -126,6 +126,13 @@ impl Site {
         ensures { IsTrue result ↔ NothingOut self.now.outgoing }
     {
         self.outgoing.is_empty()
+    }
+
+    /// Whether no item waits to be put on the link to a site.
+    pub fn has_none_for(&self, to: u32) -> bool
+        ensures { IsTrue result ↔ (queue_at self.now.outgoing to ≡ []) }
+    {
+        self.outgoing.has_none_for(to)
     }
 
     /// Whether all agents that stand here are idle. It takes no memory.

@@ -1,5 +1,5 @@
 ghost use Rattle.std.specs.Prelude.{◌≡◌, length, IfOk, OnOk, OnErr, IfSome, IfNone, IsTrue, IsFalse};
-ghost use Rattle.site_state.specs.Doing.{HasDone, HasRoom, IsStepped};
+ghost use Rattle.site_state.specs.Doing.{HasDoneEvent, HasRoom, IsStepped, event_at};
 ghost use Rattle.site_state.specs.Parts.{IsLooked};
 ghost use Rattle.site_agents.specs.Standings.{CanDo, NoneCan};
 ghost use Rattle.site_state.specs.Standings.{IsQuiet, Stays};
@@ -54,11 +54,17 @@ impl Site {
     }
 
     /// Does the event of an agent that stands here and can do this.
-    fn do_event(&mut self, alloc: Global, code: &Code, name: Name, r: Ready) -> Result<(), Memory>
+    pub(super) fn do_event(
+        &mut self,
+        alloc: Global,
+        code: &Code,
+        name: Name,
+        r: Ready,
+    ) -> Result<(), Memory>
         requires sites { length code.now.sites ≡ length self.old.outgoing }
         requires room { HasRoom self.old }
         requires can { CanDo code.now self.old.agents name r }
-        ensures ok { OnOk result (HasDone code.now self.old self.new) }
+        ensures ok { OnOk result (HasDoneEvent code.now self.old self.new (event_at code.now self.old name r)) }
         ensures err { OnErr result (Stays code.now self.old self.new) }
     {
         if is_inner(r.kind) {

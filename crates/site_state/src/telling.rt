@@ -8,7 +8,7 @@ ghost use Rattle.np_calculus.specs.Changes.{still};
 ghost use Rattle.agent_pool.specs.Pools.{Unchanged};
 ghost use Rattle.agent_pool.specs.Rows.{IsMet, Reduces};
 ghost use Rattle.site_state.specs.Coming.{KeepsSeats};
-ghost use Rattle.site_state.specs.Doing.{HasDone, HasRoom};
+ghost use Rattle.site_state.specs.Doing.{HasDoneEvent, HasRoom, event_at};
 ghost use Rattle.site_state.specs.Parts.{Asks, HasGone, HasTold};
 ghost use Rattle.site_agents.specs.Standings.{AreNamed, CanDo};
 ghost use Rattle.site_state.specs.Standings.{SameAgents, Stays};
@@ -104,7 +104,7 @@ impl Site {
         requires room { HasRoom self.old }
         requires can { CanDo code.now self.old.agents name r }
         requires kind { r.kind ≡ kind.Local }
-        ensures ok { OnOk result (HasDone code.now self.old self.new) }
+        ensures ok { OnOk result (HasDoneEvent code.now self.old self.new (event_at code.now self.old name r)) }
         ensures err { OnErr result (Stays code.now self.old self.new) }
     {
         let target = self.target(code, name, r);
@@ -147,7 +147,7 @@ impl Site {
         requires kind { r.kind ≡ kind.Local }
         requires asks { Asks code.now self.old.agents name r target }
         requires absent { is_some (map.get self.old.agents target) ≡ false }
-        ensures ok { OnOk result (HasDone code.now self.old self.new) }
+        ensures ok { OnOk result (HasDoneEvent code.now self.old self.new (event_at code.now self.old name r)) }
         ensures err { OnErr result (Stays code.now self.old self.new) }
     {
         law_own_events();
@@ -170,7 +170,7 @@ impl Site {
         requires kind { r.kind ≡ kind.Local }
         requires asks { Asks code.now self.old.agents name r target }
         requires there { is_some (map.get self.old.agents target) ≡ true }
-        ensures ok { OnOk result (HasDone code.now self.old self.new) }
+        ensures ok { OnOk result (HasDoneEvent code.now self.old self.new (event_at code.now self.old name r)) }
         ensures err { OnErr result (Stays code.now self.old self.new) }
     {
         law_own_events();

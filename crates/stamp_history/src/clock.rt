@@ -26,6 +26,27 @@ impl Clock {
         Clock { stamp: 0 }
     }
 
+    /// A clock that stands at a stamp.
+    pub fn at(stamp: u64) -> Clock
+        ensures { result ≡ stamp }
+    {
+        Clock { stamp }
+    }
+
+    /// At which stamp the clock stands.
+    pub fn stamp(&self) -> u64
+        ensures { result ≡ self.now }
+    {
+        self.stamp
+    }
+
+    /// The clock is at no less than this stamp then.
+    pub fn raise(&mut self, stamp: u64)
+        ensures { self.new ≡ max self.old stamp }
+    {
+        self.stamp = self.stamp.max(stamp);
+    }
+
     /// The stamp of an event that the site makes by itself, which the clock is then.
     pub fn tick(&mut self) -> u64
         requires { self.old + 1 < 2 ^ 64 }

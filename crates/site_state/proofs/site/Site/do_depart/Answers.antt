@@ -1,8 +1,10 @@
 use Rattle.std.proofs.Common.{◌<◌, None, length, refl, sym, ap, subst, ◌∙◌, arith}
+use Rattle.np_syntax.specs.declared.event.Kind.TheVariants as kind
+use Rattle.np_syntax.specs.declared.event.Made.TheVariants as made
 use Rattle.stamp_history.specs.Histories.{Recorded, with_event}
 use Rattle.site_state.specs.Standings.{Standing}
 use Rattle.site_state.proofs.Aims.{departs_within}
-use Rattle.site_state.proofs.Done.{same_quiet}
+use Rattle.site_state.proofs.Done.{done_as, same_quiet}
 use Rattle.site_state.proofs.Left.{has_left}
 use Rattle.site_state.proofs.Lines.{put_after}
 use Rattle.site_state.proofs.Noted.{noted_no_names}
@@ -38,7 +40,8 @@ returns-clause-ok c =
     let s = c.self.inside in
     let code = c.args.code.now in
     let gone = c.in_ok-to.ensures.ok in
-    rw (← c.self.view_is) (has_left code _ _ c.args.r c.pack_agent-item.result c.in_ok-to.to
+    done_as code c.args.self.now _ c.args.name c.args.r kind.Depart made.Nothing c.requires.kind refl
+    (rw (← c.self.view_is) (has_left code _ _ c.args.r c.pack_agent-item.result c.in_ok-to.to
     (record {
       site = refl;
       next = refl;
@@ -49,6 +52,7 @@ returns-clause-ok c =
       stamp = c.pack_agent-item.ensures.stamp ∙ sym c.tick-stamp.ensures.clock;
       from = c.pack_agent-item.ensures.from;
       to_is = c.pack_agent-item.ensures.to;
-      within = subst (λ n. c.in_ok-to.to < n) (c.requires.sites ∙ ap (λ (s : Standing). length s.outgoing) (sym c.self.view_is)) (departs_within c.args.code.now gone.before c.in_ok-to.agent c.args.r c.in_ok-to.to gone.goes);
+      within = subst (λ n. c.in_ok-to.to < n) (c.requires.sites ∙ ap (λ (s : Standing). length s.outgoing) (sym c.self.view_is))
+          (departs_within c.args.code.now gone.before c.in_ok-to.agent c.args.r c.in_ok-to.to gone.goes);
     })
-    c.law_leaving.ensures.agent c.args.name c.in_ok-to.agent c.requires.kind c.pack_agent-item.ensures.load gone)
+    c.law_leaving.ensures.agent c.args.name c.in_ok-to.agent c.requires.kind c.pack_agent-item.ensures.load gone))

@@ -1,10 +1,11 @@
 use Rattle.std.proofs.Common.{Some, refl, sym, ap, subst, ◌∙◌, arith}
+use Rattle.np_syntax.specs.declared.event.Kind.TheVariants as kind
 use Rattle.np_syntax.specs.declared.event.Made.TheVariants as made
 use Rattle.np_calculus.specs.Changes.{still}
 use Rattle.stamp_history.specs.Histories.{Recorded, with_event, with_said}
 use Rattle.agent_pool.specs.Rows.{Reduces}
 use Rattle.site_state.specs.Standings.{Standing}
-use Rattle.site_state.proofs.Done.{has_done, same_quiet}
+use Rattle.site_state.proofs.Done.{done_as, has_done, same_quiet}
 use Rattle.site_state.proofs.Lines.{lines_same}
 use Rattle.site_state.proofs.Noted.{noted_no_names}
 use Rattle.site_state.proofs.Rows.{print_not_local, print_not_post}
@@ -40,7 +41,8 @@ returns-clause-ok c =
     let agents = c.print_in.new.agents in
     let mid : Standing = record { site = s.site; agents = agents.agents; quiet = agents.quiet; next = s.next; clock = s.clock; history = s.history.history; outgoing = s.outgoing.lines } in
     let gone = c.in_ok-value.ensures.ok in
-    rw (← c.self.view_is) (has_done c.law_own_events.ensures.on code _ mid _ c.args.name r made.Nothing (Some value)
+    done_as code c.args.self.now _ c.args.name r kind.Print made.Nothing c.requires.kind refl
+    (rw (← c.self.view_is) (has_done c.law_own_events.ensures.on code _ mid _ c.args.name r made.Nothing (Some value)
     (record {
       before = gone.before;
       after = gone.after;
@@ -63,4 +65,4 @@ returns-clause-ok c =
       })) value);
       outgoing = refl;
     })
-    (λ e. print_not_local (sym c.requires.kind ∙ e)) (λ e. print_not_post (sym c.requires.kind ∙ e)) tt)
+    (λ e. print_not_local (sym c.requires.kind ∙ e)) (λ e. print_not_post (sym c.requires.kind ∙ e)) tt))

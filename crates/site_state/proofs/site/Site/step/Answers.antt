@@ -3,4 +3,4 @@ use Rattle.site_state.proofs.site.Site.step.Goals as goal
 
 pub returns-clause-ok : goal.returns-clause-ok
 returns-clause-ok c =
-    (c.is_spent.ensures.room c.if-is_spent.false, done_from c.args.code.now c.args.self.now c.next_ready.new.self c.do_event.new.self c.next_ready.ensures.stays c.in_ok-do_event.ensures.ok)
+    (c.is_spent.ensures.room c.if-is_spent.false, done_from c.args.code.now c.args.self.now c.next_ready.new.self c.do_event.new.self _ c.next_ready.ensures.stays c.in_ok-do_event.ensures.ok)

@@ -1,0 +1,94 @@
+//! Events that are given: what a site does again, and when.
+
+ghost use Rattle.std.specs.Prelude.{◌≡◌, ◌<◌, ◌≤◌, ◌+◌, ◌-◌, ◌^◌, length, max, OnOk, OnErr};
+ghost use Rattle.stamp_history.specs.Histories.{IsAboveLast};
+ghost use Rattle.site_state.specs.Doing.{HasDoneEvent, HasRoom, IsPossible, ready_of};
+ghost use Rattle.site_agents.specs.Standings.{CanDo};
+ghost use Rattle.site_state.specs.Standings.{IsStanding, Stays, with_clock};
+
+use super::site::Site;
+use agent_pool::Ready;
+use np_code::Code;
+use np_syntax::{Event, Memory, Name};
+use stamp_history::Clock;
+use std::alloc::Global;
+
+/// What an event asks of the agent that does it.
+fn ready_of(event: Event) -> Ready
+    ensures { result ≡ ready_of event }
+{
+    Ready {
+        kind: event.kind,
+        actor: event.actor,
+        other: event.other,
+        tag: event.tag,
+    }
+}
+
+impl Site {
+    /// The clock is at no less than this stamp then. It takes no memory.
+    pub fn catch_up(&mut self, stamp: u64)
+        requires { stamp ≤ 2 ^ 40 }
+        ensures { self.new ≡ with_clock self.old (max self.old.clock stamp) }
+    {
+        self.clock.raise(stamp);
+    }
+
+    /// Does this event, as `step` would, and records it with this stamp. It walks over the agents to find one that can do
+    /// it. A post, which no code for sites has, is refused.
+    pub fn force(
+        &mut self,
+        alloc: Global,
+        code: &Code,
+        event: Event,
+        stamp: u64,
+    ) -> Result<(), Memory>
+        requires sites { length code.now.sites ≡ length self.old.outgoing }
+        requires room { HasRoom self.old }
+        requires possible { IsPossible code.now self.old event }
+        requires above { self.old.clock < stamp }
+        requires stamp { stamp ≤ 2 ^ 40 }
+        ensures ok { OnOk result (HasDoneEvent code.now (with_clock self.old (stamp - 1)) self.new event) }
+        ensures clock { OnOk result (self.new.clock ≡ stamp) }
+        ensures err { OnErr result (Stays code.now self.old self.new) }
+    {
+        let name = self.who_can(code, event);
+        let earlier = self.stamp();
+        self.catch_up(stamp - 1);
+        match self.do_event(alloc, code, name, ready_of(event)) {
+            Ok(()) => Ok(()),
+            Err(memory) => {
+                self.set_back(earlier);
+                Err(memory)
+            }
+        }
+    }
+
+    /// An agent that can do the event.
+    fn who_can(&self, code: &Code, event: Event) -> Name
+        requires { IsPossible code.now self.now event }
+        ensures { CanDo code.now self.now.agents result (ready_of event) }
+    {
+        match self.agents.who_can(code, ready_of(event)) {
+            Some(name) => name,
+            None => unreachable!(),
+        }
+    }
+
+    /// At which stamp the clock stands.
+    fn stamp(&self) -> u64
+        ensures stamp { result ≡ self.now.clock }
+        ensures standing { IsStanding self.now }
+    {
+        self.clock.stamp()
+    }
+
+    /// The clock is at an earlier stamp again, at which the last event is still not above it.
+    fn set_back(&mut self, stamp: u64)
+        requires earlier { stamp ≤ self.old.clock }
+        requires last { IsAboveLast self.old.history.events (stamp + 1) }
+        ensures { self.new ≡ with_clock self.old stamp }
+    {
+        self.clock = Clock::at(stamp);
+    }
+}
