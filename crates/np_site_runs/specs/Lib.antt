@@ -1,4 +1,5 @@
 pub mod Accounts
+pub mod Acting
 pub mod Ending
 pub mod SiteRuns
 pub mod Starting

@@ -1,4 +1,5 @@
 ghost use Rattle.np_site_runs.specs.Accounts.{AccountGrows, AccountStarts, CameFollows, LowSitesEnd, SettledAreRuns};
+ghost use Rattle.np_site_runs.specs.Acting.{OnlySitesCan, SiteIsStill};
 ghost use Rattle.np_site_runs.specs.Ending.{HeldRunsEnd, LowRunsEnd, RestsInHoldings, StillByOne};
 ghost use Rattle.np_site_runs.specs.SiteRuns.{HeldRunGrows, HeldRunStarts, HeldRunsAreRuns};
 ghost use Rattle.np_site_runs.specs.Starting.{LowStartIsHeld};
@@ -45,4 +46,11 @@ pub fn law_account()
 pub fn law_sites_end()
     ensures runs { SettledAreRuns }
     ensures low { LowSitesEnd }
+{}
+
+/// Where the merged history leads, a site cannot act if what it holds can do nothing and nothing is left on the links to it.
+/// What is no site cannot act there.
+pub fn law_site_is_still()
+    ensures still { SiteIsStill }
+    ensures sites { OnlySitesCan }
 {}
