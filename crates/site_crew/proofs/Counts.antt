@@ -1,11 +1,11 @@
 -- The events of the first seats, one seat after another.
-use Rattle.std.proofs.Common.{◌≡◌, ◌+◌, ◌*◌, ◌<◌, ◌≤◌, ◌-◌, ◌^◌, ℕ, zero, suc, List, [], ◌∷◌, length, map, get_or, take, refl, sym, ap, ◌∙◌, arith, Some, subst, inl, inr}
+use Rattle.std.proofs.Common.{◌≡◌, ◌+◌, ◌<◌, ℕ, zero, suc, List, [], ◌∷◌, length, get_or, refl, sym, ap, ◌∙◌, arith, Some, subst, inl, inr}
 use Rattle.std.specs.Prelude.{slice_get}
 use Rattle.std.proofs.lemmas.Bool.Decides.{eqb_tells}
 use Rattle.std.proofs.lemmas.Option.{get_or_from_slice_get}
 use Rattle.stamp_history.specs.Histories.{IsHistory}
 use Rattle.site_turn.specs.declared.seat.Seat.{Seat}
-use Rattle.site_crew.specs.Seats.{AreWhole, event_count, histories}
+use Rattle.site_crew.specs.Seats.{event_count, histories}
 
 -- the events of the first seats
 abbrev pub counted : {P : Type 0} → List (Seat P) → ℕ → ℕ

@@ -1,11 +1,10 @@
 -- A crew goes on by rounds.
-use Rattle.std.proofs.Common.{◌≡◌, ◌<◌, ◌≤◌, ◌++◌, ℕ, Bool, true, false, List, [], ◌∷◌, length, take, drop, get_or, Option, None, Some, option_map, refl, sym, ap, subst, subst₂, ◌∙◌, arith, Result, Ok, Err, IfOk}
+use Rattle.std.proofs.Common.{◌≡◌, nat_lt, ◌<◌, ◌≤◌, ◌++◌, ℕ, Bool, true, false, List, length, take, drop, get_or, Option, None, Some, option_map, refl, sym, ap, subst, subst₂, ◌∙◌, arith, Result, Ok, Err, IfOk, IfSome}
 use Rattle.std.specs.Prelude.{slice_get}
 use Rattle.std.proofs.lemmas.Grind.{common_steps}
-use Rattle.std.proofs.lemmas.Option.{get_or_from_slice_get, slice_get-get_or, slice_get-map}
-use Rattle.np_syntax.specs.declared.limits.TheConstants.{LARGEST_BUDGET}
+use Rattle.std.proofs.lemmas.Bool.Decides.{nat_tests}
+use Rattle.std.proofs.lemmas.Option.{get_or_from_slice_get, slice_get-map}
 use Rattle.np_calculus.specs.Config.{Config}
-use Rattle.np_calculus.specs.Idle.{Idle}
 use Rattle.np_syntax.specs.declared.memory.Memory.{Memory}
 use Rattle.stamp_history.specs.Histories.{Recorded}
 use Rattle.site_links.specs.Words.{IsFullMake, IsUnused}
@@ -16,16 +15,15 @@ use Rattle.site_state.specs.Standings.{Standing}
 use Rattle.site_turn.specs.declared.seat.Seat.{Seat}
 use Rattle.site_turn.specs.Turns.{HistoryGrows}
 use Rattle.site_turn.proofs.Holdings.{history_same}
-use Rattle.site_crew.specs.Crews.{Answers, CrewState, IsCrew, IsRoundOf, NoneFailed, Tells}
+use Rattle.site_crew.specs.Crews.{CrewState, IsCrew, IsJudged, IsRoundOf, NoneFailed, Tells}
 use Rattle.site_crew.specs.declared.round.Round.{Round}
 use Rattle.site_crew.specs.declared.round.Round.TheVariants as round
-use Rattle.site_crew.specs.Quiet.{AllQuiet}
 use Rattle.site_crew.specs.Links.{AllStill}
-use Rattle.site_crew.specs.Runs.{IsCrewRun, IsProgram}
+use Rattle.site_crew.specs.Runs.{IsCrewRun, IsProgram, OnlySpentCan}
 use Rattle.site_crew.specs.Seats.{AllGrow, AllTurned, AreFirst, Stand, event_count, histories}
 use Rattle.site_crew.proofs.Goings.{turned_at}
 use Rattle.site_crew.proofs.Standing.{stand_first}
-use Rattle.site_crew.proofs.Stillness.{crew_end}
+use Rattle.site_crew.proofs.Spending.{IsEndOf, crew_end}
 use Rattle.site_crew.proofs.Whole.{crew_run, long-histories, not-past}
 
 pub slice_whole : {T : Type 0} (items new : List T) (n : ℕ) → n ≡ length items → length new ≡ length items → take n (new ++ drop (length new) items) ≡ new
@@ -74,24 +72,37 @@ module _ {P R : Type 0} {g : Port.Ghosts P R Item} {code : ProgramTable} where
 pub none_failed : {P : Type 0} {code : ProgramTable} {most : ℕ} {ports : List P} {xs : List (Seat P)} → AreFirst code most ports xs → NoneFailed xs
 none_failed first = record { each = λ i s at. (first.each i s at).2.failed }
 
-if_ok : {A E : Type 0} (P Q : A → Type 0) (r : Result A E) → ((x : A) → P x → Q x) → IfOk r P → IfOk r Q
-if_ok P Q (Ok x) f h = f x h
-if_ok P Q (Err e) f h = tt
+-- what holds of a round that is told
+pub told_ok : (o : Option Round) (r : Result Round Memory) (P Q : Round → Type 0) → IfSome o P → IfOk r (λ x. o ≡ Some x) → ((x : Round) → P x → Q x) → IfOk r Q
+told_ok o (Ok x) P Q p e f = f x (subst (λ (o : Option Round). IfSome o P) e p)
+told_ok o (Err m) P Q p e f = tt
 
-tells_of : (before after : ℕ) (quiet : Bool) (end : Config) (r : Round) → (quiet ≡ true → Idle end) → (quiet ≡ false → Idle end → ⊥) → Answers before after quiet r → Tells before after end r
-tells_of before after quiet end round.Went yes' no' h = h
-tells_of before after quiet end round.Rest yes' no' h = (h.0, yes' h.1)
-tells_of before after quiet end round.Spent yes' no' h = (h.0, no' h.1)
+less-tells : (m n : ℕ) → nat_lt m n ≡ true → m < n
+less-tells m n e = grind (arith, nat_tests)
+
+not-less-tells : (m n : ℕ) → nat_lt m n ≡ false → n ≤ m
+not-less-tells m n e = grind (arith, nat_tests)
+
+module _ {P : Type 0} (code : ProgramTable) (most : ℕ) (xs : List (Seat P)) (end : Config) (is : IsEndOf code most xs end) (before after : ℕ) where
+  tells_of : (r : Round) → IsJudged code most (nat_lt before after) xs r → Tells before after end r
+  tells_of round.Went h = less-tells before after h
+  tells_of round.Rest h = (not-less-tells before after h.0, is.rests h.1)
+  tells_of round.Spent h = (not-less-tells before after h.0, λ idle. h.1 (is.quiet idle))
+
+  spent_of : (r : Round) → IsJudged code most (nat_lt before after) xs r → r ≡ round.Spent → OnlySpentCan most (histories xs) end
+  spent_of round.Went h e = absurd (let f = e in cc)
+  spent_of round.Rest h e = absurd (let f = e in cc)
+  spent_of round.Spent h e = is.spent h.2
 
 module _ {P R : Type 0} (g : Port.Ghosts P R Item) where
-  -- what is told of a round is so
-  pub round_told : (code : ProgramTable) (most : ℕ) (old new : CrewState) (xs : List (Seat P)) → Stand g code most xs → IsProgram code → (quiet : Bool)
-      → (quiet ≡ true → AllQuiet code xs) → (quiet ≡ false → AllQuiet code xs → ⊥) → new.code ≡ code → new.budget ≡ most → new.histories ≡ histories xs
-      → (before after : ℕ) → before ≡ event_count old.histories → after ≡ event_count new.histories → (r : Result Round Memory) → IfOk r (Answers before after quiet) → IfOk r (IsRoundOf old new)
-  round_told code most old new xs stand is quiet all some' c b h before after was now r =
-      let e = crew_end g code most xs stand is in
-      if_ok (Answers before after quiet) (IsRoundOf old new) r (λ x told. record {
+  -- what a round was judged to be is so
+  pub round_told : (code : ProgramTable) (most : ℕ) (old new : CrewState) (xs : List (Seat P)) → Stand g code most xs → IsProgram code → new.code ≡ code → new.budget ≡ most
+      → new.histories ≡ histories xs → (before after : ℕ) → before ≡ event_count old.histories → after ≡ event_count new.histories
+      → (r : Round) → IsJudged code most (nat_lt before after) xs r → IsRoundOf old new r
+  round_told code most old new xs stand is c b h before after was now r judged =
+      let e = crew_end g code most xs stand is in record {
         end = e.0;
-        run = rw (c, b, h) e.1;
-        tells = subst₂ (λ (m n : ℕ). Tells m n e.0 x) was now (tells_of before after quiet e.0 x (λ q. e.2 (all q)) (λ q idle. some' q (e.3 idle)) told);
-      })
+        run = rw (c, b, h) e.1.run;
+        tells = subst₂ (λ (m n : ℕ). Tells m n e.0 r) was now (tells_of code most xs e.0 e.1 before after r judged);
+        spent = λ is_spent. rw (b, h) (spent_of code most xs e.0 e.1 before after r judged is_spent);
+      }

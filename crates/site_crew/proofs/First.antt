@@ -1,7 +1,6 @@
 -- How a crew begins.
-use Rattle.std.proofs.Common.{◌≡◌, ◌≢◌, ◌+◌, ◌<◌, ◌≤◌, ◌==◌, ℕ, Bool, true, false, cond, nat_eq, List, [], ◌∷◌, ◌++◌, length, Option, None, Some, option_map, refl, sym, ap, ap₂, subst, ◌∙◌, arith, append_assoc, length-append, inl, inr, append-nil}
+use Rattle.std.proofs.Common.{◌≡◌, ◌+◌, ◌<◌, ◌≤◌, ◌==◌, ℕ, Bool, true, false, cond, nat_eq, List, [], ◌∷◌, ◌++◌, length, Option, None, Some, option_map, refl, sym, ap, ap₂, subst, ◌∙◌, arith, append_assoc, length-append, inl, inr, append-nil}
 use Rattle.std.specs.FinMap as table
-use Rattle.std.specs.Prelude.{slice_get}
 use Rattle.std.proofs.lemmas.List.{length_push}
 use Rattle.np_syntax.specs.declared.value.Name.{Name}
 use Rattle.np_syntax.specs.declared.process.Proc.{Proc}
@@ -10,17 +9,16 @@ use Rattle.np_tables.specs.Mapped.{mapped}
 use Rattle.np_tables.proofs.Mapped.{get-mapped, mapped-empty, mapped-put}
 use Rattle.np_tables.proofs.Tables.{get-none, get-put, same_name-is}
 use Rattle.np_eval.specs.Eval.{Env}
-use Rattle.np_calculus.specs.declared.config.Atom.{Atom}
 use Rattle.np_calculus.specs.Starts.{daemon_agent, daemon_mark, main_agent, main_mark}
 use Rattle.np_merged_run.proofs.Steps.{false_eq}
 use Rattle.site_links.proofs.Rows.{get-push_old, get-push_at, get-push_cases}
-use Rattle.np_site_runs.specs.Starting.{alone, start_holding, with_if}
-use Rattle.np_code.specs.Programs.{ProgramTable, program}
+use Rattle.np_site_runs.specs.Starting.{alone, with_if}
+use Rattle.np_code.specs.Programs.{ProgramTable}
 use Rattle.np_code.specs.Trees.{nth}
 use Rattle.agent_index.specs.declared.wait.Wait.TheVariants as wait
 use Rattle.agent_pool.specs.declared.held.Held.TheVariants as held
 use Rattle.agent_pool.specs.Pools.{Pool, atoms_of, seen_as}
-use Rattle.site_state.specs.Standings.{IsNew, IsSettled, Standing, holding_of}
+use Rattle.site_state.specs.Standings.{IsNew, IsSettled, Standing}
 use Rattle.site_turn.specs.declared.seat.Seat.{Seat}
 use Rattle.site_crew.specs.Seats.{AreFirst, IsFirst, IsFirstSite}
 use Rattle.site_crew.specs.Starts.{HasFirst}

@@ -1,5 +1,5 @@
 -- A round: turns, and the links settled.
-use Rattle.std.proofs.Common.{◌≡◌, ◌≢◌, ℕ, ◌+◌, ◌<◌, ◌≤◌, inl, inr, List, [], ◌∷◌, ◌++◌, length, set, get_or, refl, sym, ◌∙◌, ap, subst, arith, Option, Some, None, length-set}
+use Rattle.std.proofs.Common.{◌≡◌, ◌≢◌, ℕ, ◌+◌, ◌<◌, ◌≤◌, inl, inr, List, length, set, get_or, refl, sym, ◌∙◌, ap, subst, arith, Some, length-set}
 use Rattle.std.specs.Prelude.{slice_get, All}
 use Rattle.std.proofs.lemmas.List.{get_or-set_same, get_or-set_other}
 use Rattle.std.proofs.lemmas.Bool.Decides.{eqb_tells}
@@ -10,12 +10,11 @@ use Rattle.site_links.proofs.Kept.{joined_still}
 use Rattle.np_code.specs.Programs.{ProgramTable, program}
 use Rattle.np_site_runs.specs.Starting.{start_holding}
 use Rattle.agent_move.specs.declared.item.Item.{Item}
-use Rattle.site_state.specs.Lines.{queue_at}
 use Rattle.site_state.specs.Standings.{Standing, holding_of}
 use Rattle.site_turn.specs.declared.seat.Seat.{Seat}
-use Rattle.site_turn.specs.Turns.{AsideIsStrange, Kept, Placed, Seated, Turned}
+use Rattle.site_turn.specs.Turns.{Seated, Turned}
 use Rattle.site_turn.proofs.Steps as steps
-use Rattle.site_crew.specs.Links.{AllStill, AreLinked, Still}
+use Rattle.site_crew.specs.Links.{Still}
 use Rattle.site_crew.specs.Seats.{AllTurned, AreSeats, IsSeat}
 
 pub all_of : {T : Type 0} (Q : T → Type 0) (xs : List T) → ((i : ℕ) (c : T) → slice_get xs i ≡ Some c → Q c) → All Q xs

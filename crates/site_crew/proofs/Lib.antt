@@ -1,9 +1,11 @@
 pub mod Counts
 pub mod Crewing
+pub mod Directed
 pub mod First
 pub mod Goings
 pub mod Pairs
 pub mod Running
+pub mod Spending
 pub mod Standing
 pub mod Stillness
 pub mod Whole

@@ -1,5 +1,5 @@
 -- The links are settled one after another.
-use Rattle.std.proofs.Common.{◌≡◌, ◌≢◌, ℕ, ◌+◌, ◌-◌, ◌<◌, ◌≤◌, ◌⊎◌, inl, inr, Bool, true, false, List, [], ◌∷◌, ◌++◌, length, set, get_or, refl, sym, ◌∙◌, ap, subst, arith, Option, Some, None, length-set, length-append}
+use Rattle.std.proofs.Common.{◌≡◌, ◌≢◌, ℕ, ◌+◌, ◌-◌, ◌<◌, ◌≤◌, ◌⊎◌, inl, inr, Bool, true, false, List, [], ◌∷◌, ◌++◌, length, set, get_or, refl, sym, ◌∙◌, ap, subst, arith, Option, Some, length-set, length-append}
 use Rattle.std.specs.Prelude.{slice_get}
 use Rattle.std.proofs.lemmas.Option.{slice_get_within, slice_get-get_or}
 use Rattle.std.proofs.lemmas.List.{set-append_left, set-append_right, get_or_append_left, get_or-append-add}
@@ -10,7 +10,7 @@ use Rattle.site_links.specs.declared.port.Port as Port
 use Rattle.site_links.proofs.Rows.{get-set_same, get-set_other}
 use Rattle.agent_move.specs.declared.item.Item.{Item}
 use Rattle.site_turn.specs.declared.seat.Seat.{Seat}
-use Rattle.site_crew.specs.Links.{AllStill, AreLinked, AreSettled, AreSettledBelow, Before, IsPairSettled, IsSettled, IsSettledTo, IsTold, IsToldBelow, NoneWaits, StayLinked, Still, Was}
+use Rattle.site_crew.specs.Links.{AllStill, AreLinked, AreSettledBelow, IsPairSettled, IsSettled, IsSettledTo, IsTold, IsToldBelow, Still, Was}
 
 -- ---- lists
 

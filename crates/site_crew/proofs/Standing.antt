@@ -1,5 +1,5 @@
 -- A crew stands at the low start, and after each round.
-use Rattle.std.proofs.Common.{◌≡◌, ◌<◌, ℕ, List, [], ◌∷◌, ◌++◌, length, get_or, Option, None, Some, IfSome, refl, sym, ap, subst, subst₂, ◌∙◌, arith}
+use Rattle.std.proofs.Common.{◌≡◌, ◌<◌, ℕ, List, [], ◌++◌, length, Option, Some, IfSome, refl, sym, ap, subst, subst₂, ◌∙◌, arith}
 use Rattle.std.specs.Prelude.{slice_get}
 use Rattle.stamp_history.specs.Histories.{IsHistory, without_events}
 use Rattle.site_links.specs.Words.{IsFullMake, IsUnused}
@@ -11,11 +11,10 @@ use Rattle.np_site_runs.proofs.Accounts.{account_starts}
 use Rattle.np_code.specs.Programs.{ProgramTable, program}
 use Rattle.agent_move.specs.declared.item.Item.{Item}
 use Rattle.site_state.specs.Lines.{queue_at}
-use Rattle.site_state.specs.Standings.{holding_of}
 use Rattle.site_turn.specs.declared.seat.Seat.{Seat}
-use Rattle.site_turn.specs.Turns.{IsStrange, Kept, Placed, came_from, shown}
-use Rattle.site_crew.specs.Links.{AllStill, AreLinked, AreSettled}
-use Rattle.site_crew.specs.Seats.{AllTurned, AreFirst, AreSeats, AreWhole, IsFirst, IsSeat, Stand}
+use Rattle.site_turn.specs.Turns.{IsStrange, Kept, came_from, shown}
+use Rattle.site_crew.specs.Links.{AllStill, AreSettled}
+use Rattle.site_crew.specs.Seats.{AllTurned, AreFirst, AreSeats, AreWhole, IsFirst, Stand}
 use Rattle.site_crew.proofs.Pairs.{linked_after}
 use Rattle.site_crew.proofs.Goings.{seat_still, seats_turned}
 

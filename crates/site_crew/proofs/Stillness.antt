@@ -1,10 +1,8 @@
 -- When the whole rests, by what the seats tell.
-use Rattle.std.proofs.Common.{◌≡◌, ◌<◌, ◌≤◌, ◌↔◌, ◌==◌, ⊎_elim, ℕ, zero, suc, true, cond, List, [], ◌∷◌, ◌++◌, length, map, Option, None, Some, IfSome, refl, sym, ap, subst, ◌∙◌, arith}
+use Rattle.std.proofs.Common.{◌≡◌, ◌<◌, ◌≤◌, ◌==◌, ⊎_elim, ℕ, zero, suc, cond, List, [], ◌∷◌, ◌++◌, length, map, Option, None, Some, IfSome, refl, sym, ap, subst, ◌∙◌, arith}
 use Rattle.std.specs.Prelude.{slice_get}
-use Rattle.std.specs.FinMap as table
 use Rattle.std.proofs.lemmas.Bool.{eq-eqb}
 use Rattle.std.proofs.lemmas.Option.{slice_get_within}
-use Rattle.np_calculus.specs.Config.{Config}
 use Rattle.np_calculus.specs.Idle.{Idle}
 use Rattle.np_calculus.specs.Starts.{start_low}
 use Rattle.site_links.specs.declared.port.Port as Port
@@ -17,16 +15,15 @@ use Rattle.agent_deeds.proofs.Resting.{idle_at}
 use Rattle.agent_move.specs.declared.item.Item.{Item}
 use Rattle.agent_move.specs.Items.{item_of}
 use Rattle.site_agents.specs.Standings.{AreIdle}
-use Rattle.site_state.specs.Lines.{NothingOut, Waiting, nothing, queue_at}
+use Rattle.site_state.specs.Lines.{Waiting, queue_at}
 use Rattle.site_state.specs.Standings.{holding_of}
 use Rattle.site_turn.specs.declared.seat.Seat.{Seat}
 use Rattle.site_turn.specs.Turns.{came_from, shown}
-use Rattle.site_crew.specs.Links.{AreSettled, NoneWaits}
 use Rattle.site_crew.specs.Quiet.{AllQuiet, IsQuietSeat}
-use Rattle.site_crew.specs.Runs.{IsCrewRun, IsProgram}
-use Rattle.site_crew.specs.Seats.{AreSeats, IsSeat, Stand, histories}
+use Rattle.site_crew.specs.Runs.{IsProgram}
+use Rattle.site_crew.specs.Seats.{Stand, histories}
 use Rattle.site_crew.proofs.Pairs.{some_is}
-use Rattle.site_crew.proofs.Whole.{SeatOf, accounts, are_histories, aside_of, end_of, here, known_of, queue_of, rest_of, sites_end, some}
+use Rattle.site_crew.proofs.Whole.{SeatOf, accounts, aside_of, end_of, here, known_of, queue_of, rest_of, some}
 
 none-left : {T : Type 0} (xs ys : List T) → xs ++ ys ≡ [] → xs ≡ []
 none-left [] ys e = refl
@@ -78,7 +75,7 @@ module _ {P R : Type 0} (g : Port.Ghosts P R Item) (code : ProgramTable) (limit 
       subst (λ (v : Seat P). v.aside ≡ None) same (none-came code (length code.sites) hp.kept.from t.aside hp.kept.within none)
 
   -- what each seat tells, the other way
-  none-rest : (i j : ℕ) (o p : Option (Seat P)) (hp : SeatOf g code limit j p) → ((s : Seat P) → o ≡ Some s → queue_at s.site.outgoing j ≡ [])
+  pub none-rest : (i j : ℕ) (o p : Option (Seat P)) (hp : SeatOf g code limit j p) → ((s : Seat P) → o ≡ Some s → queue_at s.site.outgoing j ≡ [])
       → ((s : Seat P) → p ≡ Some s → (s.aside ≡ None) × (g.known s.port i ≡ [])) → rest_of g code limit i j o p hp ≡ []
   none-rest i j None None hp queue quiet = refl
   none-rest i j (Some a) None hp queue quiet = ap (shown code) (queue a refl)
@@ -89,19 +86,19 @@ module _ {P R : Type 0} (g : Port.Ghosts P R Item) (code : ProgramTable) (limit 
       ap (λ v. came_on i (came_from code hp.kept.from v) ++ (shown code (g.known b.port i) ++ shown code (queue_at a.site.outgoing j))) q.0
       ∙ ap (λ xs. shown code xs ++ shown code (queue_at a.site.outgoing j)) q.1 ∙ ap (shown code) (queue a refl)
 
-  still-end : (k : ℕ) (o : Option (Seat P)) → (o ≡ None → ⊥) → ((s : Seat P) → o ≡ Some s → AreIdle code.processes s.site.agents) → IsStill (end_of g code limit k o)
+  pub still-end : (k : ℕ) (o : Option (Seat P)) → (o ≡ None → ⊥) → ((s : Seat P) → o ≡ Some s → AreIdle code.processes s.site.agents) → IsStill (end_of g code limit k o)
   still-end k None some idle = absurd (some refl)
   still-end k (Some s) some idle = λ c part.
       (idle_at code s.site.site s.site.agents s.site.next s.site.history.said c part).1 (λ q p at. (idle s refl).each q p at)
 
   module _ (xs : List (Seat P)) (stand : Stand g code limit xs) (is : IsProgram code) where
-    abbrev Whole : Type 0
+    abbrev pub Whole : Type 0
     Whole = SitesEnd (length code.sites) (accounts g code limit xs stand.seats) (histories xs) (start_low (program code))
 
     place : (i : ℕ) (s : Seat P) → slice_get xs i ≡ Some s → i < length code.sites
     place i s at = subst (λ (m : ℕ). i < m) stand.seats.count (slice_get_within xs i s at)
 
-    quiet_of : (e : Whole) → Idle e.whole → (i : ℕ) (s : Seat P) → slice_get xs i ≡ Some s → IsQuietSeat code s
+    pub quiet_of : (e : Whole) → Idle e.whole → (i : ℕ) (s : Seat P) → slice_get xs i ≡ Some s → IsQuietSeat code s
     unfolding accounts
     quiet_of e idle i s at =
         let low : i < length code.sites = place i s at in
@@ -126,7 +123,7 @@ module _ {P R : Type 0} (g : Port.Ghosts P R Item) (code : ProgramTable) (limit 
           };
         }
 
-    rests_of : (e : Whole) → AllQuiet code xs → Idle e.whole
+    pub rests_of : (e : Whole) → AllQuiet code xs → Idle e.whole
     unfolding accounts
     rests_of e quiet = e.rests.1 (
       λ s lt. still-end s (slice_get xs s) (some g code limit xs stand.seats s lt) (λ v at. (quiet.each s v at).idle),
@@ -135,14 +132,3 @@ module _ {P R : Type 0} (g : Port.Ghosts P R Item) (code : ProgramTable) (limit 
           let told = (stand.settled.each t (subst (λ (m : ℕ). t < m) (sym stand.seats.count) lt)).told v at in
           (q.aside, told.none q.waits s (subst (λ (m : ℕ). s < m) (sym stand.seats.count) ls))),
     )
-
-  -- the end of the run rests just where all seats are quiet
-  pub crew_end : (xs : List (Seat P)) → Stand g code limit xs → IsProgram code
-      → (end : Config) × IsCrewRun (program code) limit (histories xs) end × (AllQuiet code xs → Idle end) × (Idle end → AllQuiet code xs)
-  crew_end xs stand is =
-      let e = sites_end g code limit xs stand.seats stand.settled stand.whole is.at in (
-        e.whole,
-        record { sites = are_histories g code limit xs stand.seats stand.whole; reaches = e.runs; said = e.said },
-        rests_of xs stand is e,
-        λ idle. record { each = quiet_of xs stand is e idle },
-      )

@@ -129,7 +129,7 @@ module _ {P R : Type 0} (g : Port.Ghosts P R Item) (code : ProgramTable) (limit 
       rest = λ s t. rest_of s t (slice_get xs s) (slice_get xs t) (here t);
     }
 
-    are_settled : AreSettled g xs → told.AreSettled (length code.sites) (start_holding (program code)) accounts
+    pub are_settled : AreSettled g xs → told.AreSettled (length code.sites) (start_holding (program code)) accounts
     unfolding accounts
     are_settled settled = record {
       at = λ s. refl;

@@ -13,7 +13,8 @@ use Rattle.agent_move.specs.declared.item.Item.{Item}
 use Rattle.site_turn.specs.declared.seat.Seat.{Seat}
 use Rattle.site_crew.specs.declared.round.Round.{Round}
 use Rattle.site_crew.specs.declared.round.Round.TheVariants as round
-use Rattle.site_crew.specs.Runs.{IsCrewRun, IsProgram}
+use Rattle.site_crew.specs.Quiet.{AllQuiet, AreOver}
+use Rattle.site_crew.specs.Runs.{IsCrewRun, IsProgram, OnlySpentCan}
 use Rattle.site_crew.specs.Seats.{AllGrow, Stand, event_count}
 
 -- the code that it runs, its budget, whether memory ran out, and the histories of its sites in the order of their numbers
@@ -60,15 +61,17 @@ pub record IsRoundOf (old new : CrewState) (r : Round) : Type 0 where
   pub end : Config
   pub run : IsCrewRun (program new.code) new.budget new.histories end
   pub tells : Tells (event_count old.histories) (event_count new.histories) end r
+  pub spent : r ≡ round.Spent → OnlySpentCan new.budget new.histories end
 
--- the same by an answer whether all seats are quiet
-abbrev pub Answers : ℕ → ℕ → Bool → Round → Type 0
-Answers before after quiet round.Went = before < after
-Answers before after quiet round.Rest = (after ≤ before) × (quiet ≡ true)
-Answers before after quiet round.Spent = (after ≤ before) × (quiet ≡ false)
+-- the same by what the seats tell after it
+abbrev pub IsJudged : {P : Type 0} → ProgramTable → ℕ → Bool → List (Seat P) → Round → Type 0
+IsJudged code budget went xs round.Went = went ≡ true
+IsJudged code budget went xs round.Rest = (went ≡ false) × AllQuiet code xs
+IsJudged code budget went xs round.Spent = (went ≡ false) × (AllQuiet code xs → ⊥) × AreOver code budget xs
 
--- where the run of a crew has ended, and whether the whole rests there
+-- where the run of a crew has ended, whether the whole rests there, and which sites can still act if it does not
 pub record HasEnded (c : CrewState) (e : End) : Type 0 where
   pub last : Config
   pub run : IsCrewRun (program c.code) c.budget c.histories last
   pub rests : (e ≡ ends.Rest) ↔ Idle last
+  pub spent : e ≡ ends.Spent → OnlySpentCan c.budget c.histories last

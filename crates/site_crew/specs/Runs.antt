@@ -1,8 +1,9 @@
 -- What the histories of a crew are (docs/LANGUAGE.md, "History text").
-use Rattle.std.specs.Prelude.{◌≡◌, ◌<◌, ◌≤◌, ℕ, List, length, Some, slice_index_or}
+use Rattle.std.specs.Prelude.{◌≡◌, ◌<◌, ◌≤◌, ℕ, List, length, Some, slice_get, slice_index_or}
 use Rattle.np_syntax.specs.declared.limits.TheConstants.{MOST_SITES}
 use Rattle.np_syntax.specs.declared.program.LowProgram.{LowProgram}
 use Rattle.np_calculus.specs.Config.{Config}
+use Rattle.np_calculus.specs.Idle.{Can}
 use Rattle.np_calculus.specs.Reductions.{run}
 use Rattle.np_calculus.specs.Starts.{start_low}
 use Rattle.stamp_history.specs.Histories.{IsHistory, Recorded}
@@ -32,3 +33,13 @@ pub record IsCrewRun (low : LowProgram) (most : ℕ) (hs : List Recorded) (end :
   pub sites : AreHistoriesOf (length low.sites) most hs
   pub reaches : run (start_low low) (items (merged hs)) ≡ Some end
   pub said : end.said ≡ said hs
+
+-- the site has its history, with as many events as the budget
+pub record IsSpent (most : ℕ) (hs : List Recorded) (site : ℕ) : Type 0 where
+  pub history : Recorded
+  pub its : slice_get hs site ≡ Some history
+  pub spent : length history.events ≡ most
+
+-- each site that can still act has made as many events as the budget
+abbrev pub OnlySpentCan : ℕ → List Recorded → Config → Type 0
+OnlySpentCan most hs end = (site : ℕ) → Can end site → IsSpent most hs site

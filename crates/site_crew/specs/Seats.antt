@@ -1,16 +1,15 @@
 -- The seats of a crew between rounds.
-use Rattle.std.specs.Prelude.{◌≡◌, ◌<◌, ◌≤◌, ◌+◌, ℕ, Bool, false, List, [], ◌∷◌, length, map, get_or, Option, None, Some, slice_get}
+use Rattle.std.specs.Prelude.{◌≡◌, ◌<◌, ◌+◌, ℕ, false, List, [], ◌∷◌, length, map, get_or, None, Some, slice_get}
 use Rattle.stamp_history.specs.Histories.{IsHistory, Recorded, without_events}
 use Rattle.site_links.specs.declared.port.Port as Port
-use Rattle.np_holdings.specs.Holdings.{Holding}
 use Rattle.np_site_runs.specs.Starting.{start_holding}
 use Rattle.np_code.specs.Programs.{ProgramTable, program}
 use Rattle.agent_move.specs.declared.item.Item.{Item}
 use Rattle.site_state.specs.Lines.{AreEmpty}
-use Rattle.site_state.specs.Standings.{IsStanding, Standing, holding_of}
+use Rattle.site_state.specs.Standings.{Standing, holding_of}
 use Rattle.site_turn.specs.declared.seat.Seat.{Seat}
-use Rattle.site_turn.specs.Turns.{AsideIsStrange, HistoryGrows, Kept, Placed, Seated, Turned}
-use Rattle.site_crew.specs.Links.{AllStill, AreLinked, AreSettled}
+use Rattle.site_turn.specs.Turns.{AsideIsStrange, HistoryGrows, Kept, Placed, Turned}
+use Rattle.site_crew.specs.Links.{AreLinked, AreSettled}
 
 -- the histories of the seats
 abbrev pub histories : {P : Type 0} → List (Seat P) → List Recorded

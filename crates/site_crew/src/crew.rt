@@ -1,18 +1,18 @@
-ghost use Rattle.std.specs.Prelude.{◌≡◌, ◌≤◌, true, false, length, map, IfOk, OnOk, OnErr};
-ghost use Rattle.np_syntax.specs.declared.limits.TheConstants.{LARGEST_BUDGET};
+ghost use Rattle.std.specs.Prelude.{◌≡◌, ◌≤◌, true, false, length, map, None, Some, IfOk, IfSome, OnOk, OnErr};
+ghost use Rattle.np_syntax.specs.declared.limits.TheConstants.{LARGEST_BUDGET, MOST_SITES};
 ghost use Rattle.np_code.specs.Programs.{program};
-ghost use Rattle.site_crew.specs.Crews.{Answers, GoesOn, HasEnded, HasRun, IsRoundOf, NoneFailed};
+ghost use Rattle.site_crew.specs.Crews.{GoesOn, HasEnded, HasRun, IsJudged, IsRoundOf, NoneFailed};
 ghost use Rattle.site_crew.specs.Runs.{IsProgram};
 ghost use Rattle.site_crew.specs.Seats.{histories};
 
 use crate::counting::events_of;
-use crate::quiet::all_quiet;
+use crate::quiet::{all_quiet, are_over};
 use crate::round::Round;
 use crate::rounds::{serial_round, threads_round};
 use crate::starting::seats_for;
 use agent_move::Item;
 use np_code::Code;
-use np_syntax::{End, LowProgram, Memory};
+use np_syntax::{End, List, LowProgram, Memory};
 use site_links::Port;
 use site_turn::{Gate, Seat};
 use stamp_history::History;
@@ -86,9 +86,14 @@ impl<R, P: Port<R, Item>> Crew<R, P> {
             self.budget,
             self.seats.as_mut_slice(),
         );
-        self.failed = any_failed(self.seats.as_slice());
-        let quiet = all_quiet(&self.code, self.seats.as_slice());
-        told(self.failed, before, after, quiet)
+        let round = judged(
+            &self.code,
+            self.budget,
+            before < after,
+            self.seats.as_slice(),
+        );
+        self.failed = round.is_none() || any_failed(self.seats.as_slice());
+        told(self.failed, round)
     }
 
     /// Goes on by such rounds until one adds no event.
@@ -109,8 +114,8 @@ impl<R, P: Port<R, Item>> Crew<R, P> {
     }
 
     /// The histories of the sites, in the order of their numbers.
-    pub fn into_histories(self) -> Result<Vec<History>, Memory>
-        ensures { IfOk result (λ out. map (λ h. h.history) out.items ≡ self.histories) }
+    pub fn into_histories(self) -> Result<List<History>, Memory>
+        ensures { IfOk result (λ out. map (λ h. h.history) out ≡ self.histories) }
     {
         histories_of(self.alloc, self.seats)
     }
@@ -146,9 +151,14 @@ impl<R: Threads + Sync, P: Port<R, Item>> Crew<R, P> {
             self.budget,
             self.seats.as_mut_slice(),
         );
-        self.failed = any_failed(self.seats.as_slice());
-        let quiet = all_quiet(&self.code, self.seats.as_slice());
-        told(self.failed, before, after, quiet)
+        let round = judged(
+            &self.code,
+            self.budget,
+            before < after,
+            self.seats.as_slice(),
+        );
+        self.failed = round.is_none() || any_failed(self.seats.as_slice());
+        told(self.failed, round)
     }
 
     /// Goes on by such rounds until one adds no event.
@@ -185,15 +195,15 @@ impl<R: Threads + Sync, P: Port<R, Item>> Crew<R, P> {
 }
 
 /// The histories of seats.
-fn histories_of<P>(alloc: Global, seats: Vec<Seat<P>>) -> Result<Vec<History>, Memory>
+fn histories_of<P>(alloc: Global, seats: Vec<Seat<P>>) -> Result<List<History>, Memory>
 where
     P: Drop,
-    ensures { IfOk result (λ out. map (λ h. h.history) out.items ≡ histories seats.items) }
+    ensures { IfOk result (λ out. map (λ h. h.history) out ≡ histories seats.items) }
 {
-    let mut out = Vec::new(alloc);
+    let mut out = List::new(alloc);
     for seat in seats {
         let history = history_of(seat);
-        out.push(history)?;
+        out.add(history)?;
     }
     Ok(out)
 }
@@ -220,19 +230,32 @@ fn any_failed<P>(seats: &[Seat<P>]) -> bool
     false
 }
 
+/// What a round came to. None where it added no event, and a site that may make more has still something to do: no site lets
+/// that be, since what waits for it is taken in its next turn, but this is no more than checked here.
+fn judged<P>(code: &Code, budget: u32, went: bool, seats: &[Seat<P>]) -> Option<Round>
+    requires { length seats.now ≤ MOST_SITES }
+    ensures { IfSome result (IsJudged code.now budget went seats.now) }
+{
+    if went {
+        Some(Round::Went)
+    } else if all_quiet(code, seats) {
+        Some(Round::Rest)
+    } else if are_over(code, budget, seats) {
+        Some(Round::Spent)
+    } else {
+        None
+    }
+}
+
 /// What a round answers.
-fn told(failed: bool, before: u64, after: u64, quiet: bool) -> Result<Round, Memory>
-    ensures ok { IfOk result (Answers before after quiet) }
+fn told(failed: bool, round: Option<Round>) -> Result<Round, Memory>
+    requires { round ≡ None → failed ≡ true }
+    ensures ok { IfOk result (λ told. round ≡ Some told) }
     ensures sound { OnOk result (failed ≡ false) }
     ensures err { OnErr result (failed ≡ true) }
 {
-    if failed {
-        Err(Memory)
-    } else if before < after {
-        Ok(Round::Went)
-    } else if quiet {
-        Ok(Round::Rest)
-    } else {
-        Ok(Round::Spent)
+    match round {
+        Some(round) if !failed => Ok(round),
+        _ => Err(Memory),
     }
 }

@@ -1,6 +1,7 @@
 //! Whether nothing is left to do.
-ghost use Rattle.std.specs.Prelude.{◌≡◌, true, false};
-ghost use Rattle.site_crew.specs.Quiet.{AllQuiet, IsQuietSeat};
+ghost use Rattle.std.specs.Prelude.{◌≡◌, ◌≤◌, ◌<◌, true, false, length};
+ghost use Rattle.np_syntax.specs.declared.limits.TheConstants.{MOST_SITES};
+ghost use Rattle.site_crew.specs.Quiet.{AllQuiet, AreOver, IsOver, IsQuietSeat, IsResting, NoneSends};
 
 use np_code::Code;
 use site_turn::Seat;
@@ -33,4 +34,46 @@ fn is_quiet<P>(code: &Code, seat: &Seat<P>) -> bool
         return false;
     }
     seat.site.idle(code)
+}
+
+/// Whether each site that has made fewer events than the budget can do nothing.
+pub fn are_over<P>(code: &Code, budget: u32, seats: &[Seat<P>]) -> bool
+    requires { length seats.now ≤ MOST_SITES }
+    ensures { result ≡ true → AreOver code.now budget seats.now }
+{
+    for i in 0..seats.len() {
+        if !is_over(code, budget, seats, i) {
+            return false;
+        }
+    }
+    true
+}
+
+/// Whether the site in a place has made as many events as the budget, or can do nothing.
+fn is_over<P>(code: &Code, budget: u32, seats: &[Seat<P>], i: usize) -> bool
+    requires few { length seats.now ≤ MOST_SITES }
+    requires place { i < length seats.now }
+    ensures { result ≡ true → IsOver code.now budget seats.now i }
+{
+    seats[i].site.history().len() >= budget
+        || (is_resting(code, &seats[i]) && none_sends(seats, i as u32))
+}
+
+/// Whether a site's agents are idle, and nothing waits for it.
+fn is_resting<P>(code: &Code, seat: &Seat<P>) -> bool
+    ensures { result ≡ true → IsResting code.now seat.now }
+{
+    !seat.waits && seat.aside.is_none() && seat.site.idle(code)
+}
+
+/// Whether no site has an item for this one that is still to be put on its link.
+fn none_sends<P>(seats: &[Seat<P>], to: u32) -> bool
+    ensures { result ≡ true → NoneSends seats.now to }
+{
+    for k in 0..seats.len() {
+        if !seats[k].site.has_none_for(to) {
+            return false;
+        }
+    }
+    true
 }

@@ -4,6 +4,7 @@ ghost use Rattle.np_syntax.specs.declared.limits.TheConstants.{MOST_SITES};
 ghost use Rattle.site_crew.specs.Seats.{AllGrow, Stand, event_count, histories};
 
 use crate::counting::events_of;
+use crate::quiet::are_over;
 use crate::settling::settle_all;
 use crate::turns::{serial_turns, threads_turns};
 use agent_move::Item;
@@ -13,8 +14,33 @@ use site_turn::{Gate, Seat};
 use std::alloc::Global;
 use std::thread::Threads;
 
-/// The turns on threads. How many events all histories have then.
+/// A round on threads. Where no site makes an event, and one that may make some has something to do then, all take their
+/// turns again. How many events all histories have then.
 pub fn threads_round<R: Threads + Sync, P: Port<R, Item>, G: Gate>(
+    rt: &R,
+    alloc: Global,
+    code: &Code,
+    gate: &G,
+    budget: u32,
+    seats: &mut [Seat<P>],
+) -> u64
+    requires stand { Stand P.Port code.now budget seats.old }
+    requires few { length seats.old ≤ MOST_SITES }
+    ensures stand { Stand P.Port code.now budget seats.new }
+    ensures count { length seats.new ≡ length seats.old }
+    ensures grow { AllGrow (histories seats.old) (histories seats.new) }
+    ensures total { result ≡ event_count (histories seats.new) }
+{
+    let before = events_of(seats);
+    let after = threads_pass(rt, alloc, code, gate, budget, seats);
+    if before < after || are_over(code, budget, seats) {
+        return after;
+    }
+    threads_pass(rt, alloc, code, gate, budget, seats)
+}
+
+/// The turns on threads. How many events all histories have then.
+fn threads_pass<R: Threads + Sync, P: Port<R, Item>, G: Gate>(
     rt: &R,
     alloc: Global,
     code: &Code,
@@ -34,8 +60,31 @@ pub fn threads_round<R: Threads + Sync, P: Port<R, Item>, G: Gate>(
     events_of(seats)
 }
 
-/// The turns one after another. How many events all histories have then.
+/// A round in which the sites take their turns one after another, in the same way.
 pub fn serial_round<R, P: Port<R, Item>>(
+    rt: &R,
+    alloc: Global,
+    code: &Code,
+    budget: u32,
+    seats: &mut [Seat<P>],
+) -> u64
+    requires stand { Stand P.Port code.now budget seats.old }
+    requires few { length seats.old ≤ MOST_SITES }
+    ensures stand { Stand P.Port code.now budget seats.new }
+    ensures count { length seats.new ≡ length seats.old }
+    ensures grow { AllGrow (histories seats.old) (histories seats.new) }
+    ensures total { result ≡ event_count (histories seats.new) }
+{
+    let before = events_of(seats);
+    let after = serial_pass(rt, alloc, code, budget, seats);
+    if before < after || are_over(code, budget, seats) {
+        return after;
+    }
+    serial_pass(rt, alloc, code, budget, seats)
+}
+
+/// The turns one after another. How many events all histories have then.
+fn serial_pass<R, P: Port<R, Item>>(
     rt: &R,
     alloc: Global,
     code: &Code,

@@ -1,4 +1,4 @@
-use Rattle.std.proofs.Common.{◌≡◌, ◌<◌, ◌+◌, ℕ, Some, false, get_or, length, arith, subst, inl, inr, ◌∙◌, ap, sym}
+use Rattle.std.proofs.Common.{◌≡◌, ◌<◌, ℕ, Some, false, get_or, length, arith, subst, inl, inr}
 use Rattle.std.specs.Prelude.{slice_get}
 use Rattle.std.proofs.lemmas.Bool.Decides.{eqb_tells}
 use Rattle.std.proofs.lemmas.Option.{get_or_from_slice_get, slice_get_within}

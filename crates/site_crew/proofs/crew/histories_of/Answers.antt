@@ -1,4 +1,4 @@
-use Rattle.std.proofs.Common.{◌≡◌, ◌++◌, ◌∷◌, [], map, ap, ap₂, sym, ◌∙◌}
+use Rattle.std.proofs.Common.{◌++◌, ◌∷◌, [], map, ap, ap₂, sym, ◌∙◌}
 use Rattle.std.proofs.lemmas.List.{map-append}
 use Rattle.stamp_history.specs.Histories.{Stored}
 use Rattle.site_turn.specs.declared.seat.Seat.{Seat}
@@ -12,7 +12,7 @@ loop-seat-preserved g c =
     let y = c.loop-seat.yielded in
     record {
       whole = whole_more y c.loop-seat.seat-iterator.rest.items c.next.new.self.rest.items c.in-Some.seat i.whole c.in-Some.ensures.steps.0;
-      out = ap (map (λ (h : Stored). h.history)) c.in_ok-push.ensures.items ∙ map-append (λ (h : Stored). h.history) c.loop-seat.out.items (c.history_of-history.result ∷ [])
+      out = ap (map (λ (h : Stored). h.history)) c.in_ok-add.ensures ∙ map-append (λ (h : Stored). h.history) c.loop-seat.out (c.history_of-history.result ∷ [])
           ∙ ap₂ (λ xs x. xs ++ x ∷ []) i.out c.history_of-history.ensures ∙ sym (map-append (λ (s : Seat _). s.site.history) y (c.in-Some.seat ∷ []));
     }
 

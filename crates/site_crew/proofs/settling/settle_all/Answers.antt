@@ -1,4 +1,4 @@
-use Rattle.std.proofs.Common.{◌≡◌, ◌<◌, ℕ, length, arith, subst}
+use Rattle.std.proofs.Common.{◌≡◌, ℕ, length, arith, subst}
 use Rattle.site_crew.specs.Links.{AreSettledBelow}
 use Rattle.site_crew.proofs.Pairs.{all_still_refl, all_still_trans, linked_after, settled_none}
 use Rattle.site_crew.proofs.settling.settle_all.Goals as goal

@@ -1,4 +1,4 @@
-use Rattle.std.proofs.Common.{◌≡◌, ◌≢◌, ◌<◌, get_or, refl, sym, arith, Some}
+use Rattle.std.proofs.Common.{◌≡◌, ◌≢◌, ◌<◌, get_or, sym, arith, Some}
 use Rattle.std.specs.Prelude.{slice_get}
 use Rattle.std.proofs.lemmas.Option.{slice_get-get_or}
 use Rattle.site_crew.proofs.Pairs.{pair_of_own, pair_of_two, read_back, read_front, seam, settles, settles_own, two_sets, two_swap, with_port}

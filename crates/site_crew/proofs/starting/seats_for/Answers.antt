@@ -1,4 +1,4 @@
-use Rattle.std.proofs.Common.{◌≡◌, ◌<◌, ◌≤◌, ◌+◌, ◌++◌, ◌∷◌, [], length, List, sym, ◌∙◌, arith, ap}
+use Rattle.std.proofs.Common.{◌++◌, ◌∷◌, [], sym, ◌∙◌, arith}
 use Rattle.std.proofs.lemmas.List.{length_push}
 use Rattle.site_crew.proofs.First.{seated_push, seated_whole, whole_end, whole_length, whole_more}
 use Rattle.site_crew.proofs.starting.seats_for.Goals as goal

@@ -1,12 +1,11 @@
-use Rattle.std.proofs.Common.{◌≡◌, ◌++◌, List, ap, drop, length, refl, subst, sym, take, ◌∙◌}
+use Rattle.std.proofs.Common.{IfSome, nat_lt, List, ap, length, refl, subst, sym, ◌∙◌}
 use Rattle.np_calculus.specs.Config.{Config}
 use Rattle.np_code.specs.Programs.{program}
 use Rattle.site_turn.specs.declared.seat.Seat.{Seat}
-use Rattle.site_crew.specs.Crews.{HasRun}
-use Rattle.site_crew.specs.Quiet.{AllQuiet}
+use Rattle.site_crew.specs.Crews.{HasRun, IsJudged}
 use Rattle.site_crew.specs.Runs.{IsCrewRun}
 use Rattle.site_crew.specs.Seats.{event_count, histories}
-use Rattle.site_crew.proofs.Crewing.{has_run, round_told, slice_whole}
+use Rattle.site_crew.proofs.Crewing.{has_run, round_told, slice_whole, told_ok}
 use Rattle.site_crew.proofs.Whole.{crew_run}
 use Rattle.site_crew.proofs.crew.Crew.serial_round.Goals as goal
 
@@ -27,8 +26,8 @@ returns-clause-ok g c =
     let now = c.serial_round-after.new.seats in
     let same = c.serial_round-after.ensures.count ∙ ap length c.as_mut_slice.ensures.value in
     let whole = slice_whole was.seats.items now was.seats.len was.seats.ok.0 same in
-    let slice = c.as_slice-3.ensures.value ∙ whole in
-    round_told g.P.Port was.code was.budget _ _ now c.serial_round-after.ensures.stand c.self.invariant.program c.all_quiet-quiet.result
-    (λ e. subst (AllQuiet was.code) slice (c.all_quiet-quiet.ensures.yes e)) (λ e all. c.all_quiet-quiet.ensures.no e (subst (AllQuiet was.code) (sym slice) all)) refl refl (ap histories whole)
-    _ _ (c.events_of-before.ensures.total ∙ ap (λ xs. event_count (histories xs)) c.as_slice.ensures.value ∙ ap (λ s. event_count s.histories) c.self.view_is)
-    (c.serial_round-after.ensures.total ∙ ap (λ xs. event_count (histories xs)) (sym whole)) c.told.result c.told.ensures.ok
+    let judged = subst (λ (xs : List (Seat _)). IfSome c.judged-round.result (IsJudged was.code was.budget (nat_lt c.events_of-before.result c.serial_round-after.result) xs)) (c.as_slice-2.ensures.value ∙ whole) c.judged-round.ensures in
+    told_ok c.judged-round.result c.told.result (λ r. IsJudged was.code was.budget (nat_lt c.events_of-before.result c.serial_round-after.result) now r) _ judged c.told.ensures.ok (round_told g.P.Port was.code was.budget _ _ now c.serial_round-after.ensures.stand c.self.invariant.program
+    refl refl (ap histories whole) _ _
+    (c.events_of-before.ensures.total ∙ ap (λ xs. event_count (histories xs)) c.as_slice.ensures.value ∙ ap (λ s. event_count s.histories) c.self.view_is)
+    (c.serial_round-after.ensures.total ∙ ap (λ xs. event_count (histories xs)) (sym whole)))

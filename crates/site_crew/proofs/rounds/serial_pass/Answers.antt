@@ -2,7 +2,7 @@ use Rattle.std.proofs.Common.{◌∙◌}
 use Rattle.site_crew.proofs.Goings.{all_seated, seats_turned}
 use Rattle.site_crew.proofs.Crewing.{grows_again}
 use Rattle.site_crew.proofs.Standing.{stand_again}
-use Rattle.site_crew.proofs.rounds.serial_round.Goals as goal
+use Rattle.site_crew.proofs.rounds.serial_pass.Goals as goal
 
 pub serial_turns-requires-after_bounds : goal.serial_turns-requires-after_bounds
 serial_turns-requires-after_bounds g c κs within = all_seated c.requires.stand.seats

@@ -2,7 +2,7 @@ use Rattle.std.proofs.Common.{◌∙◌}
 use Rattle.site_crew.proofs.Goings.{all_seated, seats_turned}
 use Rattle.site_crew.proofs.Crewing.{grows_again}
 use Rattle.site_crew.proofs.Standing.{stand_again}
-use Rattle.site_crew.proofs.rounds.threads_round.Goals as goal
+use Rattle.site_crew.proofs.rounds.threads_pass.Goals as goal
 
 pub threads_turns-requires-after_bounds : goal.threads_turns-requires-after_bounds
 threads_turns-requires-after_bounds g c κs within = all_seated c.requires.stand.seats

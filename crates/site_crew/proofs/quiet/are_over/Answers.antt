@@ -1,0 +1,14 @@
+use Rattle.std.proofs.Common.{ℕ, arith, subst, sym, inl, inr, refl}
+use Rattle.std.proofs.lemmas.Bool.Decides.{eqb_tells}
+use Rattle.site_crew.specs.Quiet.{IsOver}
+use Rattle.site_crew.proofs.quiet.are_over.Goals as goal
+
+pub loop-i-preserved : goal.loop-i-preserved
+loop-i-preserved g c = λ k h.
+    elim (eqb_tells k c.loop-i.i) [
+      | inl w ↦ subst (λ (m : ℕ). IsOver c.args.code.now c.args.budget c.args.seats.now m) (sym w.1) (c.if-not-is_over.ensures refl)
+      | inr w ↦ c.loop-i.invariant k (omega arith)
+    ]
+
+pub returns : goal.returns
+returns g c = λ e. record { each = λ i h. c.loop-i.invariant i (omega arith) }
