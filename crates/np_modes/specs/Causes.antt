@@ -1,5 +1,5 @@
 -- What a call makes of its texts, and the cause of each refusal (docs/LANGUAGE.md, "Reports and refusals").
-use Rattle.std.specs.Prelude.{◌≡◌, ℕ, ◌+◌, ◌≤◌, ◌⊎◌, List, Option, Some, None}
+use Rattle.std.specs.Prelude.{◌≡◌, ℕ, ◌+◌, ◌≤◌, ◌⊎◌, List, length, Option, Some, None}
 use Rattle.np_syntax.specs.declared.limits.TheConstants.{LONGEST_SOURCE}
 use Rattle.np_syntax.specs.declared.program.LowProgram.{LowProgram}
 use Rattle.np_serial.specs.declared.serial.SerialRun.{SerialRun}
@@ -14,8 +14,9 @@ use Rattle.np_words.specs.declared.planning.Plan.TheVariants as plans
 use Rattle.np_words.specs.declared.planning.Task.{Task}
 use Rattle.np_modes.specs.Readings.{Reading, IsText, IsRead, IsUnread}
 use Rattle.np_sources.specs.Reaches.{Reach, FaultyTo, IsLowOf, reach_of}
-use Rattle.np_sources.specs.Makes.{DoesTask}
-use Rattle.np_sources.specs.declared.record.Record.{Record}
+use Rattle.np_sources.specs.Makes.{DoesLoad, DoesTask}
+use Rattle.np_sources.specs.declared.limits.TheConstants.{LOAD_BUDGET}
+use Rattle.np_on_sites.specs.declared.record.Record.{Record}
 
 -- ---- what is made
 
@@ -59,11 +60,17 @@ pub record OfNumber (agents : ℕ) (kept : Option Record) (high : Option SerialR
   pub is_kept : kept ≡ None
   pub is_high : high ≡ None
 
+-- the generated source, which is no longer than a source may be, was run
+pub record OfLoad (agents : ℕ) (kept : Option Record) (high : Option SerialRun) (text : List ℕ) : Type 0 where
+  pub short : length (generated agents) ≤ LONGEST_SOURCE
+  pub does : DoesLoad agents kept high text
+
 abbrev pub Does : Reading → Plan → Option Record → Option SerialRun → List ℕ → Type 0
 Does texts (plans.Source file task) kept high text = OfSource texts file task kept high text
 Does texts (plans.Replay source history) kept high text = OfReplay texts source history kept high text
 Does texts (plans.Upgrade history) kept high text = OfUpgrade texts history kept high text
 Does texts (plans.Generate agents) kept high text = OfNumber agents kept high text
+Does texts (plans.Load agents serial links) kept high text = OfLoad agents kept high text
 
 -- the words ask for this, and it was made
 pub record HasMade (words : List (List ℕ)) (texts : Reading) (kept : Option Record) (high : Option SerialRun) (text : List ℕ) : Type 0 where
@@ -79,7 +86,7 @@ pub record IsFaultySource (texts : Reading) (file : List ℕ) (reach : Reach) (r
   pub read : IsRead texts file LONGEST_SOURCE bytes
   pub faulty : FaultyTo reach bytes refusal
 
--- the source was not read, or it is refused; no other text was to begin
+-- the source was not read, or it is refused; no more than one text began
 pub record RefusesSource (texts : Reading) (file : List ℕ) (reach : Reach) (refusal : Refusal) : Type 0 where
   pub cause : IsUnread texts file LONGEST_SOURCE TooLong refusal ⊎ IsFaultySource texts file reach refusal
   pub begins : texts.begins ≤ texts.begun + 1
@@ -108,12 +115,18 @@ pub record IsFaultyHistory (texts : Reading) (history : List ℕ) (refusal : Ref
 abbrev pub RefusesHistory : Reading → List ℕ → Refusal → Type 0
 RefusesHistory texts history refusal = IsUnread texts history LONGEST_HISTORY HistoryTooLong refusal ⊎ IsFaultyHistory texts history refusal
 
+-- the generated source, which is no longer than a source may be, is refused
+pub record RefusesLoad (agents : ℕ) (refusal : Refusal) : Type 0 where
+  pub short : length (generated agents) ≤ LONGEST_SOURCE
+  pub faulty : FaultyTo (Reach.sites LOAD_BUDGET) (generated agents) refusal
+
 -- what is asked for is refused so
 abbrev pub RefusesPlan : Reading → Plan → Refusal → Type 0
 RefusesPlan texts (plans.Source file task) refusal = RefusesSource texts file (reach_of task) refusal
 RefusesPlan texts (plans.Replay source history) refusal = RefusesSource texts source Reach.low refusal ⊎ RefusesReplay texts source history refusal
 RefusesPlan texts (plans.Upgrade history) refusal = RefusesHistory texts history refusal
 RefusesPlan texts (plans.Generate agents) refusal = ⊥
+RefusesPlan texts (plans.Load agents serial links) refusal = RefusesLoad agents refusal
 
 -- the refusal has its cause
 pub data Stands (words : List (List ℕ)) (texts : Reading) : Refusal → Type 0 where
@@ -129,6 +142,7 @@ texts_of (plans.Source file task) = 1
 texts_of (plans.Replay source history) = 2
 texts_of (plans.Upgrade history) = 1
 texts_of (plans.Generate agents) = 0
+texts_of (plans.Load agents serial links) = 0
 
 -- how many texts are read where the words say this, or nothing
 abbrev pub texts_read : Option Plan → ℕ

@@ -1,7 +1,7 @@
 //! From the words to what they ask for.
 
 ghost use Rattle.std.specs.Prelude.{◌≡◌, ◌≢◌, ◌+◌, ◌≤◌, IfOk, IfErr};
-ghost use Rattle.np_words.specs.Plans.{HasFewAgents, plan};
+ghost use Rattle.np_words.specs.Plans.{HasBudget, IsWithinLimits, plan};
 ghost use Rattle.np_modes.specs.Readings.{seen};
 ghost use Rattle.np_sources.specs.Reaches.{reach_of};
 ghost use Rattle.np_modes.specs.Causes.{OfSource, OfNumber, RefusesSource, Does, RefusesPlan, HasMade, Stands, texts_of, texts_read};
@@ -10,14 +10,22 @@ use super::histories::{replay, upgrade};
 use super::reading::read_text;
 use np_generate::{MOST_AGENTS, generated};
 use np_io::{Texts, Word};
-use np_sources::{Job, job_of, text_alone};
+use np_on_sites::Gate;
+use np_sources::{Job, job_of, load_of, text_alone};
 use np_syntax::{LONGEST_SOURCE, Memory};
 use np_verdict::Refusal;
 use np_words::{Plan, PlanFail, Task, plan_of};
 use std::alloc::Global;
+use std::thread::Threads;
 
 /// Does what the words ask for.
-pub fn work<T: Texts>(alloc: Global, words: &[Word], texts: &mut T) -> Result<Job, Refusal>
+pub fn work<R: Threads + Sync, G: Gate, T: Texts>(
+    alloc: Global,
+    rt: &R,
+    gate: &G,
+    words: &[Word],
+    texts: &mut T,
+) -> Result<Job, Refusal>
     ensures begins { T.begins texts.new ≤ T.begins texts.old + texts_read (plan words.now) }
     ensures made { let seen = seen (T.held texts.old) (T.faults texts.old) (T.faults texts.new) (T.taken texts.new) (T.begins texts.old) (T.begins texts.new)
         in IfOk result (λ job. HasMade words.now seen job.kept job.high job.text) }
@@ -25,15 +33,21 @@ pub fn work<T: Texts>(alloc: Global, words: &[Word], texts: &mut T) -> Result<Jo
         in IfErr result (λ refusal. refusal ≢ Refusal.Memory → Stands words.now seen refusal) }
 {
     match plan_of(alloc, words) {
-        Ok(plan) => done(alloc, texts, &plan),
+        Ok(plan) => done(alloc, rt, gate, texts, &plan),
         Err(PlanFail::Usage) => Err(Refusal::Usage),
         Err(PlanFail::Memory) => Err(Refusal::Memory),
     }
 }
 
 /// Does what is planned.
-fn done<T: Texts>(alloc: Global, texts: &mut T, plan: &Plan) -> Result<Job, Refusal>
-    requires { HasFewAgents plan.now }
+fn done<R: Threads + Sync, G: Gate, T: Texts>(
+    alloc: Global,
+    rt: &R,
+    gate: &G,
+    texts: &mut T,
+    plan: &Plan,
+) -> Result<Job, Refusal>
+    requires { IsWithinLimits plan.now }
     ensures begins { T.begins texts.new ≤ T.begins texts.old + texts_of plan.now }
     ensures made { let seen = seen (T.held texts.old) (T.faults texts.old) (T.faults texts.new) (T.taken texts.new) (T.begins texts.old) (T.begins texts.new)
         in IfOk result (λ job. Does seen plan.now job.kept job.high job.text) }
@@ -41,20 +55,28 @@ fn done<T: Texts>(alloc: Global, texts: &mut T, plan: &Plan) -> Result<Job, Refu
         in IfErr result (λ refusal. refusal ≢ Refusal.Memory → RefusesPlan seen plan.now refusal) }
 {
     match plan {
-        Plan::Source { file, task } => on_source(alloc, texts, file, *task),
+        Plan::Source { file, task } => on_source(alloc, rt, gate, texts, file, *task),
         Plan::Replay { source, history } => replay(alloc, texts, source, history),
         Plan::Upgrade { history } => upgrade(alloc, texts, history),
         Plan::Generate { agents } => generate(alloc, *agents),
+        Plan::Load {
+            agents,
+            serial,
+            links,
+        } => load_of(alloc, rt, gate, *agents, *serial, *links),
     }
 }
 
 /// Does with the source of this name what is asked for.
-fn on_source<T: Texts>(
+fn on_source<R: Threads + Sync, G: Gate, T: Texts>(
     alloc: Global,
+    rt: &R,
+    gate: &G,
     texts: &mut T,
     file: &Word,
     task: Task,
 ) -> Result<Job, Refusal>
+    requires { HasBudget task }
     ensures begins { T.begins texts.new ≤ T.begins texts.old + 1 }
     ensures made { let seen = seen (T.held texts.old) (T.faults texts.old) (T.faults texts.new) (T.taken texts.new) (T.begins texts.old) (T.begins texts.new)
         in IfOk result (λ job. OfSource seen file.now task job.kept job.high job.text) }
@@ -62,7 +84,7 @@ fn on_source<T: Texts>(
         in IfErr result (λ refusal. refusal ≢ Refusal.Memory → RefusesSource seen file.now (reach_of task) refusal) }
 {
     let bytes = read_text(alloc, texts, file, LONGEST_SOURCE, Refusal::TooLong)?;
-    job_of(alloc, task, bytes.as_slice())
+    job_of(alloc, rt, gate, task, bytes.as_slice())
 }
 
 /// The generated source.

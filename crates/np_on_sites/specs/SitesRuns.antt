@@ -1,7 +1,7 @@
 -- A run of a low program on its sites (docs/LANGUAGE.md, "History text").
-use Rattle.std.specs.Prelude.{◌≡◌, ◌↔◌, List, Some}
+use Rattle.std.specs.Prelude.{◌≡◌, ◌↔◌, ℕ, List, length, Some}
 use Rattle.np_syntax.specs.declared.event.End.{End}
-use Rattle.np_syntax.specs.declared.event.End.TheVariants.{Rest}
+use Rattle.np_syntax.specs.declared.event.End.TheVariants.{Rest, Spent}
 use Rattle.np_syntax.specs.declared.event.Event.{Event}
 use Rattle.np_syntax.specs.declared.program.LowProgram.{LowProgram}
 use Rattle.np_calculus.specs.Config.{Config}
@@ -10,15 +10,18 @@ use Rattle.np_calculus.specs.Reductions.{run}
 use Rattle.np_calculus.specs.Starts.{start_low}
 use Rattle.stamp_history.specs.Histories.{Recorded}
 use Rattle.run_merge.specs.Merged.{items, merged, said}
+use Rattle.site_crew.specs.Runs.{AreHistoriesOf, OnlySpentCan}
 
 -- all events, by stamp and then by site
 abbrev pub events_of : List Recorded → List Event
 events_of histories = items (merged histories)
 
--- The histories of the sites, merged, are a run of the low program from its start, in which that was printed; and it is at rest exactly where no
--- site can act any more.
-pub record IsSitesRun (low : LowProgram) (histories : List Recorded) (end : End) : Type 0 where
+-- The histories of the sites, each within the budget, are merged a run of the low program from its start, in which that was printed. It is at rest
+-- exactly where no site can act any more, and else only a site that has used its whole budget can.
+pub record IsSitesRun (low : LowProgram) (budget : ℕ) (histories : List Recorded) (end : End) : Type 0 where
+  pub sites : AreHistoriesOf (length low.sites) budget histories
   pub last : Config
   pub reaches : run (start_low low) (events_of histories) ≡ Some last
   pub said : last.said ≡ said histories
   pub rests : (end ≡ Rest) ↔ Idle last
+  pub spent : end ≡ Spent → OnlySpentCan budget histories last

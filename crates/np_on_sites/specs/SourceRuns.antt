@@ -1,5 +1,5 @@
 -- What a run of a compiled program on its sites is of the source (docs/LANGUAGE.md, "Translation and daemon").
-use Rattle.std.specs.Prelude.{◌≡◌, List, Some}
+use Rattle.std.specs.Prelude.{◌≡◌, ℕ, List, Some}
 use Rattle.np_syntax.specs.declared.event.End.{End}
 use Rattle.np_syntax.specs.declared.event.End.TheVariants.{Rest}
 use Rattle.np_syntax.specs.declared.program.LowProgram.{LowProgram}
@@ -30,5 +30,5 @@ pub record IsSourceRun (p : Program) (low : LowProgram) (histories : List Record
 
 -- each run of the low program of an accepted source
 abbrev pub SitesRunsAreSourceRuns : Type 0
-SitesRunsAreSourceRuns = (p : Program) (low : LowProgram) (histories : List Recorded) (end : End) → IsAccepted p → low ≡ encoded p
-    → IsSitesRun low histories end → IsSourceRun p low histories end
+SitesRunsAreSourceRuns = (p : Program) (low : LowProgram) (budget : ℕ) (histories : List Recorded) (end : End) → IsAccepted p → low ≡ encoded p
+    → IsSitesRun low budget histories end → IsSourceRun p low histories end

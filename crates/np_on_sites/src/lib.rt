@@ -1,6 +1,12 @@
-//! What a run of a low program on its sites is of its source: definitions and laws, and no other code.
+//! A low program on its sites: each makes its events on a thread of its own, or one site after another, and the histories
+//! that they leave are a run of the low program and of its source.
 #![tactic(auto)]
 
 mod laws;
+mod record;
+mod running;
 
 pub use laws::law_source_runs;
+pub use record::Record;
+pub use running::run_on_sites;
+pub use site_turn::{Free, Gate};

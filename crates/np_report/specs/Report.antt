@@ -1,7 +1,9 @@
 -- The texts of reports (docs/LANGUAGE.md, "Reports and refusals").
-use Rattle.std.specs.Prelude.{ℕ, List, [], ◌++◌, codes, decimal, slice_index_or}
-use Rattle.std.specs.List.{flat_map}
-use Rattle.np_syntax.specs.declared.value.Value.{Value}
+use Rattle.std.specs.Prelude.{ℕ, ℤ, pos, ◌+ℤ◌, List, [], ◌++◌, length, codes, decimal, slice_index_or}
+use Rattle.std.specs.Fmt.{signed_decimal}
+use Rattle.std.specs.Int.{int_wrap, w64}
+use Rattle.std.specs.List.{flat_map, fold}
+use Rattle.np_syntax.specs.declared.value.Value.{Value, Value-F, out-Value}
 use Rattle.np_syntax.specs.declared.event.End.{End}
 use Rattle.np_syntax.specs.declared.event.End.TheVariants.{Rest, Spent}
 use Rattle.np_syntax.specs.Printed.{value_text}
@@ -25,3 +27,26 @@ report_text sites said between how = said_text sites said ++ between ++ last_lin
 -- what a run printed, and how many events it has
 unfoldable pub replay_text : List (List ℕ) → List (ℕ × Value) → ℕ → List ℕ
 replay_text sites said events = said_text sites said ++ codes "a run of " ++ decimal events ++ codes " events\n"
+
+-- ---- the run of a generated source
+
+abbrev pub number_at : Value-F Value → ℤ
+number_at (Value-F.Int number) = number
+number_at _ = pos 0
+
+-- the number that a value is; any other value counts for nothing
+abbrev pub number_of : Value → ℤ
+number_of v = number_at (out-Value v)
+
+-- the sum of the numbers that were printed
+abbrev pub total : List (ℕ × Value) → ℤ
+total said = fold (λ sum one. sum +ℤ number_of one.1) (pos 0) said
+
+-- what is left of it in 64 bits with a sign
+abbrev pub wrapped_total : List (ℕ × Value) → ℤ
+wrapped_total said = int_wrap w64 (total said)
+
+-- how many agents the source has, how many values were printed, their sum, and how the run ended
+unfoldable pub load_text : ℕ → List (ℕ × Value) → End → List ℕ
+load_text agents said how =
+    codes "agents " ++ decimal agents ++ codes "\nsaid " ++ decimal (length said) ++ codes "\nsum " ++ signed_decimal (wrapped_total said) ++ codes "\n" ++ last_line how

@@ -3,4 +3,4 @@
 
 mod reporting;
 
-pub use reporting::{replay_report, report};
+pub use reporting::{load_report, replay_report, report};

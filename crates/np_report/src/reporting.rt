@@ -1,5 +1,6 @@
-ghost use Rattle.std.specs.Prelude.{◌≡◌, ◌++◌, IfOk, OnOk};
-ghost use Rattle.np_report.specs.Report.{said_line, said_text, last_line, report_text, replay_text};
+ghost use Rattle.std.specs.Prelude.{◌≡◌, ◌++◌, ◌+ℤ◌, IfOk, OnOk};
+ghost use Rattle.std.specs.Int.{int_wrap, w64};
+ghost use Rattle.np_report.specs.Report.{said_line, said_text, last_line, load_text, number_of, report_text, replay_text, wrapped_total};
 
 use itoa::Buffer;
 use np_syntax::{End, List, Memory, Text, Value, print_value};
@@ -40,6 +41,56 @@ pub fn replay_report(
     text.append(Buffer::new().format(events).as_bytes())?;
     text.append(b" events\n")?;
     Ok(text)
+}
+
+/// The report of a run of the generated source of so many agents: four lines, with how many values were printed and the
+/// sum of those that are numbers.
+#[tactic(auto, unfolding(crate::specs::Report::load_text))]
+pub fn load_report(
+    alloc: Global,
+    agents: u32,
+    said: &[(u32, Value)],
+    end: End,
+) -> Result<Text, Memory>
+    ensures { IfOk result (λ text. text ≡ load_text agents said.now end) }
+{
+    let mut text = List::from_slice(alloc, b"agents ")?;
+    text.append(Buffer::new().format(agents).as_bytes())?;
+    text.append(b"\nsaid ")?;
+    text.append(Buffer::new().format(said.len()).as_bytes())?;
+    text.append(b"\nsum ")?;
+    text.append(Buffer::new().format(wrapped_total(said)).as_bytes())?;
+    text.append(b"\n")?;
+    text.append(end_line(end))?;
+    Ok(text)
+}
+
+/// The sum of the printed numbers, of which 64 bits with a sign are left.
+fn wrapped_total(said: &[(u32, Value)]) -> i64
+    ensures { result ≡ wrapped_total said.now }
+{
+    let mut sum = 0i64;
+    for (_, value) in said {
+        sum = plus(sum, number_of(value));
+    }
+    sum
+}
+
+/// The sum, of which 64 bits with a sign are left.
+fn plus(a: i64, b: i64) -> i64
+    ensures { result ≡ int_wrap w64 (a +ℤ b) }
+{
+    a.wrapping_add(b)
+}
+
+/// The number that a value is, or 0.
+fn number_of(value: &Value) -> i64
+    ensures { result ≡ number_of value.now }
+{
+    match value {
+        Value::Int(number) => *number,
+        _ => 0,
+    }
 }
 
 fn append_all(

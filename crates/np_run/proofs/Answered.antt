@@ -9,14 +9,16 @@ use Rattle.np_verdict.specs.Lines.{line_of, status_of}
 use Rattle.np_modes.specs.Causes.{Stands, texts_read}
 use Rattle.np_run.specs.Answers.{Call, HasCauses, IsDone, IsRefused, IsStatus, IsWanting, end_status, status_at}
 use Rattle.np_run.specs.declared.answer.Answer.{Answer}
-use Rattle.np_sources.specs.declared.record.Record.{Record}
+use Rattle.np_on_sites.specs.declared.record.Record.{Record}
 use Rattle.np_verdict.specs.declared.refusal.Refusal.{Refusal}
-use Rattle.np_verdict.specs.declared.refusal.Refusal.TheVariants.{Memory, Usage, ReadFault, TooLong, BadChar, BadString, BigNumber, Syntax, TooDeep, Unbound, SiteTwice, TooManySites, NotASite, TypeFault, TooManyNodes, HistoryTooLong, HistSyntax, NotARun}
+use Rattle.np_verdict.specs.declared.refusal.Refusal.TheVariants.{Memory, Usage, ReadFault, TooLong, HistoryTooLong, HistSyntax, NotARun}
+use Rattle.np_verdict.specs.declared.refusal.Refusal.TheVariants.{BadChar, BadString, BigNumber, Syntax, TooDeep}
+use Rattle.np_verdict.specs.declared.refusal.Refusal.TheVariants.{Unbound, SiteTwice, TooManySites, NotASite, TypeFault, TooManyNodes, TooManyEvents}
 
 abbrev refusing : ℕ → Answer
 refusing status = record { status = status; kept = None; high = None }
 
--- no other text was to begin, and none twice
+-- no more texts began than the words ask for
 abbrev Begins : Call → Type 0
 Begins call = call.texts.begins ≤ call.texts.begun + texts_read (plan call.words)
 
@@ -68,7 +70,8 @@ fault call status is r b = record {
   begins = b;
 }
 
-source : (call : Call) (status : ℕ) (refusal : Refusal) → status ≡ 3 → status_of refusal ≡ 3 → IsRefused call (refusing status) refusal → Begins call → HasCauses call (refusing status)
+source : (call : Call) (status : ℕ) (refusal : Refusal) → status ≡ 3 → status_of refusal ≡ 3 → IsRefused call (refusing status) refusal
+    → Begins call → HasCauses call (refusing status)
 source call status refusal is of r b = record {
   done = λ e. absurd (omega (arith, is, e));
   spent = λ e. absurd (omega (arith, is, e));
@@ -82,7 +85,8 @@ source call status refusal is of r b = record {
   begins = b;
 }
 
-history : (call : Call) (status : ℕ) (refusal : Refusal) → status ≡ 7 → status_of refusal ≡ 7 → IsRefused call (refusing status) refusal → Begins call → HasCauses call (refusing status)
+history : (call : Call) (status : ℕ) (refusal : Refusal) → status ≡ 7 → status_of refusal ≡ 7 → IsRefused call (refusing status) refusal
+    → Begins call → HasCauses call (refusing status)
 history call status refusal is of r b = record {
   done = λ e. absurd (omega (arith, is, e));
   spent = λ e. absurd (omega (arith, is, e));
@@ -106,14 +110,18 @@ pub record Told (call : Call) (refusal : Refusal) : Type 0 where
 refused : (call : Call) (status : ℕ) (refusal : Refusal) → refusal ≢ Memory → Told call refusal → IsRefused call (refusing status) refusal
 refused call status refusal some t = record { stands = t.stands some; kept = refl; high = refl; out = t.out; err = t.err }
 
-of_source : (call : Call) (status : ℕ) (refusal : Refusal) → refusal ≢ Memory → status ≡ 3 → status_of refusal ≡ 3 → Told call refusal → HasCauses call (refusing status)
+of_source : (call : Call) (status : ℕ) (refusal : Refusal) → refusal ≢ Memory → status ≡ 3 → status_of refusal ≡ 3 → Told call refusal
+    → HasCauses call (refusing status)
 of_source call status refusal some is of t = source call status refusal is of (refused call status refusal some t) t.begins
 
-of_history : (call : Call) (status : ℕ) (refusal : Refusal) → refusal ≢ Memory → status ≡ 7 → status_of refusal ≡ 7 → Told call refusal → HasCauses call (refusing status)
+of_history : (call : Call) (status : ℕ) (refusal : Refusal) → refusal ≢ Memory → status ≡ 7 → status_of refusal ≡ 7 → Told call refusal
+    → HasCauses call (refusing status)
 of_history call status refusal some is of t = history call status refusal is of (refused call status refusal some t) t.begins
 
 pub answered : (call : Call) (status : ℕ) (refusal : Refusal) → status ≡ status_of refusal → Told call refusal → HasCauses call (refusing status)
-answered call status Memory is t = wanting call status is (record { kept = refl; high = refl; out = t.out; err = nothing_written call.err.old call.err.new t.err }) t.begins
+answered call status Memory is t =
+    let nothing = nothing_written call.err.old call.err.new t.err in
+    wanting call status is (record { kept = refl; high = refl; out = t.out; err = nothing }) t.begins
 answered call status Usage is t = usage call status is (refused call status Usage (λ e. cc) t) t.begins
 answered call status ReadFault is t = fault call status is (refused call status ReadFault (λ e. cc) t) t.begins
 answered call status TooLong is t = of_source call status TooLong (λ e. cc) is refl t
@@ -128,6 +136,7 @@ answered call status (TooManySites at) is t = of_source call status (TooManySite
 answered call status (NotASite at) is t = of_source call status (NotASite at) (λ e. cc) is refl t
 answered call status (TypeFault fault) is t = of_source call status (TypeFault fault) (λ e. cc) is refl t
 answered call status (TooManyNodes nodes) is t = of_source call status (TooManyNodes nodes) (λ e. cc) is refl t
+answered call status TooManyEvents is t = of_source call status TooManyEvents (λ e. cc) is refl t
 answered call status HistoryTooLong is t = of_history call status HistoryTooLong (λ e. cc) is refl t
 answered call status (HistSyntax line) is t = of_history call status (HistSyntax line) (λ e. cc) is refl t
 answered call status (NotARun index) is t = of_history call status (NotARun index) (λ e. cc) is refl t

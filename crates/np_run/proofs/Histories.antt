@@ -1,5 +1,5 @@
 -- What a refusal says of a history that is told, and what is made of one.
-use Rattle.std.proofs.Common.{◌≡◌, ℕ, ◌≤◌, ◌<◌, ◌⊎◌, List, length, Option, None, Some, inl, inr, subst, ap, ◌∙◌, arith}
+use Rattle.std.proofs.Common.{◌≡◌, ℕ, ◌≤◌, ◌<◌, ◌⊎◌, List, length, Option, None, Some, inl, inr, subst, arith}
 use Rattle.np_syntax.specs.declared.limits.TheConstants.{LONGEST_SOURCE}
 use Rattle.np_syntax.specs.declared.program.LowProgram.{LowProgram}
 use Rattle.np_words.specs.declared.planning.Plan.{Plan}
@@ -11,7 +11,7 @@ use Rattle.np_histories.specs.Histories.{HasEvents, HasRun}
 use Rattle.np_histories.specs.declared.limits.TheConstants.{LONGEST_HISTORY}
 use Rattle.np_histories.proofs.Once as once
 use Rattle.np_sources.specs.Reaches.{Reach, IsLowOf}
-use Rattle.np_sources.specs.declared.record.Record.{Record}
+use Rattle.np_on_sites.specs.declared.record.Record.{Record}
 use Rattle.np_sources.proofs.Once as sources
 use Rattle.np_modes.specs.Readings.{IsUnread}
 use Rattle.np_modes.specs.Causes.{Does, HasMade, IsLowered, RefusesHistory, RefusesRun, RefusesPlan, Stands}

@@ -12,11 +12,11 @@ use Rattle.np_verdict.specs.declared.refusal.Refusal.TheVariants.{ReadFault, Too
 use Rattle.np_histories.proofs.Once.{run_fault_status}
 use Rattle.np_sources.specs.Makes.{DoesTask}
 use Rattle.np_sources.specs.Reaches.{Reach, TakenTo, FaultyTo, reach_of}
-use Rattle.np_sources.specs.declared.record.Record.{Record}
+use Rattle.np_on_sites.specs.declared.record.Record.{Record}
 use Rattle.np_modes.specs.Readings.{IsUnread}
 use Rattle.np_modes.specs.Causes.{Does, HasMade, IsFaultySource, RefusesSource, RefusesRun, RefusesPlan, Stands}
 use Rattle.np_run.specs.Answers.{Call}
-use Rattle.np_run.specs.Laws.{IsTold, Reads, ReadsSource, Replays}
+use Rattle.np_run.specs.Laws.{HasSource, IsTold, Reads, Replays}
 use Rattle.np_run.proofs.Outcomes.{one, refused_plan, told, same_text}
 
 -- ---- what a refusal says
@@ -55,26 +55,27 @@ pub data Cause (asked : Plan) (reach : Reach) (bytes : List ℕ) (refusal : Refu
   of_source : Says reach bytes refusal → Cause asked reach bytes refusal
   of_later : Replays asked bytes → length bytes ≤ LONGEST_SOURCE → TakenTo reach bytes → IsOfHistory refusal → Cause asked reach bytes refusal
 
-by_plan : (call : Call) (asked : Plan) (file : List ℕ) (reach : Reach) (bytes : List ℕ) (refusal : Refusal) → ReadsSource asked file reach → IsTold call file bytes
+by_plan : (call : Call) (asked : Plan) (reach : Reach) (bytes : List ℕ) (refusal : Refusal) → HasSource call asked reach bytes
     → RefusesPlan call.texts asked refusal → Cause asked reach bytes refusal
-by_plan call asked file reach bytes refusal (ReadsSource.alone f task) t r = Cause.of_source (source_says call f (reach_of task) bytes refusal t r)
-by_plan call asked file reach bytes refusal (ReadsSource.replayed source history) t (inl r) = Cause.of_source (source_says call source Reach.low bytes refusal t r)
-by_plan call asked file reach bytes refusal (ReadsSource.replayed source history) t (inr r) =
-    let same : r.lowered.bytes ≡ bytes = same_text call source bytes r.lowered.bytes LONGEST_SOURCE t r.lowered.read in
-    let accepted = subst (λ (b : List ℕ). TakenTo Reach.low b) same (r.low, r.lowered.lowers) in
+by_plan call asked reach bytes refusal (HasSource.alone f b task t) r = Cause.of_source (source_says call f (reach_of task) b refusal t r)
+by_plan call asked reach bytes refusal (HasSource.replayed source history b t) (inl r) = Cause.of_source (source_says call source Reach.low b refusal t r)
+by_plan call asked reach bytes refusal (HasSource.replayed source history b t) (inr r) =
+    let same : r.lowered.bytes ≡ b = same_text call source b r.lowered.bytes LONGEST_SOURCE t r.lowered.read in
+    let accepted = subst (λ (x : List ℕ). TakenTo Reach.low x) same (r.low, r.lowered.lowers) in
     Cause.of_later (record { source = source; history = history; is = refl; low = accepted.0; lowered = accepted.1 })
-    (subst (λ (b : List ℕ). length b ≤ LONGEST_SOURCE) same r.lowered.read.short) accepted (of_history call history r.low refusal r.run)
+    (subst (λ (x : List ℕ). length x ≤ LONGEST_SOURCE) same r.lowered.read.short) accepted (of_history call history r.low refusal r.run)
+by_plan call asked reach bytes refusal (HasSource.made agents serial links) r = Cause.of_source (inr (r.short, r.faulty))
 
 pub stands_cause : (call : Call) (asked : Plan) (reach : Reach) (bytes : List ℕ) (refusal : Refusal) → Reads call asked reach bytes
     → Stands call.words call.texts refusal → Cause asked reach bytes refusal
 stands_cause call asked reach bytes refusal r s =
-    by_plan call asked r.file reach bytes refusal r.reads r.told (refused_plan call asked refusal r.planned s)
+    by_plan call asked reach bytes refusal r.source (refused_plan call asked refusal r.planned s)
 
 -- ---- what is made
 
 pub does_accept : (task : Task) (bytes : List ℕ) (kept : Option Record) (high : Option SerialRun) (text : List ℕ) → DoesTask task bytes kept high text
     → TakenTo (reach_of task) bytes
-does_accept (task.Run budget history high serial links) bytes kept made text d = (d.runs.program, d.runs.accepted)
+does_accept (task.Run budget history high serial links) bytes kept made text d = record { low = d.headline.low; lowered = d.headline.lowered; few = d.headline.few }
 does_accept (task.High budget history) bytes kept made text d = (d.runs.program, d.runs.accepted)
 does_accept task.Show bytes kept made text d = (d.tree, d.accepted)
 does_accept task.Check bytes kept made text d = (d.program, d.accepted)
@@ -83,18 +84,20 @@ does_accept task.Low bytes kept made text d = (d.low, d.lowered)
 abbrev IsTaken : Reach → List ℕ → Type 0
 IsTaken reach bytes = (length bytes ≤ LONGEST_SOURCE) × TakenTo reach bytes
 
-made_plan : (call : Call) (asked : Plan) (file : List ℕ) (reach : Reach) (bytes : List ℕ) (kept : Option Record) (high : Option SerialRun) (text : List ℕ)
-    → ReadsSource asked file reach → IsTold call file bytes → Does call.texts asked kept high text → IsTaken reach bytes
-made_plan call asked file reach bytes kept high text (ReadsSource.alone f task) t d =
-    subst (λ (b : List ℕ). IsTaken (reach_of task) b) (same_text call f bytes d.bytes LONGEST_SOURCE t d.read.text)
+made_plan : (call : Call) (asked : Plan) (reach : Reach) (bytes : List ℕ) (kept : Option Record) (high : Option SerialRun) (text : List ℕ)
+    → HasSource call asked reach bytes → Does call.texts asked kept high text → IsTaken reach bytes
+made_plan call asked reach bytes kept high text (HasSource.alone f b task t) d =
+    subst (λ (x : List ℕ). IsTaken (reach_of task) x) (same_text call f b d.bytes LONGEST_SOURCE t d.read.text)
     (d.read.text.short, does_accept task d.bytes kept high text d.does)
-made_plan call asked file reach bytes kept high text (ReadsSource.replayed source history) t d =
-    subst (λ (b : List ℕ). IsTaken Reach.low b) (same_text call source bytes d.lowered.bytes LONGEST_SOURCE t d.lowered.read)
+made_plan call asked reach bytes kept high text (HasSource.replayed source history b t) d =
+    subst (λ (x : List ℕ). IsTaken Reach.low x) (same_text call source b d.lowered.bytes LONGEST_SOURCE t d.lowered.read)
     (d.lowered.read.short, (d.low, d.lowered.lowers))
+made_plan call asked reach bytes kept high text (HasSource.made agents serial links) d =
+    (d.short, record { low = d.does.headline.low; lowered = d.does.headline.lowered; few = d.does.headline.few })
 
 -- what is made is made of an accepted source
 pub made_accepts : (call : Call) (asked : Plan) (reach : Reach) (bytes : List ℕ) (kept : Option Record) (high : Option SerialRun) (text : List ℕ)
     → Reads call asked reach bytes → HasMade call.words call.texts kept high text → (length bytes ≤ LONGEST_SOURCE) × TakenTo reach bytes
 made_accepts call asked reach bytes kept high text r h =
-    made_plan call asked r.file reach bytes kept high text r.reads r.told
+    made_plan call asked reach bytes kept high text r.source
     (subst (λ (p : Plan). Does call.texts p kept high text) (one h.asked asked _ h.planned r.planned) h.does)

@@ -1,13 +1,14 @@
 -- The program's answers and their causes (docs/LANGUAGE.md, "Reports and refusals"). Want of memory alone has no cause.
-use Rattle.std.specs.Prelude.{◌≡◌, ℕ, ◌+◌, ◌≤◌, ◌⊎◌, List, length, Option, Some, None}
+use Rattle.std.specs.Prelude.{◌≡◌, ℕ, ◌+◌, ◌-◌, ◌^◌, ◌≤◌, ◌⊎◌, min, List, length, sum_by, Option, Some, None}
 use Rattle.std.specs.Io.KnownBytes.{Appends, Keeps}
 use Rattle.np_syntax.specs.declared.event.End.{End}
 use Rattle.np_syntax.specs.declared.event.End.TheVariants.{Rest, Spent}
+use Rattle.stamp_history.specs.Histories.{Stored}
 use Rattle.np_io.specs.Causes.{Rose}
 use Rattle.np_io.specs.Bytes.{AppendsPrefix}
 use Rattle.np_serial.specs.declared.serial.SerialRun.{SerialRun}
 use Rattle.np_words.specs.Plans.{plan}
-use Rattle.np_sources.specs.declared.record.Record.{Record}
+use Rattle.np_on_sites.specs.declared.record.Record.{Record}
 use Rattle.np_verdict.specs.Lines.{line_of, status_of}
 use Rattle.np_verdict.specs.declared.refusal.Refusal.{Refusal}
 use Rattle.np_verdict.specs.declared.refusal.Refusal.TheVariants.{Usage, ReadFault}
@@ -39,7 +40,7 @@ abbrev pub end_status : End → ℕ
 end_status Rest = DONE
 end_status Spent = BUDGET_SPENT
 
--- the status of what was made, where its text was written: a run may have spent its budget
+-- the status of what was made, where its text was written: it tells how a run has ended, if it is one
 abbrev pub status_at : Option Record → Option SerialRun → ℕ
 status_at (Some made) high = end_status made.end
 status_at None (Some made) = end_status made.end
@@ -66,7 +67,7 @@ pub record Refuses (call : Call) (answer : Answer) : Type 0 where
   pub status : answer.status ≡ status_of refusal
   pub refused : IsRefused call answer refusal
 
--- it was made, and its text could not be written whole
+-- it was made; a call of out failed, and what out has of its text is a prefix
 pub record OutFailed (call : Call) (answer : Answer) : Type 0 where
   pub text : List ℕ
   pub made : HasMade call.words call.texts answer.kept answer.high text
@@ -74,7 +75,7 @@ pub record OutFailed (call : Call) (answer : Answer) : Type 0 where
   pub out : AppendsPrefix call.out.old call.out.new text
   pub err : Keeps call.err.old call.err.new
 
--- the line of a refusal could not be written whole
+-- a call of err failed, and what err has of the line of a refusal is a prefix
 pub record ErrFailed (call : Call) (answer : Answer) : Type 0 where
   pub refusal : Refusal
   pub stands : Stands call.words call.texts refusal
@@ -84,7 +85,7 @@ pub record ErrFailed (call : Call) (answer : Answer) : Type 0 where
   pub out : Keeps call.out.old call.out.new
   pub err : AppendsPrefix call.err.old call.err.new (line_of refusal)
 
--- memory was wanting, and nothing was written
+-- nothing is kept, and nothing was written
 pub record IsWanting (call : Call) (answer : Answer) : Type 0 where
   pub kept : answer.kept ≡ None
   pub high : answer.high ≡ None
@@ -106,13 +107,18 @@ pub record HasCauses (call : Call) (answer : Answer) : Type 0 where
   pub memory : answer.status ≡ NO_MEMORY → IsWanting call answer
   pub history : answer.status ≡ BAD_HISTORY → Refuses call answer
   pub status : IsStatus answer.status
-  -- no other text was to begin, and none twice
+  -- no more texts began than the words ask for
   pub begins : call.texts.begins ≤ call.texts.begun + texts_read (plan call.words)
 
 -- ---- what is told of an answer
 
+-- how many events the histories have; the number stands still at the greatest one of 64 bits
+abbrev pub events_of : List Stored → ℕ
+events_of histories = min (sum_by (λ s. length s.history.events) histories) (2 ^ 64 - 1)
+
+-- how many events the run has
 abbrev pub events_in : Option Record → Option SerialRun → Option ℕ
-events_in (Some made) high = Some (length made.events)
+events_in (Some made) high = Some (events_of made.histories)
 events_in None (Some made) = Some (length made.events)
 events_in None None = None
 

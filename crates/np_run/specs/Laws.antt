@@ -1,5 +1,5 @@
 -- What follows from the causes of the answers: when each comes. The texts are told.
-use Rattle.std.specs.Prelude.{◌≡◌, ◌≢◌, ℕ, ◌<◌, ◌≤◌, ◌⊎◌, ◌↔◌, List, length, Option, Some, None}
+use Rattle.std.specs.Prelude.{◌≡◌, ◌≢◌, ℕ, Bool, ◌<◌, ◌≤◌, ◌⊎◌, ◌↔◌, List, length, Option, Some, None}
 use Rattle.np_syntax.specs.declared.limits.TheConstants.{LONGEST_SOURCE}
 use Rattle.np_syntax.specs.declared.program.LowProgram.{LowProgram}
 use Rattle.np_io.specs.Causes.{Rose}
@@ -7,6 +7,9 @@ use Rattle.np_words.specs.Plans.{plan}
 use Rattle.np_words.specs.declared.planning.Plan.{Plan}
 use Rattle.np_words.specs.declared.planning.Plan.TheVariants as plans
 use Rattle.np_words.specs.declared.planning.Task.{Task}
+use Rattle.np_words.specs.declared.modes.Links.{Links}
+use Rattle.np_generate.specs.Generated.{generated}
+use Rattle.np_sources.specs.declared.limits.TheConstants.{LOAD_BUDGET}
 use Rattle.np_verdict.specs.declared.refusal.Refusal.{Refusal}
 use Rattle.np_verdict.specs.declared.refusal.Refusal.TheVariants.{TooLong, HistoryTooLong}
 use Rattle.np_verdict.specs.declared.statuses.TheConstants.{BAD_HISTORY, BAD_SOURCE, BAD_USAGE, BUDGET_SPENT, DONE, NO_MEMORY}
@@ -24,17 +27,16 @@ pub record IsTold (call : Call) (name bytes : List ℕ) : Type 0 where
 
 -- ---- sources
 
--- the source that is read first, and how far; whether a history is read behind it
-pub data ReadsSource : Plan → List ℕ → Reach → Type 0 where
-  alone : (file : List ℕ) (task : Task) → ReadsSource (plans.Source file task) file (reach_of task)
-  replayed : (source history : List ℕ) → ReadsSource (plans.Replay source history) source Reach.low
+-- The source that is read first or generated, how far it is taken, and its bytes; whether a history is read behind it.
+pub data HasSource (call : Call) : Plan → Reach → List ℕ → Type 0 where
+  alone : (file bytes : List ℕ) (task : Task) → IsTold call file bytes → HasSource call (plans.Source file task) (reach_of task) bytes
+  replayed : (source history bytes : List ℕ) → IsTold call source bytes → HasSource call (plans.Replay source history) Reach.low bytes
+  made : (agents : ℕ) (serial : Bool) (links : Links) → HasSource call (plans.Load agents serial links) (Reach.sites LOAD_BUDGET) (generated agents)
 
 -- the words ask for something of a source, and these are its bytes
 pub record Reads (call : Call) (asked : Plan) (reach : Reach) (bytes : List ℕ) : Type 0 where
   pub planned : plan call.words ≡ Some asked
-  pub file : List ℕ
-  pub reads : ReadsSource asked file reach
-  pub told : IsTold call file bytes
+  pub source : HasSource call asked reach bytes
 
 -- the source has a low program, and then the history is read
 pub record Replays (asked : Plan) (bytes : List ℕ) : Type 0 where
@@ -90,12 +92,13 @@ pub record AcceptsHistory (call : Call) (history : List ℕ) : Type 0 where
   pub short : length bytes ≤ LONGEST_HISTORY
   pub accepted : HasEvents bytes
 
--- each text that is read is accepted, and no read of it failed
+-- each text that is read is accepted, and no read of it failed; and so is a generated source that is run
 abbrev pub Accepts : Call → Plan → Type 0
 Accepts call (plans.Source file task) = AcceptsSource call file (reach_of task)
 Accepts call (plans.Replay source history) = AcceptsReplay call source history
 Accepts call (plans.Upgrade history) = AcceptsHistory call history
 Accepts call (plans.Generate agents) = Unit {0}
+Accepts call (plans.Load agents serial links) = TakenTo (Reach.sites LOAD_BUDGET) (generated agents)
 
 -- ---- the laws
 

@@ -1,11 +1,11 @@
 ghost use Rattle.std.specs.Prelude.{◌≡◌};
-ghost use Rattle.np_run.specs.Answers.{told_of};
+ghost use Rattle.np_run.specs.Answers.{events_of, told_of};
 
+use np_on_sites::Record;
 use np_serial::SerialRun;
-use np_sources::Record;
+use stamp_history::History;
 
-/// The exit status, and the run if there was one: `kept` in the mode `run`, `high` in the mode
-/// `high`.
+/// The exit status, and the run if there was one: `kept` in the modes `run` and `load`, `high` in the mode `high`.
 #[derive(Drop)]
 pub struct Answer {
     pub status: u8,
@@ -17,7 +17,7 @@ pub struct Answer {
 #[derive(Clone, Copy, Debug, PartialEq, Eq)]
 pub struct Told {
     pub status: u8,
-    pub events: Option<usize>,
+    pub events: Option<u64>,
 }
 
 impl Answer {
@@ -27,10 +27,21 @@ impl Answer {
     {
         let status = self.status;
         let events = match (&self.kept, &self.high) {
-            (Some(made), _) => Some(made.events.len()),
-            (None, Some(made)) => Some(made.events.len()),
+            (Some(made), _) => Some(events_of(made.histories.as_slice())),
+            (None, Some(made)) => Some(made.events.len() as u64),
             (None, None) => None,
         };
         Told { status, events }
     }
+}
+
+/// How many events the histories have.
+fn events_of(histories: &[History]) -> u64
+    ensures { result ≡ events_of histories.now }
+{
+    let mut events = 0u64;
+    for history in histories {
+        events = events.saturating_add(history.len() as u64);
+    }
+    events
 }

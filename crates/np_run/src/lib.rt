@@ -12,9 +12,10 @@ pub use laws::{
     law_refuses_sources, law_refuses_words,
 };
 pub use np_histories::LONGEST_HISTORY;
-pub use np_sources::{Record, run_low};
+pub use np_on_sites::{Free, Gate, Record};
+pub use np_sources::run_low;
 pub use np_verdict::{
     BAD_HISTORY, BAD_SOURCE, BAD_USAGE, BUDGET_SPENT, DONE, NO_MEMORY, READ_FAILED, Refusal,
     WRITE_FAILED, line, status,
 };
-pub use top::np;
+pub use top::{np, np_gated};

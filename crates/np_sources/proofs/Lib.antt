@@ -1,2 +1,4 @@
 pub mod Once
 pub mod Kept
+pub mod Headlines
+pub mod Short

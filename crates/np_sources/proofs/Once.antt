@@ -1,5 +1,5 @@
 -- A source is taken so far or refused, and refused in one way alone.
-use Rattle.std.proofs.Common.{◌≡◌, ℕ, ◌≤◌, ◌<◌, ◌⊎◌, inl, inr, List, sym, subst, ap, ◌∙◌, arith}
+use Rattle.std.proofs.Common.{◌≡◌, ℕ, ◌*◌, ◌≤◌, ◌<◌, ◌⊎◌, inl, inr, List, length, sym, subst, ap, ◌∙◌, arith}
 use Rattle.np_syntax.specs.declared.program.LowProgram.{LowProgram}
 use Rattle.np_syntax.specs.declared.program.Program.{Program}
 use Rattle.np_code.specs.Sizes.{capped, program_nodes}
@@ -10,7 +10,8 @@ use Rattle.np_verdict.specs.Lines.{status_of}
 use Rattle.np_verdict.specs.declared.refusal.Refusal.{Refusal}
 use Rattle.np_verdict.specs.declared.refusal.Refusal.TheVariants.{Usage, TooLong, TooManyNodes}
 use Rattle.np_verdict.proofs.Verdicts as verdicts
-use Rattle.np_sources.specs.Reaches.{Reach, IsLowOf, IsTooLarge, TakenTo, FaultyTo}
+use Rattle.np_sources.specs.Reaches.{Reach, HasFewEvents, HasManyEvents, HasNoLow, IsLowOf, IsTooLarge, TakenTo, FaultyTo}
+use Rattle.np_sources.specs.declared.limits.TheConstants.{MOST_EVENTS}
 
 -- a source has one low program
 pub same_low : (bytes : List ℕ) (low other : LowProgram) → IsLowOf bytes low → IsLowOf bytes other → low ≡ other
@@ -25,48 +26,87 @@ not_too_large bytes low refusal a f =
     let same : low ≡ encoded f.program = a.is ∙ ap encoded (verdicts.well_typed_once bytes a.program f.program a.accepted f.accepted) in
     few_or_many (program_nodes (encoded f.program)) (subst (λ (p : LowProgram). program_nodes p ≤ MOST_CODE_NODES) same a.few) f.large.many
 
+low_not_both : (bytes : List ℕ) (refusal : Refusal) (low : LowProgram) → IsLowOf bytes low → HasNoLow bytes refusal → ⊥
+low_not_both bytes refusal low is (inl f) = verdicts.not_both Stage.program bytes refusal (is.program, is.accepted) f
+low_not_both bytes refusal low is (inr f) = not_too_large bytes low refusal is f
+
+-- the events within a budget are few or too many
+few_events : (n : ℕ) → n ≤ MOST_EVENTS → MOST_EVENTS < n → ⊥
+few_events n few many = omega (arith, few, many)
+
+not_many : (budget : ℕ) (bytes : List ℕ) (refusal : Refusal) → HasFewEvents budget bytes → HasManyEvents budget bytes refusal → ⊥
+not_many budget bytes refusal a f =
+    let same : a.low ≡ f.low = same_low bytes a.low f.low a.lowered f.lowered in
+    few_events (length f.low.sites * budget) (subst (λ (p : LowProgram). length p.sites * budget ≤ MOST_EVENTS) same a.few) f.many
+
 -- no source is both taken so far and refused
 pub not_both : (reach : Reach) (bytes : List ℕ) (refusal : Refusal) → TakenTo reach bytes → FaultyTo reach bytes refusal → ⊥
 not_both Reach.tree bytes refusal a f = verdicts.not_both Stage.tree bytes refusal a f
 not_both Reach.program bytes refusal a f = verdicts.not_both Stage.program bytes refusal a f
-not_both Reach.low bytes refusal a (inl f) = verdicts.not_both Stage.program bytes refusal (a.1.program, a.1.accepted) f
-not_both Reach.low bytes refusal a (inr f) = not_too_large bytes a.0 refusal a.1 f
+not_both Reach.low bytes refusal a f = low_not_both bytes refusal a.0 a.1 f
+not_both (Reach.sites budget) bytes refusal a (inl f) = low_not_both bytes refusal a.low a.lowered f
+not_both (Reach.sites budget) bytes refusal a (inr f) = not_many budget bytes refusal a f
 
 large_once : (bytes : List ℕ) (a b : Refusal) → IsTooLarge bytes a → IsTooLarge bytes b → a ≡ b
 large_once bytes a b f g =
-    f.large.is ∙ ap (λ (p : Program). TooManyNodes (capped (program_nodes (encoded p)))) (verdicts.well_typed_once bytes f.program g.program f.accepted g.accepted)
-    ∙ sym g.large.is
+    let same : f.program ≡ g.program = verdicts.well_typed_once bytes f.program g.program f.accepted g.accepted in
+    f.large.is ∙ ap (λ (p : Program). TooManyNodes (capped (program_nodes (encoded p)))) same ∙ sym g.large.is
 
 -- a source that is too large is well typed
 not_faulty : (bytes : List ℕ) (a b : Refusal) → IsTooLarge bytes a → Faulty Stage.program bytes b → ⊥
 not_faulty bytes a b f g = verdicts.not_both Stage.program bytes b (f.program, f.accepted) g
 
+low_fault : (bytes : List ℕ) (a b : Refusal) → HasNoLow bytes a → HasNoLow bytes b → a ≡ b
+low_fault bytes a b (inl f) (inl g) = verdicts.same_fault Stage.program bytes a b f g
+low_fault bytes a b (inl f) (inr g) = absurd (not_faulty bytes b a g f)
+low_fault bytes a b (inr f) (inl g) = absurd (not_faulty bytes a b f g)
+low_fault bytes a b (inr f) (inr g) = large_once bytes a b f g
+
 -- a source is refused in one way
 pub same_fault : (reach : Reach) (bytes : List ℕ) (a b : Refusal) → FaultyTo reach bytes a → FaultyTo reach bytes b → a ≡ b
 same_fault Reach.tree bytes a b f g = verdicts.same_fault Stage.tree bytes a b f g
 same_fault Reach.program bytes a b f g = verdicts.same_fault Stage.program bytes a b f g
-same_fault Reach.low bytes a b (inl f) (inl g) = verdicts.same_fault Stage.program bytes a b f g
-same_fault Reach.low bytes a b (inl f) (inr g) = absurd (not_faulty bytes b a g f)
-same_fault Reach.low bytes a b (inr f) (inl g) = absurd (not_faulty bytes a b f g)
-same_fault Reach.low bytes a b (inr f) (inr g) = large_once bytes a b f g
+same_fault Reach.low bytes a b f g = low_fault bytes a b f g
+same_fault (Reach.sites budget) bytes a b (inl f) (inl g) = low_fault bytes a b f g
+same_fault (Reach.sites budget) bytes a b (inl f) (inr g) = absurd (low_not_both bytes a g.low g.lowered f)
+same_fault (Reach.sites budget) bytes a b (inr f) (inl g) = absurd (low_not_both bytes b f.low f.lowered g)
+same_fault (Reach.sites budget) bytes a b (inr f) (inr g) = f.is ∙ sym g.is
 
 -- ---- refusals that are of no source
+
+low_not_long : (bytes : List ℕ) → HasNoLow bytes TooLong → ⊥
+low_not_long bytes (inl f) = verdicts.not_long Stage.program bytes f
+low_not_long bytes (inr f) = let is = f.large.is in cc
 
 pub not_long : (reach : Reach) (bytes : List ℕ) → FaultyTo reach bytes TooLong → ⊥
 not_long Reach.tree bytes f = verdicts.not_long Stage.tree bytes f
 not_long Reach.program bytes f = verdicts.not_long Stage.program bytes f
-not_long Reach.low bytes (inl f) = verdicts.not_long Stage.program bytes f
-not_long Reach.low bytes (inr f) = let is = f.large.is in cc
+not_long Reach.low bytes f = low_not_long bytes f
+not_long (Reach.sites budget) bytes (inl f) = low_not_long bytes f
+not_long (Reach.sites budget) bytes (inr f) = let is = f.is in cc
+
+low_not_usage : (bytes : List ℕ) → HasNoLow bytes Usage → ⊥
+low_not_usage bytes (inl f) = verdicts.not_usage Stage.program bytes f
+low_not_usage bytes (inr f) = let is = f.large.is in cc
 
 pub not_usage : (reach : Reach) (bytes : List ℕ) → FaultyTo reach bytes Usage → ⊥
 not_usage Reach.tree bytes f = verdicts.not_usage Stage.tree bytes f
 not_usage Reach.program bytes f = verdicts.not_usage Stage.program bytes f
-not_usage Reach.low bytes (inl f) = verdicts.not_usage Stage.program bytes f
-not_usage Reach.low bytes (inr f) = let is = f.large.is in cc
+not_usage Reach.low bytes f = low_not_usage bytes f
+not_usage (Reach.sites budget) bytes (inl f) = low_not_usage bytes f
+not_usage (Reach.sites budget) bytes (inr f) = let is = f.is in cc
+
+abbrev IsOfSource : Refusal → Type 0
+IsOfSource refusal = (status_of refusal ≡ 3) ⊎ (status_of refusal ≡ 6)
+
+low_status : (bytes : List ℕ) (refusal : Refusal) → HasNoLow bytes refusal → IsOfSource refusal
+low_status bytes refusal (inl f) = verdicts.faulty_status Stage.program bytes refusal f
+low_status bytes refusal (inr f) = inl (ap status_of f.large.is)
 
 -- the status of such a refusal is 3, but for want of memory
 pub faulty_status : (reach : Reach) (bytes : List ℕ) (refusal : Refusal) → FaultyTo reach bytes refusal → (status_of refusal ≡ 3) ⊎ (status_of refusal ≡ 6)
 faulty_status Reach.tree bytes refusal f = verdicts.faulty_status Stage.tree bytes refusal f
 faulty_status Reach.program bytes refusal f = verdicts.faulty_status Stage.program bytes refusal f
-faulty_status Reach.low bytes refusal (inl f) = verdicts.faulty_status Stage.program bytes refusal f
-faulty_status Reach.low bytes refusal (inr f) = inl (ap status_of f.large.is)
+faulty_status Reach.low bytes refusal f = low_status bytes refusal f
+faulty_status (Reach.sites budget) bytes refusal (inl f) = low_status bytes refusal f
+faulty_status (Reach.sites budget) bytes refusal (inr f) = inl (ap status_of f.is)

@@ -1,26 +1,29 @@
 -- How far a source is taken, and what is wrong with one that is not taken so far (docs/LANGUAGE.md, "Reports and refusals" and
 -- "Limits").
-use Rattle.std.specs.Prelude.{◌≡◌, ℕ, ◌<◌, ◌≤◌, ◌⊎◌, List}
+use Rattle.std.specs.Prelude.{◌≡◌, ℕ, ◌*◌, ◌<◌, ◌≤◌, ◌⊎◌, List, length}
 use Rattle.np_syntax.specs.declared.program.LowProgram.{LowProgram}
 use Rattle.np_syntax.specs.declared.program.Program.{Program}
 use Rattle.np_code.specs.Sizes.{capped, program_nodes}
 use Rattle.np_code.specs.declared.limits.TheConstants.{MOST_CODE_NODES}
 use Rattle.daemon_encode.specs.Encoded.{encoded}
+use Rattle.np_check.specs.Faults.{IsAccepted}
 use Rattle.np_verdict.specs.Faults.{Stage, Accepted, Faulty, IsWellTyped}
 use Rattle.np_verdict.specs.declared.refusal.Refusal.{Refusal}
-use Rattle.np_verdict.specs.declared.refusal.Refusal.TheVariants.{TooManyNodes}
+use Rattle.np_verdict.specs.declared.refusal.Refusal.TheVariants.{TooManyNodes, TooManyEvents}
 use Rattle.np_words.specs.declared.planning.Task.{Task}
 use Rattle.np_words.specs.declared.planning.Task.TheVariants as task
+use Rattle.np_sources.specs.declared.limits.TheConstants.{MOST_EVENTS}
 
--- to its tree, to its program, or to a low program that has a code
+-- to its tree, to its program, to a low program that has a code, or to a run of that on its sites within a budget
 pub data Reach : Type 0 where
   tree : Reach
   program : Reach
   low : Reach
+  sites : ℕ → Reach
 
--- how far what is asked for takes a source: `show` asks for no types, and `low` alone for the low program
+-- how far what is asked for takes a source: `show` asks for no types, `low` for the low program, and `run` alone for its run
 abbrev pub reach_of : Task → Reach
-reach_of (task.Run budget history high serial links) = Reach.program
+reach_of (task.Run budget history high serial links) = Reach.sites budget
 reach_of (task.High budget history) = Reach.program
 reach_of task.Show = Reach.tree
 reach_of task.Check = Reach.program
@@ -35,11 +38,23 @@ pub record IsLowOf (bytes : List ℕ) (low : LowProgram) : Type 0 where
   pub is : low ≡ encoded program
   pub few : program_nodes low ≤ MOST_CODE_NODES
 
+-- the source has this low program, and its program is accepted
+pub record IsCompiled (bytes : List ℕ) (low : LowProgram) : Type 0 where
+  pub lowered : IsLowOf bytes low
+  pub accepted : IsAccepted lowered.program
+
+-- the source has a low program, whose sites make few events within the budget
+pub record HasFewEvents (budget : ℕ) (bytes : List ℕ) : Type 0 where
+  pub low : LowProgram
+  pub lowered : IsLowOf bytes low
+  pub few : length low.sites * budget ≤ MOST_EVENTS
+
 -- the source is accepted so far
 abbrev pub TakenTo : Reach → List ℕ → Type 0
 TakenTo Reach.tree bytes = Accepted Stage.tree bytes
 TakenTo Reach.program bytes = Accepted Stage.program bytes
 TakenTo Reach.low bytes = (low : LowProgram) × IsLowOf bytes low
+TakenTo (Reach.sites budget) bytes = HasFewEvents budget bytes
 
 -- ---- what is refused
 
@@ -54,8 +69,20 @@ pub record IsTooLarge (bytes : List ℕ) (refusal : Refusal) : Type 0 where
   pub accepted : IsWellTyped bytes program
   pub large : HasManyNodes (encoded program) refusal
 
+-- the source is well typed, and nothing is wrong with its low program but that its sites could make too many events within the budget
+pub record HasManyEvents (budget : ℕ) (bytes : List ℕ) (refusal : Refusal) : Type 0 where
+  pub low : LowProgram
+  pub lowered : IsLowOf bytes low
+  pub many : MOST_EVENTS < length low.sites * budget
+  pub is : refusal ≡ TooManyEvents
+
+-- the source has no low program
+abbrev pub HasNoLow : List ℕ → Refusal → Type 0
+HasNoLow bytes refusal = Faulty Stage.program bytes refusal ⊎ IsTooLarge bytes refusal
+
 -- the source is refused so, where it is to be taken so far
 abbrev pub FaultyTo : Reach → List ℕ → Refusal → Type 0
 FaultyTo Reach.tree bytes refusal = Faulty Stage.tree bytes refusal
 FaultyTo Reach.program bytes refusal = Faulty Stage.program bytes refusal
-FaultyTo Reach.low bytes refusal = Faulty Stage.program bytes refusal ⊎ IsTooLarge bytes refusal
+FaultyTo Reach.low bytes refusal = HasNoLow bytes refusal
+FaultyTo (Reach.sites budget) bytes refusal = HasNoLow bytes refusal ⊎ HasManyEvents budget bytes refusal

@@ -1,6 +1,6 @@
 ghost use Rattle.std.specs.Prelude.{◌≡◌, None};
 
-use super::record::Record;
+use np_on_sites::Record;
 use np_serial::SerialRun;
 use np_syntax::Text;
 

@@ -2,13 +2,17 @@
 #![tactic(auto)]
 
 mod job;
+mod limits;
+mod loads;
 mod lowering;
-mod record;
 mod runs;
+mod sites;
 mod sources;
 
 pub use job::{Job, text_alone};
+pub use limits::{LOAD_BUDGET, MOST_EVENTS};
+pub use loads::load_of;
 pub use lowering::low_of;
-pub use record::Record;
+pub use np_on_sites::Record;
 pub use runs::run_low;
 pub use sources::job_of;

@@ -3,17 +3,26 @@
 ghost use Rattle.std.specs.Prelude.{◌≡◌, ◌≢◌, ◌≤◌, length, IfOk, IfErr};
 ghost use Rattle.np_calculus.specs.Runs.{RunsWell};
 ghost use Rattle.np_calculus.specs.Starts.{start_low};
+ghost use Rattle.np_check.specs.Faults.{IsAccepted};
+ghost use Rattle.np_code.specs.Programs.{program};
 ghost use Rattle.np_code.specs.Sizes.{program_nodes};
 ghost use Rattle.np_code.specs.declared.limits.TheConstants.{MOST_CODE_NODES};
 ghost use Rattle.daemon_encode.specs.Encoded.{encoded};
-ghost use Rattle.np_sources.specs.Reaches.{Reach, FaultyTo, HasManyNodes, IsLowOf};
+ghost use Rattle.np_sources.specs.Reaches.{Reach, FaultyTo, HasManyNodes, IsCompiled, IsLowOf};
 
 use daemon_encode::{encode, law_low_runs_well};
 use np_check::Checked;
-use np_code::{CodeFail, flatten};
+use np_code::{Code, CodeFail, flatten};
 use np_syntax::{LONGEST_SOURCE, LowProgram, Memory};
 use np_verdict::{Refusal, checked_source};
 use std::alloc::Global;
+
+/// A low program, and the table of its process nodes.
+#[derive(Drop)]
+pub(crate) struct Lowered {
+    pub low: LowProgram,
+    pub code: Code,
+}
 
 /// The low program of a source, or the first refusal of a mode that translates it.
 pub fn low_of(alloc: Global, bytes: &[u8]) -> Result<LowProgram, Refusal>
@@ -22,9 +31,22 @@ pub fn low_of(alloc: Global, bytes: &[u8]) -> Result<LowProgram, Refusal>
     ensures runs { IfOk result (λ low. RunsWell (start_low low) low.at) }
     ensures refused { IfErr result (λ refusal. refusal ≢ Refusal.Memory → FaultyTo Reach.low bytes.now refusal) }
 {
+    let Lowered { low, code } = low_with_code(alloc, bytes)?;
+    drop(code);
+    Ok(low)
+}
+
+/// The low program of a source with its table, or the first refusal of a mode that translates it.
+pub(crate) fn low_with_code(alloc: Global, bytes: &[u8]) -> Result<Lowered, Refusal>
+    requires { length bytes.now ≤ LONGEST_SOURCE }
+    ensures made { IfOk result (λ made. IsCompiled bytes.now made.low) }
+    ensures code { IfOk result (λ made. program made.code ≡ made.low) }
+    ensures runs { IfOk result (λ made. RunsWell (start_low made.low) made.low.at) }
+    ensures refused { IfErr result (λ refusal. refusal ≢ Refusal.Memory → FaultyTo Reach.low bytes.now refusal) }
+{
     let checked = checked_source(alloc, bytes)?;
     match translated(alloc, checked) {
-        Ok(low) => kept(alloc, low),
+        Ok(low) => coded(alloc, low),
         Err(Memory) => Err(Refusal::Memory),
     }
 }
@@ -32,6 +54,7 @@ pub fn low_of(alloc: Global, bytes: &[u8]) -> Result<LowProgram, Refusal>
 /// The low program of a checked program, which is dropped.
 fn translated(alloc: Global, checked: Checked) -> Result<LowProgram, Memory>
     ensures gives { IfOk result (λ low. low ≡ encoded checked) }
+    ensures accepted { IsAccepted checked }
     ensures runs { IfOk result (λ low. RunsWell (start_low low) low.at) }
 {
     law_low_runs_well();
@@ -41,29 +64,28 @@ fn translated(alloc: Global, checked: Checked) -> Result<LowProgram, Memory>
     made
 }
 
-/// The low program itself, where it has a code.
-fn kept(alloc: Global, low: LowProgram) -> Result<LowProgram, Refusal>
-    ensures same { IfOk result (λ kept. kept ≡ low) }
-    ensures few { IfOk result (λ kept. program_nodes kept ≤ MOST_CODE_NODES) }
+/// The low program itself with its table, where it has one.
+fn coded(alloc: Global, low: LowProgram) -> Result<Lowered, Refusal>
+    ensures same { IfOk result (λ made. made.low ≡ low) }
+    ensures code { IfOk result (λ made. program made.code ≡ made.low) }
+    ensures few { IfOk result (λ made. program_nodes made.low ≤ MOST_CODE_NODES) }
     ensures refused { IfErr result (λ refusal. refusal ≢ Refusal.Memory → HasManyNodes low refusal) }
 {
-    let counted = has_code(alloc, &low);
-    match counted {
-        Ok(()) => Ok(low),
+    let made = code_of(alloc, &low);
+    match made {
+        Ok(code) => Ok(Lowered { low, code }),
         Err(refusal) => Err(refusal),
     }
 }
 
-/// Refuses a low program that has no code. The code itself is dropped until a machine runs it.
-fn has_code(alloc: Global, low: &LowProgram) -> Result<(), Refusal>
+/// The table of a low program, or the refusal where its nodes are too many.
+fn code_of(alloc: Global, low: &LowProgram) -> Result<Code, Refusal>
+    ensures code { IfOk result (λ code. program code ≡ low.now) }
     ensures few { IfOk result (λ _. program_nodes low.now ≤ MOST_CODE_NODES) }
     ensures refused { IfErr result (λ refusal. refusal ≢ Refusal.Memory → HasManyNodes low.now refusal) }
 {
     match flatten(alloc, low) {
-        Ok(code) => {
-            drop(code);
-            Ok(())
-        }
+        Ok(code) => Ok(code),
         Err(CodeFail::TooManyNodes(nodes)) => Err(Refusal::TooManyNodes(nodes)),
         Err(CodeFail::Memory) => Err(Refusal::Memory),
     }

@@ -6,10 +6,10 @@ ghost use Rattle.np_calculus.specs.Starts.{start_high, start_low};
 ghost use Rattle.np_report.specs.Report.{report_text};
 ghost use Rattle.np_verdict.specs.Faults.{Stage, Faulty};
 ghost use Rattle.np_sources.specs.Reaches.{Reach, FaultyTo};
-ghost use Rattle.np_sources.specs.Makes.{IsRunOf, KeepsLow, Runs, RunsLow, high_part, record_of};
+ghost use Rattle.np_sources.specs.Headline.{high_part};
+ghost use Rattle.np_sources.specs.Makes.{IsRunOf, Runs, RunsLow};
 
 use super::lowering::low_of;
-use super::record::Record;
 use history_text::write_high;
 use np_check::Checked;
 use np_report::report;
@@ -38,7 +38,7 @@ pub(crate) fn run_of(
 }
 
 /// The high text of the events where it is asked for, and nothing where it is not.
-fn high_part(alloc: Global, history: bool, events: &[Event]) -> Result<Text, Memory>
+pub(crate) fn high_part(alloc: Global, history: bool, events: &[Event]) -> Result<Text, Memory>
     ensures { IfOk result (λ text. text ≡ high_part history events.now) }
 {
     if history {
@@ -79,17 +79,7 @@ fn run(
 
 /// Runs the low program of a source in one thread, one event after another, for at most so many events, and makes the
 /// report. It is the plain run with which other ways to run a low program can be compared.
-pub fn run_low(alloc: Global, budget: u32, bytes: &[u8]) -> Result<(Record, Text), Refusal>
-    requires { length bytes.now ≤ LONGEST_SOURCE }
-    ensures made { IfOk result (λ made. KeepsLow budget bytes.now made.0 made.1) }
-    ensures refused { IfErr result (λ refusal. refusal ≢ Refusal.Memory → FaultyTo Reach.low bytes.now refusal) }
-{
-    let (made, text) = low_run_of(alloc, budget, bytes)?;
-    Ok((record_of(made), text))
-}
-
-/// The run of the low program of a source, with the text of its report.
-fn low_run_of(alloc: Global, budget: u32, bytes: &[u8]) -> Result<(SerialRun, Text), Refusal>
+pub fn run_low(alloc: Global, budget: u32, bytes: &[u8]) -> Result<(SerialRun, Text), Refusal>
     requires { length bytes.now ≤ LONGEST_SOURCE }
     ensures made { IfOk result (λ made. RunsLow budget bytes.now made.0 made.1) }
     ensures refused { IfErr result (λ refusal. refusal ≢ Refusal.Memory → FaultyTo Reach.low bytes.now refusal) }
@@ -109,13 +99,4 @@ fn run_encoded(alloc: Global, budget: u32, low: &LowProgram) -> Result<(SerialRu
     let made = run_serial_low(alloc, low, budget)?;
     let text = report_of(alloc, &low.sites, false, &made)?;
     Ok((made, text))
-}
-
-/// The events of a run and how it ended. The last configuration is dropped.
-pub(crate) fn record_of(made: SerialRun) -> Record
-    ensures { result ≡ record_of made }
-{
-    let SerialRun { events, last, end } = made;
-    drop(last);
-    Record { events, end }
 }

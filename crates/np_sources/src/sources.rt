@@ -3,45 +3,62 @@
 ghost use Rattle.std.specs.Prelude.{◌≢◌, ◌≤◌, length, IfOk, IfErr};
 ghost use Rattle.np_verdict.specs.Faults.{Stage, Faulty};
 ghost use Rattle.np_sources.specs.Reaches.{Reach, FaultyTo, reach_of};
-ghost use Rattle.np_sources.specs.Makes.{KeepsRun, KeepsHigh, Shows, Checks, Lowers, DoesTask};
+ghost use Rattle.np_words.specs.Plans.{HasBudget};
+ghost use Rattle.np_sources.specs.Makes.{KeepsHigh, Shows, Checks, Lowers, DoesTask};
 
 use super::job::{Job, text_alone};
 use super::lowering::low_of;
-use super::runs::{record_of, run_of};
+use super::runs::run_of;
+use super::sites::{Course, Shown, job_on_sites};
 use np_low_text::print_low;
+use np_on_sites::Gate;
 use np_show::show;
 use np_syntax::{LONGEST_SOURCE, List, Memory};
 use np_verdict::{Refusal, checked_source, tokens_of, tree_of};
 use np_words::Task;
 use std::alloc::Global;
+use std::thread::Threads;
 
 /// Does with the bytes of a source what is asked for.
-pub fn job_of(alloc: Global, task: Task, bytes: &[u8]) -> Result<Job, Refusal>
-    requires { length bytes.now ≤ LONGEST_SOURCE }
+pub fn job_of<R: Threads + Sync, G: Gate>(
+    alloc: Global,
+    rt: &R,
+    gate: &G,
+    task: Task,
+    bytes: &[u8],
+) -> Result<Job, Refusal>
+    requires short { length bytes.now ≤ LONGEST_SOURCE }
+    requires budget { HasBudget task }
     ensures made { IfOk result (λ job. DoesTask task bytes.now job.kept job.high job.text) }
     ensures refused { IfErr result (λ refusal. refusal ≢ Refusal.Memory → FaultyTo (reach_of task) bytes.now refusal) }
 {
     match task {
-        Task::Run { budget, .. } => run_source(alloc, budget, bytes),
+        Task::Run {
+            budget,
+            history,
+            high,
+            serial,
+            links,
+        } => {
+            let course = Course {
+                budget,
+                serial,
+                links,
+            };
+            job_on_sites(
+                alloc,
+                rt,
+                gate,
+                course,
+                Shown::Printed { history, high },
+                bytes,
+            )
+        }
         Task::High { budget, history } => high_source(alloc, budget, history, bytes),
         Task::Show => show_source(alloc, bytes),
         Task::Check => check_source(alloc, bytes),
         Task::Low => low_source(alloc, bytes),
     }
-}
-
-/// Runs a source in the mode `run`: keeps its events and how it ended.
-fn run_source(alloc: Global, budget: u32, bytes: &[u8]) -> Result<Job, Refusal>
-    requires { length bytes.now ≤ LONGEST_SOURCE }
-    ensures made { IfOk result (λ job. KeepsRun budget bytes.now job.kept job.high job.text) }
-    ensures refused { IfErr result (λ refusal. refusal ≢ Refusal.Memory → Faulty Stage.program bytes.now refusal) }
-{
-    let (made, text) = run_of(alloc, budget, false, bytes)?;
-    Ok(Job {
-        kept: Some(record_of(made)),
-        high: None,
-        text,
-    })
 }
 
 /// Runs a source in the mode `high`: keeps the whole run.

@@ -4,7 +4,7 @@ use Rattle.std.specs.Fmt.{decimal}
 use Rattle.np_types.specs.declared.fault.Rule.{Rule}
 use Rattle.np_types.specs.declared.fault.Rule.TheVariants as rule
 use Rattle.np_verdict.specs.declared.refusal.Refusal.{Refusal}
-use Rattle.np_verdict.specs.declared.refusal.Refusal.TheVariants.{Memory, Usage, ReadFault, TooLong, BadChar, BadString, BigNumber, Syntax, TooDeep, Unbound, SiteTwice, TooManySites, NotASite, TypeFault, TooManyNodes, HistoryTooLong, HistSyntax, NotARun}
+use Rattle.np_verdict.specs.declared.refusal.Refusal.TheVariants.{Memory, Usage, ReadFault, TooLong, BadChar, BadString, BigNumber, Syntax, TooDeep, Unbound, SiteTwice, TooManySites, NotASite, TypeFault, TooManyNodes, TooManyEvents, HistoryTooLong, HistSyntax, NotARun}
 use Rattle.np_verdict.specs.declared.statuses.TheConstants.{BAD_HISTORY, BAD_SOURCE, BAD_USAGE, NO_MEMORY, READ_FAILED}
 
 -- the line of a refusal with its offset, line or index
@@ -42,6 +42,7 @@ line_of (TooManySites at) = placed_line (codes "np: 14 TooManySites at ") at
 line_of (NotASite at) = placed_line (codes "np: 15 NotASite at ") at
 line_of (TypeFault fault) = codes "np: 16 TypeFault " ++ rule_text fault.rule ++ placed_line (codes " at ") fault.at
 line_of (TooManyNodes nodes) = codes "np: 18 TooManyNodes\n"
+line_of TooManyEvents = codes "np: 23 TooManyEvents\n"
 line_of HistoryTooLong = codes "np: 5 TooLong\n"
 line_of (HistSyntax line) = placed_line (codes "np: 20 HistSyntax at ") line
 line_of (NotARun index) = placed_line (codes "np: 21 NotARun at ") index

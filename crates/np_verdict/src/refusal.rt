@@ -51,6 +51,9 @@ pub enum Refusal {
     /// The low program has more than 65,536 process nodes: so many, at most the greatest `u64`.
     #[error("the low program has {0} process nodes")]
     TooManyNodes(u64),
+    /// The sites could make more than 6,400,000 events within the budget.
+    #[error("the sites could make too many events")]
+    TooManyEvents,
     /// The history has more than 67,108,864 bytes.
     #[error("the history is too long")]
     HistoryTooLong,
@@ -121,6 +124,7 @@ pub fn line(alloc: Global, refusal: Refusal) -> Result<Text, Memory>
         Refusal::NotASite(at) => placed_line(alloc, b"np: 15 NotASite at ", at),
         Refusal::TypeFault(fault) => fault_line(alloc, fault),
         Refusal::TooManyNodes(_) => List::from_slice(alloc, b"np: 18 TooManyNodes\n"),
+        Refusal::TooManyEvents => List::from_slice(alloc, b"np: 23 TooManyEvents\n"),
         Refusal::HistoryTooLong => List::from_slice(alloc, b"np: 5 TooLong\n"),
         Refusal::HistSyntax(line) => placed_line(alloc, b"np: 20 HistSyntax at ", line),
         Refusal::NotARun(index) => placed_line(alloc, b"np: 21 NotARun at ", index),
@@ -186,7 +190,8 @@ pub fn status(refusal: Refusal) -> u8
         | Refusal::TooManySites(_)
         | Refusal::NotASite(_)
         | Refusal::TypeFault(_)
-        | Refusal::TooManyNodes(_) => BAD_SOURCE,
+        | Refusal::TooManyNodes(_)
+        | Refusal::TooManyEvents => BAD_SOURCE,
         Refusal::HistoryTooLong | Refusal::HistSyntax(_) | Refusal::NotARun(_) => BAD_HISTORY,
     }
 }

@@ -3,9 +3,9 @@ use Rattle.std.proofs.Common.{◌≡◌, ℕ, Bool, false, true, List, [], ◌�
 use Rattle.clap.proofs.OnLiterals.{clap_on_literals}
 use Rattle.np_words.specs.Arguments.{command, taken}
 use Rattle.np_words.specs.Plans.{plan}
-use Rattle.np_words.specs.declared.modes.Links.TheVariants.{Rings}
+use Rattle.np_words.specs.declared.modes.Links.TheVariants.{Tray, Rings}
 use Rattle.np_words.specs.declared.planning.Plan.{Plan}
-use Rattle.np_words.specs.declared.planning.Plan.TheVariants.{Source, Replay, Upgrade, Generate}
+use Rattle.np_words.specs.declared.planning.Plan.TheVariants.{Source, Replay, Upgrade, Generate, Load}
 use Rattle.np_words.specs.declared.planning.Task.TheVariants.{Run, High, Show}
 
 abbrev runs : List ℕ → ℕ → Option Plan
@@ -58,6 +58,22 @@ upgrade_one : plan (codes "upgrade" ∷ a ∷ []) ≡ Some (Upgrade a)
 unfolding plan taken command clap_on_literals
 upgrade_one = refl
 
+history_of_run : plan (codes "run" ∷ a ∷ codes "--history" ∷ codes "--high" ∷ []) ≡ Some (Source a (Run 10000 true true false Rings))
+unfolding plan taken command clap_on_literals
+history_of_run = refl
+
+links_of_run : plan (codes "run" ∷ a ∷ codes "--links" ∷ codes "tray" ∷ codes "--serial" ∷ []) ≡ Some (Source a (Run 10000 false false true Tray))
+unfolding plan taken command clap_on_literals
+links_of_run = refl
+
+load_one : plan (codes "load" ∷ codes "1" ∷ []) ≡ Some (Load 1 false Rings)
+unfolding plan taken command clap_on_literals
+load_one = refl
+
+load_serial : plan (codes "load" ∷ codes "100" ∷ codes "--serial" ∷ codes "--links=tray" ∷ []) ≡ Some (Load 100 true Tray)
+unfolding plan taken command clap_on_literals
+load_serial = refl
+
 most_agents : plan (codes "gen" ∷ codes "100" ∷ []) ≡ Some (Generate 100)
 unfolding plan taken command clap_on_literals
 most_agents = refl
@@ -80,7 +96,7 @@ fourth_word : plan (codes "run" ∷ a ∷ a ∷ a ∷ []) ≡ None
 unfolding plan taken command clap_on_literals
 fourth_word = refl
 
-other_mode : plan (codes "load" ∷ codes "1" ∷ []) ≡ None
+other_mode : plan (codes "past" ∷ a ∷ codes "b" ∷ []) ≡ None
 unfolding plan taken command clap_on_literals
 other_mode = refl
 
@@ -128,18 +144,23 @@ budget_of_show : plan (codes "show" ∷ a ∷ budget ∷ codes "5" ∷ []) ≡ N
 unfolding plan taken command clap_on_literals
 budget_of_show = refl
 
--- an option that no mode which is built has
+-- options that the mode does not have
 serial_check : plan (codes "check" ∷ a ∷ codes "--serial" ∷ []) ≡ None
 unfolding plan taken command clap_on_literals
 serial_check = refl
 
-history_of_run : plan (codes "run" ∷ a ∷ codes "--history" ∷ []) ≡ None
+budget_of_load : plan (codes "load" ∷ codes "1" ∷ budget ∷ codes "5" ∷ []) ≡ None
 unfolding plan taken command clap_on_literals
-history_of_run = refl
+budget_of_load = refl
 
-links_of_run : plan (codes "run" ∷ a ∷ codes "--links" ∷ codes "tray" ∷ []) ≡ None
+many_loaded : plan (codes "load" ∷ codes "101" ∷ []) ≡ None
 unfolding plan taken command clap_on_literals
-links_of_run = refl
+many_loaded = refl
+
+-- a kind of links that is not built
+other_links : plan (codes "run" ∷ a ∷ codes "--links" ∷ codes "inbox" ∷ []) ≡ None
+unfolding plan taken command clap_on_literals
+other_links = refl
 
 unknown_option : plan (codes "run" ∷ a ∷ codes "--fast" ∷ []) ≡ None
 unfolding plan taken command clap_on_literals

@@ -22,15 +22,19 @@ mode_word mode.Low = codes "low"
 mode_word mode.Replay = codes "replay"
 mode_word mode.Upgrade = codes "upgrade"
 mode_word mode.Gen = codes "gen"
+mode_word mode.Load = codes "load"
 
 abbrev pub no_options : Options
 no_options = record { budget = false; history = false; high = false; serial = false; links = false }
 
 abbrev pub run_options : Options
-run_options = record no_options { budget = true }
+run_options = record { budget = true; history = true; high = true; serial = true; links = true }
 
 abbrev pub high_options : Options
 high_options = record no_options { budget = true; history = true }
+
+abbrev pub load_options : Options
+load_options = record no_options { serial = true; links = true }
 
 -- a mode that has no SECOND
 abbrev pub alone : Mode → Options → Entry
@@ -42,7 +46,7 @@ modes =
     alone mode.Run run_options ∷ alone mode.High high_options
     ∷ alone mode.Show no_options ∷ alone mode.Check no_options ∷ alone mode.Low no_options
     ∷ record { mode = mode.Replay; second = true; options = no_options }
-    ∷ alone mode.Upgrade no_options ∷ alone mode.Gen no_options ∷ []
+    ∷ alone mode.Upgrade no_options ∷ alone mode.Gen no_options ∷ alone mode.Load load_options ∷ []
 
 abbrev pub entry_of : List ℕ → Option Entry
 entry_of word = find (λ (entry : Entry). bytes_eq (mode_word entry.mode) word) modes
@@ -65,10 +69,10 @@ number_of most word = if is_numeral word then within most (digits_value 10 word)
 abbrev pub links_word : Links → List ℕ
 links_word links.Tray = codes "tray"
 links_word links.Rings = codes "rings"
-links_word links.Inbox = codes "inbox"
 
+-- the kinds that are built
 abbrev pub kinds : List Links
-kinds = links.Tray ∷ links.Rings ∷ links.Inbox ∷ []
+kinds = links.Tray ∷ links.Rings ∷ []
 
 abbrev pub links_of : List ℕ → Option Links
 links_of word = find (λ kind. bytes_eq (links_word kind) word) kinds

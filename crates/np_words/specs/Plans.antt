@@ -77,6 +77,13 @@ generate_of file = do
   agents ← number_of MOST_AGENTS file
   Some (plans.Generate agents)
 
+-- FILE is a number, and the generated source of so many agents is run
+abbrev pub load_of : Text → Given → Option Plan
+load_of file given = do
+  agents ← number_of MOST_AGENTS file
+  links ← kind_of given.links
+  Some (plans.Load agents given.serial links)
+
 -- FILE is a history
 abbrev pub upgrade_of : Text → Option Plan
 upgrade_of file = Some (plans.Upgrade file)
@@ -90,6 +97,7 @@ plan_for modes.Low file given = on_source file (Some tasks.Low)
 plan_for modes.Replay file given = replay_of file given.second
 plan_for modes.Upgrade file given = upgrade_of file
 plan_for modes.Gen file given = generate_of file
+plan_for modes.Load file given = load_of file given
 
 -- ---- plans
 
@@ -103,10 +111,17 @@ planned given = do
 unfoldable pub plan : List Text → Option Plan
 plan words = taken words >>= planned
 
--- a generated source has as many agents as it may have
-abbrev pub HasFewAgents : Plan → Type 0
-HasFewAgents (plans.Generate agents) = (1 ≤ agents) × (agents ≤ MOST_AGENTS)
-HasFewAgents _ = Unit {0}
+-- a run has a budget that the words may say
+abbrev pub HasBudget : Task → Type 0
+HasBudget (tasks.Run budget history high serial links) = (1 ≤ budget) × (budget ≤ LARGEST_BUDGET)
+HasBudget _ = Unit {0}
+
+-- a run has such a budget, and a generated source as many agents as it may have
+abbrev pub IsWithinLimits : Plan → Type 0
+IsWithinLimits (plans.Source file task) = HasBudget task
+IsWithinLimits (plans.Generate agents) = (1 ≤ agents) × (agents ≤ MOST_AGENTS)
+IsWithinLimits (plans.Load agents serial links) = (1 ≤ agents) × (agents ≤ MOST_AGENTS)
+IsWithinLimits _ = Unit {0}
 
 -- a plan exactly where the words have one, and a usage fault exactly where they have none; memory aside
 abbrev pub Plans : Option Plan → Result Plan PlanFail → Type 0

@@ -14,14 +14,15 @@ pub enum Mode {
     Replay,
     Upgrade,
     Gen,
+    Load,
 }
 
-/// What carries agents and packets from site to site.
+/// What carries agents and packets from site to site: lists that are handed over while all sites pause, or a ring for each
+/// ordered pair of sites.
 #[derive(Clone, Copy, Debug, PartialEq, Eq)]
 pub enum Links {
     Tray,
     Rings,
-    Inbox,
 }
 
 /// Which options a mode has.
@@ -52,7 +53,10 @@ const NO_OPTIONS: Options = Options {
 
 const RUN_OPTIONS: Options = Options {
     budget: true,
-    ..NO_OPTIONS
+    history: true,
+    high: true,
+    serial: true,
+    links: true,
 };
 
 const HIGH_OPTIONS: Options = Options {
@@ -61,8 +65,14 @@ const HIGH_OPTIONS: Options = Options {
     ..NO_OPTIONS
 };
 
+const LOAD_OPTIONS: Options = Options {
+    serial: true,
+    links: true,
+    ..NO_OPTIONS
+};
+
 /// The modes that are built.
-const MODES: [Entry; 8] = [
+const MODES: [Entry; 9] = [
     Entry {
         mode: Mode::Run,
         second: false,
@@ -103,10 +113,15 @@ const MODES: [Entry; 8] = [
         second: false,
         options: NO_OPTIONS,
     },
+    Entry {
+        mode: Mode::Load,
+        second: false,
+        options: LOAD_OPTIONS,
+    },
 ];
 
-/// Each kind of links once.
-const KINDS: [Links; 3] = [Links::Tray, Links::Rings, Links::Inbox];
+/// The kinds of links that are built.
+const KINDS: [Links; 2] = [Links::Tray, Links::Rings];
 
 fn mode_word(mode: Mode) -> &'static str
     ensures { result.now ≡ spec.mode_word mode }
@@ -120,6 +135,7 @@ fn mode_word(mode: Mode) -> &'static str
         Mode::Replay => "replay",
         Mode::Upgrade => "upgrade",
         Mode::Gen => "gen",
+        Mode::Load => "load",
     }
 }
 
@@ -139,7 +155,6 @@ fn links_word(links: Links) -> &'static str
     match links {
         Links::Tray => "tray",
         Links::Rings => "rings",
-        Links::Inbox => "inbox",
     }
 }
 

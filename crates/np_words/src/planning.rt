@@ -1,6 +1,7 @@
 //! From the words to a plan.
 
-ghost use Rattle.std.specs.Prelude.{◌≡◌, option_map, IfOk};
+ghost use Rattle.std.specs.Prelude.{◌≡◌, ◌≤◌, option_map, IfOk, IfSome};
+ghost use Rattle.np_syntax.specs.declared.limits.TheConstants.{LARGEST_BUDGET};
 ghost use Rattle.np_words.specs.Arguments.{seen};
 ghost use Rattle.np_words.specs.Plans as spec;
 
@@ -17,7 +18,9 @@ use std::alloc::Global;
 /// What is done with a source.
 #[derive(Clone, Copy, Debug, PartialEq, Eq)]
 pub enum Task {
-    /// It is run, with at most `budget` events. No words ask for the other options yet.
+    /// Its low program is run on the sites, each of which makes at most `budget` events: one after another with `serial`,
+    /// or each on a thread of its own. With `history` the report has the merged history, and with `high` the run of the
+    /// high level that is read off it.
     Run {
         budget: u32,
         history: bool,
@@ -39,10 +42,26 @@ pub enum Task {
 #[derive(Drop)]
 pub enum Plan {
     /// A mode that reads one source.
-    Source { file: Word, task: Task },
-    Replay { source: Word, history: Word },
-    Upgrade { history: Word },
-    Generate { agents: u32 },
+    Source {
+        file: Word,
+        task: Task,
+    },
+    Replay {
+        source: Word,
+        history: Word,
+    },
+    Upgrade {
+        history: Word,
+    },
+    Generate {
+        agents: u32,
+    },
+    /// The generated source is run.
+    Load {
+        agents: u32,
+        serial: bool,
+        links: Links,
+    },
 }
 
 /// A word stands there only where it may.
@@ -65,7 +84,8 @@ fn is_met(entry: &Entry, given: &Given<'_>) -> bool
 }
 
 fn budget_of(word: Option<&str>) -> Option<u32>
-    ensures { result ≡ spec.budget_of (option_map (λ text. text.now) word.entry) }
+    ensures is { result ≡ spec.budget_of (option_map (λ text. text.now) word.entry) }
+    ensures bounds { IfSome result (λ n. (1 ≤ n) × (n ≤ LARGEST_BUDGET)) }
 {
     match word {
         Some(word) => number_of(LARGEST_BUDGET, word),
@@ -83,7 +103,8 @@ fn kind_of(word: Option<&str>) -> Option<Links>
 }
 
 fn run_of(given: &Given<'_>) -> Option<Task>
-    ensures { result ≡ spec.run_of (seen given.now) }
+    ensures is { result ≡ spec.run_of (seen given.now) }
+    ensures limits { IfSome result spec.HasBudget }
 {
     Some(Task::Run {
         budget: budget_of(given.budget)?,
@@ -95,7 +116,8 @@ fn run_of(given: &Given<'_>) -> Option<Task>
 }
 
 fn high_of(given: &Given<'_>) -> Option<Task>
-    ensures { result ≡ spec.high_of (seen given.now) }
+    ensures is { result ≡ spec.high_of (seen given.now) }
+    ensures limits { IfSome result spec.HasBudget }
 {
     Some(Task::High {
         budget: budget_of(given.budget)?,
@@ -105,7 +127,9 @@ fn high_of(given: &Given<'_>) -> Option<Task>
 
 /// The plan where FILE is a source.
 fn on_source(alloc: Global, file: &str, task: Option<Task>) -> Result<Plan, PlanFail>
-    ensures { spec.Plans (spec.on_source file.now task) result }
+    requires { IfSome task spec.HasBudget }
+    ensures plans { spec.Plans (spec.on_source file.now task) result }
+    ensures limits { IfOk result spec.IsWithinLimits }
 {
     let task = task.ok_or(PlanFail::Usage)?;
     Ok(Plan::Source {
@@ -116,7 +140,8 @@ fn on_source(alloc: Global, file: &str, task: Option<Task>) -> Result<Plan, Plan
 
 /// The plan where FILE is a source and SECOND a history.
 fn replay_of(alloc: Global, file: &str, second: Option<&str>) -> Result<Plan, PlanFail>
-    ensures { spec.Plans (spec.replay_of file.now (option_map (λ text. text.now) second.entry)) result }
+    ensures plans { spec.Plans (spec.replay_of file.now (option_map (λ text. text.now) second.entry)) result }
+    ensures limits { IfOk result spec.IsWithinLimits }
 {
     let second = second.ok_or(PlanFail::Usage)?;
     Ok(Plan::Replay {
@@ -127,7 +152,8 @@ fn replay_of(alloc: Global, file: &str, second: Option<&str>) -> Result<Plan, Pl
 
 /// The plan where FILE is a history.
 fn upgrade_of(alloc: Global, file: &str) -> Result<Plan, PlanFail>
-    ensures { spec.Plans (spec.upgrade_of file.now) result }
+    ensures plans { spec.Plans (spec.upgrade_of file.now) result }
+    ensures limits { IfOk result spec.IsWithinLimits }
 {
     Ok(Plan::Upgrade {
         history: Word::new(alloc, file)?,
@@ -137,7 +163,7 @@ fn upgrade_of(alloc: Global, file: &str) -> Result<Plan, PlanFail>
 /// The plan where FILE is a number.
 fn generate_of(file: &str) -> Result<Plan, PlanFail>
     ensures plans { spec.Plans (spec.generate_of file.now) result }
-    ensures agents { IfOk result spec.HasFewAgents }
+    ensures limits { IfOk result spec.IsWithinLimits }
 {
     match number_of(MOST_AGENTS, file) {
         Some(agents) => Ok(Plan::Generate { agents }),
@@ -145,9 +171,23 @@ fn generate_of(file: &str) -> Result<Plan, PlanFail>
     }
 }
 
+/// The plan where FILE is a number, and the generated source is run.
+fn load_of(file: &str, given: &Given<'_>) -> Result<Plan, PlanFail>
+    ensures plans { spec.Plans (spec.load_of file.now (seen given.now)) result }
+    ensures limits { IfOk result spec.IsWithinLimits }
+{
+    let agents = number_of(MOST_AGENTS, file).ok_or(PlanFail::Usage)?;
+    let links = kind_of(given.links).ok_or(PlanFail::Usage)?;
+    Ok(Plan::Load {
+        agents,
+        serial: given.serial,
+        links,
+    })
+}
+
 fn plan_for(alloc: Global, mode: Mode, file: &str, given: &Given<'_>) -> Result<Plan, PlanFail>
     ensures plans { spec.Plans (spec.plan_for mode file.now (seen given.now)) result }
-    ensures agents { IfOk result spec.HasFewAgents }
+    ensures limits { IfOk result spec.IsWithinLimits }
 {
     match mode {
         Mode::Run => on_source(alloc, file, run_of(given)),
@@ -158,6 +198,7 @@ fn plan_for(alloc: Global, mode: Mode, file: &str, given: &Given<'_>) -> Result<
         Mode::Replay => replay_of(alloc, file, given.second),
         Mode::Upgrade => upgrade_of(alloc, file),
         Mode::Gen => generate_of(file),
+        Mode::Load => load_of(file, given),
     }
 }
 
@@ -171,7 +212,7 @@ fn entry_given(word: Option<&str>) -> Option<Entry>
 /// The plan of words that were taken, if they meet the table of the modes.
 fn planned(alloc: Global, given: &Given<'_>) -> Result<Plan, PlanFail>
     ensures plans { spec.Plans (spec.planned (seen given.now)) result }
-    ensures agents { IfOk result spec.HasFewAgents }
+    ensures limits { IfOk result spec.IsWithinLimits }
 {
     let entry = entry_given(given.mode).ok_or(PlanFail::Usage)?;
     let file = given.file.ok_or(PlanFail::Usage)?;
@@ -184,7 +225,7 @@ fn planned(alloc: Global, given: &Given<'_>) -> Result<Plan, PlanFail>
 /// What the words ask for, if they ask for something that the program does.
 pub fn plan_of(alloc: Global, words: &[Word]) -> Result<Plan, PlanFail>
     ensures plans { spec.Plans (spec.plan words.now) result }
-    ensures agents { IfOk result spec.HasFewAgents }
+    ensures limits { IfOk result spec.IsWithinLimits }
 {
     let Ok(command) = command(alloc) else {
         return Err(PlanFail::Memory);

@@ -9,7 +9,8 @@ use Rattle.np_modes.specs.Causes.{RefusesPlan, Stands}
 use Rattle.np_modes.proofs.jobs.work.Goals as goal
 
 -- what is refused of a plan stands
-stands : (words : List (List ℕ)) (texts : Reading) (p : Plan) → plan words ≡ Some p → (r : Result Job Refusal) → IfErr r (λ refusal. refusal ≢ Memory → RefusesPlan texts p refusal)
+stands : (words : List (List ℕ)) (texts : Reading) (p : Plan) → plan words ≡ Some p → (r : Result Job Refusal)
+    → IfErr r (λ refusal. refusal ≢ Memory → RefusesPlan texts p refusal)
     → IfErr r (λ refusal. refusal ≢ Memory → Stands words texts refusal)
 stands words texts p planned (Ok job) h = tt
 stands words texts p planned (Err e) h = λ some. Stands.asked p planned (h some)

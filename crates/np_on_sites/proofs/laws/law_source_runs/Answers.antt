@@ -6,9 +6,9 @@ use Rattle.np_on_sites.specs.SourceRuns.{IsSourceRun}
 use Rattle.np_on_sites.proofs.laws.law_source_runs.Goals as goal
 
 pub returns : goal.returns
-returns c = λ p low histories end accepted is ran.
+returns c = λ p low budget histories end accepted is ran.
     let events = events_of histories in
-    let run_of : IsSitesRun (encoded p) histories end = subst (λ (q : LowProgram). IsSitesRun q histories end) is ran in
+    let run_of : IsSitesRun (encoded p) budget histories end = subst (λ (q : LowProgram). IsSitesRun q budget histories end) is ran in
     let of = c.law_translates.ensures.program p in
     let runs = c.law_low_runs_well.ensures p accepted in
     let high = c.law_runs_are_lifted.ensures p (encoded p) of accepted events run_of.last run_of.reaches in

@@ -6,6 +6,8 @@ use Rattle.np_words.specs.declared.planning.Plan.TheVariants as plans
 use Rattle.np_sources.specs.Reaches.{Reach, TakenTo, reach_of}
 use Rattle.np_verdict.specs.declared.refusal.Refusal.{Refusal}
 use Rattle.np_verdict.specs.declared.refusal.Refusal.TheVariants.{Usage, ReadFault}
+use Rattle.np_generate.specs.Generated.{generated}
+use Rattle.np_sources.specs.declared.limits.TheConstants.{LOAD_BUDGET}
 use Rattle.np_sources.proofs.Once.{not_both}
 use Rattle.np_histories.specs.declared.limits.TheConstants.{LONGEST_HISTORY}
 use Rattle.np_modes.specs.Causes.{RefusesPlan, Stands}
@@ -36,6 +38,7 @@ of_plan call (plans.Replay source h) refusal a (inr r) =
     (history.run_says call h r.low a.run refusal a.told_run r.run))
 of_plan call (plans.Upgrade h) refusal a r = of_history None a.bytes refusal a.short a.accepted (history.history_says call h a.bytes refusal a.told r)
 of_plan call (plans.Generate agents) refusal a r = r
+of_plan call (plans.Load agents serial links) refusal a r = not_both (Reach.sites LOAD_BUDGET) (generated agents) refusal a r.faulty
 
 pub returns : goal.returns
 returns c = λ call answer asked h planned a no_out no_err.

@@ -8,6 +8,8 @@ use Rattle.np_sources.specs.Reaches.{Reach, reach_of}
 use Rattle.np_verdict.specs.Lines.{status_of}
 use Rattle.np_verdict.specs.declared.refusal.Refusal.{Refusal}
 use Rattle.np_verdict.specs.declared.refusal.Refusal.TheVariants.{Usage, TooLong}
+use Rattle.np_generate.specs.Generated.{generated}
+use Rattle.np_sources.specs.declared.limits.TheConstants.{LOAD_BUDGET}
 use Rattle.np_sources.proofs.Once.{not_usage}
 use Rattle.np_histories.proofs.Once.{fault_status, run_fault_status}
 use Rattle.np_modes.specs.Readings.{Reading, IsUnread}
@@ -45,6 +47,7 @@ of_plan texts (plans.Replay source history) (inl r) = of_source texts source Rea
 of_plan texts (plans.Replay source history) (inr r) = of_run texts history r.low r.run
 of_plan texts (plans.Upgrade history) r = of_history texts history r
 of_plan texts (plans.Generate agents) r = r
+of_plan texts (plans.Load agents serial links) r = not_usage (Reach.sites LOAD_BUDGET) (generated agents) r.faulty
 
 -- usage stands where the words ask for nothing that the program does
 unplanned_words : (call : Call) → Stands call.words call.texts Usage → plan call.words ≡ None

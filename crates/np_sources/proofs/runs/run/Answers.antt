@@ -4,11 +4,13 @@ use Rattle.np_calculus.specs.Runs.{RunsWell}
 use Rattle.np_calculus.specs.Starts.{start_high}
 use Rattle.np_serial.specs.Serial.{IsSerialRun}
 use Rattle.np_report.specs.Report.{report_text}
-use Rattle.np_sources.specs.Makes.{high_part}
+use Rattle.np_sources.specs.Headline.{high_part}
 use Rattle.np_sources.proofs.runs.run.Goals as goal
 
 pub run_serial-requires : goal.run_serial-requires
-run_serial-requires c = subst (λ (p : Program). RunsWell (start_high p) p.at) (sym c.program-program.ensures.value) (c.law_runs_well.ensures _ c.program-program.ensures.accepted)
+run_serial-requires c =
+    let of = c.program-program.ensures in
+    subst (λ (p : Program). RunsWell (start_high p) p.at) (sym of.value) (c.law_runs_well.ensures _ of.accepted)
 
 pub returns : goal.returns
 returns c =

@@ -1,0 +1,10 @@
+use denote.Exit.{no}
+use denote.Param.Send.{arg_send, param_send}
+use Rattle.site_crossing.proofs.Ports.{rings_send, trays_send}
+use Rattle.np_on_sites.proofs.running.run_on_sites.Goals as goal
+
+pub run_over-requires-send-P : goal.run_over-requires-send-P
+run_over-requires-send-P g c κs within = param_send 1 _ (arg_send _ no _ trays_send)
+
+pub run_over-requires-in-Rings-send-P : goal.run_over-requires-in-Rings-send-P
+run_over-requires-in-Rings-send-P g c κs within = param_send 1 _ (arg_send _ no _ rings_send)

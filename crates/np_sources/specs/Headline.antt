@@ -1,0 +1,72 @@
+-- What is promised of a run on sites (docs/LANGUAGE.md, "Reports and refusals" and "History text"): whatever the schedule, the histories of the sites
+-- are one run of the compiled program, and what is read off it is a run of the source.
+use Rattle.std.specs.Prelude.{◌≡◌, ℕ, ◌*◌, ◌≤◌, Bool, true, false, List, [], ◌++◌, length, Some}
+use Rattle.np_syntax.specs.declared.event.End.TheVariants.{Rest}
+use Rattle.np_syntax.specs.declared.event.Event.{Event}
+use Rattle.np_syntax.specs.declared.program.LowProgram.{LowProgram}
+use Rattle.np_syntax.specs.declared.value.Value.{Value}
+use Rattle.np_calculus.specs.Config.{Config}
+use Rattle.np_calculus.specs.Idle.{Idle}
+use Rattle.np_calculus.specs.Reductions.{run}
+use Rattle.np_calculus.specs.Starts.{start_high, start_low}
+use Rattle.np_calculus.specs.Well.{WellAlong}
+use Rattle.np_lift.specs.Lift.{lift}
+use Rattle.np_lift.specs.Posts.{IsAllHanded, IsPaired}
+use Rattle.history_text.specs.declared.format.Format.TheVariants.{Second}
+use Rattle.history_text.specs.Spelling.{high_text, history_text}
+use Rattle.run_merge.specs.Merged as histories
+use Rattle.np_report.specs.Report.{load_text, report_text}
+use Rattle.np_on_sites.specs.SitesRuns.{IsSitesRun, events_of}
+use Rattle.np_on_sites.specs.declared.record.Record.{Record}
+use Rattle.np_sources.specs.declared.limits.TheConstants.{MOST_EVENTS}
+use Rattle.np_sources.specs.Reaches.{IsLowOf}
+
+-- all events of the sites, in the order of their stamps, and where these are equal of the sites
+abbrev pub merged : Record → List Event
+merged kept = events_of (histories.past kept.histories)
+
+-- the values that the sites printed, in the same order
+abbrev pub said : Record → List (ℕ × Value)
+said kept = histories.said (histories.past kept.histories)
+
+-- Of a source of these bytes, where each site makes at most so many events; `report` makes a text of the sites' names and what is kept.
+pub record Headline (budget : ℕ) (report : List (List ℕ) → Record → List ℕ) (bytes : List ℕ) (kept : Record) (text : List ℕ) : Type 0 where
+  -- the source is accepted, and this is its low program
+  pub low : LowProgram
+  pub lowered : IsLowOf bytes low
+  -- its sites make few events together
+  pub few : length low.sites * budget ≤ MOST_EVENTS
+  -- the histories of its sites, each within the budget, are merged a run of it that printed what they have; it is at rest exactly where the record
+  -- says so, and else only sites that have used their whole budget can act
+  pub ran : IsSitesRun low budget (histories.past kept.histories) kept.end
+  -- in which no value of a wrong type is met
+  pub well : WellAlong (start_low low) (merged kept)
+  -- the source has the run that is read off it, and prints the same
+  pub high : Config
+  pub lifted : run (start_high lowered.program) (lift (merged kept)) ≡ Some high
+  pub same : high.said ≡ said kept
+  -- each message to an agent wherever it is was handed over at most once, and as it was sent
+  pub paired : IsPaired (start_low low) (merged kept)
+  -- and where the record says that it is at rest, that run has ended, and each message was handed over
+  pub ended : kept.end ≡ Rest → Idle high
+  pub handed : kept.end ≡ Rest → IsAllHanded (start_low low) (merged kept)
+  -- the text is the report of it
+  pub written : text ≡ report low.sites kept
+
+-- ---- reports
+
+-- the history text, where it is asked for
+abbrev pub history_part : Bool → List Event → List ℕ
+history_part true events = history_text Second events
+history_part false events = []
+
+-- the high text, where it is asked for
+abbrev pub high_part : Bool → List Event → List ℕ
+high_part true events = high_text events
+high_part false events = []
+
+abbrev pub run_report : Bool → Bool → List (List ℕ) → Record → List ℕ
+run_report history high sites kept = report_text sites (said kept) (history_part history (merged kept) ++ high_part high (lift (merged kept))) kept.end
+
+abbrev pub load_report : ℕ → List (List ℕ) → Record → List ℕ
+load_report agents sites kept = load_text agents (said kept) kept.end
