@@ -47,6 +47,8 @@ pub struct Example {
     pub as_high: bool,
     /// How the history of the low program's run is changed before it is replayed.
     pub replays: Vec<Change>,
+    /// Whether the history that each call writes is replayed.
+    pub replays_itself: bool,
     /// What stands under the name `a`: each is tried with each call.
     pub sources: Vec<String>,
     pub texts: Vec<NamedText>,
@@ -73,6 +75,7 @@ impl Example {
             runs_low: false,
             as_high: false,
             replays: Vec::new(alloc),
+            replays_itself: false,
             sources: Vec::new(alloc),
             texts: Vec::new(alloc),
             devices: Devices {

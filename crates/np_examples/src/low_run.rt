@@ -5,7 +5,8 @@ use super::fail::ExampleFail;
 use super::trial::{Came, sink_of};
 use history_text::write_history;
 use np_io::write_all;
-use np_run::{BUDGET_SPENT, DONE, Record, Refusal, line, run_low, status};
+use np_run::{BUDGET_SPENT, DONE, Refusal, line, run_low, status};
+use np_serial::SerialRun;
 use np_syntax::{End, Event, Kind, LARGEST_BUDGET, LONGEST_SOURCE, List, Memory, Text};
 use std::alloc::Global;
 use std::fs;
@@ -30,7 +31,7 @@ fn opens_in(events: &[Event]) -> usize {
 }
 
 /// A run that was made.
-fn ended(alloc: Global, made: Record, out: Text) -> LowRun {
+fn ended(alloc: Global, made: SerialRun, out: Text) -> LowRun {
     let status = match made.end {
         End::Rest => DONE,
         End::Spent => BUDGET_SPENT,
@@ -90,6 +91,7 @@ pub(crate) fn came_of_low(
         status: run.status,
         events: run.events,
         opens: run.opens,
+        reads_off: None,
         out,
         err,
     })
@@ -112,7 +114,10 @@ fn events_of(alloc: Global, source: &[u8]) -> Result<LowEvents, ExampleFail> {
         return Ok(empty);
     }
     match run_low(alloc, LARGEST_BUDGET, source) {
-        Ok((Record { events, .. }, report)) => Ok(LowEvents { events, report }),
+        Ok((SerialRun { events, last, .. }, report)) => {
+            drop(last);
+            Ok(LowEvents { events, report })
+        }
         Err(Refusal::Memory) => Err(ExampleFail::Memory),
         Err(_) => Ok(empty),
     }

@@ -6,6 +6,7 @@
 mod change;
 mod example;
 mod fail;
+mod high_run;
 mod low_run;
 mod number;
 mod pieces;
@@ -20,7 +21,7 @@ use example::Example;
 use fail::ExampleFail;
 use low_run::{came_of_low, print_history};
 use reader::examples_of;
-use replays::try_replays;
+use replays::{replays_itself, try_replays};
 use report::tell_failure;
 use std::alloc::Global;
 use std::rt::Files;
@@ -175,7 +176,10 @@ fn try_call<R: Print + Threads + Wait + Sync>(
     call: &Call<'_>,
 ) -> Result<bool, ExampleFail> {
     let came = came_of(rt, alloc, example, call)?;
-    let passed = meets(example, &came);
+    let mut passed = meets(example, &came);
+    if example.replays_itself {
+        passed = passed && replays_itself(rt, alloc, example, call, &came)?;
+    }
     if !passed {
         tell_failure(rt, file, example, call, &came)?;
     }

@@ -93,8 +93,12 @@ fn read_low(example: &mut Example, rest: &str, number: u32) -> Result<(), Exampl
     Ok(())
 }
 
-/// How the history of the low program's run is changed before it is replayed.
+/// How the history of the low program's run is changed before it is replayed; or that the history that a call writes is.
 fn read_replay(example: &mut Example, rest: &str, number: u32) -> Result<(), ExampleFail> {
+    if rest == "itself" {
+        example.replays_itself = true;
+        return Ok(());
+    }
     let change = match rest {
         "whole" => Change::Whole,
         "cut" => Change::Cut,

@@ -61,6 +61,38 @@ pub(crate) fn try_replays<R: Print + Threads + Wait + Sync>(
     Ok(tally)
 }
 
+/// Whether the history that a call wrote is replayed: the same lines are printed, and it is a run of as many events.
+pub(crate) fn replays_itself<R: Threads + Wait + Sync>(
+    rt: &R,
+    alloc: Global,
+    example: &Example,
+    call: &Call<'_>,
+    came: &Came,
+) -> Result<bool, ExampleFail> {
+    let call = Call {
+        words: "replay a h",
+        source: call.source,
+        history: Some(came.out.bytes()),
+    };
+    let again = came_of(rt, alloc, example, &call)?;
+    let count = came.events.unwrap_or(0);
+    let last = format!(in alloc; "a run of {count} events\n")?;
+    let written = std::str::from_utf8(came.out.bytes()).unwrap_or("");
+    let replayed = std::str::from_utf8(again.out.bytes()).unwrap_or("");
+    Ok(again.status == DONE && is_replay(written, replayed, last.as_str()))
+}
+
+/// Whether a report of a replay has the lines in front of the history, and then this last line.
+fn is_replay(written: &str, replayed: &str, last: &str) -> bool {
+    match replayed.strip_suffix(last) {
+        Some(printed) => match written.strip_prefix(printed) {
+            Some(rest) => rest.starts_with("history 2\n"),
+            None => false,
+        },
+        None => false,
+    }
+}
+
 /// The first place at which the change is not answered as it has to be, if there is one.
 fn first_wrong<R: Threads + Wait + Sync>(
     rt: &R,

@@ -25,6 +25,9 @@ pub(crate) fn tell_failure(
     }
     println!(rt; "  wanted status {}, came {}", example.status, came.status)?;
     tell_events(rt, example, came)?;
+    if came.reads_off == Some(false) {
+        println!(rt; "  what is read off is no run of the source, or not as the sites are")?;
+    }
     tell_wanted(rt, example)?;
     tell_bytes(rt, "out", came.out.bytes())?;
     tell_bytes(rt, "err", came.err.bytes())

@@ -2,8 +2,9 @@
 
 use super::example::Example;
 use super::fail::ExampleFail;
+use super::high_run::{Reading, reading_of};
 use np_io::{MemSink, MemTexts, Word};
-use np_run::{Told, np};
+use np_run::{Record, Told, np};
 use np_syntax::{List, Memory};
 use std::alloc::Global;
 use std::sync::Wait;
@@ -30,6 +31,8 @@ pub struct Came {
     pub events: Option<usize>,
     /// How many letters are opened in it, if it is the run of a low program.
     pub opens: Option<usize>,
+    /// Whether what is read off it is a run of the source, if it is a run on sites of a text of the call.
+    pub reads_off: Option<bool>,
     pub out: MemSink,
     pub err: MemSink,
 }
@@ -87,6 +90,26 @@ pub(crate) fn sink_of(
     Ok(sink)
 }
 
+/// The source that a call reads, if it is one of its texts.
+fn source_of<'a>(example: &'a Example, call: &Call<'a>) -> Option<&'a [u8]> {
+    match call.source {
+        Some(source) => Some(source.as_bytes()),
+        None => example.text("a"),
+    }
+}
+
+/// What is seen of a run on the sites of this source, if there is both.
+fn reading_in(
+    alloc: Global,
+    source: Option<&[u8]>,
+    kept: &Option<Record>,
+) -> Result<Option<Reading>, ExampleFail> {
+    match (source, kept) {
+        (Some(source), Some(record)) => Ok(Some(reading_of(alloc, source, record)?)),
+        _ => Ok(None),
+    }
+}
+
 /// What comes of a call.
 pub(crate) fn came_of<R: Threads + Wait + Sync>(
     rt: &R,
@@ -101,11 +124,13 @@ pub(crate) fn came_of<R: Threads + Wait + Sync>(
     let mut out = sink_of(alloc, devices.piece, devices.out.as_slice())?;
     let mut err = sink_of(alloc, devices.piece, devices.err.as_slice())?;
     let answer = np(rt, alloc, words.as_slice(), &mut texts, &mut out, &mut err);
+    let reading = reading_in(alloc, source_of(example, call), &answer.kept)?;
     let Told { status, events } = answer.told();
     Ok(Came {
         status,
-        events,
-        opens: None,
+        events: events.map(|count| count as usize),
+        opens: reading.map(|reading| reading.opens),
+        reads_off: reading.map(|reading| reading.is_run),
         out,
         err,
     })

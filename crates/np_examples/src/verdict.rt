@@ -9,6 +9,7 @@ pub(crate) fn meets(example: &Example, came: &Came) -> bool {
     came.status == example.status
         && meets_count(example.events, came.events)
         && meets_count(example.opens, came.opens)
+        && came.reads_off != Some(false)
         && meets_out(example, came.out.bytes())
         && meets_err(example, came.err.bytes())
 }

@@ -1,0 +1,118 @@
+//! The run of the source that is read off a run on sites: it is made again at the high level.
+
+use super::fail::ExampleFail;
+use np_check::Checked;
+use np_configuration::{Cfg, start_high};
+use np_replay::{ReplayFail, follow};
+use np_run::{Record, Refusal};
+use np_syntax::{End, Event, Kind, LONGEST_SOURCE, Memory, Role, Value};
+use np_verdict::checked_source;
+use run_merge::{lift, merge, said};
+use std::alloc::Global;
+
+/// What is seen of the events of a run on sites.
+#[derive(Clone, Copy)]
+pub(crate) struct Reading {
+    /// How many letters are opened: each is a message that was handed over.
+    pub opens: usize,
+    /// Whether what is read off is a run of the source that prints the same; at no place more letters are opened than messages
+    /// are sent; and at rest that run rests, and as many are opened as are sent.
+    pub is_run: bool,
+}
+
+/// How many messages to agents were sent, and how many letters were opened.
+#[derive(Clone, Copy)]
+struct Letters {
+    posts: usize,
+    opens: usize,
+    /// Whether at some place more were opened than sent.
+    early: bool,
+}
+
+fn letters_in(events: &[Event]) -> Letters {
+    let mut letters = Letters {
+        posts: 0,
+        opens: 0,
+        early: false,
+    };
+    for event in events {
+        match (event.tag.role, event.kind) {
+            (Role::Post, Kind::Send) => letters.posts = letters.posts.saturating_add(1),
+            (_, Kind::Open) => letters.opens = letters.opens.saturating_add(1),
+            _ => {}
+        }
+        letters.early = letters.early || letters.posts < letters.opens;
+    }
+    letters
+}
+
+/// Whether values were printed at the same sites.
+fn same_values(ours: &[(u32, Value)], theirs: &[(u32, Value)]) -> bool {
+    ours.len() == theirs.len()
+        && ours.iter().zip(theirs.iter()).all(|(ours, theirs)| ours.0 == theirs.0
+            && ours.1.same(&theirs.1))
+}
+
+/// The program of a source that was run.
+fn checked_of(alloc: Global, source: &[u8]) -> Result<Option<Checked>, Memory> {
+    if source.len() > LONGEST_SOURCE {
+        return Ok(None);
+    }
+    match checked_source(alloc, source) {
+        Ok(checked) => Ok(Some(checked)),
+        Err(Refusal::Memory) => Err(Memory),
+        Err(_) => Ok(None),
+    }
+}
+
+/// The configuration to which the events lead from the high start of the program, if they are a run.
+fn high_end(alloc: Global, program: &Checked, events: &[Event]) -> Result<Option<Cfg>, Memory> {
+    if u32::try_from(events.len()).is_err() {
+        return Ok(None);
+    }
+    let start = start_high(alloc, program.program())?;
+    match follow(alloc, start, events) {
+        Ok(last) => Ok(Some(last)),
+        Err(ReplayFail::Memory) => Err(Memory),
+        Err(_) => Ok(None),
+    }
+}
+
+/// Whether the end of what is read off is what the sites printed, and rests if they do.
+fn ends_alike(last: &Cfg, values: &[(u32, Value)], end: End) -> bool {
+    same_values(last.said(), values) && (end == End::Spent || last.idle())
+}
+
+/// Whether the events are a run of the source at the high level, which ends as the sites do.
+fn is_high_run(
+    alloc: Global,
+    source: &[u8],
+    record: &Record,
+    events: &[Event],
+) -> Result<bool, ExampleFail> {
+    let Some(program) = checked_of(alloc, source)? else {
+        return Ok(false);
+    };
+    let values = said(alloc, record.histories.as_slice())?;
+    let lifted = lift(alloc, events)?;
+    match high_end(alloc, &program, lifted.as_slice())? {
+        Some(last) => Ok(ends_alike(&last, values.as_slice(), record.end)),
+        None => Ok(false),
+    }
+}
+
+/// What is seen of a run on the sites of this source.
+pub(crate) fn reading_of(
+    alloc: Global,
+    source: &[u8],
+    record: &Record,
+) -> Result<Reading, ExampleFail> {
+    let events = merge(alloc, record.histories.as_slice())?;
+    let letters = letters_in(events.as_slice());
+    let all = record.end == End::Spent || letters.posts == letters.opens;
+    let is_run = is_high_run(alloc, source, record, events.as_slice())?;
+    Ok(Reading {
+        opens: letters.opens,
+        is_run: is_run && all && !letters.early,
+    })
+}
