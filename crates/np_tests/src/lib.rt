@@ -1,11 +1,13 @@
-//! Tests of what no contract and no example can say: calls over real files and streams, items that two threads pass on, and
-//! public calls that no mode of the program makes, each with ample memory.
+//! Tests of what no contract and no example can say: calls over real files and streams, items that two threads pass on, sites on
+//! two threads, and public calls that no mode of the program makes, each with ample memory.
 #![tactic(auto)]
 
 #[cfg(test)]
 mod adapters;
 #[cfg(test)]
 mod copies;
+#[cfg(test)]
+mod gates;
 #[cfg(test)]
 mod links;
 #[cfg(test)]
@@ -18,3 +20,5 @@ mod numbers;
 mod tables;
 #[cfg(test)]
 mod trees;
+#[cfg(test)]
+mod waiting;

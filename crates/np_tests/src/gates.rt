@@ -1,0 +1,107 @@
+//! Sites on threads: two sites make their events beside each other.
+
+use np_io::{MemSink, MemTexts, Word};
+use np_run::{DONE, Gate, np_gated};
+use np_syntax::{List, Memory};
+use std::alloc::Global;
+use std::sync::Wait;
+use std::sync::atomic::{AtomicBool, AtomicU32, Ordering};
+use std::test::Fail;
+use std::thread::Threads;
+
+/// How often a thread looks for what the other does before it gives up.
+const LOOKS: u32 = 100_000_000;
+
+/// After how many of its events a site is held.
+const HELD: u32 = 3;
+
+/// The daemon's site makes three events and more, main's makes seven.
+const SOURCE: &str = "sites home far ; main at far = (0 | 0 | 0)";
+
+/// Holds each of two sites after each of its first events, until the other has made as many.
+#[derive(Drop)]
+struct InStep {
+    home: AtomicU32,
+    far: AtomicU32,
+    late: AtomicBool,
+}
+
+fn reaches(counter: &AtomicU32, count: u32) -> bool {
+    for _ in 0..LOOKS {
+        if counter.load(Ordering::SeqCst) >= count {
+            return true;
+        }
+    }
+    false
+}
+
+impl Gate for InStep {
+    fn event(&self, site: u32, count: u32) {
+        let (own, other) = if site == 0 {
+            (&self.home, &self.far)
+        } else {
+            (&self.far, &self.home)
+        };
+        own.store(count, Ordering::SeqCst);
+        if count <= HELD && !reaches(other, count) {
+            self.late.store(true, Ordering::SeqCst);
+        }
+    }
+}
+
+fn source(alloc: Global) -> Result<MemTexts, Memory> {
+    let mut texts = MemTexts::new(alloc);
+    let bytes = List::from_slice(alloc, SOURCE.as_bytes())?;
+    texts.add(Word::new(alloc, "a")?, bytes)?;
+    Ok(texts)
+}
+
+fn words(alloc: Global) -> Result<List<Word>, Memory> {
+    let mut words = List::new(alloc);
+    words.add(Word::new(alloc, "run")?)?;
+    words.add(Word::new(alloc, "a")?)?;
+    Ok(words)
+}
+
+fn sink(alloc: Global) -> Result<MemSink, Memory> {
+    let mut sink = MemSink::new(alloc, 64);
+    sink.reserve(64)?;
+    Ok(sink)
+}
+
+/// The exit status of the run, and what it wrote.
+fn run<R: Threads + Wait + Sync, G: Gate>(
+    rt: &R,
+    alloc: Global,
+    gate: &G,
+) -> Result<(u8, MemSink), Memory> {
+    let words = words(alloc)?;
+    let mut texts = source(alloc)?;
+    let mut out = sink(alloc)?;
+    let mut err = sink(alloc)?;
+    let answer = np_gated(
+        rt,
+        alloc,
+        words.as_slice(),
+        &mut texts,
+        &mut out,
+        &mut err,
+        gate,
+    );
+    let told = answer.told();
+    Ok((told.status, out))
+}
+
+#[test]
+fn two_sites_make_their_events_beside_each_other(rt: HostRuntime) -> Result<(), Fail> {
+    let gate = InStep {
+        home: AtomicU32::new(0),
+        far: AtomicU32::new(0),
+        late: AtomicBool::new(false),
+    };
+    let (status, out) = run(&rt, rt.alloc(), &gate)?;
+    assert_eq!(rt; status, DONE);
+    assert_eq!(rt; out.bytes(), b"at rest\n".as_slice());
+    assert!(rt; !gate.late.load(Ordering::SeqCst));
+    Ok(())
+}
