@@ -18,6 +18,6 @@ for depth in 11 12 13; do
     events=$((2 * leaves - 1 > 10000 ? 10000 : 2 * leaves - 1))
     source_of "$(tree "$depth" 0)" >"$folder/tree.np"
     reading=$(took check "$folder/tree.np")
-    whole=$(took run "$folder/tree.np")
+    whole=$(took high "$folder/tree.np")
     row "$leaves" "$events" "$reading" "$whole"
 done

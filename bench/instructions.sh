@@ -6,7 +6,7 @@
 # It builds nothing: PROGRAM is the built program, by default crates/np/out/np. The source of a ring of N agents is that of
 # `gen N`; its run at the high level has 81 N + 37 events. The instructions are counted by valgrind, so the load of the machine does
 # not matter. Those of `check` of the same source (the start of the process, the reading, the types) are taken off those of
-# `run`; the copy of the source's process that a run starts with is counted with its events.
+# `high`; the copy of the source's process that a run starts with is counted with its events.
 set -euo pipefail
 cd "$(dirname "$0")/.."
 program=$(realpath "${1:-crates/np/out/np}")
@@ -23,7 +23,7 @@ printf '%8s %8s %24s\n' agents events 'instructions an event'
 for agents in 10 30 100; do
     "$program" gen "$agents" >"$folder/ring.np"
     events=$((81 * agents + 37))
-    whole=$(instructions run "$folder/ring.np")
+    whole=$(instructions high "$folder/ring.np")
     reading=$(instructions check "$folder/ring.np")
     printf '%8d %8d %24d\n' "$agents" "$events" $(((whole - reading) / events))
 done

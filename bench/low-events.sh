@@ -5,8 +5,8 @@
 #   bench/low-events.sh [PROGRAM] [ROUNDS]
 #
 # It builds nothing: PROGRAM is the built program of the worked examples, by default crates/np_examples/out/np_examples, because no
-# words of np run a low program. Each ring is run ROUNDS times at each level, by default 20: as so many examples of one file, which
-# the program is run on once. A ring of N agents is `bench/ring-source.sh N`: its run has 81 N + 37 events, and that of its low
+# mode of np runs a low program in one thread. Each ring is run ROUNDS times at each level, by default 20: as so many examples of one
+# file, which the program is run on once. A ring of N agents is `bench/ring-source.sh N`: its run has 81 N + 37 events, and that of its low
 # program 680 N + 215. The examples ask for these numbers and for the last line, so a run that has others ends the script.
 #
 # What the start of the process, the reading of the source and the check of its types take is measured by examples of `check`; the

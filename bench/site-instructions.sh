@@ -1,0 +1,30 @@
+#!/usr/bin/env bash
+# Prints how many instructions an event of a run on sites takes, where the sites take their turns one after another, on rings of
+# agents that pass one token.
+#
+#   bench/site-instructions.sh [PROGRAM]
+#
+# It builds nothing: PROGRAM is the built program, by default crates/np/out/np. `load N --serial` runs the source of `gen N`, a ring
+# of N agents on eight sites, which makes 680 N + 215 events. The instructions are counted by valgrind, so the load of the machine
+# does not matter. Those of `low` of the same source (the start of the process, the reading, the types, the translation and its
+# text) are taken off.
+set -euo pipefail
+cd "$(dirname "$0")/.."
+program=$(realpath "${1:-crates/np/out/np}")
+folder=$(mktemp -d)
+trap 'rm -rf "$folder"' EXIT
+
+# instructions WORD..: of one call of the program
+instructions() {
+    valgrind --tool=cachegrind --cache-sim=no --cachegrind-out-file=/dev/null "$program" "$@" 2>&1 >/dev/null |
+        awk '/I *refs/ { gsub(",", "", $NF); print $NF }'
+}
+
+printf '%8s %8s %24s\n' agents events 'instructions an event'
+for agents in 10 30 100; do
+    "$program" gen "$agents" >"$folder/ring.np"
+    events=$((680 * agents + 215))
+    whole=$(instructions load "$agents" --serial)
+    reading=$(instructions low "$folder/ring.np")
+    printf '%8d %8d %24d\n' "$agents" "$events" $(((whole - reading) / events))
+done
