@@ -9,15 +9,7 @@
 # `high`; the copy of the source's process that a run starts with is counted with its events.
 set -euo pipefail
 cd "$(dirname "$0")/.."
-program=$(realpath "${1:-crates/np/out/np}")
-folder=$(mktemp -d)
-trap 'rm -rf "$folder"' EXIT
-
-# instructions WORD..: of one call of the program
-instructions() {
-    valgrind --tool=cachegrind --cache-sim=no --cachegrind-out-file=/dev/null "$program" "$@" 2>&1 >/dev/null |
-        awk '/I *refs/ { gsub(",", "", $NF); print $NF }'
-}
+source bench/parts.sh
 
 printf '%8s %8s %24s\n' agents events 'instructions an event'
 for agents in 10 30 100; do

@@ -31,6 +31,12 @@ took() {
     echo $((end - begin))
 }
 
+# instructions WORD..: of one call of the program, counted by valgrind
+instructions() {
+    valgrind --tool=cachegrind --cache-sim=no --cachegrind-out-file=/dev/null "$program" "$@" 2>&1 >/dev/null |
+        awk '/I *refs/ { gsub(",", "", $NF); print $NF }'
+}
+
 # row SIZE EVENTS READING WHOLE: the size, the events of a run, its milliseconds, those of its reading, and events a second
 row() {
     awk -v size="$1" -v events="$2" -v reading="$3" -v whole="$4" -v rounds="$rounds" 'BEGIN {
