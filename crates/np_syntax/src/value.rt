@@ -5,13 +5,30 @@ use super::boxed::Boxed;
 use super::list::{List, Text};
 use super::memory::Memory;
 use std::alloc::Global;
+use std::hash::{Hash, Hasher};
 
 /// The name of an agent, a channel or a mark: the site that made it, and its number there. The names
 /// that a program has from the start carry the number of its sites in the place of a site.
-#[derive(Clone, Copy, Debug, PartialEq, Eq, PartialOrd, Ord, Hash)]
+#[derive(Clone, Copy, Debug, PartialEq, Eq, PartialOrd, Ord)]
 pub struct Name {
     pub site: u32,
     pub n: u32,
+}
+
+impl Hash for Name {
+    ghost use Rattle.std.specs.Prelude.{◌+◌, ◌*◌, ◌^◌};
+    ghost use Rattle.std.specs.Hash as fed;
+    ghost use Rattle.std.specs.Cmp.Rules.{comparing, hashing};
+    ghost use Rattle.std.proofs.Common.{rules};
+
+    ghost hash_input = { λ name. fed.u64 (name.site * 2 ^ 32 + name.n) };
+
+    ghost respects_eq = { Prim.search (hashing, rules) };
+
+    // Both numbers are given as one: a hasher takes eight bytes at once.
+    fn hash<H: Hasher>(&self, state: &mut H) {
+        state.write_u64(u64::from(self.site) * (1 << 32) + u64::from(self.n));
+    }
 }
 
 /// What an expression gives and a message carries. `Letter` and `Places` stand at the low level alone:
