@@ -1,6 +1,6 @@
 -- What a `PortOf` means, by what its ends mean.
 use Rattle.std.specs.Prelude.{◌≡◌, ℕ, ◌+◌, ◌<◌, ◌≤◌, List, [], ◌∷◌, ◌++◌, length, Option, Some, None, slice_get}
-use Rattle.site_links.specs.Words.{Keeps, Takes, IsFresh}
+use Rattle.site_links.specs.Words.{Begins, Keeps, Takes, IsFresh}
 use Rattle.site_links.specs.declared.ends.Ends as Ends
 use Rattle.site_links.specs.declared.port_of.PortOf.{PortOf}
 
@@ -43,13 +43,13 @@ module _ {E I : Type 0} (g : Ends.Ghosts E I) where
   abbrev pub KeepsPort : PortOf E → PortOf E → Type 0
   KeepsPort = Keeps site_of among_of Linked
 
-  -- nothing was taken, and nothing was known from the sites from first on, below end
+  -- nothing was taken, and nothing was known from the sites from first on, below end; more may be known since
   pub record Looked (first end : ℕ) (a b : PortOf E) : Type 0 where
     pub keeps : KeepsPort a b
     pub sent_same : (k : ℕ) → sent_at b k ≡ sent_at a k
     pub room_same : (k : ℕ) → room_at b k ≡ room_at a k
     pub got_same : (k : ℕ) → got_at b k ≡ got_at a k
-    pub known_same : (k : ℕ) → known_at b k ≡ known_at a k
+    pub known_begins : (k : ℕ) → Begins (known_at b k) (known_at a k)
     pub none_known : (k : ℕ) → first ≤ k → k < end → known_at a k ≡ []
 
   -- the item was taken from a site

@@ -1,4 +1,4 @@
-ghost use Rattle.std.specs.Prelude.{◌≡◌, ℕ, ◌-◌, List, [], ◌∷◌, ◌++◌, length, IfOk, IfErr, OnOk, MatchOption};
+ghost use Rattle.std.specs.Prelude.{◌≡◌, ℕ, ◌-◌, List, [], ◌∷◌, ◌++◌, length, IfOk, IfErr, IsTrue, OnOk, MatchOption, ◌↔◌};
 ghost use Rattle.site_links.specs.Words.{Stays, Begins, IsFresh};
 
 use crate::places::PLACES;
@@ -36,6 +36,13 @@ pub trait Ends<I>: Sized + Drop {
         ensures room { room self.new ≡ room self.old - 1 }
         ensures ok { OnOk result (sent self.new ≡ sent self.old ++ item ∷ []) }
         ensures err { IfErr result (λ back. (back ≡ item) × (sent self.new ≡ sent self.old) × (room self.old ≡ 0)) };
+
+    /// Whether no item is there.
+    fn is_empty(&mut self) -> bool
+        ensures stays { Stays meets self.old self.new }
+        ensures putting { (sent self.new ≡ sent self.old) × (room self.new ≡ room self.old) }
+        ensures taking { (got self.new ≡ got self.old) × Begins (known self.new) (known self.old) }
+        ensures empty { IsTrue result ↔ (known self.new ≡ []) };
 
     /// Takes an item, if one is there.
     fn take(&mut self) -> Option<I>

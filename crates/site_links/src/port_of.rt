@@ -3,7 +3,7 @@ use crate::ends::Ends;
 use crate::making::join_port;
 use crate::port::Port;
 use crate::ring_ends::RingEnds;
-use crate::taking::take_from;
+use crate::taking::{find, take_at};
 use crate::tray_ends::TrayEnds;
 use np_syntax::Memory;
 use std::alloc::Global;
@@ -56,10 +56,13 @@ impl<R, I: Addressed, E: Ends<I> + Send> Port<R, I> for PortOf<E> {
         let count = self.ends.len();
         let start = if self.next < count { self.next } else { 0 };
         self.next = start + 1;
-        if let Some(item) = take_from(self, start, count) {
-            return Some(item);
+        if let Some(from) = find(self, start, count) {
+            return take_at(self, from);
         }
-        take_from(self, 0, start)
+        if let Some(from) = find(self, 0, start) {
+            return take_at(self, from);
+        }
+        None
     }
 
     fn settle(&mut self, _rt: &R, to: &mut Self) -> usize {

@@ -19,7 +19,7 @@ pub struct RingEnds<I> {
 }
 
 impl<I: Drop> Ends<I> for RingEnds<I> {
-    ghost use Rattle.std.specs.Prelude.{◌≡◌, ℕ, ◌-◌, List, [], ◌∷◌, ◌++◌, length, IfOk, IfErr, OnOk, MatchOption};
+    ghost use Rattle.std.specs.Prelude.{◌≡◌, ℕ, ◌-◌, List, [], ◌∷◌, ◌++◌, length, IfOk, IfErr, IsTrue, OnOk, MatchOption, ◌↔◌};
     ghost use Rattle.rtrb.specs.Ring as ring;
 
     ghost sent = { λ ends. ring.sent ends.to };
@@ -68,6 +68,10 @@ impl<I: Drop> Ends<I> for RingEnds<I> {
                 Err(back)
             }
         }
+    }
+
+    fn is_empty(&mut self) -> bool {
+        self.from.is_empty()
     }
 
     fn take(&mut self) -> Option<I> {

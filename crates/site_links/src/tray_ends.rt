@@ -31,7 +31,7 @@ pub struct TrayEnds<I> {
 }
 
 impl<I: Drop> Ends<I> for TrayEnds<I> {
-    ghost use Rattle.std.specs.Prelude.{◌≡◌, ◌≤◌, ℕ, ◌+◌, ◌-◌, List, [], ◌∷◌, ◌++◌, length, IfOk, IfErr, OnOk, MatchOption};
+    ghost use Rattle.std.specs.Prelude.{◌≡◌, ◌≤◌, ℕ, ◌+◌, ◌-◌, List, [], ◌∷◌, ◌++◌, length, IfOk, IfErr, IsTrue, OnOk, MatchOption, ◌↔◌};
     ghost use Rattle.rtrb.specs.Ring as ring;
     ghost use Rattle.site_links.specs.Fronts.{before};
     ghost use Rattle.site_links.specs.declared.places.TheConstants.{PLACES};
@@ -66,6 +66,10 @@ impl<I: Drop> Ends<I> for TrayEnds<I> {
         self.spare -= 1;
         self.out.push_back_reserved(item);
         Ok(())
+    }
+
+    fn is_empty(&mut self) -> bool {
+        self.inside.is_empty()
     }
 
     fn take(&mut self) -> Option<I> {
