@@ -2,7 +2,7 @@ ghost use Rattle.std.specs.Prelude.{◌≡◌, ◌<◌, ◌≤◌, ◌+◌, leng
 ghost use Rattle.std.specs.Option.{option_copied};
 ghost use Rattle.std.specs.FinMap as map;
 ghost use Rattle.np_tables.specs.Stored.{Covers};
-ghost use Rattle.agent_index.specs.InStep.{Lends, NoneWaits};
+ghost use Rattle.agent_index.specs.InStep.{IsInStep, Lends, NoneWaits};
 ghost use Rattle.agent_index.specs.Shelves.{value_of, wait_of};
 
 use super::lanes::Lanes;
@@ -38,6 +38,18 @@ impl<V> Model for Index<V> {
     ghost view = { λ index. record { items = index.entries.items; spare = min index.entries.spare index.lanes.spare; keys = index.entries.keys } };
 
     ghost invariant = { λ index. IsInStep index.entries.items index.lanes.lanes };
+}
+
+/// A mark that is kept leaves the line of what it waits for.
+fn leave<V>(entries: &Table<(Wait, V)>, lanes: &mut Lanes, turns: &mut Turns, mark: Name)
+    requires { IsInStep entries.now.items lanes.old.lanes }
+    ensures step { IsInStep (map.remove entries.now.items mark) lanes.new.lanes }
+    ensures spare { lanes.old.spare ≤ lanes.new.spare }
+{
+    if let Some((wait, _)) = entries.get(mark) {
+        lanes.leave(*wait, mark);
+        turns.leave(entries, lanes, *wait, mark);
+    }
 }
 
 impl<V> Index<V> {
@@ -140,7 +152,7 @@ impl<V: Drop> Index<V> {
         ensures items { self.new.items ≡ map.insert self.old.items mark (wait, value) }
         ensures spare { self.old.spare ≤ self.new.spare + 1 }
     {
-        self.remove(mark);
+        leave(&self.entries, &mut self.lanes, &mut self.turns, mark);
         self.lanes.enter(wait, mark);
         self.entries.put(mark, (wait, value));
         self.turns.enter(&self.lanes, wait, mark);

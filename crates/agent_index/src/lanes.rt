@@ -1,4 +1,4 @@
-ghost use Rattle.std.specs.Prelude.{◌≡◌, ◌<◌, ◌≤◌, ◌+◌, ◌++◌, ◌∷◌, [], length, cond, All, OnOk, IsOk, IsSome, IfSome, IfNone, Some, None, false};
+ghost use Rattle.std.specs.Prelude.{◌≡◌, ◌<◌, ◌≤◌, ◌+◌, ◌++◌, ◌∷◌, [], length, cond, All, OnOk, IsOk, IsSome, IfSome, IfNone, Some, None, true, false};
 ghost use Rattle.std.specs.Option.{option_copied};
 ghost use Rattle.std.specs.FinMap as map;
 ghost use Rattle.agent_index.specs.Lines.{in_line, without, is_bare, SetsLine, SameLines};
@@ -106,6 +106,16 @@ fn owe(first: &mut Option<Name>, second: &mut Option<Name>, chan: Name)
     }
 }
 
+/// Whether the lane of a channel, if it has one, has all places that it may be owed.
+fn has_places(table: &Table<Waiters>, chan: Name) -> bool
+    ensures { result ≡ true → IsPaid table.now.items (Some chan) }
+{
+    match table.get(chan) {
+        Some(waiters) => waiters.room() >= MOST_OWED,
+        None => true,
+    }
+}
+
 /// Gives a channel that is owed places what it is owed.
 fn pay(alloc: Global, table: &mut Table<Waiters>, owed: Option<Name>) -> Result<(), Memory>
     ensures grown { AreGrown table.old.items table.new.items }
@@ -115,6 +125,9 @@ fn pay(alloc: Global, table: &mut Table<Waiters>, owed: Option<Name>) -> Result<
     let Some(chan) = owed else {
         return Ok(());
     };
+    if has_places(table, chan) {
+        return Ok(());
+    }
     let Some(mut waiters) = lift(alloc, table, chan) else {
         return Ok(());
     };
