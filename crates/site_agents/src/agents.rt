@@ -129,7 +129,7 @@ impl Agents {
         ensures named { AreNamed self.old.agents → AreNamed self.new.agents }
         ensures still { (code : ProgramTable) → AreQuiet code self.old → AreQuiet code self.new }
     {
-        take_seat(&mut self.seats, &mut self.turns, &mut self.doubtful, name)
+        take_seat(&mut self.seats, &mut self.turns, name)
     }
 
     /// The agent of a name, to be changed in place, which has a turn then. The name is looked up once. It takes no memory.
@@ -144,6 +144,17 @@ impl Agents {
             }
             None => None,
         }
+    }
+
+    /// An agent whose index tells something that it can do, and that. The one that waits longest is served, and comes
+    /// last then. That none is told is no sign that none can do anything. It takes no memory, and walks over no atoms.
+    pub fn next_likely(&mut self, code: &Code) -> Option<(Name, Ready)>
+        ensures agents { self.new.agents ≡ self.old.agents }
+        ensures room { self.new.room ≡ self.old.room }
+        ensures some { IfSome result (λ found. CanDo code.now self.old.agents found.0 found.1) }
+        ensures still { AreQuiet code.now self.old → AreQuiet code.now self.new }
+    {
+        next_likely(code, &mut self.seats, &mut self.turns, &mut self.doubtful)
     }
 
     /// An agent that can do something, and what, and none exactly where none can do anything. The one that waits longest

@@ -178,23 +178,17 @@ fn is_idle(code: &Code, seats: &Seats<Seat>, name: Name) -> bool
     }
 }
 
-/// Takes a seat out, and its name out of the queues.
-pub fn take_seat(
-    seats: &mut Seats<Seat>,
-    turns: &mut Queue,
-    doubtful: &mut Queue,
-    name: Name,
-) -> Option<Agent>
+/// Takes a seat out, and its name out of the queue of those with a turn. Among the doubtful its name may stay: of an agent
+/// that is not here it is passed over.
+pub fn take_seat(seats: &mut Seats<Seat>, turns: &mut Queue, name: Name) -> Option<Agent>
     ensures agent { result ≡ map.get (agents_of seats.old.items) name }
     ensures items { seats.new.items ≡ map.remove seats.old.items name }
     ensures spare { seats.old.spare ≤ seats.new.spare }
     ensures turns { KeepsBut name turns.old turns.new }
-    ensures doubtful { KeepsBut name doubtful.old doubtful.new }
 {
     match seats.take(name) {
         Some(seat) => {
             leave(turns, name, seat.queued);
-            leave(doubtful, name, seat.doubted);
             Some(seat.agent)
         }
         None => None,

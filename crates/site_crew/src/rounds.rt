@@ -14,8 +14,8 @@ use site_turn::{Gate, Seat};
 use std::alloc::Global;
 use std::thread::Threads;
 
-/// A round on threads. Where no site makes an event, and one that may make some has something to do then, all take their
-/// turns again. How many events all histories have then.
+/// A round on threads. At first the sites do what their indexes tell. Where no site makes an event, and one that may make
+/// some has something to do then, all take their turns again, and miss nothing. How many events all histories have then.
 pub fn threads_round<R: Threads + Sync, P: Port<R, Item>, G: Gate>(
     rt: &R,
     alloc: Global,
@@ -32,11 +32,11 @@ pub fn threads_round<R: Threads + Sync, P: Port<R, Item>, G: Gate>(
     ensures total { result ≡ event_count (histories seats.new) }
 {
     let before = events_of(seats);
-    let after = threads_pass(rt, alloc, code, gate, budget, seats);
+    let after = threads_pass(rt, alloc, code, gate, false, budget, seats);
     if before < after || are_over(code, budget, seats) {
         return after;
     }
-    threads_pass(rt, alloc, code, gate, budget, seats)
+    threads_pass(rt, alloc, code, gate, true, budget, seats)
 }
 
 /// The turns on threads. How many events all histories have then.
@@ -45,6 +45,7 @@ fn threads_pass<R: Threads + Sync, P: Port<R, Item>, G: Gate>(
     alloc: Global,
     code: &Code,
     gate: &G,
+    walks: bool,
     _budget: u32,
     seats: &mut [Seat<P>],
 ) -> u64
@@ -55,7 +56,7 @@ fn threads_pass<R: Threads + Sync, P: Port<R, Item>, G: Gate>(
     ensures grow { AllGrow (histories seats.old) (histories seats.new) }
     ensures total { result ≡ event_count (histories seats.new) }
 {
-    threads_turns(rt, alloc, code, gate, seats);
+    threads_turns(rt, alloc, code, gate, walks, seats);
     settle_all(rt, seats);
     events_of(seats)
 }
@@ -76,11 +77,11 @@ pub fn serial_round<R, P: Port<R, Item>>(
     ensures total { result ≡ event_count (histories seats.new) }
 {
     let before = events_of(seats);
-    let after = serial_pass(rt, alloc, code, budget, seats);
+    let after = serial_pass(rt, alloc, code, false, budget, seats);
     if before < after || are_over(code, budget, seats) {
         return after;
     }
-    serial_pass(rt, alloc, code, budget, seats)
+    serial_pass(rt, alloc, code, true, budget, seats)
 }
 
 /// The turns one after another. How many events all histories have then.
@@ -88,6 +89,7 @@ fn serial_pass<R, P: Port<R, Item>>(
     rt: &R,
     alloc: Global,
     code: &Code,
+    walks: bool,
     _budget: u32,
     seats: &mut [Seat<P>],
 ) -> u64
@@ -98,7 +100,7 @@ fn serial_pass<R, P: Port<R, Item>>(
     ensures grow { AllGrow (histories seats.old) (histories seats.new) }
     ensures total { result ≡ event_count (histories seats.new) }
 {
-    serial_turns(rt, alloc, code, seats);
+    serial_turns(rt, alloc, code, walks, seats);
     settle_all(rt, seats);
     events_of(seats)
 }

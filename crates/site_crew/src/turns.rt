@@ -6,22 +6,27 @@ ghost use Rattle.site_turn.specs.Turns.{Seated, Turned};
 use agent_move::Item;
 use np_code::Code;
 use site_links::Port;
-use site_turn::{Free, Gate, LOOKS, Seat, turn};
+use site_turn::{Effort, Free, Gate, LOOKS, Seat, turn};
 use std::alloc::Global;
 use std::thread;
 use std::thread::Threads;
 
-/// Each site takes its turn on a thread of its own.
+/// Each site takes its turn on a thread of its own. Where it `walks`, it misses nothing that its agents can do.
 pub fn threads_turns<R: Threads + Sync, P: Port<R, Item>, G: Gate>(
     rt: &R,
     alloc: Global,
     code: &Code,
     gate: &G,
+    walks: bool,
     seats: &mut [Seat<P>],
 )
     requires { All (λ s. Seated P.Port code.now s) seats.old }
     ensures { AllTurned P.Port code.now seats.old seats.new }
 {
+    let effort = Effort {
+        looks: LOOKS,
+        walks,
+    };
     let threads = seats.len().max(1);
     thread::for_each_mut(
         rt,
@@ -30,16 +35,23 @@ pub fn threads_turns<R: Threads + Sync, P: Port<R, Item>, G: Gate>(
         &|_, seat: &mut Seat<P>|
             requires { Seated P.Port code.now seat.old }
             ensures { Turned P.Port code.entry.now seat.old seat.new }
-        { turn(rt, alloc, code, gate, LOOKS, seat) },
+        { turn(rt, alloc, code, gate, effort, seat) },
     );
 }
 
-/// The sites take their turns one after another.
-pub fn serial_turns<R, P: Port<R, Item>>(rt: &R, alloc: Global, code: &Code, seats: &mut [Seat<P>])
+/// The sites take their turns one after another, in the same way.
+pub fn serial_turns<R, P: Port<R, Item>>(
+    rt: &R,
+    alloc: Global,
+    code: &Code,
+    walks: bool,
+    seats: &mut [Seat<P>],
+)
     requires { All (λ s. Seated P.Port code.now s) seats.old }
     ensures { AllTurned P.Port code.now seats.old seats.new }
 {
+    let effort = Effort { looks: 0, walks };
     for i in 0..seats.len() {
-        turn(rt, alloc, code, &Free, 0, &mut seats[i]);
+        turn(rt, alloc, code, &Free, effort, &mut seats[i]);
     }
 }

@@ -4,7 +4,7 @@ use Rattle.np_syntax.specs.declared.event.Event.{Event}
 use Rattle.np_syntax.specs.declared.value.Name.{Name}
 use Rattle.stamp_history.specs.Histories.{IsAboveLast}
 use Rattle.np_code.specs.Programs.{ProgramTable}
-use Rattle.site_state.specs.Doing.{HasDoneEvent, HasRoom, IsPossible, event_at, ready_of}
+use Rattle.site_state.specs.Doing.{HasDoneEvent, IsPossible, event_at, ready_of}
 use Rattle.site_agents.specs.Standings.{CanDo}
 use Rattle.site_state.specs.Standings.{IsStanding, Standing, Stays, with_clock}
 use Rattle.site_state.proofs.Noted.{above_more}

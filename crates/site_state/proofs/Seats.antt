@@ -10,7 +10,9 @@ use Rattle.np_tables.specs.Names.{NameMap, same_name}
 use Rattle.np_tables.proofs.Tables.{get-none, get-put, put-cut, same_name-is, cut_absent, cut_cases, cut_here, put_here}
 use Rattle.np_code.specs.Programs.{ProgramTable}
 use Rattle.agent_pool.specs.Pools.{Pool, Unchanged}
-use Rattle.site_state.specs.Coming.{HasGot, HasSpare, IsGiven}
+use Rattle.site_agents.specs.LentAgents.{with_agent}
+use Rattle.site_agents.proofs.Comings.{quiet_with as quiet_there}
+use Rattle.site_state.specs.Coming.{HasGot, HasSpare, IsGiven, KeepsSeats}
 use Rattle.site_agents.specs.Standings.{AreNamed, AreQuiet, Standing as Seated}
 use Rattle.site_state.specs.Standings.{SameAgents, without_room}
 
@@ -28,6 +30,13 @@ named-none agents e = record { each = λ q x f. let none : map.get agents q ≡ 
 
 pub named-cut : (agents : NameMap Pool) (k : Name) → AreNamed agents → AreNamed (map.remove agents k)
 named-cut agents k h = record { each = λ q x e. h.each q x (cut_cases agents k q x e).1 }
+
+-- an agent that is changed where it stands, and keeps its name
+pub quiet_with : (code : ProgramTable) (s : Seated) (k : Name) (p : Pool) → AreQuiet code s → AreQuiet code (with_agent s k p)
+quiet_with = quiet_there
+
+pub keeps_with : (s : Seated) (k : Name) (x p : Pool) → map.get s.agents k ≡ Some x → p.name ≡ x.name → KeepsSeats s (with_agent s k p)
+keeps_with s k x p e n = record { named = λ h. named-put s.agents k p h (n ∙ h.each k x e); quiet = λ code h. quiet_with code s k p h }
 
 -- nothing is found to be quiet
 pub none_quiet : (code : ProgramTable) (s : Seated) → s.quiet ≡ map.empty → AreQuiet code s

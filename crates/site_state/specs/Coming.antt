@@ -1,5 +1,5 @@
 -- What comes to a site (docs/LANGUAGE.md, "Reductions").
-use Rattle.std.specs.Prelude.{◌≡◌, ◌≤◌, ℕ, MatchOption, Some}
+use Rattle.std.specs.Prelude.{◌≡◌, ◌<◌, ◌≤◌, ℕ, MatchOption, Some}
 use Rattle.std.specs.FinMap as map
 use Rattle.np_syntax.specs.declared.event.Event.{Event}
 use Rattle.np_syntax.specs.declared.process.Tag.{Tag}
@@ -19,10 +19,10 @@ use Rattle.site_agents.specs.Standings.{AreNamed, AreQuiet, Standing as Seated}
 pub record HasSpare (agents : NameMap Pool) (q : Name) : Type 0 where
   pub each : (p : Pool) → map.get agents q ≡ Some p → 1 ≤ p.spare
 
--- and so is the one for which a packet is
-abbrev pub HasSpareFor : NameMap Pool → Load → Type 0
-HasSpareFor agents (load.Agent agent) = Unit {0}
-HasSpareFor agents (load.Packet mark packet) = HasSpare agents packet.agent
+-- what is under way is sure to find a place: an agent among the agents, and a packet at its agent
+abbrev pub HasRoomFor : Seated → Load → Type 0
+HasRoomFor s (load.Agent agent) = 0 < s.room
+HasRoomFor s (load.Packet mark packet) = HasSpare s.agents packet.agent
 
 -- the agents stay under their names, and those that were found to be quiet are so
 pub record KeepsSeats (old new : Seated) : Type 0 where

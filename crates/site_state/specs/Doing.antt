@@ -96,6 +96,12 @@ IsStepped code old new stepped.Did = HasRoom old × HasDone code old new
 IsStepped code old new stepped.Quiet = HasRoom old × Stays code old new × (IsQuiet code old → NoneCan code old.agents)
 IsStepped code old new stepped.Spent = (length old.history.events ≡ old.history.budget) × Stays code old new
 
+-- the same, where it is not known whether there is one that was not found
+abbrev pub IsTried : ProgramTable → Standing → Standing → Stepped → Type 0
+IsTried code old new stepped.Did = HasRoom old × HasDone code old new
+IsTried code old new stepped.Quiet = HasRoom old × Stays code old new
+IsTried code old new stepped.Spent = (length old.history.events ≡ old.history.budget) × Stays code old new
+
 -- an item was taken, whatever the code of as many sites
 pub record HasTaken (old new : Standing) (x : Item) : Type 0 where
   pub event : Event

@@ -3,7 +3,7 @@
 ghost use Rattle.std.specs.Prelude.{◌≡◌, ◌<◌, ◌≤◌, OnOk};
 ghost use Rattle.std.specs.FinMap as map;
 ghost use Rattle.np_calculus.specs.Begins.{arrival, landing};
-ghost use Rattle.site_state.specs.Coming.{HasCome, HasSpare, HasSpareFor, IsGiven, KeepsSeats, event_for};
+ghost use Rattle.site_state.specs.Coming.{HasCome, HasSpare, HasRoomFor, IsGiven, KeepsSeats, event_for};
 ghost use Rattle.site_agents.specs.Standings.{AreNamed};
 ghost use Rattle.site_state.specs.Standings.{SameAgents};
 
@@ -44,21 +44,17 @@ fn landing(mark: Name, packet: &Packet) -> Event
     }
 }
 
-/// Makes sure of a place for one more atom of the agent of a name, if there is one, and of room for one more agent.
+/// Makes sure of a place for one more atom of the agent of a name, if there is one.
 pub fn make_room(agents: &mut Agents, name: Name) -> Result<(), Memory>
     requires named { AreNamed agents.old.agents }
     ensures same { SameAgents agents.old.agents agents.new.agents }
     ensures keeps { KeepsSeats agents.old agents.new }
-    ensures room { OnOk result (0 < agents.new.room) }
     ensures spare { OnOk result (HasSpare agents.new.agents name) }
 {
-    agents.reserve(2)?;
-    let Some(mut agent) = agents.take(name) else {
-        return Ok(());
-    };
-    let made = agent.make_room();
-    agents.put(agent);
-    made
+    match agents.get_mut(name) {
+        Some(agent) => agent.make_room(),
+        None => Ok(()),
+    }
 }
 
 /// Makes sure of room for what is under way.
@@ -66,8 +62,7 @@ pub fn room_for(agents: &mut Agents, item: &Item) -> Result<(), Memory>
     requires named { AreNamed agents.old.agents }
     ensures same { SameAgents agents.old.agents agents.new.agents }
     ensures keeps { KeepsSeats agents.old agents.new }
-    ensures room { OnOk result (0 < agents.new.room) }
-    ensures spare { OnOk result (HasSpareFor agents.new.agents item.now.load) }
+    ensures spare { OnOk result (HasRoomFor agents.new item.now.load) }
 {
     match item.load() {
         Load::Agent(_) => agents.reserve(1),
@@ -88,26 +83,23 @@ pub fn settle(agents: &mut Agents, agent: Agent)
 /// An agent gets an output, if it is there.
 pub fn give(agents: &mut Agents, to: Name, mark: Name, chan: Name, value: Value, tag: Tag)
     requires named { AreNamed agents.old.agents }
-    requires room { 0 < agents.old.room }
     requires spare { HasSpare agents.old.agents to }
     ensures given { IsGiven agents.old.agents to mark chan value tag agents.new.agents }
     ensures keeps { KeepsSeats agents.old agents.new }
 {
-    let Some(mut agent) = agents.take(to) else {
+    let Some(agent) = agents.get_mut(to) else {
         return;
     };
     match agent.receive(mark, chan, value, tag) {
         Ok(()) => {}
         Err(_) => unreachable!(),
     }
-    agents.put(agent);
 }
 
 /// What is under way comes, and its event is answered.
 pub fn take_in(agents: &mut Agents, site: u32, load: Load) -> Event
     requires named { AreNamed agents.old.agents }
-    requires room { 0 < agents.old.room }
-    requires spare { HasSpareFor agents.old.agents load }
+    requires spare { HasRoomFor agents.old load }
     ensures event { result ≡ event_for site load }
     ensures come { HasCome agents.old.agents load agents.new.agents }
     ensures keeps { KeepsSeats agents.old agents.new }

@@ -51,12 +51,9 @@ impl Site {
         ensures ok { OnOk result (HasReduced code.now self.old name r (made_of r.kind false first first) still self.new) }
         ensures err { OnErr result (Stays code.now self.old self.new) }
     {
-        self.agents.reserve(1)?;
-        let Some(mut agent) = self.agents.take(name) else {
+        let Some(agent) = self.agents.get_mut(name) else {
             unreachable!();
         };
-        let done = go_on(&mut agent, alloc, code, r, first);
-        self.agents.put(agent);
-        done
+        go_on(agent, alloc, code, r, first)
     }
 }

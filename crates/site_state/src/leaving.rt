@@ -31,13 +31,10 @@ pub fn print_in(
     ensures err { OnErr result (SameAgents agents.old.agents agents.new.agents) }
     ensures keeps { KeepsSeats agents.old agents.new }
 {
-    agents.reserve(1)?;
-    let Some(mut agent) = agents.take(name) else {
+    let Some(agent) = agents.get_mut(name) else {
         unreachable!();
     };
-    let done = agent.print(alloc, code, r);
-    agents.put(agent);
-    done
+    agent.print(alloc, code, r)
 }
 
 /// An agent sends a message, whose packet is answered.
@@ -55,13 +52,10 @@ pub fn send_in(
     ensures err { OnErr result (SameAgents agents.old.agents agents.new.agents) }
     ensures keeps { KeepsSeats agents.old agents.new }
 {
-    agents.reserve(1)?;
-    let Some(mut agent) = agents.take(name) else {
+    let Some(agent) = agents.get_mut(name) else {
         unreachable!();
     };
-    let done = agent.send(alloc, code, r);
-    agents.put(agent);
-    done
+    agent.send(alloc, code, r)
 }
 
 /// An agent leaves for the site that is answered.

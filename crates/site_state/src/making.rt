@@ -34,21 +34,13 @@ fn child_in(
     ensures err { OnErr result (SameAgents agents.old.agents agents.new.agents) }
     ensures keeps { KeepsSeats agents.old agents.new }
 {
-    agents.reserve(2)?;
-    let Some(mut agent) = agents.take(name) else {
+    agents.reserve(1)?;
+    let Some(agent) = agents.get_mut(name) else {
         unreachable!();
     };
-    match agent.child(alloc, code, r, child, mark) {
-        Ok(born) => {
-            agents.put(agent);
-            settle(agents, born);
-            Ok(())
-        }
-        Err(memory) => {
-            agents.put(agent);
-            Err(memory)
-        }
-    }
+    let born = agent.child(alloc, code, r, child, mark)?;
+    settle(agents, born);
+    Ok(())
 }
 
 impl Site {

@@ -1,5 +1,5 @@
 ghost use Rattle.std.specs.Prelude.{◌≡◌, length, IfOk, OnOk, OnErr, IfSome, IfNone, IsTrue, IsFalse};
-ghost use Rattle.site_state.specs.Doing.{HasDoneEvent, HasRoom, IsStepped, event_at};
+ghost use Rattle.site_state.specs.Doing.{HasDoneEvent, HasRoom, IsStepped, IsTried, event_at};
 ghost use Rattle.site_state.specs.Parts.{IsLooked};
 ghost use Rattle.site_agents.specs.Standings.{CanDo, NoneCan};
 ghost use Rattle.site_state.specs.Standings.{IsQuiet, Stays};
@@ -36,6 +36,23 @@ impl Site {
         Ok(Stepped::Did)
     }
 
+    /// Does one event of an agent that stands here and whose index tells what it can do. That none is told is no sign that
+    /// none can do anything.
+    pub fn step_likely(&mut self, alloc: Global, code: &Code) -> Result<Stepped, Memory>
+        requires { length code.now.sites ≡ length self.old.outgoing }
+        ensures ok { IfOk result (IsTried code.now self.old self.new) }
+        ensures err { OnErr result (Stays code.now self.old self.new) }
+    {
+        if self.is_spent() {
+            return Ok(Stepped::Spent);
+        }
+        let Some((name, ready)) = self.next_likely(code) else {
+            return Ok(Stepped::Quiet);
+        };
+        self.do_event(alloc, code, name, ready)?;
+        Ok(Stepped::Did)
+    }
+
     /// Whether there is no room for one more event.
     pub fn is_spent(&self) -> bool
         ensures spent { IsTrue result → length self.now.history.events ≡ self.now.history.budget }
@@ -51,6 +68,14 @@ impl Site {
         ensures none { IfNone result (IsQuiet code.now self.old → NoneCan code.now self.old.agents) }
     {
         self.agents.next_ready(code)
+    }
+
+    /// An agent whose index tells what it can do, and that.
+    fn next_likely(&mut self, code: &Code) -> Option<(Name, Ready)>
+        ensures stays { IsLooked code.now self.old self.new }
+        ensures some { IfSome result (λ found. CanDo code.now self.new.agents found.0 found.1) }
+    {
+        self.agents.next_likely(code)
     }
 
     /// Does the event of an agent that stands here and can do this.

@@ -38,13 +38,10 @@ fn away_in(
     ensures err { OnErr result (SameAgents agents.old.agents agents.new.agents) }
     ensures keeps { KeepsSeats agents.old agents.new }
 {
-    agents.reserve(1)?;
-    let Some(mut agent) = agents.take(name) else {
+    let Some(agent) = agents.get_mut(name) else {
         unreachable!();
     };
-    let done = pass(&mut agent, alloc, code, r);
-    agents.put(agent);
-    done
+    pass(agent, alloc, code, r)
 }
 
 /// The agent goes on where the agent that it asks for is not here.
@@ -71,24 +68,15 @@ fn tell_in(
     requires can { CanDo code.now agents.old.agents name r }
     requires kind { r.kind ≡ kind.Local }
     ensures ok { IfOk result (λ packet. HasTold code.now agents.old.agents name r mark packet agents.new.agents) }
-    ensures room { OnOk result (0 < agents.new.room) }
     ensures err { OnErr result (SameAgents agents.old.agents agents.new.agents) }
     ensures keeps { KeepsSeats agents.old agents.new }
 {
-    agents.reserve(2)?;
-    let Some(mut agent) = agents.take(name) else {
+    let Some(agent) = agents.get_mut(name) else {
         unreachable!();
     };
-    match agent.local(alloc, code, r, true, mark) {
-        Ok(Some(packet)) => {
-            agents.put(agent);
-            Ok(packet)
-        }
-        Ok(None) => unreachable!(),
-        Err(memory) => {
-            agents.put(agent);
-            Err(memory)
-        }
+    match agent.local(alloc, code, r, true, mark)? {
+        Some(packet) => Ok(packet),
+        None => unreachable!(),
     }
 }
 

@@ -28,7 +28,7 @@ use Rattle.agent_move.specs.declared.item.Item.{Item}
 use Rattle.agent_move.specs.declared.load.Load.{Load}
 use Rattle.agent_move.specs.declared.load.Load.TheVariants as load
 use Rattle.agent_move.specs.Items.{contents_of, item_of}
-use Rattle.site_state.specs.Doing.{ArePut, Did, HasDone, HasTaken, IsSent, IsStepped, deed_of}
+use Rattle.site_state.specs.Doing.{ArePut, Did, HasDone, HasTaken, IsSent, IsStepped, IsTried, deed_of}
 use Rattle.site_state.specs.declared.stepping.Stepped.{Stepped}
 use Rattle.site_state.specs.declared.stepping.Stepped.TheVariants as stepped
 use Rattle.site_state.specs.Lines.{Waiting, IsPut, IsTaken, SameLines, queue_at, room_at}
@@ -319,6 +319,12 @@ module _ {P R : Type 0} {g : Port.Ghosts P R Item} {code : ProgramTable} where
   }
 
   -- what came of a step
+  pub turned_tried : {a b : Seat P} (s : Stepped) → IsTried code a.site b.site s → length a.site.outgoing ≡ length code.sites → b.port ≡ a.port → b.aside ≡ a.aside → b.budget ≡ a.budget
+      → b.failed ≡ a.failed → Turned g code a b
+  turned_tried stepped.Did h lines port aside budget failed = turned_done h.1 lines port aside budget failed
+  turned_tried stepped.Quiet h lines port aside budget failed = turned_stays h.1.same port aside budget (λ e. sym failed ∙ e)
+  turned_tried stepped.Spent h lines port aside budget failed = turned_stays h.1.same port aside budget (λ e. sym failed ∙ e)
+
   pub turned_stepped : {a b : Seat P} (s : Stepped) → IsStepped code a.site b.site s → length a.site.outgoing ≡ length code.sites → b.port ≡ a.port → b.aside ≡ a.aside → b.budget ≡ a.budget
       → b.failed ≡ a.failed → Turned g code a b
   turned_stepped stepped.Did h lines port aside budget failed = turned_done h.1 lines port aside budget failed

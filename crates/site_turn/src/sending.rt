@@ -40,6 +40,9 @@ fn send_one<R, P: Port<R, Item>>(rt: &R, _code: &Code, seat: &mut Seat<P>, to: u
     requires to { to < length _code.now.sites }
     ensures { Turned P.Port _code.now seat.old seat.new }
 {
+    if seat.site.has_none_for(to) {
+        return false;
+    }
     match seat.site.next_out(to) {
         Some(item) => match seat.port.put(rt, to, item) {
             Ok(()) => true,

@@ -2,6 +2,7 @@
 ghost use Rattle.std.specs.Prelude.{◌≡◌, ◌<◌, length};
 ghost use Rattle.site_turn.specs.Turns.{Seated, Turned};
 
+use crate::effort::Effort;
 use crate::gate::Gate;
 use crate::receiving::receive;
 use crate::seat::Seat;
@@ -18,21 +19,21 @@ const EVENTS: u32 = 256;
 /// How often a site on a thread of its own looks at the links to it before its turn ends quiet.
 pub const LOOKS: u32 = 1_000;
 
-/// A turn of at most `EVENTS` events, which ends where the site can do nothing and nothing came in so many looks at the
-/// links to it. Where memory runs out the seat says so.
+/// A turn of at most `EVENTS` events, which ends where the site finds nothing to do by this effort. Where memory runs out the
+/// seat says so.
 pub fn turn<R, P: Port<R, Item>, G: Gate>(
     rt: &R,
     alloc: Global,
     code: &Code,
     gate: &G,
-    looks: u32,
+    effort: Effort,
     seat: &mut Seat<P>,
 )
     requires { Seated P.Port code.now seat.old }
     ensures { Turned P.Port code.now seat.old seat.new }
 {
     if !seat.failed {
-        events(rt, alloc, code, gate, looks, seat);
+        events(rt, alloc, code, gate, effort, seat);
     }
 }
 
@@ -43,7 +44,7 @@ fn events<R, P: Port<R, Item>, G: Gate>(
     alloc: Global,
     code: &Code,
     gate: &G,
-    looks: u32,
+    effort: Effort,
     seat: &mut Seat<P>,
 )
     requires { Seated P.Port code.now seat.old }
@@ -51,7 +52,7 @@ fn events<R, P: Port<R, Item>, G: Gate>(
 {
     send(rt, code, seat);
     for _ in 0..EVENTS {
-        if !event(rt, alloc, code, looks, seat) {
+        if !event(rt, alloc, code, effort, seat) {
             return;
         }
         gate.event(seat.site.number(), seat.site.history().len());
@@ -59,13 +60,13 @@ fn events<R, P: Port<R, Item>, G: Gate>(
     }
 }
 
-/// One event, if one is possible or becomes possible in so many looks.
+/// One event, if by this effort one is found.
 #[tactic(auto, using(crate::proofs::Steps::turned_trans, crate::proofs::Steps::turned_refl, crate::proofs::Steps::seated_after))]
 fn event<R, P: Port<R, Item>>(
     rt: &R,
     alloc: Global,
     code: &Code,
-    looks: u32,
+    effort: Effort,
     seat: &mut Seat<P>,
 ) -> bool
     requires { Seated P.Port code.now seat.old }
@@ -77,19 +78,61 @@ fn event<R, P: Port<R, Item>>(
     if seat.failed || seat.aside.is_some() {
         return false;
     }
-    match step(rt, alloc, code, seat) {
+    match step(rt, alloc, code, effort, seat) {
         Stepped::Did => true,
-        Stepped::Quiet => look(rt, code, looks, seat),
+        Stepped::Quiet => look(rt, code, effort.looks, seat),
         Stepped::Spent => false,
     }
 }
 
+/// An event of the site's own, if by this effort one is found.
+fn step<R, P: Port<R, Item>>(
+    rt: &R,
+    alloc: Global,
+    code: &Code,
+    effort: Effort,
+    seat: &mut Seat<P>,
+) -> Stepped
+    requires { Seated P.Port code.now seat.old }
+    ensures { Turned P.Port code.now seat.old seat.new }
+{
+    if effort.walks {
+        step_surely(rt, alloc, code, seat)
+    } else {
+        step_likely(rt, alloc, code, seat)
+    }
+}
+
 /// An event of the site's own, if one is possible.
-fn step<R, P: Port<R, Item>>(_rt: &R, alloc: Global, code: &Code, seat: &mut Seat<P>) -> Stepped
+fn step_surely<R, P: Port<R, Item>>(
+    _rt: &R,
+    alloc: Global,
+    code: &Code,
+    seat: &mut Seat<P>,
+) -> Stepped
     requires { Seated P.Port code.now seat.old }
     ensures { Turned P.Port code.now seat.old seat.new }
 {
     match seat.site.step(alloc, code) {
+        Ok(stepped) => stepped,
+        Err(_) => {
+            seat.failed = true;
+            Stepped::Spent
+        }
+    }
+}
+
+/// An event of the site's own, if an index tells one.
+fn step_likely<R, P: Port<R, Item>>(
+    _rt: &R,
+    alloc: Global,
+    code: &Code,
+    seat: &mut Seat<P>,
+) -> Stepped
+    requires { Seated P.Port code.now seat.old }
+    ensures { Turned P.Port code.now seat.old seat.new }
+{
+    match seat.site.step_likely(alloc, code) {
         Ok(stepped) => stepped,
         Err(_) => {
             seat.failed = true;

@@ -4,15 +4,15 @@ use Rattle.np_tables.specs.Names.{NameMap}
 use Rattle.site_agents.specs.declared.seat.Seat.{Seat}
 use Rattle.site_agents.specs.Rounds.{InTurn}
 use Rattle.site_agents.specs.Standings.{Standing, AreNamed}
-use Rattle.site_agents.proofs.Comings.{in_turn_cut, named_cut, quiet_cut}
+use Rattle.site_agents.proofs.Comings.{in_turn_cut, keeps_itself, named_cut, quiet_cut}
 use Rattle.site_agents.proofs.Reading.{seen, cut_agents, cut_quiet}
 use Rattle.site_agents.proofs.agents.Agents.take.Goals as goal
 
 pub invariant_of-self : goal.invariant_of-self
 invariant_of-self c =
     let t = c.take_seat in
-    subst (λ (m : NameMap Seat). InTurn m t.new.turns t.new.doubtful) (sym t.ensures.items)
-    (in_turn_cut c.self.inside.seats.items c.args.name c.self.inside.turns t.new.turns c.self.inside.doubtful t.new.doubtful c.self.invariant t.ensures.turns t.ensures.doubtful)
+    subst (λ (m : NameMap Seat). InTurn m t.new.turns c.self.inside.doubtful) (sym t.ensures.items)
+    (in_turn_cut c.self.inside.seats.items c.args.name c.self.inside.turns t.new.turns c.self.inside.doubtful c.self.inside.doubtful c.self.invariant t.ensures.turns (keeps_itself c.args.name c.self.inside.doubtful))
 
 pub returns-clause-agent : goal.returns-clause-agent
 returns-clause-agent c = c.take_seat.ensures.agent ∙ ap (λ (s : Standing). map.get s.agents c.args.name) c.self.view_is

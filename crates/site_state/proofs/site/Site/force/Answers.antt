@@ -1,7 +1,7 @@
-use Rattle.std.proofs.Common.{◌≡◌, ◌<◌, ◌≤◌, ◌+◌, ◌-◌, ℕ, max, length, sym, ap, subst, subst₂, ◌∙◌, arith}
+use Rattle.std.proofs.Common.{◌+◌, ℕ, length, sym, ap, subst, subst₂, ◌∙◌, arith}
 use Rattle.stamp_history.specs.Histories.{IsAboveLast, Recorded}
 use Rattle.agent_pool.specs.declared.ready.Ready.{Ready}
-use Rattle.site_state.specs.Doing.{HasDoneEvent, HasRoom, event_at, ready_of}
+use Rattle.site_state.specs.Doing.{HasDoneEvent, HasRoom, event_at}
 use Rattle.site_agents.specs.Standings.{CanDo}
 use Rattle.site_state.specs.Standings.{Standing, with_clock}
 use Rattle.site_state.proofs.Forced.{forced, raised_to, stays_back, stays_raised}

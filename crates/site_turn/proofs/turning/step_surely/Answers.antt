@@ -1,6 +1,6 @@
 use Rattle.std.proofs.Common.{refl}
 use Rattle.site_turn.proofs.Steps.{turned_failed, turned_stepped}
-use Rattle.site_turn.proofs.turning.step.Goals as goal
+use Rattle.site_turn.proofs.turning.step_surely.Goals as goal
 
 pub returns-in-Ok : goal.returns-in-Ok
 returns-in-Ok g c = turned_stepped c.in-Ok.stepped c.in-Ok.ensures.ok c.requires.placed.lines refl refl refl refl
