@@ -1,5 +1,5 @@
 -- What the calculus sees of a site of which nothing has changed but the room, and histories that have grown.
-use Rattle.std.proofs.Common.{◌≡◌, List, [], ◌∷◌, ◌++◌, map, Option, None, Some, option_map, refl, sym, ap, ◌∙◌, append_assoc, subst}
+use Rattle.std.proofs.Common.{◌≡◌, List, [], ◌∷◌, ◌++◌, Option, None, Some, option_map, refl, sym, ap, ◌∙◌, append_assoc, subst}
 use Rattle.np_syntax.specs.declared.value.Name.{Name}
 use Rattle.np_syntax.specs.declared.value.Value.{Value}
 use Rattle.np_syntax.specs.declared.process.Proc.{Proc}
@@ -13,7 +13,6 @@ use Rattle.stamp_history.specs.declared.stamped.Stamped.{Stamped}
 use Rattle.stamp_history.specs.Histories.{Recorded}
 use Rattle.site_links.specs.Words.{Begins}
 use Rattle.site_links.proofs.Kept.{Begins-same}
-use Rattle.np_holdings.specs.Holdings.{Holding}
 use Rattle.np_code.specs.Programs.{ProgramTable}
 use Rattle.agent_index.specs.Shelves.{Kept}
 use Rattle.agent_pool.specs.declared.held.Held.{Held}

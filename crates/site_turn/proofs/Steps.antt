@@ -1,15 +1,13 @@
 -- Steps of a turn.
-use Rattle.std.proofs.Common.{◌≡◌, ◌≢◌, ◌<◌, ◌==◌, ℕ, Bool, true, false, cond, eqb, List, [], ◌∷◌, ◌++◌, length, map, filter, flat_map, Option, None, Some, IfSome, option_map, option_to_list, refl, sym, ap, ap₂, subst, subst₂, ◌∙◌, append-nil, append_assoc, inl, inr}
+use Rattle.std.proofs.Common.{◌≡◌, ◌<◌, ◌==◌, ℕ, Bool, true, false, cond, List, [], ◌∷◌, ◌++◌, length, map, filter, flat_map, Option, None, Some, IfSome, option_map, option_to_list, refl, sym, ap, ap₂, subst, subst₂, ◌∙◌, append-nil, append_assoc, inl, inr}
 use Rattle.std.proofs.lemmas.Bool.{eq-eqb, eqb-true}
-use Rattle.std.proofs.lemmas.Bool.Decides.{eqb_tells, nat_tests}
+use Rattle.std.proofs.lemmas.Bool.Decides.{eqb_tells}
 use Rattle.std.proofs.lemmas.List.{map-append}
 use Rattle.std.specs.List.{AllByRecursion}
 use Rattle.np_calculus.specs.declared.config.Place.TheVariants as place
 use Rattle.np_syntax.specs.declared.event.Event.{Event}
-use Rattle.np_syntax.specs.declared.value.Name.{Name}
 use Rattle.np_syntax.specs.declared.process.Proc.{Proc}
 use Rattle.np_tables.proofs.Tables.{same_name-itself}
-use Rattle.stamp_history.specs.declared.stamped.Stamped.{Stamped}
 use Rattle.site_links.specs.Words.{Keeps, only_at}
 use Rattle.site_links.specs.declared.port.Port as Port
 use Rattle.site_links.proofs.Kept.{Keeps-refl, Keeps-trans}
@@ -18,7 +16,7 @@ use Rattle.np_stamped_run.specs.Deeds.{Deed, HasStamps, IsDeedOf, StampedItem, c
 use Rattle.np_stamped_run.proofs.Flowing.{all_both}
 use Rattle.np_stamped_run.proofs.Growing.{clock_goes_on, puts_follow}
 use Rattle.np_stamped_run.proofs.Linking.{all_second}
-use Rattle.np_holdings.specs.Holdings.{Does, Holding}
+use Rattle.np_holdings.specs.Holdings.{Holding}
 use Rattle.np_site_runs.specs.Accounts.{Came, IsAccount, SendsLoad, came_on, taken_on}
 use Rattle.np_site_runs.specs.Ending.{IsLoad}
 use Rattle.np_site_runs.specs.SiteRuns.{IsNextDeed}
@@ -31,11 +29,11 @@ use Rattle.agent_move.specs.Items.{contents_of, item_of}
 use Rattle.site_state.specs.Doing.{ArePut, Did, HasDone, HasTaken, IsSent, IsStepped, IsTried, deed_of}
 use Rattle.site_state.specs.declared.stepping.Stepped.{Stepped}
 use Rattle.site_state.specs.declared.stepping.Stepped.TheVariants as stepped
-use Rattle.site_state.specs.Lines.{Waiting, IsPut, IsTaken, SameLines, queue_at, room_at}
-use Rattle.site_state.specs.Standings.{IsOut, SameSite, Standing, StaysForAll, holding_of}
+use Rattle.site_state.specs.Lines.{Waiting, queue_at, room_at}
+use Rattle.site_state.specs.Standings.{IsOut, SameSite, Standing, holding_of}
 use Rattle.site_turn.specs.declared.seat.Seat.{Seat}
-use Rattle.site_turn.specs.Turns.{Accepts, AsideIsStrange, HistoryGrows, IsStrange, Kept, Placed, Seated, SetsAside, Turned, came_from, shown}
-use Rattle.site_turn.proofs.Holdings.{atoms_same, history_same, history_trans, holding_same, recorded_events, recorded_grows}
+use Rattle.site_turn.specs.Turns.{Accepts, AsideIsStrange, HistoryGrows, IsStrange, Kept, Seated, SetsAside, Turned, came_from, shown}
+use Rattle.site_turn.proofs.Holdings.{history_same, history_trans, holding_same, recorded_events, recorded_grows}
 
 -- ---- from step to step
 

@@ -1,5 +1,5 @@
 -- What a turn leaves of a site and its port (docs/LANGUAGE.md, "History text").
-use Rattle.std.specs.Prelude.{◌≡◌, ◌<◌, ◌^◌, ℕ, false, List, [], ◌∷◌, ◌++◌, length, map, Option, None, Some, IfSome, option_map, option_to_list}
+use Rattle.std.specs.Prelude.{◌≡◌, ◌<◌, ◌^◌, ℕ, false, List, ◌++◌, length, map, Option, None, Some, IfSome, option_map, option_to_list}
 use Rattle.stamp_history.specs.Histories.{Recorded}
 use Rattle.site_links.specs.Words.{Begins, Keeps}
 use Rattle.site_links.specs.declared.port.Port as Port
