@@ -16,6 +16,9 @@ use std::alloc::Global;
 /// How many events a turn has at most.
 const EVENTS: u32 = 256;
 
+/// At every which event of a turn a site that has events of its own to do looks at the links to it.
+const POLL: u32 = 16;
+
 /// How often a site on a thread of its own looks at the links to it before its turn ends quiet.
 pub const LOOKS: u32 = 1_000;
 
@@ -51,8 +54,8 @@ fn events<R, P: Port<R, Item>, G: Gate>(
     ensures { Turned P.Port code.now seat.old seat.new }
 {
     send(rt, code, seat);
-    for _ in 0..EVENTS {
-        if !event(rt, alloc, code, effort, seat) {
+    for number in 0..EVENTS {
+        if !event(rt, alloc, code, effort, number % POLL == 0, seat) {
             return;
         }
         gate.event(seat.site.number(), seat.site.history().len());
@@ -60,19 +63,20 @@ fn events<R, P: Port<R, Item>, G: Gate>(
     }
 }
 
-/// One event, if by this effort one is found.
+/// One event, if by this effort one is found. Where it `polls`, what comes goes before what the site does of its own.
 #[tactic(auto, using(crate::proofs::Steps::turned_trans, crate::proofs::Steps::turned_refl, crate::proofs::Steps::seated_after))]
 fn event<R, P: Port<R, Item>>(
     rt: &R,
     alloc: Global,
     code: &Code,
     effort: Effort,
+    polls: bool,
     seat: &mut Seat<P>,
 ) -> bool
     requires { Seated P.Port code.now seat.old }
     ensures { Turned P.Port code.now seat.old seat.new }
 {
-    if receive(rt, code, seat) {
+    if poll(rt, code, polls, seat) {
         return true;
     }
     if seat.failed || seat.aside.is_some() {
@@ -83,6 +87,18 @@ fn event<R, P: Port<R, Item>>(
         Stepped::Quiet => look(rt, code, effort.looks, seat),
         Stepped::Spent => false,
     }
+}
+
+/// Takes an item and accepts it, if the site polls and one is there.
+#[tactic(auto, using(crate::proofs::Steps::turned_refl))]
+fn poll<R, P: Port<R, Item>>(rt: &R, code: &Code, polls: bool, seat: &mut Seat<P>) -> bool
+    requires { Seated P.Port code.now seat.old }
+    ensures { Turned P.Port code.now seat.old seat.new }
+{
+    if polls {
+        return receive(rt, code, seat);
+    }
+    false
 }
 
 /// An event of the site's own, if by this effort one is found.
@@ -141,13 +157,13 @@ fn step_likely<R, P: Port<R, Item>>(
     }
 }
 
-/// Looks so often for an item.
+/// Looks so often for an item, after a first look.
 #[tactic(auto, using(crate::proofs::Steps::turned_trans, crate::proofs::Steps::turned_refl, crate::proofs::Steps::seated_after))]
 fn look<R, P: Port<R, Item>>(rt: &R, code: &Code, looks: u32, seat: &mut Seat<P>) -> bool
     requires { Seated P.Port code.now seat.old }
     ensures { Turned P.Port code.now seat.old seat.new }
 {
-    for _ in 0..looks {
+    for _ in 0..=looks {
         if receive(rt, code, seat) {
             return true;
         }

@@ -1,11 +1,11 @@
 use Rattle.site_turn.proofs.Steps.{seated_after, turned_trans}
 use Rattle.site_turn.proofs.turning.events.Goals as goal
 
-pub loop-init : goal.loop-init
-loop-init g c = record { turned = c.send.ensures; seated = seated_after c.send.ensures c.requires }
+pub loop-number-init : goal.loop-number-init
+loop-number-init g c = record { turned = c.send.ensures; seated = seated_after c.send.ensures c.requires }
 
 pub send_new-requires-after_bounds : goal.send_new-requires-after_bounds
-send_new-requires-after_bounds g c κs within = seated_after c.event.ensures c.loop.invariant.seated
+send_new-requires-after_bounds g c κs within = seated_after c.event.ensures c.loop-number.invariant.seated
 
-pub loop-preserved : goal.loop-preserved
-loop-preserved g c = let i = c.loop.invariant in let t = turned_trans c.event.ensures c.send_new.ensures in record { turned = turned_trans i.turned t; seated = seated_after t i.seated }
+pub loop-number-preserved : goal.loop-number-preserved
+loop-number-preserved g c = let i = c.loop-number.invariant in let t = turned_trans c.event.ensures c.send_new.ensures in record { turned = turned_trans i.turned t; seated = seated_after t i.seated }
