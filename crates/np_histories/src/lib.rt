@@ -3,9 +3,11 @@
 #![tactic(auto)]
 
 mod events;
+mod laws;
 mod limits;
 mod replaying;
 
 pub use events::upgraded;
+pub use laws::law_one_answer;
 pub use limits::LONGEST_HISTORY;
 pub use replaying::replayed;

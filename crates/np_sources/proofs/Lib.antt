@@ -1,4 +1,4 @@
-pub mod Once
+mod Once
 pub mod Kept
 pub mod Headlines
 pub mod Short

@@ -1,3 +1,4 @@
 pub mod Reaches
 pub mod Headline
+pub mod Laws
 pub mod Makes

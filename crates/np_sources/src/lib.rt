@@ -2,6 +2,7 @@
 #![tactic(auto)]
 
 mod job;
+mod laws;
 mod limits;
 mod loads;
 mod lowering;
@@ -10,6 +11,7 @@ mod sites;
 mod sources;
 
 pub use job::{Job, text_alone};
+pub use laws::law_one_answer;
 pub use limits::{LOAD_BUDGET, MOST_EVENTS};
 pub use loads::load_of;
 pub use lowering::low_of;

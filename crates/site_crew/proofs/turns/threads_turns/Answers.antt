@@ -12,17 +12,18 @@ use denote.Param.SendFields.{declared_sync}
 use Rattle.std.proofs.Crossing.{crosses}
 use Rattle.std.specs.contracts.alloc.Global as heap
 use Rattle.np_code.specs.contracts.code.Code as code
+use Rattle.site_turn.specs.contracts.effort.Effort as effort
 use Rattle.site_turn.specs.declared.seat.Seat.{Seat}
 use Rattle.site_turn.specs.Turns.{Seated}
 use Rattle.np_crossing.proofs.Codes.{code_sync}
 use Rattle.site_crossing.proofs.Seats.{seat_send}
 use Rattle.site_crew.proofs.turns.threads_turns.Goals as goal
 
--- what the closure reads: the handle, the allocator, the code and the gate
+-- what the closure reads: the handle, the allocator, the code, the gate and the effort
 captured_sync : (R G : RattleType) (κ₁ κ₂ κ₃ : Lft) → IsSync R → IsSync G
-    → IsSync (TupleAt [] (ShrRef static κ₁ R ∷ ShrRef static [] heap.the_row ∷ ShrRef static κ₂ code.the_row ∷ ShrRef static κ₃ G ∷ []))
-captured_sync R G κ₁ κ₂ κ₃ r s = declared_sync (type_at [] (ShrRef static κ₁ R ∷ ShrRef static [] heap.the_row ∷ ShrRef static κ₂ code.the_row ∷ ShrRef static κ₃ G ∷ []))
-    (search (sendable, r), (search (sendable, crosses) depth 20, (search (sendable, code_sync), (search (sendable, s), tt))))
+    → IsSync (TupleAt [] (ShrRef static κ₁ R ∷ ShrRef static [] heap.the_row ∷ ShrRef static κ₂ code.the_row ∷ ShrRef static κ₃ G ∷ ShrRef static [] effort.the_row ∷ []))
+captured_sync R G κ₁ κ₂ κ₃ r s = declared_sync (type_at [] (ShrRef static κ₁ R ∷ ShrRef static [] heap.the_row ∷ ShrRef static κ₂ code.the_row ∷ ShrRef static κ₃ G ∷ ShrRef static [] effort.the_row ∷ []))
+    (search (sendable, r), (search (sendable, crosses) depth 20, (search (sendable, code_sync), (search (sendable, s), (search (sendable, crosses) depth 20, tt)))))
 
 pub for_each_mut-requires-send-T : goal.for_each_mut-requires-send-T
 for_each_mut-requires-send-T g c κs within = param_send 1 _ (arg_send _ no _ (seat_send _ c.type_bounds.send-P))

@@ -1,0 +1,20 @@
+-- A source is taken so far or refused, and refused in one way alone (docs/LANGUAGE.md, "Reports and refusals").
+use Rattle.std.specs.Prelude.{◌≡◌, ℕ, ◌⊎◌, List}
+use Rattle.np_syntax.specs.declared.program.LowProgram.{LowProgram}
+use Rattle.np_verdict.specs.Lines.{status_of}
+use Rattle.np_verdict.specs.declared.refusal.Refusal.{Refusal}
+use Rattle.np_verdict.specs.declared.refusal.Refusal.TheVariants.{Usage, TooLong}
+use Rattle.np_sources.specs.Reaches.{Reach, IsLowOf, TakenTo, FaultyTo}
+
+pub record HaveOneAnswer : Type 0 where
+  -- a source has one low program
+  pub same_low : (bytes : List ℕ) (low other : LowProgram) → IsLowOf bytes low → IsLowOf bytes other → low ≡ other
+  -- no source is both taken so far and refused
+  pub not_both : (reach : Reach) (bytes : List ℕ) (refusal : Refusal) → TakenTo reach bytes → FaultyTo reach bytes refusal → ⊥
+  -- a source is refused in one way
+  pub same_fault : (reach : Reach) (bytes : List ℕ) (a b : Refusal) → FaultyTo reach bytes a → FaultyTo reach bytes b → a ≡ b
+  -- two refusals are of no source that was read
+  pub not_long : (reach : Reach) (bytes : List ℕ) → FaultyTo reach bytes TooLong → ⊥
+  pub not_usage : (reach : Reach) (bytes : List ℕ) → FaultyTo reach bytes Usage → ⊥
+  -- the status of the others is 3, but for want of memory
+  pub status : (reach : Reach) (bytes : List ℕ) (refusal : Refusal) → FaultyTo reach bytes refusal → (status_of refusal ≡ 3) ⊎ (status_of refusal ≡ 6)

@@ -1,0 +1,6 @@
+ghost use Rattle.np_sources.specs.Laws.{HaveOneAnswer};
+
+/// A source is taken so far as it is asked for, or refused, and refused in one way alone.
+pub fn law_one_answer()
+    ensures { HaveOneAnswer }
+{}
