@@ -9,7 +9,7 @@ use Rattle.np_serial.specs.declared.serial.SerialRun.{SerialRun}
 use Rattle.np_verdict.specs.Lines.{status_of}
 use Rattle.np_verdict.specs.declared.refusal.Refusal.{Refusal}
 use Rattle.np_verdict.specs.declared.refusal.Refusal.TheVariants.{ReadFault, TooLong}
-use Rattle.np_histories.proofs.Once.{run_fault_status}
+use Rattle.np_histories.specs.Laws as history_laws
 use Rattle.np_sources.specs.Makes.{DoesTask}
 use Rattle.np_sources.specs.Reaches.{Reach, TakenTo, FaultyTo, reach_of}
 use Rattle.np_on_sites.specs.declared.record.Record.{Record}
@@ -45,31 +45,33 @@ says_faulty reach bytes refusal short (inr s) = s.1
 abbrev pub IsOfHistory : Refusal → Type 0
 IsOfHistory refusal = (refusal ≡ ReadFault) ⊎ (status_of refusal ≡ 7)
 
-pub of_history : (call : Call) (history : List ℕ) (low : LowProgram) (refusal : Refusal) → RefusesRun call.texts history low refusal → IsOfHistory refusal
-of_history call history low refusal (inl (inl f)) = inl f.0
-of_history call history low refusal (inl (inr l)) = inr (ap status_of l.0)
-of_history call history low refusal (inr s) = inr (run_fault_status low s.bytes refusal s.faulty)
+module _ (histories : history_laws.HaveOneAnswer) where
+  pub of_history : (call : Call) (history : List ℕ) (low : LowProgram) (refusal : Refusal) → RefusesRun call.texts history low refusal → IsOfHistory refusal
+  of_history call history low refusal (inl (inl f)) = inl f.0
+  of_history call history low refusal (inl (inr l)) = inr (ap status_of l.0)
+  of_history call history low refusal (inr s) = inr (histories.run_status low s.bytes refusal s.faulty)
 
 -- a refusal speaks of the source, or of the history behind it
 pub data Cause (asked : Plan) (reach : Reach) (bytes : List ℕ) (refusal : Refusal) : Type 0 where
   of_source : Says reach bytes refusal → Cause asked reach bytes refusal
   of_later : Replays asked bytes → length bytes ≤ LONGEST_SOURCE → TakenTo reach bytes → IsOfHistory refusal → Cause asked reach bytes refusal
 
-by_plan : (call : Call) (asked : Plan) (reach : Reach) (bytes : List ℕ) (refusal : Refusal) → HasSource call asked reach bytes
-    → RefusesPlan call.texts asked refusal → Cause asked reach bytes refusal
-by_plan call asked reach bytes refusal (HasSource.alone f b task t) r = Cause.of_source (source_says call f (reach_of task) b refusal t r)
-by_plan call asked reach bytes refusal (HasSource.replayed source history b t) (inl r) = Cause.of_source (source_says call source Reach.low b refusal t r)
-by_plan call asked reach bytes refusal (HasSource.replayed source history b t) (inr r) =
-    let same : r.lowered.bytes ≡ b = same_text call source b r.lowered.bytes LONGEST_SOURCE t r.lowered.read in
-    let accepted = subst (λ (x : List ℕ). TakenTo Reach.low x) same (r.low, r.lowered.lowers) in
-    Cause.of_later (record { source = source; history = history; is = refl; low = accepted.0; lowered = accepted.1 })
-    (subst (λ (x : List ℕ). length x ≤ LONGEST_SOURCE) same r.lowered.read.short) accepted (of_history call history r.low refusal r.run)
-by_plan call asked reach bytes refusal (HasSource.made agents serial links) r = Cause.of_source (inr (r.short, r.faulty))
+module _ (histories : history_laws.HaveOneAnswer) where
+  by_plan : (call : Call) (asked : Plan) (reach : Reach) (bytes : List ℕ) (refusal : Refusal) → HasSource call asked reach bytes
+      → RefusesPlan call.texts asked refusal → Cause asked reach bytes refusal
+  by_plan call asked reach bytes refusal (HasSource.alone f b task t) r = Cause.of_source (source_says call f (reach_of task) b refusal t r)
+  by_plan call asked reach bytes refusal (HasSource.replayed source history b t) (inl r) = Cause.of_source (source_says call source Reach.low b refusal t r)
+  by_plan call asked reach bytes refusal (HasSource.replayed source history b t) (inr r) =
+      let same : r.lowered.bytes ≡ b = same_text call source b r.lowered.bytes LONGEST_SOURCE t r.lowered.read in
+      let accepted = subst (λ (x : List ℕ). TakenTo Reach.low x) same (r.low, r.lowered.lowers) in
+      Cause.of_later (record { source = source; history = history; is = refl; low = accepted.0; lowered = accepted.1 })
+      (subst (λ (x : List ℕ). length x ≤ LONGEST_SOURCE) same r.lowered.read.short) accepted (of_history histories call history r.low refusal r.run)
+  by_plan call asked reach bytes refusal (HasSource.made agents serial links) r = Cause.of_source (inr (r.short, r.faulty))
 
-pub stands_cause : (call : Call) (asked : Plan) (reach : Reach) (bytes : List ℕ) (refusal : Refusal) → Reads call asked reach bytes
-    → Stands call.words call.texts refusal → Cause asked reach bytes refusal
-stands_cause call asked reach bytes refusal r s =
-    by_plan call asked reach bytes refusal r.source (refused_plan call asked refusal r.planned s)
+  pub stands_cause : (call : Call) (asked : Plan) (reach : Reach) (bytes : List ℕ) (refusal : Refusal) → Reads call asked reach bytes
+      → Stands call.words call.texts refusal → Cause asked reach bytes refusal
+  stands_cause call asked reach bytes refusal r s =
+      by_plan call asked reach bytes refusal r.source (refused_plan call asked refusal r.planned s)
 
 -- ---- what is made
 

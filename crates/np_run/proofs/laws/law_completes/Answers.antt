@@ -8,9 +8,10 @@ use Rattle.np_verdict.specs.declared.refusal.Refusal.{Refusal}
 use Rattle.np_verdict.specs.declared.refusal.Refusal.TheVariants.{Usage, ReadFault}
 use Rattle.np_generate.specs.Generated.{generated}
 use Rattle.np_sources.specs.declared.limits.TheConstants.{LOAD_BUDGET}
-use Rattle.np_sources.proofs.Once.{not_both}
 use Rattle.np_histories.specs.declared.limits.TheConstants.{LONGEST_HISTORY}
 use Rattle.np_modes.specs.Causes.{RefusesPlan, Stands}
+use Rattle.np_sources.specs.Laws as source_laws
+use Rattle.np_histories.specs.Laws as history_laws
 use Rattle.np_run.specs.Answers.{Call}
 use Rattle.np_run.specs.Laws.{Accepts}
 use Rattle.np_run.proofs.Outcomes.{refused_plan}
@@ -18,31 +19,32 @@ use Rattle.np_run.proofs.Sources.{Says, source_says}
 use Rattle.np_run.proofs.Histories as history
 use Rattle.np_run.proofs.laws.law_completes.Goals as goal
 
--- no refusal says anything of an accepted source
-of_source : (reach : Reach) (bytes : List ℕ) (refusal : Refusal) → length bytes ≤ LONGEST_SOURCE → TakenTo reach bytes → Says reach bytes refusal → ⊥
-of_source reach bytes refusal short a (inl s) = let long = s.1 in omega arith
-of_source reach bytes refusal short a (inr s) = not_both reach bytes refusal a s.1
+module _ (sources : source_laws.HaveOneAnswer) (histories : history_laws.HaveOneAnswer) where
+  -- no refusal says anything of an accepted source
+  of_source : (reach : Reach) (bytes : List ℕ) (refusal : Refusal) → length bytes ≤ LONGEST_SOURCE → TakenTo reach bytes → Says reach bytes refusal → ⊥
+  of_source reach bytes refusal short a (inl s) = let long = s.1 in omega arith
+  of_source reach bytes refusal short a (inr s) = sources.not_both reach bytes refusal a s.1
 
--- and none of an accepted history
-of_history : (low : Option LowProgram) (bytes : List ℕ) (refusal : Refusal) → length bytes ≤ LONGEST_HISTORY → history.AcceptedHistory low bytes → history.SaysHistory low bytes refusal → ⊥
-of_history low bytes refusal short a (inl s) = let long = s.1 in omega arith
-of_history low bytes refusal short a (inr s) = history.not_both low bytes refusal a s.1
+  -- and none of an accepted history
+  of_history : (low : Option LowProgram) (bytes : List ℕ) (refusal : Refusal) → length bytes ≤ LONGEST_HISTORY → history.AcceptedHistory low bytes → history.SaysHistory low bytes refusal → ⊥
+  of_history low bytes refusal short a (inl s) = let long = s.1 in omega arith
+  of_history low bytes refusal short a (inr s) = history.not_both histories low bytes refusal a s.1
 
-of_plan : (call : Call) (asked : Plan) (refusal : Refusal) → Accepts call asked → RefusesPlan call.texts asked refusal → ⊥
-of_plan call (plans.Source file task) refusal a r = of_source (reach_of task) a.bytes refusal a.short a.accepted (source_says call file (reach_of task) a.bytes refusal a.told r)
-of_plan call (plans.Replay source h) refusal a (inl r) =
-    of_source Reach.low a.bytes refusal a.short (a.low, a.lowered) (source_says call source Reach.low a.bytes refusal a.told r)
-of_plan call (plans.Replay source h) refusal a (inr r) =
-    of_history (Some a.low) a.run refusal a.short_run a.replays
-    (subst (λ (low : LowProgram). history.SaysHistory (Some low) a.run refusal) (history.same_low call source a.bytes a.low r.low a.told a.lowered r.lowered)
-    (history.run_says call h r.low a.run refusal a.told_run r.run))
-of_plan call (plans.Upgrade h) refusal a r = of_history None a.bytes refusal a.short a.accepted (history.history_says call h a.bytes refusal a.told r)
-of_plan call (plans.Generate agents) refusal a r = r
-of_plan call (plans.Load agents serial links) refusal a r = not_both (Reach.sites LOAD_BUDGET) (generated agents) refusal a r.faulty
+  of_plan : (call : Call) (asked : Plan) (refusal : Refusal) → Accepts call asked → RefusesPlan call.texts asked refusal → ⊥
+  of_plan call (plans.Source file task) refusal a r = of_source (reach_of task) a.bytes refusal a.short a.accepted (source_says call file (reach_of task) a.bytes refusal a.told r)
+  of_plan call (plans.Replay source h) refusal a (inl r) =
+      of_source Reach.low a.bytes refusal a.short (a.low, a.lowered) (source_says call source Reach.low a.bytes refusal a.told r)
+  of_plan call (plans.Replay source h) refusal a (inr r) =
+      of_history (Some a.low) a.run refusal a.short_run a.replays
+      (subst (λ (low : LowProgram). history.SaysHistory (Some low) a.run refusal) (history.same_low sources call source a.bytes a.low r.low a.told a.lowered r.lowered)
+      (history.run_says call h r.low a.run refusal a.told_run r.run))
+  of_plan call (plans.Upgrade h) refusal a r = of_history None a.bytes refusal a.short a.accepted (history.history_says call h a.bytes refusal a.told r)
+  of_plan call (plans.Generate agents) refusal a r = r
+  of_plan call (plans.Load agents serial links) refusal a r = sources.not_both (Reach.sites LOAD_BUDGET) (generated agents) refusal a r.faulty
 
 pub returns : goal.returns
 returns c = λ call answer asked h planned a no_out no_err.
-    let none = λ (refusal : Refusal) (s : Stands call.words call.texts refusal). of_plan call asked refusal a (refused_plan call asked refusal planned s) in
+    let none = λ (refusal : Refusal) (s : Stands call.words call.texts refusal). of_plan c.law_one_answer.ensures c.law_one_answer-2.ensures call asked refusal a (refused_plan call asked refusal planned s) in
     elim (h.status) [
       | inl e ↦ inl e
       | inr rest ↦ elim rest [

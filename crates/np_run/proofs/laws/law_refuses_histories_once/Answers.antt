@@ -4,6 +4,8 @@ use Rattle.np_verdict.specs.Lines.{status_of}
 use Rattle.np_verdict.specs.declared.refusal.Refusal.{Refusal}
 use Rattle.np_histories.specs.declared.limits.TheConstants.{LONGEST_HISTORY}
 use Rattle.np_modes.specs.Causes.{Stands}
+use Rattle.np_sources.specs.Laws as source_laws
+use Rattle.np_histories.specs.Laws as history_laws
 use Rattle.np_run.specs.Answers.{Call, IsRefused}
 use Rattle.np_run.specs.Laws.{FaultyHistory, Follows, RefusesAlone}
 use Rattle.np_run.specs.declared.answer.Answer.{Answer}
@@ -11,20 +13,21 @@ use Rattle.np_run.proofs.Outcomes.{Outcome, outcome}
 use Rattle.np_run.proofs.Histories.{stands_says, says_faulty_history, made_accepts, not_both, same_fault, fault_status}
 use Rattle.np_run.proofs.laws.law_refuses_histories_once.Goals as goal
 
-module _ (call : Call) (low : Option LowProgram) (bytes : List ℕ) (f : Follows call low bytes) (short : length bytes ≤ LONGEST_HISTORY) where
-  -- what has its cause is what is wrong with the history
-  only : (refusal : Refusal) → FaultyHistory low bytes refusal → (other : Refusal) → Stands call.words call.texts other → other ≡ refusal
-  only refusal wrong other s = same_fault low bytes other refusal (says_faulty_history low bytes other short (stands_says call low bytes other f s)) wrong
+module _ (sources : source_laws.HaveOneAnswer) (histories : history_laws.HaveOneAnswer) where
+  module _ (call : Call) (low : Option LowProgram) (bytes : List ℕ) (f : Follows call low bytes) (short : length bytes ≤ LONGEST_HISTORY) where
+    -- what has its cause is what is wrong with the history
+    only : (refusal : Refusal) → FaultyHistory low bytes refusal → (other : Refusal) → Stands call.words call.texts other → other ≡ refusal
+    only refusal wrong other s = same_fault histories low bytes other refusal (says_faulty_history low bytes other short (stands_says sources call low bytes other f s)) wrong
 
-  alone : (answer : Answer) (refusal : Refusal) → FaultyHistory low bytes refusal → Outcome call answer → RefusesAlone 7 call answer refusal
-  alone answer refusal wrong (Outcome.made text h) = absurd (not_both low bytes refusal (made_accepts call low bytes answer.kept answer.high text f h).1 wrong)
-  alone answer refusal wrong (Outcome.refused other e s) =
-      let same : other ≡ refusal = only refusal wrong other s.stands in
-      record {
-        is = e ∙ ap status_of same ∙ fault_status low bytes refusal wrong;
-        refused = subst (λ (x : Refusal). IsRefused call answer x) same s;
-        only = only refusal wrong;
-      }
+    alone : (answer : Answer) (refusal : Refusal) → FaultyHistory low bytes refusal → Outcome call answer → RefusesAlone 7 call answer refusal
+    alone answer refusal wrong (Outcome.made text h) = absurd (not_both histories low bytes refusal (made_accepts sources call low bytes answer.kept answer.high text f h).1 wrong)
+    alone answer refusal wrong (Outcome.refused other e s) =
+        let same : other ≡ refusal = only refusal wrong other s.stands in
+        record {
+          is = e ∙ ap status_of same ∙ fault_status histories low bytes refusal wrong;
+          refused = subst (λ (x : Refusal). IsRefused call answer x) same s;
+          only = only refusal wrong;
+        }
 
 pub returns : goal.returns
-returns c = λ call answer low bytes refusal h f err some short wrong. alone call low bytes f short answer refusal wrong (outcome call answer h err some)
+returns c = λ call answer low bytes refusal h f err some short wrong. alone c.law_one_answer.ensures c.law_one_answer-2.ensures call low bytes f short answer refusal wrong (outcome call answer h err some)

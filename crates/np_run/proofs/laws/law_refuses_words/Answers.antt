@@ -10,53 +10,54 @@ use Rattle.np_verdict.specs.declared.refusal.Refusal.{Refusal}
 use Rattle.np_verdict.specs.declared.refusal.Refusal.TheVariants.{Usage, TooLong}
 use Rattle.np_generate.specs.Generated.{generated}
 use Rattle.np_sources.specs.declared.limits.TheConstants.{LOAD_BUDGET}
-use Rattle.np_sources.proofs.Once.{not_usage}
-use Rattle.np_histories.proofs.Once.{fault_status, run_fault_status}
 use Rattle.np_modes.specs.Readings.{Reading, IsUnread}
 use Rattle.np_modes.specs.Causes.{IsFaultySource, RefusesHistory, RefusesRun, RefusesPlan, Stands}
+use Rattle.np_sources.specs.Laws as source_laws
+use Rattle.np_histories.specs.Laws as history_laws
 use Rattle.np_run.specs.Answers.{Call}
 use Rattle.np_run.specs.declared.answer.Answer.{Answer}
 use Rattle.np_run.proofs.Outcomes.{Outcome, outcome}
 use Rattle.np_run.proofs.laws.law_refuses_words.Goals as goal
 
--- where the words ask for nothing that the program does, usage alone stands
-usage_stands : (call : Call) (status : ℕ) (refusal : Refusal) → plan call.words ≡ None → status ≡ status_of refusal → Stands call.words call.texts refusal → status ≡ 2
-usage_stands call status refusal p e (Stands.words none) = e
-usage_stands call status refusal p e (Stands.asked asked planned refused) = cc
+module _ (sources : source_laws.HaveOneAnswer) (histories : history_laws.HaveOneAnswer) where
+  -- where the words ask for nothing that the program does, usage alone stands
+  usage_stands : (call : Call) (status : ℕ) (refusal : Refusal) → plan call.words ≡ None → status ≡ status_of refusal → Stands call.words call.texts refusal → status ≡ 2
+  usage_stands call status refusal p e (Stands.words none) = e
+  usage_stands call status refusal p e (Stands.asked asked planned refused) = cc
 
--- usage is no refusal of what is asked for
+  -- usage is no refusal of what is asked for
 
-of_source : (texts : Reading) (file : List ℕ) (reach : Reach) → IsUnread texts file LONGEST_SOURCE TooLong Usage ⊎ IsFaultySource texts file reach Usage → ⊥
-of_source texts file reach (inl (inl u)) = let is = u.0 in cc
-of_source texts file reach (inl (inr u)) = let is = u.0 in cc
-of_source texts file reach (inr s) = not_usage reach s.bytes s.faulty
+  of_source : (texts : Reading) (file : List ℕ) (reach : Reach) → IsUnread texts file LONGEST_SOURCE TooLong Usage ⊎ IsFaultySource texts file reach Usage → ⊥
+  of_source texts file reach (inl (inl u)) = let is = u.0 in cc
+  of_source texts file reach (inl (inr u)) = let is = u.0 in cc
+  of_source texts file reach (inr s) = sources.not_usage reach s.bytes s.faulty
 
-of_run : (texts : Reading) (history : List ℕ) (low : LowProgram) → RefusesRun texts history low Usage → ⊥
-of_run texts history low (inl (inl u)) = let is = u.0 in cc
-of_run texts history low (inl (inr u)) = let is = u.0 in cc
-of_run texts history low (inr s) = let is = run_fault_status low s.bytes Usage s.faulty in omega (arith, is)
+  of_run : (texts : Reading) (history : List ℕ) (low : LowProgram) → RefusesRun texts history low Usage → ⊥
+  of_run texts history low (inl (inl u)) = let is = u.0 in cc
+  of_run texts history low (inl (inr u)) = let is = u.0 in cc
+  of_run texts history low (inr s) = let is = histories.run_status low s.bytes Usage s.faulty in omega (arith, is)
 
-of_history : (texts : Reading) (history : List ℕ) → RefusesHistory texts history Usage → ⊥
-of_history texts history (inl (inl u)) = let is = u.0 in cc
-of_history texts history (inl (inr u)) = let is = u.0 in cc
-of_history texts history (inr s) = let is = fault_status s.bytes Usage s.faulty in omega (arith, is)
+  of_history : (texts : Reading) (history : List ℕ) → RefusesHistory texts history Usage → ⊥
+  of_history texts history (inl (inl u)) = let is = u.0 in cc
+  of_history texts history (inl (inr u)) = let is = u.0 in cc
+  of_history texts history (inr s) = let is = histories.status s.bytes Usage s.faulty in omega (arith, is)
 
-of_plan : (texts : Reading) (asked : Plan) → RefusesPlan texts asked Usage → ⊥
-of_plan texts (plans.Source file task) r = of_source texts file (reach_of task) r.cause
-of_plan texts (plans.Replay source history) (inl r) = of_source texts source Reach.low r.cause
-of_plan texts (plans.Replay source history) (inr r) = of_run texts history r.low r.run
-of_plan texts (plans.Upgrade history) r = of_history texts history r
-of_plan texts (plans.Generate agents) r = r
-of_plan texts (plans.Load agents serial links) r = not_usage (Reach.sites LOAD_BUDGET) (generated agents) r.faulty
+  of_plan : (texts : Reading) (asked : Plan) → RefusesPlan texts asked Usage → ⊥
+  of_plan texts (plans.Source file task) r = of_source texts file (reach_of task) r.cause
+  of_plan texts (plans.Replay source history) (inl r) = of_source texts source Reach.low r.cause
+  of_plan texts (plans.Replay source history) (inr r) = of_run texts history r.low r.run
+  of_plan texts (plans.Upgrade history) r = of_history texts history r
+  of_plan texts (plans.Generate agents) r = r
+  of_plan texts (plans.Load agents serial links) r = sources.not_usage (Reach.sites LOAD_BUDGET) (generated agents) r.faulty
 
--- usage stands where the words ask for nothing that the program does
-unplanned_words : (call : Call) → Stands call.words call.texts Usage → plan call.words ≡ None
-unplanned_words call (Stands.words none) = none
-unplanned_words call (Stands.asked asked planned refused) = absurd (of_plan call.texts asked refused)
+  -- usage stands where the words ask for nothing that the program does
+  unplanned_words : (call : Call) → Stands call.words call.texts Usage → plan call.words ≡ None
+  unplanned_words call (Stands.words none) = none
+  unplanned_words call (Stands.asked asked planned refused) = absurd (of_plan call.texts asked refused)
 
-unplanned : (call : Call) (answer : Answer) → plan call.words ≡ None → Outcome call answer → answer.status ≡ 2
-unplanned call answer p (Outcome.made text h) = let q = h.planned in cc
-unplanned call answer p (Outcome.refused refusal e s) = usage_stands call answer.status refusal p e s.stands
+  unplanned : (call : Call) (answer : Answer) → plan call.words ≡ None → Outcome call answer → answer.status ≡ 2
+  unplanned call answer p (Outcome.made text h) = let q = h.planned in cc
+  unplanned call answer p (Outcome.refused refusal e s) = usage_stands call answer.status refusal p e s.stands
 
 pub returns : goal.returns
-returns c = λ call answer h err some. (λ e. unplanned_words call (h.usage e).stands, λ p. unplanned call answer p (outcome call answer h err some))
+returns c = λ call answer h err some. (λ e. unplanned_words c.law_one_answer.ensures c.law_one_answer-2.ensures call (h.usage e).stands, λ p. unplanned c.law_one_answer.ensures c.law_one_answer-2.ensures call answer p (outcome call answer h err some))
