@@ -1,6 +1,5 @@
 //! The run of the source that is read off a run on sites: it is made again at the high level.
 
-use super::fail::ExampleFail;
 use np_check::Checked;
 use np_configuration::{Cfg, start_high};
 use np_replay::{ReplayFail, follow};
@@ -83,30 +82,66 @@ fn ends_alike(last: &Cfg, values: &[(u32, Value)], end: End) -> bool {
     same_values(last.said(), values) && (end == End::Spent || last.idle())
 }
 
-/// Whether the events are a run of the source at the high level, which ends as the sites do.
+/// Whether the events are a run of the program at the high level, which ends so.
+fn runs_alike(
+    alloc: Global,
+    program: &Checked,
+    events: &[Event],
+    values: &[(u32, Value)],
+    end: End,
+) -> Result<bool, Memory> {
+    match high_end(alloc, program, events) {
+        Ok(Some(last)) => {
+            let alike = ends_alike(&last, values, end);
+            drop(last);
+            Ok(alike)
+        }
+        Ok(None) => Ok(false),
+        Err(memory) => Err(memory),
+    }
+}
+
+/// Whether the events are a run of the source at the high level, which ends so.
+fn is_run_of(
+    alloc: Global,
+    source: &[u8],
+    events: &[Event],
+    values: &[(u32, Value)],
+    end: End,
+) -> Result<bool, Memory> {
+    match checked_of(alloc, source) {
+        Ok(Some(program)) => {
+            let alike = runs_alike(alloc, &program, events, values, end);
+            drop(program);
+            alike
+        }
+        Ok(None) => Ok(false),
+        Err(memory) => Err(memory),
+    }
+}
+
+/// Whether what is read off the events is a run of the source at the high level, which ends as the sites do.
 fn is_high_run(
     alloc: Global,
     source: &[u8],
     record: &Record,
     events: &[Event],
-) -> Result<bool, ExampleFail> {
-    let Some(program) = checked_of(alloc, source)? else {
-        return Ok(false);
-    };
-    let values = said(alloc, record.histories.as_slice())?;
+) -> Result<bool, Memory> {
     let lifted = lift(alloc, events)?;
-    match high_end(alloc, &program, lifted.as_slice())? {
-        Some(last) => Ok(ends_alike(&last, values.as_slice(), record.end)),
-        None => Ok(false),
-    }
+    let values = said(alloc, record.histories.as_slice())?;
+    let is_run = is_run_of(
+        alloc,
+        source,
+        lifted.as_slice(),
+        values.as_slice(),
+        record.end,
+    );
+    drop(values);
+    is_run
 }
 
 /// What is seen of a run on the sites of this source.
-pub(crate) fn reading_of(
-    alloc: Global,
-    source: &[u8],
-    record: &Record,
-) -> Result<Reading, ExampleFail> {
+pub(crate) fn reading_of(alloc: Global, source: &[u8], record: &Record) -> Result<Reading, Memory> {
     let events = merge(alloc, record.histories.as_slice())?;
     let letters = letters_in(events.as_slice());
     let all = record.end == End::Spent || letters.posts == letters.opens;
