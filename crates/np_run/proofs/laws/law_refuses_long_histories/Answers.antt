@@ -31,4 +31,4 @@ module _ (sources : source_laws.HaveOneAnswer) where
 
 pub returns : goal.returns
 returns c = λ call answer low bytes h f err some.
-    (λ is. is_long low bytes (stands_says c.law_one_answer.ensures call low bytes HistoryTooLong f is.stands), λ l. by_outcome c.law_one_answer.ensures call answer low bytes f l (outcome call answer h err some))
+    (λ is. is_long c.law_one_answer.ensures low bytes (stands_says c.law_one_answer.ensures call low bytes HistoryTooLong f is.stands), λ l. by_outcome c.law_one_answer.ensures call answer low bytes f l (outcome call answer h err some))
