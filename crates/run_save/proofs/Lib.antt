@@ -1,0 +1,3 @@
+pub mod LinkLaws
+pub mod NameLaws
+pub mod RunLaws

@@ -1,0 +1,15 @@
+//! Laws of the runs that the sites of a program make by themselves.
+
+ghost use Rattle.std.specs.Prelude.{[]};
+ghost use Rattle.np_syntax.specs.declared.program.LowProgram.{LowProgram as OneProgram};
+ghost use Rattle.run_save.specs.Ours.{IsOurs, PrefixIsOurs};
+
+/// The empty run is ours.
+pub fn law_nothing_is_ours()
+    ensures { (q : OneProgram) → IsOurs q [] }
+{}
+
+/// A prefix of a run that is ours is ours.
+pub fn law_prefix_is_ours()
+    ensures { PrefixIsOurs }
+{}
