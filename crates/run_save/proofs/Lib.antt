@@ -1,3 +1,4 @@
+pub mod GoingOn
 pub mod LinkLaws
 pub mod NameLaws
 pub mod RunLaws

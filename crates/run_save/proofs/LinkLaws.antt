@@ -1,5 +1,5 @@
 -- What was put and what was taken, and the queues of what waits.
-use Rattle.std.proofs.Common.{◌≡◌, ℕ, Bool, true, false, cond, Some, List, [], ◌∷◌, ◌++◌, map, reverse, refl, sym, ap, subst, ◌∙◌, arith}
+use Rattle.std.proofs.Common.{◌≡◌, ℕ, Bool, true, false, cond, None, Some, List, [], ◌∷◌, ◌++◌, map, reverse, refl, sym, ap, subst, ◌∙◌, arith}
 use Rattle.std.specs.List.{filter, find}
 use Rattle.std.specs.Option.{option_map}
 use Rattle.std.proofs.lemmas.List.{append-nil, append_assoc, append_cancel_left, map-append, reverse-append}
@@ -52,7 +52,7 @@ sender-more trips trip x =
     either true = refl
     either false = refl
 
-on_link-more : (l : Link) (trips : List Trip) (trip : Trip) → on_link l (trips ++ trip ∷ []) ≡ on_link l trips ++ cond (same_link trip.link l) (trip.item ∷ []) []
+pub on_link-more : (l : Link) (trips : List Trip) (trip : Trip) → on_link l (trips ++ trip ∷ []) ≡ on_link l trips ++ cond (same_link trip.link l) (trip.item ∷ []) []
 on_link-more l trips trip =
     ap (map (λ (t : Trip). t.item)) (filter-append (λ (t : Trip). same_link t.link l) trips (trip ∷ []))
     ∙ map-append (λ (t : Trip). t.item) (filter (λ (t : Trip). same_link t.link l) trips) (filter (λ (t : Trip). same_link t.link l) (trip ∷ []))
@@ -62,10 +62,10 @@ on_link-more l trips trip =
     either true = refl
     either false = refl
 
-on_link-here : (trips : List Trip) (trip : Trip) → on_link trip.link (trips ++ trip ∷ []) ≡ on_link trip.link trips ++ trip.item ∷ []
+pub on_link-here : (trips : List Trip) (trip : Trip) → on_link trip.link (trips ++ trip ∷ []) ≡ on_link trip.link trips ++ trip.item ∷ []
 on_link-here trips trip = on_link-more trip.link trips trip ∙ ap (λ b. on_link trip.link trips ++ cond b (trip.item ∷ []) []) (same_link-itself trip.link)
 
-on_link-other : (l : Link) (trips : List Trip) (trip : Trip) → same_link trip.link l ≡ false → on_link l (trips ++ trip ∷ []) ≡ on_link l trips
+pub on_link-other : (l : Link) (trips : List Trip) (trip : Trip) → same_link trip.link l ≡ false → on_link l (trips ++ trip ∷ []) ≡ on_link l trips
 on_link-other l trips trip h = on_link-more l trips trip ∙ ap (λ b. on_link l trips ++ cond b (trip.item ∷ []) []) h ∙ append-nil (on_link l trips)
 
 -- ---- an item is put
@@ -93,6 +93,7 @@ module _ (old new : Links) (t : Travels) (trip : Trip) (told : Tells old t) wher
   put-told sends sets = record {
     senders = λ x. sends x ∙ ap (cond (same_item trip.item x) (Some trip.link.from)) (told.senders x) ∙ sym (sender-more t.put trip x);
     waits = waits-put sets;
+    sent = told.sent;
   }
 
 -- ---- an item is taken
@@ -139,6 +140,7 @@ module _ (old : Links) (t : Travels) (trip : Trip) (told : Tells old t) where
         go true h = record {
           senders = λ x. ap (λ (m : IndexMap Item ℕ _). index_map.get same_item m x) senders ∙ told.senders x;
           waits = waits-taken (subst (TakesFirst old.queues new.queues trip.link) (same_item-is first trip.item h) takes);
+          sent = told.sent;
         }
         go false h = other-first first (waiting new.queues trip.link) takes.is h
 
@@ -147,4 +149,13 @@ pub takes-from : (t : Travels) (x : Item) (site from : ℕ) → sender t.put x �
 takes-from t x site from is = ap (takes_from t x site) is
 
 pub told-order : (links : Links) (t : Travels) → Tells links t → IsFirstInFirstOut t
-told-order links t told = record { links = λ l. (waiting links.queues l, told.waits l) }
+told-order links t told = record { links = λ l. (waiting links.queues l, told.waits l); sent = told.sent }
+
+pub no-push : {X : Type 0} (xs : List X) (x : X) → xs ++ x ∷ [] ≡ [] → ⊥
+no-push [] x is = cc
+no-push (y ∷ ys) x is = cc
+
+-- what no event put is not taken in order
+pub stray-taken : (t : Travels) (x : Item) (site : ℕ) → sender t.put x ≡ None → IsFirstInFirstOut (takes t x site) → ⊥
+stray-taken t x site none order =
+    let taken : IsFirstInFirstOut (record t { stray = t.stray ++ x ∷ [] }) = subst IsFirstInFirstOut (ap (takes_from t x site) none) order in no-push t.stray x taken.sent

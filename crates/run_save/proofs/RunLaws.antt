@@ -22,7 +22,7 @@ run-behind c [] later d h = let same : c ≡ d = cc in ap (λ (x : Config). run 
 run-behind c (e ∷ events) later d h =
     then (apply c e) (λ x. run x events) h (λ x first rest. ap (λ o. o >>= λ z. run z (events ++ later)) first ∙ run-behind x events later d rest)
 
-travels-more : (t : Travels) (c : Config) (events : List Event) (e : Event) (before after : Config) → run c events ≡ Some before → apply before e ≡ Some after
+pub travels-more : (t : Travels) (c : Config) (events : List Event) (e : Event) (before after : Config) → run c events ≡ Some before → apply before e ≡ Some after
     → travels_along t c (events ++ e ∷ []) ≡ travels_on e.kind (travels_along t c events) after e
 travels-more t c [] e before after reaches enabled =
     let same : before ≡ c = cc in
@@ -35,7 +35,7 @@ travels-more t c (f ∷ events) e before after reaches enabled =
 
 -- ---- the first events of a list
 
-order-more : (start : Config) (events : List Event) (e : Event) → ((k : ℕ) → IsFirstInFirstOut (travels start (take k events))) → IsFirstInFirstOut (travels start (events ++ e ∷ []))
+pub order-more : (start : Config) (events : List Event) (e : Event) → ((k : ℕ) → IsFirstInFirstOut (travels start (take k events))) → IsFirstInFirstOut (travels start (events ++ e ∷ []))
     → (k : ℕ) → IsFirstInFirstOut (travels start (take k (events ++ e ∷ [])))
 order-more start events e before whole k = go (cases_lt (length events) k)
   where
@@ -43,7 +43,7 @@ order-more start events e before whole k = go (cases_lt (length events) k)
     go (inl over) = subst (λ es. IsFirstInFirstOut (travels start es)) (sym (take_all k (events ++ e ∷ []) (omega (arith, length-append events (e ∷ []))))) whole
     go (inr within) = subst (λ es. IsFirstInFirstOut (travels start es)) (sym (take-append-le k events (e ∷ []) within)) (before k)
 
-order-whole : (start : Config) (events : List Event) → ((k : ℕ) → IsFirstInFirstOut (travels start (take k events))) → IsFirstInFirstOut (travels start events)
+pub order-whole : (start : Config) (events : List Event) → ((k : ℕ) → IsFirstInFirstOut (travels start (take k events))) → IsFirstInFirstOut (travels start events)
 order-whole start events each = subst (λ es. IsFirstInFirstOut (travels start es)) (take_all (length events) events (omega arith)) (each (length events))
 
 pub prefix-ours : (start : Config) (events : List Event) (j : ℕ) → IsOursFrom start events → IsOursFrom start (take j events)
@@ -128,7 +128,7 @@ pub nothing-ours : (start : Config) → IsOursFrom start []
 nothing-ours start = record { names = λ s. tt; order = λ k. subst (λ es. IsFirstInFirstOut (travels start es)) (sym (take_all k [] (omega arith))) none }
   where
     none : IsFirstInFirstOut none_yet
-    none = record { links = λ l. ([], refl) }
+    none = record { links = λ l. ([], refl); sent = refl }
 
 pub all-ours : (start : Config) (events : List Event) (index : ℕ) → length events ≤ index → IsOursFrom start (take index events) → IsOursFrom start events
 all-ours start events index over ours = subst (IsOursFrom start) (take_all index events over) ours

@@ -46,6 +46,7 @@ module _ {S : Type 0} where
 pub record Tells (links : Links) (t : Travels) : Type 0 where
   pub senders : (x : Item) → index_map.get same_item links.senders x ≡ sender t.put x
   pub waits : (l : Link) → on_link l t.put ≡ on_link l t.taken ++ waiting links.queues l
+  pub sent : t.stray ≡ []
 
 -- the answer is whether what is first in is first out, and then the links are told
 abbrev pub IsTold : Bool → Links → Travels → Type 0

@@ -41,25 +41,26 @@ sending after e = do
 
 -- ---- one event after another
 
--- what was put on its way, and what was taken, each in the order of the events
+-- what was put on its way, what was taken, and what was taken though no event had put it, each in the order of the events
 pub record Travels : Type 0 where
   pub put : List Trip
   pub taken : List Trip
+  pub stray : List Item
 
 abbrev pub none_yet : Travels
-none_yet = record { put = []; taken = [] }
+none_yet = record { put = []; taken = []; stray = [] }
 
 abbrev pub puts : Travels → Option Trip → Travels
 puts t None = t
 puts t (Some trip) = record t { put = t.put ++ trip ∷ [] }
 
--- the site of the event that put an item last
+-- the site of the event that put an item last, which is the item's sender
 abbrev pub sender : List Trip → Item → Option ℕ
 sender trips x = option_map (λ trip. trip.link.from) (find (λ trip. same_item trip.item x) (reverse trips))
 
--- an item is taken from its sender's site
+-- an item is taken on the link from its sender's site
 abbrev pub takes_from : Travels → Item → ℕ → Option ℕ → Travels
-takes_from t x site None = t
+takes_from t x site None = record t { stray = t.stray ++ x ∷ [] }
 takes_from t x site (Some from) = record t { taken = t.taken ++ record { item = x; link = record { from = from; to = site } } ∷ [] }
 
 abbrev pub takes : Travels → Item → ℕ → Travels
@@ -87,6 +88,8 @@ travels start events = travels_along none_yet start events
 abbrev pub on_link : Link → List Trip → List Item
 on_link l trips = map (λ trip. trip.item) (filter (λ trip. same_link trip.link l) trips)
 
--- On each link what is put is what is taken, and then what is left. So what is taken is each time the one that was put first.
+-- On each link what is put is what is taken, and then what is left; and nothing is taken that was not put. Where this holds after each
+-- event, what an event takes is, of what was put and not yet taken on its link, the one that was put first.
 pub record IsFirstInFirstOut (t : Travels) : Type 0 where
   pub links : (l : Link) → (rest : List Item) × (on_link l t.put ≡ on_link l t.taken ++ rest)
+  pub sent : t.stray ≡ []

@@ -9,6 +9,6 @@ mod ours;
 mod queue;
 mod trips;
 
-pub use laws::{law_nothing_is_ours, law_prefix_is_ours};
+pub use laws::{law_nothing_is_ours, law_ours_goes_on, law_prefix_is_ours};
 pub use ours::ours_until;
 pub use trips::{Item, Link, Trip};

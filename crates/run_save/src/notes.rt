@@ -1,10 +1,10 @@
-ghost use Rattle.std.specs.Prelude.{◌≡◌, List as Items, [], ◌∷◌, ◌++◌, IfOk, OnOk, MatchBool, MatchOption, Some};
+ghost use Rattle.std.specs.Prelude.{◌≡◌, List as Items, [], ◌∷◌, ◌++◌, IfOk, OnOk, MatchOption, Some};
+ghost use Rattle.np_syntax.specs.declared.event.Event.{Event as OneEvent};
 ghost use Rattle.np_calculus.specs.Config.{Config as OneConfig};
 ghost use Rattle.np_calculus.specs.Reductions.{apply, run};
 ghost use Rattle.run_save.specs.Ours.{IsOursFrom};
-ghost use Rattle.np_syntax.specs.declared.event.Event.{Event as OneEvent};
-ghost use Rattle.run_save.specs.Travels.{IsFirstInFirstOut, Travels, none_yet, puts, takes, travels_on};
 ghost use Rattle.run_save.specs.Notes.{AreNoted, IsNoted, IsTold, SetsQueue, TakesFirst, Tells, waiting};
+ghost use Rattle.run_save.specs.Travels.{Travels, none_yet, puts, takes, travels_on};
 
 use super::counts::makes;
 use super::queue::Queue;
@@ -83,12 +83,13 @@ impl Links {
         enter(self.alloc, &mut self.queues, trip.link, trip.item)
     }
 
-    /// A site takes an item from the link on which it was put last, and this tells whether it was the first there.
+    /// A site takes an item from the link on which it was put last, and this tells whether it was the first there. What was
+    /// never put is not.
     fn take(&mut self, item: Item, site: u32) -> bool
         ensures { (t : Travels) → Tells self.old t → IsTold result self.new (takes t item site) }
     {
         let Some(from) = self.senders.get(&item).copied() else {
-            return true;
+            return false;
         };
         let link = Link { from, to: site };
         match take_first(&mut self.queues, link) {
@@ -127,7 +128,9 @@ impl Notes {
             links: Links::new(alloc),
         }
     }
-    /// Notes one event more, told with the configuration after it, and tells whether the sites make it so.
+
+    /// Notes one event more, told with the configuration after it, and tells whether the sites make it so. Where they do not,
+    /// the notes are of no use from then on.
     pub fn note(&mut self, after: &Cfg, e: &Event) -> Result<bool, Memory>
         ensures { IfOk result (λ met. (start before : OneConfig) (events : Items OneEvent) → AreNoted self.old start events → run start events ≡ Some before
             → apply before e.now ≡ Some after.now → IsOursFrom start events → IsNoted met self.new start (events ++ e.now ∷ [])) }

@@ -30,7 +30,8 @@ fn first_not_ours(alloc: Global, reached: &mut Cfg, events: &[Event]) -> Result<
     Ok(None)
 }
 
-/// Until where a run from the start of the low program is ours. It is answered by one pass over the events.
+/// Whether a run from the start of the low program is one that its sites make by themselves; if not, the index of the last event
+/// of the shortest prefix that is none. It is one pass over the events, in which no event walks over those before it.
 pub fn ours_until(alloc: Global, low: &LowProgram, events: &[Event]) -> Result<Option<u32>, Memory>
     requires sites { length low.now.sites < 2 ^ 32 }
     requires run { IsSome (run (start_low low.now) events.now) }
