@@ -1,1 +1,2 @@
 pub mod FirstTests
+pub mod Steppings

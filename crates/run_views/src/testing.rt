@@ -3,14 +3,15 @@
 ghost use Rattle.std.specs.Prelude.{◌≡◌, slice_get};
 ghost use Rattle.np_views.specs.Tests.{tests};
 
-use np_syntax::{Proc, ProcForm, Program};
+use np_check::Checked;
+use np_syntax::{Proc, ProcForm};
 
 /// The offset of the first location test of a source in reading order, an `iflocal` or the `<` of a message to an agent at a
 /// site. None comes exactly where the source is without location tests.
-pub fn first_test(p: &Program) -> Option<u32>
+pub fn first_test(p: &Checked) -> Option<u32>
     ensures { result ≡ slice_get (tests p.now.main) 0 }
 {
-    first_in(&p.main)
+    first_in(&p.program().main)
 }
 
 /// The offset of the first location test of a process.
