@@ -144,7 +144,12 @@ fn watched_of<R: Threads + Sync>(
 }
 
 /// What is seen of the run of a source.
-fn watched<R: Threads + Sync>(rt: &R, alloc: Global, source: &str, budget: u32) -> Result<Seen, Memory>
+fn watched<R: Threads + Sync>(
+    rt: &R,
+    alloc: Global,
+    source: &str,
+    budget: u32,
+) -> Result<Seen, Memory>
     requires budget { (1 ≤ budget) × (budget ≤ LARGEST_BUDGET) }
 {
     let program = checked(alloc, source)?;
