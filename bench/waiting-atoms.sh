@@ -5,9 +5,9 @@
 #
 # It builds nothing: PROGRAM is the built program, by default crates/np/out/np. In the first column the atoms wait on one channel
 # for what never comes, while another atom of the agent goes on counting: the instructions are those by which a run of 30,000 events
-# exceeds one of 25,000. In the second, each input that waits is woken by the one before it: of the run those instructions
-# are taken that it takes more than `low` of the same source. The instructions are counted by valgrind, so the load of the machine
-# does not matter.
+# exceeds one of 25,000. In the second, each input that waits is woken by the one before it: the instructions are those by which a run
+# in which almost all were woken exceeds one in which a quarter was. They are counted by valgrind, so the load of the machine does
+# not matter.
 set -euo pipefail
 cd "$(dirname "$0")/.."
 source bench/parts.sh
@@ -44,8 +44,8 @@ for atoms in 10 100 1000 10000; do
     } >"$folder/woken.np"
     less=$(spent run "$folder/idle.np" --serial --budget 25000)
     more=$(spent run "$folder/idle.np" --serial --budget 30000)
-    whole=$(instructions run "$folder/woken.np" --serial --budget 100000)
-    reading=$(instructions low "$folder/woken.np")
-    events=$("$program" run "$folder/woken.np" --serial --budget 100000 --history | awk '/ (Fork|New|Comm) /' | wc -l)
-    printf '%8d %16d %16d\n' "$atoms" $(((more - less) / 5000)) $(((whole - reading) / events))
+    quarter=$((atoms + atoms / 4 + 2))
+    few=$(spent run "$folder/woken.np" --serial --budget "$quarter")
+    most=$(spent run "$folder/woken.np" --serial --budget $((2 * atoms)))
+    printf '%8d %16d %16d\n' "$atoms" $(((more - less) / 5000)) $(((most - few) / (2 * atoms - quarter)))
 done
