@@ -1,2 +1,7 @@
+pub mod Causings
 pub mod FirstTests
+pub mod Marks
+pub mod PrintPasts
 pub mod Steppings
+pub mod Touchings
+pub mod Tracings

@@ -1,1 +1,4 @@
+pub mod Causes
+pub mod Pasts
 pub mod Stepped
+pub mod Touching

@@ -6,9 +6,9 @@ ghost use Rattle.np_calculus.specs.Reductions.{apply, run};
 ghost use Rattle.np_calculus.specs.Starts.{start_high};
 ghost use Rattle.np_views.specs.OneStep.{one_step};
 ghost use Rattle.np_views.specs.Tests.{tests};
-ghost use Rattle.run_views.specs.Stepped.{Advances, IsStepped, agent_at, arrivals};
+ghost use Rattle.run_views.specs.Stepped.{Advances, IsStepped, arrivals};
 
-use super::turning::turn;
+use super::turning::{agent_at, turn};
 use np_agents::way;
 use np_check::Checked;
 use np_configuration::{Cfg, start_high};
@@ -58,13 +58,6 @@ fn advance(
         }
         _ => made.add(*event),
     }
-}
-
-/// The agent of the atom of a mark.
-fn agent_at(reached: &Cfg, mark: Name) -> Option<Name>
-    ensures { result ≡ agent_at reached.now mark }
-{
-    Some(reached.atom(mark)?.agent)
 }
 
 /// Appends the arrival of an agent at the site to which it is under way.

@@ -2,9 +2,10 @@
 
 ghost use Rattle.std.specs.Prelude.{◌≡◌, IsSome, OnOk, Some};
 ghost use Rattle.np_calculus.specs.Reductions.{apply};
+ghost use Rattle.run_views.specs.Stepped.{agent_at};
 
 use np_configuration::{ApplyFail, Cfg, apply};
-use np_syntax::{Event, Memory};
+use np_syntax::{Event, Memory, Name};
 use std::alloc::Global;
 
 /// Makes an event that is enabled.
@@ -17,4 +18,11 @@ pub(super) fn turn(alloc: Global, reached: &mut Cfg, event: &Event) -> Result<()
         Err(ApplyFail::Memory) => Err(Memory),
         Err(ApplyFail::NotEnabled) => unreachable!(),
     }
+}
+
+/// The agent of the atom of a mark.
+pub(super) fn agent_at(reached: &Cfg, mark: Name) -> Option<Name>
+    ensures { result ≡ agent_at reached.now mark }
+{
+    Some(reached.atom(mark)?.agent)
 }
