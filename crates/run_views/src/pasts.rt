@@ -13,7 +13,7 @@ use np_syntax::{Event, List, LowProgram, Memory};
 use std::alloc::Global;
 
 /// The events of a run that led to the Print at a place, in their order: with it those that wrote last what it touches, with
-/// each of these those that wrote last what that touches, and so on. They take time linear in the place, up to hashing.
+/// each of these those that wrote last what that touches, and so on. It takes time linear in the place, up to hashing.
 pub fn past(
     alloc: Global,
     low: &LowProgram,

@@ -1,10 +1,9 @@
 //! What an event touches, and what it writes.
 
-ghost use Rattle.std.specs.Prelude.{◌≡◌, ◌∷◌, IfOk};
-ghost use Rattle.np_calculus.specs.Footprints.{asked_by, bound_for, listed, touches};
+ghost use Rattle.std.specs.Prelude.{◌≡◌, IfOk};
+ghost use Rattle.np_calculus.specs.Footprints.{listed, touches};
 ghost use Rattle.np_calculus.specs.Sight.{inside};
 ghost use Rattle.np_views.specs.Past.{made_agent, writes};
-ghost use Rattle.run_views.specs.Stepped.{agent_at};
 ghost use Rattle.run_views.specs.Touching.{IsActing, asked_in, bound_at, touched_as, written_as};
 
 use super::turning::agent_at;
