@@ -11,11 +11,12 @@ set -euo pipefail
 cd "$(dirname "$0")/.."
 source bench/parts.sh
 
-printf '%8s %8s %24s\n' agents events 'instructions an event'
-for agents in 10 30 100; do
-    "$program" gen "$agents" >"$folder/ring.np"
-    events=$((81 * agents + 37))
-    whole=$(instructions high "$folder/ring.np")
-    reading=$(instructions check "$folder/ring.np")
-    printf '%8d %8d %24d\n' "$agents" "$events" $(((whole - reading) / events))
-done
+whole() {
+    instructions high "$folder/ring.np"
+}
+
+reading() {
+    instructions check "$folder/ring.np"
+}
+
+rings 81 37

@@ -37,6 +37,20 @@ instructions() {
         awk '/I *refs/ { gsub(",", "", $NF); print $NF }'
 }
 
+# rings EACH MORE: a row for each of the rings of 10, 30 and 100 agents, whose run has EACH events an agent and MORE. The source stands in
+# ring.np, and the script's own `whole AGENTS` and `reading` print the instructions of the run and of what is taken off.
+rings() {
+    local events all start
+    printf '%8s %8s %24s\n' agents events 'instructions an event'
+    for agents in 10 30 100; do
+        "$program" gen "$agents" >"$folder/ring.np"
+        events=$(($1 * agents + $2))
+        all=$(whole "$agents")
+        start=$(reading)
+        printf '%8d %8d %24d\n' "$agents" "$events" $(((all - start) / events))
+    done
+}
+
 # row SIZE EVENTS READING WHOLE: the size, the events of a run, its milliseconds, those of its reading, and events a second
 row() {
     awk -v size="$1" -v events="$2" -v reading="$3" -v whole="$4" -v rounds="$rounds" 'BEGIN {

@@ -9,10 +9,8 @@
 # of each row are the allocations of a run that gets all, the runs of either kind, and the others, which should be none.
 set -euo pipefail
 cd "$(dirname "$0")/.."
-program=${1:-crates/np/out/np}
+source bench/parts.sh
 step=${2:-1}
-folder=$(mktemp -d)
-trap 'rm -r "$folder"' EXIT
 
 cat >"$folder/refusing.c" <<'C'
 #define _GNU_SOURCE

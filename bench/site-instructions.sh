@@ -12,11 +12,12 @@ set -euo pipefail
 cd "$(dirname "$0")/.."
 source bench/parts.sh
 
-printf '%8s %8s %24s\n' agents events 'instructions an event'
-for agents in 10 30 100; do
-    "$program" gen "$agents" >"$folder/ring.np"
-    events=$((680 * agents + 215))
-    whole=$(instructions load "$agents" --serial)
-    reading=$(instructions low "$folder/ring.np")
-    printf '%8d %8d %24d\n' "$agents" "$events" $(((whole - reading) / events))
-done
+whole() {
+    instructions load "$1" --serial
+}
+
+reading() {
+    instructions low "$folder/ring.np"
+}
+
+rings 680 215
