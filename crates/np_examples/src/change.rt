@@ -16,6 +16,8 @@ pub enum Change {
     Swapped,
     /// The Arrive at the place is moved to where its agent has not yet departed.
     Early,
+    /// Not at all, but the past of the line at the place, counted from 1, is asked for, and replayed.
+    Past,
 }
 
 /// The events from one place to another.

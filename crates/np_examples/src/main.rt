@@ -9,6 +9,7 @@ mod fail;
 mod high_run;
 mod low_run;
 mod number;
+mod pasts;
 mod pieces;
 mod reader;
 mod replays;

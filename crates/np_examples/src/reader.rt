@@ -105,6 +105,7 @@ fn read_replay(example: &mut Example, rest: &str, number: u32) -> Result<(), Exa
         "without one" => Change::Without,
         "swapped" => Change::Swapped,
         "early" => Change::Early,
+        "pasts" => Change::Past,
         _ => return Err(ExampleFail::Line(number)),
     };
     example.replays.push(change)?;

@@ -4,6 +4,7 @@ use super::change::{Change, between, early_place, exchanged, moved, next_unlike,
 use super::example::Example;
 use super::fail::ExampleFail;
 use super::low_run::{LowEvents, events_of_low};
+use super::pasts::has_past;
 use super::report::tell_replay;
 use super::tally::Tally;
 use super::trial::{Call, Came, came_of};
@@ -16,12 +17,12 @@ use std::thread::Threads;
 
 /// The run of the low program of a source.
 #[derive(Clone, Copy)]
-struct LowRun<'a> {
-    example: &'a Example,
-    source: Option<&'a str>,
-    events: &'a [Event],
+pub(crate) struct LowRun<'a> {
+    pub example: &'a Example,
+    pub source: Option<&'a str>,
+    pub events: &'a [Event],
     /// The lines of the printed values, and more.
-    report: &'a str,
+    pub report: &'a str,
 }
 
 /// What is answered of a history.
@@ -123,6 +124,7 @@ fn is_answered<R: Threads + Wait + Sync>(
         Change::Without => judges_without(rt, alloc, run, place),
         Change::Swapped => stops_at_swap(rt, alloc, run, place),
         Change::Early => stops_at_arrival(rt, alloc, run, place),
+        Change::Past => has_past(rt, alloc, run, place),
     }
 }
 

@@ -53,6 +53,7 @@ fn word_of(change: Change) -> &'static str {
         Change::Without => "without one",
         Change::Swapped => "swapped",
         Change::Early => "early",
+        Change::Past => "pasts",
     }
 }
 

@@ -1,6 +1,6 @@
 -- What is made of the text of a history, and what is wrong with it (docs/LANGUAGE.md, "History text" and "Reports and
 -- refusals").
-use Rattle.std.specs.Prelude.{◌≡◌, ℕ, ◌⊎◌, List, length, Some}
+use Rattle.std.specs.Prelude.{◌≡◌, ◌≤◌, ℕ, ◌⊎◌, List, length, Some}
 use Rattle.np_syntax.specs.declared.event.Event.{Event}
 use Rattle.np_syntax.specs.declared.program.LowProgram.{LowProgram}
 use Rattle.np_calculus.specs.Config.{Config}
@@ -16,8 +16,11 @@ use Rattle.np_replay.specs.declared.fail.ReplayFail.{ReplayFail}
 use Rattle.np_replay.specs.declared.fail.ReplayFail.TheVariants as replay
 use Rattle.np_replay.specs.Replays.{StopsAt}
 use Rattle.np_report.specs.Report.{replay_text}
+use Rattle.np_words.specs.declared.planning.View.{View}
+use Rattle.np_words.specs.declared.planning.View.TheVariants as view
 use Rattle.np_verdict.specs.declared.refusal.Refusal.{Refusal}
 use Rattle.np_verdict.specs.declared.refusal.Refusal.TheVariants.{Memory, HistSyntax, NotARun}
+use Rattle.np_histories.specs.Pasts.{LacksLine, TellsPast}
 
 -- the refusals of histories and of their replay, as the program has them
 
@@ -41,12 +44,18 @@ pub record HasEvents (bytes : List ℕ) : Type 0 where
   pub events : List Event
   pub read : IsRead bytes events
 
--- the bytes are a history of a run of the low program
-pub record HasRun (low : LowProgram) (bytes : List ℕ) : Type 0 where
+-- the run that ends so has what is to be shown of it
+abbrev pub HasView : View → Config → Type 0
+HasView view.Said last = Unit {0}
+HasView (view.Past line) last = line ≤ length last.said
+
+-- the bytes are a history of a run of the low program, which has what is to be shown of it
+pub record HasRun (low : LowProgram) (shown : View) (bytes : List ℕ) : Type 0 where
   pub events : List Event
   pub read : IsRead bytes events
   pub last : Config
   pub reaches : run (start_low low) events ≡ Some last
+  pub has : HasView shown last
 
 -- ---- what is made
 
@@ -56,11 +65,16 @@ pub record Ends (low : LowProgram) (events : List Event) (text : List ℕ) : Typ
   pub reaches : run (start_low low) events ≡ Some last
   pub report : text ≡ replay_text low.sites last.said (length events)
 
+-- the events are a run of the low program, and this is the report of what is shown of it
+abbrev pub Shows : View → LowProgram → List Event → List ℕ → Type 0
+Shows view.Said low events text = Ends low events text
+Shows (view.Past line) low events text = TellsPast low events line text
+
 -- the bytes are a history, and this is the report of its replay
-pub record Replays (low : LowProgram) (bytes text : List ℕ) : Type 0 where
+pub record Replays (low : LowProgram) (shown : View) (bytes text : List ℕ) : Type 0 where
   pub events : List Event
   pub read : IsRead bytes events
-  pub ends : Ends low events text
+  pub shows : Shows shown low events text
 
 -- the bytes are a history, and this is its text in the second format
 pub record Upgrades (bytes text : List ℕ) : Type 0 where
@@ -88,6 +102,17 @@ pub record HasNoRun (low : LowProgram) (bytes : List ℕ) (refusal : Refusal) : 
   pub read : IsRead bytes events
   pub stops : Stops (start_low low) events refusal
 
--- the history is not replayed
-abbrev pub IsFaulty : LowProgram → List ℕ → Refusal → Type 0
-IsFaulty low bytes refusal = HasNoEvents bytes refusal ⊎ HasNoRun low bytes refusal
+-- the run has not what is to be shown of it
+abbrev pub Lacks : View → LowProgram → List Event → Refusal → Type 0
+Lacks view.Said low events refusal = ⊥
+Lacks (view.Past line) low events refusal = LacksLine low events line refusal
+
+-- the bytes are a history of a run that has not what is to be shown of it
+pub record HasNoView (low : LowProgram) (shown : View) (bytes : List ℕ) (refusal : Refusal) : Type 0 where
+  pub events : List Event
+  pub read : IsRead bytes events
+  pub lacks : Lacks shown low events refusal
+
+-- the history is not replayed, or its run is not shown so
+abbrev pub IsFaulty : LowProgram → View → List ℕ → Refusal → Type 0
+IsFaulty low shown bytes refusal = HasNoEvents bytes refusal ⊎ HasNoRun low bytes refusal ⊎ HasNoView low shown bytes refusal

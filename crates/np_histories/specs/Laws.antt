@@ -3,6 +3,7 @@ use Rattle.std.specs.Prelude.{◌≡◌, ℕ, List}
 use Rattle.np_syntax.specs.declared.program.LowProgram.{LowProgram}
 use Rattle.np_verdict.specs.Lines.{status_of}
 use Rattle.np_verdict.specs.declared.refusal.Refusal.{Refusal}
+use Rattle.np_words.specs.declared.planning.View.{View}
 use Rattle.np_histories.specs.Histories.{HasEvents, HasRun, HasNoEvents, IsFaulty}
 
 pub record HaveOneAnswer : Type 0 where
@@ -11,6 +12,6 @@ pub record HaveOneAnswer : Type 0 where
   pub same_fault : (bytes : List ℕ) (a b : Refusal) → HasNoEvents bytes a → HasNoEvents bytes b → a ≡ b
   pub status : (bytes : List ℕ) (refusal : Refusal) → HasNoEvents bytes refusal → status_of refusal ≡ 7
   -- its replay
-  pub run_not_both : (low : LowProgram) (bytes : List ℕ) (refusal : Refusal) → HasRun low bytes → IsFaulty low bytes refusal → ⊥
-  pub same_run_fault : (low : LowProgram) (bytes : List ℕ) (a b : Refusal) → IsFaulty low bytes a → IsFaulty low bytes b → a ≡ b
-  pub run_status : (low : LowProgram) (bytes : List ℕ) (refusal : Refusal) → IsFaulty low bytes refusal → status_of refusal ≡ 7
+  pub run_not_both : (low : LowProgram) (shown : View) (bytes : List ℕ) (refusal : Refusal) → HasRun low shown bytes → IsFaulty low shown bytes refusal → ⊥
+  pub same_run_fault : (low : LowProgram) (shown : View) (bytes : List ℕ) (a b : Refusal) → IsFaulty low shown bytes a → IsFaulty low shown bytes b → a ≡ b
+  pub run_status : (low : LowProgram) (shown : View) (bytes : List ℕ) (refusal : Refusal) → IsFaulty low shown bytes refusal → status_of refusal ≡ 7

@@ -5,6 +5,7 @@
 mod events;
 mod laws;
 mod limits;
+mod pasts;
 mod replaying;
 
 pub use events::upgraded;

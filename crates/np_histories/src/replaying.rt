@@ -1,18 +1,21 @@
 //! The replay of a history of a low program.
 
-ghost use Rattle.std.specs.Prelude.{◌≡◌, ◌≢◌, ◌<◌, ◌≤◌, ◌^◌, length, Some, IfOk, IfErr};
+ghost use Rattle.std.specs.Prelude.{◌≡◌, ◌≢◌, ◌<◌, ◌≤◌, ◌⊎◌, ◌^◌, length, Some, IfOk, IfErr};
 ghost use Rattle.np_calculus.specs.Reductions.{run};
 ghost use Rattle.np_calculus.specs.Starts.{start_low};
 ghost use Rattle.np_report.specs.Report.{replay_text};
-ghost use Rattle.np_histories.specs.Histories.{Replays, Ends, Stops, IsFaulty, of_replay};
+ghost use Rattle.np_words.specs.Plans.{HasLine};
+ghost use Rattle.np_histories.specs.Histories.{Replays, Ends, Lacks, Shows, Stops, IsFaulty, of_replay};
 
 use super::events::events_of;
 use super::limits::LONGEST_HISTORY;
+use super::pasts::past_told;
 use np_configuration::Cfg;
 use np_replay::{ReplayFail, replay};
 use np_report::replay_report;
 use np_syntax::{Event, LowProgram, Memory, Text};
 use np_verdict::Refusal;
+use np_words::View;
 use std::alloc::Global;
 
 /// The refusal of `replay` as a refusal of the program.
@@ -26,7 +29,7 @@ fn of_replay(fail: ReplayFail) -> Refusal
 }
 
 /// The configuration after all the events.
-fn end_of(alloc: Global, low: &LowProgram, events: &[Event]) -> Result<Cfg, Refusal>
+pub(crate) fn end_of(alloc: Global, low: &LowProgram, events: &[Event]) -> Result<Cfg, Refusal>
     requires sites { length low.now.sites < 2 ^ 32 }
     requires events { length events.now < 2 ^ 32 }
     ensures reached { IfOk result (λ last. run (start_low low.now) events.now ≡ Some last) }
@@ -60,13 +63,34 @@ fn replayed_events(alloc: Global, low: &LowProgram, events: &[Event]) -> Result<
     report_of(alloc, low, &last, events.len())
 }
 
-/// Replays a history of a low program, and makes the report.
-pub fn replayed(alloc: Global, low: &LowProgram, bytes: &[u8]) -> Result<Text, Refusal>
+/// Replays the events of a low program, and makes the report of what is to be shown.
+fn shown_events(
+    alloc: Global,
+    low: &LowProgram,
+    view: View,
+    events: &[Event],
+) -> Result<Text, Refusal>
+    requires sites { length low.now.sites < 2 ^ 32 }
+    requires events { length events.now < 2 ^ 32 }
+    requires line { HasLine view }
+    ensures made { IfOk result (Shows view low.now events.now) }
+    ensures refused { IfErr result (λ refusal. refusal ≢ Refusal.Memory
+        → Stops (start_low low.now) events.now refusal ⊎ Lacks view low.now events.now refusal) }
+{
+    match view {
+        View::Said => replayed_events(alloc, low, events),
+        View::Past { line } => past_told(alloc, low, events, line),
+    }
+}
+
+/// Replays a history of a low program, and makes the report of what is to be shown.
+pub fn replayed(alloc: Global, low: &LowProgram, view: View, bytes: &[u8]) -> Result<Text, Refusal>
     requires sites { length low.now.sites < 2 ^ 32 }
     requires short { length bytes.now ≤ LONGEST_HISTORY }
-    ensures made { IfOk result (Replays low.now bytes.now) }
-    ensures refused { IfErr result (λ refusal. refusal ≢ Refusal.Memory → IsFaulty low.now bytes.now refusal) }
+    requires line { HasLine view }
+    ensures made { IfOk result (Replays low.now view bytes.now) }
+    ensures refused { IfErr result (λ refusal. refusal ≢ Refusal.Memory → IsFaulty low.now view bytes.now refusal) }
 {
     let events = events_of(alloc, bytes)?;
-    replayed_events(alloc, low, events.as_slice())
+    shown_events(alloc, low, view, events.as_slice())
 }

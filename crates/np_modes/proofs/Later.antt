@@ -7,6 +7,7 @@ use Rattle.np_verdict.specs.declared.refusal.Refusal.{Refusal}
 use Rattle.np_verdict.specs.declared.refusal.Refusal.TheVariants.{Memory}
 use Rattle.np_sources.specs.declared.job.Job.{Job}
 use Rattle.np_sources.specs.Reaches.{Reach}
+use Rattle.np_words.specs.declared.planning.View.{View}
 use Rattle.np_modes.specs.Readings.{IsRead, IsUnread, seen}
 use Rattle.np_modes.specs.Causes.{IsLowered, OfRun, OfReplay, RefusesSource, RefusesRun, RefusesReplay}
 
@@ -34,25 +35,25 @@ module _ (held-0 held-1 : Held) (count-0 count-1 count-2 : Counts) (taken-1 take
       → IsLowered (seen held-0 count-0 count-2 taken-2 begun-0 begun-2) source low
   lowered_before source low l = record { bytes = l.bytes; read = record { short = l.read.short; whole = l.read.whole }; lowers = l.lowers }
 
-  pub replay_made : (source history : List ℕ) (low : LowProgram) → IsLowered (seen held-0 count-0 count-1 taken-1 begun-0 begun-1) source low → (r : Result Job Refusal)
-      → IfOk r (λ job. OfRun (seen held-1 count-1 count-2 taken-2 begun-1 begun-2) history low job.kept job.high job.text)
-      → IfOk r (λ job. OfReplay (seen held-0 count-0 count-2 taken-2 begun-0 begun-2) source history job.kept job.high job.text)
-  replay_made source history low l (Ok job) run = record {
+  pub replay_made : (source history : List ℕ) (low : LowProgram) (view : View) → IsLowered (seen held-0 count-0 count-1 taken-1 begun-0 begun-1) source low → (r : Result Job Refusal)
+      → IfOk r (λ job. OfRun (seen held-1 count-1 count-2 taken-2 begun-1 begun-2) history low view job.kept job.high job.text)
+      → IfOk r (λ job. OfReplay (seen held-0 count-0 count-2 taken-2 begun-0 begun-2) source history view job.kept job.high job.text)
+  replay_made source history low view l (Ok job) run = record {
     low = low;
     lowered = lowered_before source low l;
     run = record { bytes = run.bytes; read = read_later history _ run.bytes run.read; replays = run.replays; is_kept = run.is_kept; is_high = run.is_high };
   }
-  replay_made source history low l (Err e) run = tt
+  replay_made source history low view l (Err e) run = tt
 
-  run_refused : (history : List ℕ) (low : LowProgram) (refusal : Refusal) → RefusesRun (seen held-1 count-1 count-2 taken-2 begun-1 begun-2) history low refusal
-      → RefusesRun (seen held-0 count-0 count-2 taken-2 begun-0 begun-2) history low refusal
-  run_refused history low refusal (inl u) = inl (unread_later history _ _ refusal u)
-  run_refused history low refusal (inr s) = inr (record { bytes = s.bytes; read = read_later history _ s.bytes s.read; faulty = s.faulty })
+  run_refused : (history : List ℕ) (low : LowProgram) (view : View) (refusal : Refusal) → RefusesRun (seen held-1 count-1 count-2 taken-2 begun-1 begun-2) history low view refusal
+      → RefusesRun (seen held-0 count-0 count-2 taken-2 begun-0 begun-2) history low view refusal
+  run_refused history low view refusal (inl u) = inl (unread_later history _ _ refusal u)
+  run_refused history low view refusal (inr s) = inr (record { bytes = s.bytes; read = read_later history _ s.bytes s.read; faulty = s.faulty })
 
-  pub replay_refused : (source history : List ℕ) (low : LowProgram) → IsLowered (seen held-0 count-0 count-1 taken-1 begun-0 begun-1) source low → (r : Result Job Refusal)
-      → IfErr r (λ refusal. refusal ≢ Memory → RefusesRun (seen held-1 count-1 count-2 taken-2 begun-1 begun-2) history low refusal)
+  pub replay_refused : (source history : List ℕ) (low : LowProgram) (view : View) → IsLowered (seen held-0 count-0 count-1 taken-1 begun-0 begun-1) source low → (r : Result Job Refusal)
+      → IfErr r (λ refusal. refusal ≢ Memory → RefusesRun (seen held-1 count-1 count-2 taken-2 begun-1 begun-2) history low view refusal)
       → IfErr r (λ refusal. refusal ≢ Memory → RefusesSource (seen held-0 count-0 count-2 taken-2 begun-0 begun-2) source Reach.low refusal
-      ⊎ RefusesReplay (seen held-0 count-0 count-2 taken-2 begun-0 begun-2) source history refusal)
-  replay_refused source history low l (Ok job) h = tt
-  replay_refused source history low l (Err e) h =
-      λ some. inr (record { low = low; lowered = lowered_before source low l; run = run_refused history low e (h some) })
+      ⊎ RefusesReplay (seen held-0 count-0 count-2 taken-2 begun-0 begun-2) source history view refusal)
+  replay_refused source history low view l (Ok job) h = tt
+  replay_refused source history low view l (Err e) h =
+      λ some. inr (record { low = low; lowered = lowered_before source low l; run = run_refused history low view e (h some) })

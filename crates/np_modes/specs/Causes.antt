@@ -12,6 +12,7 @@ use Rattle.np_words.specs.Plans.{plan}
 use Rattle.np_words.specs.declared.planning.Plan.{Plan}
 use Rattle.np_words.specs.declared.planning.Plan.TheVariants as plans
 use Rattle.np_words.specs.declared.planning.Task.{Task}
+use Rattle.np_words.specs.declared.planning.View.{View}
 use Rattle.np_modes.specs.Readings.{Reading, IsText, IsRead, IsUnread}
 use Rattle.np_sources.specs.Reaches.{Reach, FaultyTo, IsLowOf, reach_of}
 use Rattle.np_sources.specs.Makes.{DoesLoad, DoesTask}
@@ -26,11 +27,11 @@ pub record OfSource (texts : Reading) (file : List ℕ) (task : Task) (kept : Op
   pub read : IsRead texts file LONGEST_SOURCE bytes
   pub does : DoesTask task bytes kept high text
 
--- the history was read and replayed, and this is the report
-pub record OfRun (texts : Reading) (history : List ℕ) (low : LowProgram) (kept : Option Record) (high : Option SerialRun) (text : List ℕ) : Type 0 where
+-- the history was read and replayed, and this is the report of what is shown of it
+pub record OfRun (texts : Reading) (history : List ℕ) (low : LowProgram) (view : View) (kept : Option Record) (high : Option SerialRun) (text : List ℕ) : Type 0 where
   pub bytes : List ℕ
   pub read : IsRead texts history LONGEST_HISTORY bytes
-  pub replays : Replays low bytes text
+  pub replays : Replays low view bytes text
   pub is_kept : kept ≡ None
   pub is_high : high ≡ None
 
@@ -41,10 +42,10 @@ pub record IsLowered (texts : Reading) (source : List ℕ) (low : LowProgram) : 
   pub lowers : IsLowOf bytes low
 
 -- both were read, and the history was replayed
-pub record OfReplay (texts : Reading) (source history : List ℕ) (kept : Option Record) (high : Option SerialRun) (text : List ℕ) : Type 0 where
+pub record OfReplay (texts : Reading) (source history : List ℕ) (view : View) (kept : Option Record) (high : Option SerialRun) (text : List ℕ) : Type 0 where
   pub low : LowProgram
   pub lowered : IsLowered texts source low
-  pub run : OfRun texts history low kept high text
+  pub run : OfRun texts history low view kept high text
 
 -- the history was read, and this is its text in the second format
 pub record OfUpgrade (texts : Reading) (history : List ℕ) (kept : Option Record) (high : Option SerialRun) (text : List ℕ) : Type 0 where
@@ -67,7 +68,7 @@ pub record OfLoad (agents : ℕ) (kept : Option Record) (high : Option SerialRun
 
 abbrev pub Does : Reading → Plan → Option Record → Option SerialRun → List ℕ → Type 0
 Does texts (plans.Source file task) kept high text = OfSource texts file task kept high text
-Does texts (plans.Replay source history) kept high text = OfReplay texts source history kept high text
+Does texts (plans.Replay source history view) kept high text = OfReplay texts source history view kept high text
 Does texts (plans.Upgrade history) kept high text = OfUpgrade texts history kept high text
 Does texts (plans.Generate agents) kept high text = OfNumber agents kept high text
 Does texts (plans.Load agents serial links) kept high text = OfLoad agents kept high text
@@ -91,20 +92,20 @@ pub record RefusesSource (texts : Reading) (file : List ℕ) (reach : Reach) (re
   pub cause : IsUnread texts file LONGEST_SOURCE TooLong refusal ⊎ IsFaultySource texts file reach refusal
   pub begins : texts.begins ≤ texts.begun + 1
 
--- the history was read, and it is no history, or not of a run of the low program
-pub record IsFaultyRun (texts : Reading) (history : List ℕ) (low : LowProgram) (refusal : Refusal) : Type 0 where
+-- the history was read, and it is no history, or not of a run of the low program that has what is to be shown
+pub record IsFaultyRun (texts : Reading) (history : List ℕ) (low : LowProgram) (view : View) (refusal : Refusal) : Type 0 where
   pub bytes : List ℕ
   pub read : IsRead texts history LONGEST_HISTORY bytes
-  pub faulty : IsFaulty low bytes refusal
+  pub faulty : IsFaulty low view bytes refusal
 
-abbrev pub RefusesRun : Reading → List ℕ → LowProgram → Refusal → Type 0
-RefusesRun texts history low refusal = IsUnread texts history LONGEST_HISTORY HistoryTooLong refusal ⊎ IsFaultyRun texts history low refusal
+abbrev pub RefusesRun : Reading → List ℕ → LowProgram → View → Refusal → Type 0
+RefusesRun texts history low view refusal = IsUnread texts history LONGEST_HISTORY HistoryTooLong refusal ⊎ IsFaultyRun texts history low view refusal
 
 -- the source is accepted, and the history is refused
-pub record RefusesReplay (texts : Reading) (source history : List ℕ) (refusal : Refusal) : Type 0 where
+pub record RefusesReplay (texts : Reading) (source history : List ℕ) (view : View) (refusal : Refusal) : Type 0 where
   pub low : LowProgram
   pub lowered : IsLowered texts source low
-  pub run : RefusesRun texts history low refusal
+  pub run : RefusesRun texts history low view refusal
 
 -- the history was read, and it is none
 pub record IsFaultyHistory (texts : Reading) (history : List ℕ) (refusal : Refusal) : Type 0 where
@@ -123,7 +124,7 @@ pub record RefusesLoad (agents : ℕ) (refusal : Refusal) : Type 0 where
 -- what is asked for is refused so
 abbrev pub RefusesPlan : Reading → Plan → Refusal → Type 0
 RefusesPlan texts (plans.Source file task) refusal = RefusesSource texts file (reach_of task) refusal
-RefusesPlan texts (plans.Replay source history) refusal = RefusesSource texts source Reach.low refusal ⊎ RefusesReplay texts source history refusal
+RefusesPlan texts (plans.Replay source history view) refusal = RefusesSource texts source Reach.low refusal ⊎ RefusesReplay texts source history view refusal
 RefusesPlan texts (plans.Upgrade history) refusal = RefusesHistory texts history refusal
 RefusesPlan texts (plans.Generate agents) refusal = ⊥
 RefusesPlan texts (plans.Load agents serial links) refusal = RefusesLoad agents refusal
@@ -139,7 +140,7 @@ pub data Stands (words : List (List ℕ)) (texts : Reading) : Refusal → Type 0
 
 abbrev pub texts_of : Plan → ℕ
 texts_of (plans.Source file task) = 1
-texts_of (plans.Replay source history) = 2
+texts_of (plans.Replay source history view) = 2
 texts_of (plans.Upgrade history) = 1
 texts_of (plans.Generate agents) = 0
 texts_of (plans.Load agents serial links) = 0

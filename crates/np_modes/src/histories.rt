@@ -4,6 +4,7 @@ ghost use Rattle.std.specs.Prelude.{◌≢◌, ◌+◌, ◌<◌, ◌≤◌, ◌^
 ghost use Rattle.np_io.specs.Causes.{NoneFell};
 ghost use Rattle.np_io.specs.Bytes.{StayHeld};
 ghost use Rattle.np_sources.specs.Reaches.{Reach};
+ghost use Rattle.np_words.specs.Plans.{HasLine};
 ghost use Rattle.np_modes.specs.Readings.{seen};
 ghost use Rattle.np_modes.specs.Causes.{IsLowered, OfRun, OfReplay, OfUpgrade, RefusesSource, RefusesRun, RefusesReplay, RefusesHistory};
 
@@ -13,6 +14,7 @@ use np_io::{Texts, Word};
 use np_sources::{Job, low_of, text_alone};
 use np_syntax::{LONGEST_SOURCE, LowProgram};
 use np_verdict::Refusal;
+use np_words::View;
 use std::alloc::Global;
 
 /// Writes a history anew, in the second format.
@@ -38,22 +40,24 @@ pub(crate) fn upgrade<T: Texts>(
     Ok(text_alone(text))
 }
 
-/// Replays a history of a source.
+/// Replays a history of a source, and shows this of it.
 pub(crate) fn replay<T: Texts>(
     alloc: Global,
     texts: &mut T,
     source: &Word,
     history: &Word,
+    view: View,
 ) -> Result<Job, Refusal>
+    requires { HasLine view }
     ensures begins { T.begins texts.new ≤ T.begins texts.old + 2 }
     ensures made { let seen = seen (T.held texts.old) (T.faults texts.old) (T.faults texts.new) (T.taken texts.new) (T.begins texts.old) (T.begins texts.new)
-        in IfOk result (λ job. OfReplay seen source.now history.now job.kept job.high job.text) }
+        in IfOk result (λ job. OfReplay seen source.now history.now view job.kept job.high job.text) }
     ensures refused { let seen = seen (T.held texts.old) (T.faults texts.old) (T.faults texts.new) (T.taken texts.new) (T.begins texts.old) (T.begins texts.new)
         in IfErr result (λ refusal. refusal ≢ Refusal.Memory
-        → RefusesSource seen source.now Reach.low refusal ⊎ RefusesReplay seen source.now history.now refusal) }
+        → RefusesSource seen source.now Reach.low refusal ⊎ RefusesReplay seen source.now history.now view refusal) }
 {
     match read_low(alloc, texts, source) {
-        Ok(low) => replay_low(alloc, texts, &low, history),
+        Ok(low) => replay_low(alloc, texts, &low, history, view),
         Err(refusal) => Err(refusal),
     }
 }
@@ -73,19 +77,21 @@ fn read_low<T: Texts>(alloc: Global, texts: &mut T, source: &Word) -> Result<Low
     low_of(alloc, bytes.as_slice())
 }
 
-/// Replays the history of this name from the start of the low program.
+/// Replays the history of this name from the start of the low program, and shows this of it.
 fn replay_low<T: Texts>(
     alloc: Global,
     texts: &mut T,
     low: &LowProgram,
     history: &Word,
+    view: View,
 ) -> Result<Job, Refusal>
-    requires { length low.now.sites < 2 ^ 32 }
+    requires sites { length low.now.sites < 2 ^ 32 }
+    requires line { HasLine view }
     ensures begins { T.begins texts.new ≤ T.begins texts.old + 1 }
     ensures made { let seen = seen (T.held texts.old) (T.faults texts.old) (T.faults texts.new) (T.taken texts.new) (T.begins texts.old) (T.begins texts.new)
-        in IfOk result (λ job. OfRun seen history.now low.now job.kept job.high job.text) }
+        in IfOk result (λ job. OfRun seen history.now low.now view job.kept job.high job.text) }
     ensures refused { let seen = seen (T.held texts.old) (T.faults texts.old) (T.faults texts.new) (T.taken texts.new) (T.begins texts.old) (T.begins texts.new)
-        in IfErr result (λ refusal. refusal ≢ Refusal.Memory → RefusesRun seen history.now low.now refusal) }
+        in IfErr result (λ refusal. refusal ≢ Refusal.Memory → RefusesRun seen history.now low.now view refusal) }
 {
     let bytes = read_text(
         alloc,
@@ -94,6 +100,6 @@ fn replay_low<T: Texts>(
         LONGEST_HISTORY,
         Refusal::HistoryTooLong,
     )?;
-    let text = replayed(alloc, low, bytes.as_slice())?;
+    let text = replayed(alloc, low, view, bytes.as_slice())?;
     Ok(text_alone(text))
 }

@@ -56,7 +56,11 @@ fn done<R: Threads + Sync, G: Gate, T: Texts>(
 {
     match plan {
         Plan::Source { file, task } => on_source(alloc, rt, gate, texts, file, *task),
-        Plan::Replay { source, history } => replay(alloc, texts, source, history),
+        Plan::Replay {
+            source,
+            history,
+            view,
+        } => replay(alloc, texts, source, history, *view),
         Plan::Upgrade { history } => upgrade(alloc, texts, history),
         Plan::Generate { agents } => generate(alloc, *agents),
         Plan::Load {

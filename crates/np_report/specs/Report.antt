@@ -28,6 +28,10 @@ report_text sites said between how = said_text sites said ++ between ++ last_lin
 unfoldable pub replay_text : List (List ℕ) → List (ℕ × Value) → ℕ → List ℕ
 replay_text sites said events = said_text sites said ++ codes "a run of " ++ decimal events ++ codes " events\n"
 
+-- what was printed, the history text of what led to it, and how many events that is
+unfoldable pub past_text : List (List ℕ) → ℕ × Value → List ℕ → ℕ → List ℕ
+past_text sites said history events = said_line sites said ++ history ++ codes "past of " ++ decimal events ++ codes " events\n"
+
 -- ---- the run of a generated source
 
 abbrev pub number_at : Value-F Value → ℤ

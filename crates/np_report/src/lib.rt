@@ -1,6 +1,6 @@
-//! The texts of runs and of replays: what was printed, and how it ended.
+//! The texts of runs, of replays and of pasts: what was printed, and how it ended.
 #![tactic(auto)]
 
 mod reporting;
 
-pub use reporting::{load_report, replay_report, report};
+pub use reporting::{load_report, past_report, replay_report, report};

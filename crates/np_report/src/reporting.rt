@@ -1,6 +1,6 @@
 ghost use Rattle.std.specs.Prelude.{◌≡◌, ◌++◌, ◌+ℤ◌, IfOk, OnOk};
 ghost use Rattle.std.specs.Int.{int_wrap, w64};
-ghost use Rattle.np_report.specs.Report.{said_line, said_text, last_line, load_text, number_of, report_text, replay_text, wrapped_total};
+ghost use Rattle.np_report.specs.Report.{said_line, said_text, last_line, load_text, number_of, past_text, report_text, replay_text, wrapped_total};
 
 use itoa::Buffer;
 use np_syntax::{End, List, Memory, Text, Value, print_value};
@@ -38,6 +38,27 @@ pub fn replay_report(
     let mut text = List::new(alloc);
     append_all(alloc, &mut text, sites, said)?;
     text.append(b"a run of ")?;
+    text.append(Buffer::new().format(events).as_bytes())?;
+    text.append(b" events\n")?;
+    Ok(text)
+}
+
+/// The report of the past of a printed value: its line, the history text of the past, and how many events that has.
+#[tactic(auto, unfolding(crate::specs::Report::past_text))]
+pub fn past_report(
+    alloc: Global,
+    sites: &List<Text>,
+    site: u32,
+    value: &Value,
+    history: &[u8],
+    events: usize,
+) -> Result<Text, Memory>
+    ensures { IfOk result (λ text. text ≡ past_text sites.now (site, value.now) history.now events) }
+{
+    let mut text = List::new(alloc);
+    append_said(alloc, &mut text, sites, site, value)?;
+    text.append(history)?;
+    text.append(b"past of ")?;
     text.append(Buffer::new().format(events).as_bytes())?;
     text.append(b" events\n")?;
     Ok(text)

@@ -7,13 +7,14 @@ use Rattle.np_serial.specs.declared.serial.SerialRun.{SerialRun}
 use Rattle.np_words.specs.Plans.{plan}
 use Rattle.np_verdict.specs.Lines.{line_of, status_of}
 use Rattle.np_modes.specs.Causes.{Stands, texts_read}
-use Rattle.np_run.specs.Answers.{Call, HasCauses, IsDone, IsRefused, IsStatus, IsWanting, end_status, status_at}
+use Rattle.np_verdict.specs.declared.statuses.TheConstants.{WRITE_FAILED}
+use Rattle.np_run.specs.Answers.{Call, ErrFailed, HasCauses, IsDone, IsRefused, IsStatus, IsWanting, end_status, status_at}
 use Rattle.np_run.specs.declared.answer.Answer.{Answer}
 use Rattle.np_on_sites.specs.declared.record.Record.{Record}
 use Rattle.np_verdict.specs.declared.refusal.Refusal.{Refusal}
-use Rattle.np_verdict.specs.declared.refusal.Refusal.TheVariants.{Memory, Usage, ReadFault, TooLong, HistoryTooLong, HistSyntax, NotARun}
+use Rattle.np_verdict.specs.declared.refusal.Refusal.TheVariants.{Memory, Usage, ReadFault, TooLong, HistoryTooLong, HistSyntax, NotARun, NoLine}
 use Rattle.np_verdict.specs.declared.refusal.Refusal.TheVariants.{BadChar, BadString, BigNumber, Syntax, TooDeep}
-use Rattle.np_verdict.specs.declared.refusal.Refusal.TheVariants.{Unbound, SiteTwice, TooManySites, NotASite, TypeFault, TooManyNodes, TooManyEvents}
+use Rattle.np_verdict.specs.declared.refusal.Refusal.TheVariants.{Unbound, SiteTwice, TooManySites, NotASite, TypeFault, LocationTest, TooManyNodes, TooManyEvents}
 
 abbrev refusing : ℕ → Answer
 refusing status = record { status = status; kept = None; high = None }
@@ -135,11 +136,28 @@ answered call status (SiteTwice at) is t = of_source call status (SiteTwice at) 
 answered call status (TooManySites at) is t = of_source call status (TooManySites at) (λ e. cc) is refl t
 answered call status (NotASite at) is t = of_source call status (NotASite at) (λ e. cc) is refl t
 answered call status (TypeFault fault) is t = of_source call status (TypeFault fault) (λ e. cc) is refl t
+answered call status (LocationTest at) is t = of_source call status (LocationTest at) (λ e. cc) is refl t
 answered call status (TooManyNodes nodes) is t = of_source call status (TooManyNodes nodes) (λ e. cc) is refl t
 answered call status TooManyEvents is t = of_source call status TooManyEvents (λ e. cc) is refl t
 answered call status HistoryTooLong is t = of_history call status HistoryTooLong (λ e. cc) is refl t
 answered call status (HistSyntax line) is t = of_history call status (HistSyntax line) (λ e. cc) is refl t
 answered call status (NotARun index) is t = of_history call status (NotARun index) (λ e. cc) is refl t
+answered call status (NoLine lines) is t = of_history call status (NoLine lines) (λ e. cc) is refl t
+
+-- the line of the refusal could not be written whole
+pub unwritten : (call : Call) → ErrFailed call (refusing WRITE_FAILED) → Begins call → HasCauses call (refusing WRITE_FAILED)
+unwritten call f b = record {
+  done = λ e. absurd (omega (arith, e));
+  spent = λ e. absurd (omega (arith, e));
+  usage = λ e. absurd (omega (arith, e));
+  source = λ e. absurd (omega (arith, e));
+  read = λ e. absurd (omega (arith, e));
+  write = λ e. inr f;
+  memory = λ e. absurd (omega (arith, e));
+  history = λ e. absurd (omega (arith, e));
+  status = inr (inr (inr (inr (inr (inl refl)))));
+  begins = b;
+}
 
 -- ---- what was made was written
 

@@ -1,13 +1,19 @@
 -- What a refusal says of a history that is told, and what is made of one.
-use Rattle.std.proofs.Common.{◌≡◌, ℕ, ◌≤◌, ◌<◌, ◌⊎◌, List, length, Option, None, Some, inl, inr, subst, arith}
+use Rattle.std.proofs.Common.{◌≡◌, ℕ, ◌≤◌, ◌<◌, ◌⊎◌, List, length, Option, Some, inl, inr, subst, arith, ◌-◌, ap}
+use Rattle.std.specs.Prelude.{slice_get}
+use Rattle.std.proofs.lemmas.Option.{slice_get_within}
 use Rattle.np_syntax.specs.declared.limits.TheConstants.{LONGEST_SOURCE}
+use Rattle.np_syntax.specs.declared.event.Event.{Event}
 use Rattle.np_syntax.specs.declared.program.LowProgram.{LowProgram}
+use Rattle.np_syntax.specs.declared.value.Value.{Value}
 use Rattle.np_words.specs.declared.planning.Plan.{Plan}
+use Rattle.np_words.specs.declared.planning.View.{View}
+use Rattle.np_words.specs.declared.planning.View.TheVariants as views
 use Rattle.np_serial.specs.declared.serial.SerialRun.{SerialRun}
 use Rattle.np_verdict.specs.Lines.{status_of}
 use Rattle.np_verdict.specs.declared.refusal.Refusal.{Refusal}
 use Rattle.np_verdict.specs.declared.refusal.Refusal.TheVariants.{HistoryTooLong}
-use Rattle.np_histories.specs.Histories.{HasEvents, HasRun}
+use Rattle.np_histories.specs.Histories.{HasEvents, HasRun, Lacks, Replays as Replayed}
 use Rattle.np_histories.specs.declared.limits.TheConstants.{LONGEST_HISTORY}
 use Rattle.np_histories.specs.Laws as history_laws
 use Rattle.np_sources.specs.Reaches.{Reach, IsLowOf}
@@ -16,62 +22,67 @@ use Rattle.np_sources.specs.Laws as source_laws
 use Rattle.np_modes.specs.Readings.{IsUnread}
 use Rattle.np_modes.specs.Causes.{Does, HasMade, IsLowered, RefusesHistory, RefusesRun, RefusesPlan, Stands}
 use Rattle.np_run.specs.Answers.{Call}
-use Rattle.np_run.specs.Laws.{FaultyHistory, Follows, IsTold, ReadsHistory}
+use Rattle.np_run.specs.Laws.{FaultyHistory, Follows, IsTold, Purpose, ReadsHistory}
 use Rattle.np_run.proofs.Outcomes.{one, refused_plan, told, same_text}
 use Rattle.np_run.proofs.Sources.{source_says, says_faulty}
 
 -- ---- one refusal, or none
 
-abbrev pub AcceptedHistory : Option LowProgram → List ℕ → Type 0
-AcceptedHistory None bytes = HasEvents bytes
-AcceptedHistory (Some low) bytes = HasRun low bytes
+abbrev pub AcceptedHistory : Purpose → List ℕ → Type 0
+AcceptedHistory Purpose.events bytes = HasEvents bytes
+AcceptedHistory (Purpose.replay low view) bytes = HasRun low view bytes
 
 module _ (histories : history_laws.HaveOneAnswer) where
-  pub not_both : (low : Option LowProgram) (bytes : List ℕ) (refusal : Refusal) → AcceptedHistory low bytes → FaultyHistory low bytes refusal → ⊥
-  not_both None bytes refusal a f = histories.not_both bytes refusal a f
-  not_both (Some low) bytes refusal a f = histories.run_not_both low bytes refusal a f
+  pub not_both : (purpose : Purpose) (bytes : List ℕ) (refusal : Refusal) → AcceptedHistory purpose bytes → FaultyHistory purpose bytes refusal → ⊥
+  not_both Purpose.events bytes refusal a f = histories.not_both bytes refusal a f
+  not_both (Purpose.replay low view) bytes refusal a f = histories.run_not_both low view bytes refusal a f
 
-  pub same_fault : (low : Option LowProgram) (bytes : List ℕ) (a b : Refusal) → FaultyHistory low bytes a → FaultyHistory low bytes b → a ≡ b
-  same_fault None bytes a b f g = histories.same_fault bytes a b f g
-  same_fault (Some low) bytes a b f g = histories.same_run_fault low bytes a b f g
+  pub same_fault : (purpose : Purpose) (bytes : List ℕ) (a b : Refusal) → FaultyHistory purpose bytes a → FaultyHistory purpose bytes b → a ≡ b
+  same_fault Purpose.events bytes a b f g = histories.same_fault bytes a b f g
+  same_fault (Purpose.replay low view) bytes a b f g = histories.same_run_fault low view bytes a b f g
 
-  pub fault_status : (low : Option LowProgram) (bytes : List ℕ) (refusal : Refusal) → FaultyHistory low bytes refusal → status_of refusal ≡ 7
-  fault_status None bytes refusal f = histories.status bytes refusal f
-  fault_status (Some low) bytes refusal f = histories.run_status low bytes refusal f
+  pub fault_status : (purpose : Purpose) (bytes : List ℕ) (refusal : Refusal) → FaultyHistory purpose bytes refusal → status_of refusal ≡ 7
+  fault_status Purpose.events bytes refusal f = histories.status bytes refusal f
+  fault_status (Purpose.replay low view) bytes refusal f = histories.run_status low view bytes refusal f
 
-pub not_long : (low : Option LowProgram) (bytes : List ℕ) → FaultyHistory low bytes HistoryTooLong → ⊥
-not_long None bytes f = let is = f.is in cc
-not_long (Some low) bytes (inl f) = let is = f.is in cc
-not_long (Some low) bytes (inr f) = let is = f.stops.is in cc
+lacking_not_long : (low : LowProgram) (view : View) (events : List Event) → Lacks view low events HistoryTooLong → ⊥
+lacking_not_long low views.Said events h = h
+lacking_not_long low (views.Past line) events h = let is = h.is in cc
+
+pub not_long : (purpose : Purpose) (bytes : List ℕ) → FaultyHistory purpose bytes HistoryTooLong → ⊥
+not_long Purpose.events bytes f = let is = f.is in cc
+not_long (Purpose.replay low view) bytes (inl f) = let is = f.is in cc
+not_long (Purpose.replay low view) bytes (inr (inl f)) = let is = f.stops.is in cc
+not_long (Purpose.replay low view) bytes (inr (inr f)) = lacking_not_long low view f.events f.lacks
 
 -- ---- what a refusal says
 
-abbrev pub SaysHistory : Option LowProgram → List ℕ → Refusal → Type 0
-SaysHistory low bytes refusal = ((refusal ≡ HistoryTooLong) × (LONGEST_HISTORY < length bytes)) ⊎ ((length bytes ≤ LONGEST_HISTORY) × FaultyHistory low bytes refusal)
+abbrev pub SaysHistory : Purpose → List ℕ → Refusal → Type 0
+SaysHistory purpose bytes refusal = ((refusal ≡ HistoryTooLong) × (LONGEST_HISTORY < length bytes)) ⊎ ((length bytes ≤ LONGEST_HISTORY) × FaultyHistory purpose bytes refusal)
 
-unread_says : (call : Call) (history : List ℕ) (low : Option LowProgram) (bytes : List ℕ) (refusal : Refusal) → IsTold call history bytes
-    → IsUnread call.texts history LONGEST_HISTORY HistoryTooLong refusal → SaysHistory low bytes refusal
-unread_says call history low bytes refusal t (inl f) = absurd (t.whole f.1.rose)
-unread_says call history low bytes refusal t (inr l) = inl (l.0, told call history bytes (λ b. LONGEST_HISTORY < length b) t l.1.more)
+unread_says : (call : Call) (history : List ℕ) (purpose : Purpose) (bytes : List ℕ) (refusal : Refusal) → IsTold call history bytes
+    → IsUnread call.texts history LONGEST_HISTORY HistoryTooLong refusal → SaysHistory purpose bytes refusal
+unread_says call history purpose bytes refusal t (inl f) = absurd (t.whole f.1.rose)
+unread_says call history purpose bytes refusal t (inr l) = inl (l.0, told call history bytes (λ b. LONGEST_HISTORY < length b) t l.1.more)
 
 pub history_says : (call : Call) (history bytes : List ℕ) (refusal : Refusal) → IsTold call history bytes → RefusesHistory call.texts history refusal
-    → SaysHistory None bytes refusal
-history_says call history bytes refusal t (inl u) = unread_says call history None bytes refusal t u
+    → SaysHistory Purpose.events bytes refusal
+history_says call history bytes refusal t (inl u) = unread_says call history Purpose.events bytes refusal t u
 history_says call history bytes refusal t (inr s) =
-    inr (subst (λ (b : List ℕ). (length b ≤ LONGEST_HISTORY) × FaultyHistory None b refusal) (same_text call history bytes s.bytes LONGEST_HISTORY t s.read.text)
+    inr (subst (λ (b : List ℕ). (length b ≤ LONGEST_HISTORY) × FaultyHistory Purpose.events b refusal) (same_text call history bytes s.bytes LONGEST_HISTORY t s.read.text)
     (s.read.text.short, s.faulty))
 
-pub run_says : (call : Call) (history : List ℕ) (low : LowProgram) (bytes : List ℕ) (refusal : Refusal) → IsTold call history bytes
-    → RefusesRun call.texts history low refusal → SaysHistory (Some low) bytes refusal
-run_says call history low bytes refusal t (inl u) = unread_says call history (Some low) bytes refusal t u
-run_says call history low bytes refusal t (inr s) =
-    inr (subst (λ (b : List ℕ). (length b ≤ LONGEST_HISTORY) × FaultyHistory (Some low) b refusal) (same_text call history bytes s.bytes LONGEST_HISTORY t s.read.text)
+pub run_says : (call : Call) (history : List ℕ) (low : LowProgram) (view : View) (bytes : List ℕ) (refusal : Refusal) → IsTold call history bytes
+    → RefusesRun call.texts history low view refusal → SaysHistory (Purpose.replay low view) bytes refusal
+run_says call history low view bytes refusal t (inl u) = unread_says call history (Purpose.replay low view) bytes refusal t u
+run_says call history low view bytes refusal t (inr s) =
+    inr (subst (λ (b : List ℕ). (length b ≤ LONGEST_HISTORY) × FaultyHistory (Purpose.replay low view) b refusal) (same_text call history bytes s.bytes LONGEST_HISTORY t s.read.text)
     (s.read.text.short, s.faulty))
 
-pub says_faulty_history : (low : Option LowProgram) (bytes : List ℕ) (refusal : Refusal) → length bytes ≤ LONGEST_HISTORY → SaysHistory low bytes refusal
-    → FaultyHistory low bytes refusal
-says_faulty_history low bytes refusal short (inl s) = let long = s.1 in absurd (omega arith)
-says_faulty_history low bytes refusal short (inr s) = s.1
+pub says_faulty_history : (purpose : Purpose) (bytes : List ℕ) (refusal : Refusal) → length bytes ≤ LONGEST_HISTORY → SaysHistory purpose bytes refusal
+    → FaultyHistory purpose bytes refusal
+says_faulty_history purpose bytes refusal short (inl s) = let long = s.1 in absurd (omega arith)
+says_faulty_history purpose bytes refusal short (inr s) = s.1
 
 -- ---- the source before it
 
@@ -83,42 +94,52 @@ module _ (sources : source_laws.HaveOneAnswer) where
       let same : l.bytes ≡ bytes = same_text call source bytes l.bytes LONGEST_SOURCE t l.read in
       sources.same_low bytes other low (subst (λ (b : List ℕ). IsLowOf b other) same l.lowers) is
 
-  by_plan : (call : Call) (asked : Plan) (history : List ℕ) (low : Option LowProgram) (bytes : List ℕ) (refusal : Refusal) → ReadsHistory call asked history low
-      → IsTold call history bytes → RefusesPlan call.texts asked refusal → SaysHistory low bytes refusal
-  by_plan call asked history low bytes refusal (ReadsHistory.alone h) t r = history_says call h bytes refusal t r
-  by_plan call asked history low bytes refusal (ReadsHistory.replayed source h b one_low told_source short lowered) t (inl r) =
+  by_plan : (call : Call) (asked : Plan) (history : List ℕ) (purpose : Purpose) (bytes : List ℕ) (refusal : Refusal) → ReadsHistory call asked history purpose
+      → IsTold call history bytes → RefusesPlan call.texts asked refusal → SaysHistory purpose bytes refusal
+  by_plan call asked history purpose bytes refusal (ReadsHistory.alone h) t r = history_says call h bytes refusal t r
+  by_plan call asked history purpose bytes refusal (ReadsHistory.replayed source h b view one_low told_source short lowered) t (inl r) =
       absurd (sources.not_both Reach.low b refusal (one_low, lowered)
       (says_faulty Reach.low b refusal short (source_says call source Reach.low b refusal told_source r)))
-  by_plan call asked history low bytes refusal (ReadsHistory.replayed source h b one_low told_source short lowered) t (inr r) =
-      subst (λ (q : LowProgram). SaysHistory (Some q) bytes refusal) (same_low call source b one_low r.low told_source lowered r.lowered)
-      (run_says call h r.low bytes refusal t r.run)
+  by_plan call asked history purpose bytes refusal (ReadsHistory.replayed source h b view one_low told_source short lowered) t (inr r) =
+      subst (λ (q : LowProgram). SaysHistory (Purpose.replay q view) bytes refusal) (same_low call source b one_low r.low told_source lowered r.lowered)
+      (run_says call h r.low view bytes refusal t r.run)
 
-  pub stands_says : (call : Call) (low : Option LowProgram) (bytes : List ℕ) (refusal : Refusal) → Follows call low bytes → Stands call.words call.texts refusal
-      → SaysHistory low bytes refusal
-  stands_says call low bytes refusal f s =
-      by_plan call f.asked f.history low bytes refusal f.reads f.told (refused_plan call f.asked refusal f.planned s)
+  pub stands_says : (call : Call) (purpose : Purpose) (bytes : List ℕ) (refusal : Refusal) → Follows call purpose bytes → Stands call.words call.texts refusal
+      → SaysHistory purpose bytes refusal
+  stands_says call purpose bytes refusal f s =
+      by_plan call f.asked f.history purpose bytes refusal f.reads f.told (refused_plan call f.asked refusal f.planned s)
 
 -- ---- what is made
 
-abbrev IsTaken : Option LowProgram → List ℕ → Type 0
-IsTaken low bytes = (length bytes ≤ LONGEST_HISTORY) × AcceptedHistory low bytes
+abbrev IsTaken : Purpose → List ℕ → Type 0
+IsTaken purpose bytes = (length bytes ≤ LONGEST_HISTORY) × AcceptedHistory purpose bytes
+
+-- a run that was shown so has what was to be shown
+has_run : (low : LowProgram) (view : View) (bytes text : List ℕ) → Replayed low view bytes text → HasRun low view bytes
+has_run low views.Said bytes text r = record { events = r.events; read = r.read; last = r.shows.last; reaches = r.shows.reaches; has = tt }
+has_run low (views.Past line) bytes text r =
+    let printed = r.shows.its.printed in
+    record { events = r.events; read = r.read; last = printed.last; reaches = printed.reaches; has = has_line r.shows.its.said line r.shows.item printed.last.said r.shows.its.some r.shows.its.its printed.is }
+  where
+    has_line : (said : List (ℕ × Value)) (line : ℕ) (item : ℕ × Value) (all : List (ℕ × Value)) → 1 ≤ line → slice_get said (line - 1) ≡ Some item → all ≡ said
+        → line ≤ length all
+    has_line said line item all some its is = let within = slice_get_within said (line - 1) item its in let same = ap length is in omega arith
 
 module _ (sources : source_laws.HaveOneAnswer) where
-  made_plan : (call : Call) (asked : Plan) (history : List ℕ) (low : Option LowProgram) (bytes : List ℕ) (kept : Option Record) (high : Option SerialRun) (text : List ℕ)
-      → ReadsHistory call asked history low → IsTold call history bytes → Does call.texts asked kept high text → IsTaken low bytes
-  made_plan call asked history low bytes kept high text (ReadsHistory.alone h) t d =
-      subst (λ (b : List ℕ). IsTaken None b) (same_text call h bytes d.bytes LONGEST_HISTORY t d.read.text)
+  made_plan : (call : Call) (asked : Plan) (history : List ℕ) (purpose : Purpose) (bytes : List ℕ) (kept : Option Record) (high : Option SerialRun) (text : List ℕ)
+      → ReadsHistory call asked history purpose → IsTold call history bytes → Does call.texts asked kept high text → IsTaken purpose bytes
+  made_plan call asked history purpose bytes kept high text (ReadsHistory.alone h) t d =
+      subst (λ (b : List ℕ). IsTaken Purpose.events b) (same_text call h bytes d.bytes LONGEST_HISTORY t d.read.text)
       (d.read.text.short, record { events = d.upgrades.events; read = d.upgrades.read })
-  made_plan call asked history low bytes kept high text (ReadsHistory.replayed source h b one_low told_source short lowered) t d =
-      let replays = d.run.replays in
-      let run : HasRun d.low d.run.bytes = record { events = replays.events; read = replays.read; last = replays.ends.last; reaches = replays.ends.reaches } in
-      let taken : IsTaken (Some d.low) bytes = subst (λ (b : List ℕ). IsTaken (Some d.low) b) (same_text call h bytes d.run.bytes LONGEST_HISTORY t d.run.read.text)
+  made_plan call asked history purpose bytes kept high text (ReadsHistory.replayed source h b view one_low told_source short lowered) t d =
+      let run : HasRun d.low view d.run.bytes = has_run d.low view d.run.bytes text d.run.replays in
+      let taken : IsTaken (Purpose.replay d.low view) bytes = subst (λ (b : List ℕ). IsTaken (Purpose.replay d.low view) b) (same_text call h bytes d.run.bytes LONGEST_HISTORY t d.run.read.text)
       (d.run.read.text.short, run) in
-      subst (λ (q : LowProgram). IsTaken (Some q) bytes) (same_low sources call source b one_low d.low told_source lowered d.lowered) taken
+      subst (λ (q : LowProgram). IsTaken (Purpose.replay q view) bytes) (same_low sources call source b one_low d.low told_source lowered d.lowered) taken
 
   -- what is made is made of an accepted history
-  pub made_accepts : (call : Call) (low : Option LowProgram) (bytes : List ℕ) (kept : Option Record) (high : Option SerialRun) (text : List ℕ) → Follows call low bytes
-      → HasMade call.words call.texts kept high text → (length bytes ≤ LONGEST_HISTORY) × AcceptedHistory low bytes
-  made_accepts call low bytes kept high text f h =
-      made_plan call f.asked f.history low bytes kept high text f.reads f.told
+  pub made_accepts : (call : Call) (purpose : Purpose) (bytes : List ℕ) (kept : Option Record) (high : Option SerialRun) (text : List ℕ) → Follows call purpose bytes
+      → HasMade call.words call.texts kept high text → (length bytes ≤ LONGEST_HISTORY) × AcceptedHistory purpose bytes
+  made_accepts call purpose bytes kept high text f h =
+      made_plan call f.asked f.history purpose bytes kept high text f.reads f.told
       (subst (λ (p : Plan). Does call.texts p kept high text) (one h.asked f.asked _ h.planned f.planned) h.does)

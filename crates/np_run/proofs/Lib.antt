@@ -1,4 +1,5 @@
 mod Answered
+mod Headlines
 pub mod Outcomes
 pub mod Sources
 pub mod Histories

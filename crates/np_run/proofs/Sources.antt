@@ -3,6 +3,7 @@ use Rattle.std.proofs.Common.{◌≡◌, ℕ, ◌≤◌, ◌<◌, ◌⊎◌, Lis
 use Rattle.np_syntax.specs.declared.limits.TheConstants.{LONGEST_SOURCE}
 use Rattle.np_syntax.specs.declared.program.LowProgram.{LowProgram}
 use Rattle.np_words.specs.declared.planning.Plan.{Plan}
+use Rattle.np_words.specs.declared.planning.View.{View}
 use Rattle.np_words.specs.declared.planning.Task.{Task}
 use Rattle.np_words.specs.declared.planning.Task.TheVariants as task
 use Rattle.np_serial.specs.declared.serial.SerialRun.{SerialRun}
@@ -46,10 +47,10 @@ abbrev pub IsOfHistory : Refusal → Type 0
 IsOfHistory refusal = (refusal ≡ ReadFault) ⊎ (status_of refusal ≡ 7)
 
 module _ (histories : history_laws.HaveOneAnswer) where
-  pub of_history : (call : Call) (history : List ℕ) (low : LowProgram) (refusal : Refusal) → RefusesRun call.texts history low refusal → IsOfHistory refusal
-  of_history call history low refusal (inl (inl f)) = inl f.0
-  of_history call history low refusal (inl (inr l)) = inr (ap status_of l.0)
-  of_history call history low refusal (inr s) = inr (histories.run_status low s.bytes refusal s.faulty)
+  pub of_history : (call : Call) (history : List ℕ) (low : LowProgram) (view : View) (refusal : Refusal) → RefusesRun call.texts history low view refusal → IsOfHistory refusal
+  of_history call history low view refusal (inl (inl f)) = inl f.0
+  of_history call history low view refusal (inl (inr l)) = inr (ap status_of l.0)
+  of_history call history low view refusal (inr s) = inr (histories.run_status low view s.bytes refusal s.faulty)
 
 -- a refusal speaks of the source, or of the history behind it
 pub data Cause (asked : Plan) (reach : Reach) (bytes : List ℕ) (refusal : Refusal) : Type 0 where
@@ -60,12 +61,12 @@ module _ (histories : history_laws.HaveOneAnswer) where
   by_plan : (call : Call) (asked : Plan) (reach : Reach) (bytes : List ℕ) (refusal : Refusal) → HasSource call asked reach bytes
       → RefusesPlan call.texts asked refusal → Cause asked reach bytes refusal
   by_plan call asked reach bytes refusal (HasSource.alone f b task t) r = Cause.of_source (source_says call f (reach_of task) b refusal t r)
-  by_plan call asked reach bytes refusal (HasSource.replayed source history b t) (inl r) = Cause.of_source (source_says call source Reach.low b refusal t r)
-  by_plan call asked reach bytes refusal (HasSource.replayed source history b t) (inr r) =
+  by_plan call asked reach bytes refusal (HasSource.replayed source history b view t) (inl r) = Cause.of_source (source_says call source Reach.low b refusal t r)
+  by_plan call asked reach bytes refusal (HasSource.replayed source history b view t) (inr r) =
       let same : r.lowered.bytes ≡ b = same_text call source b r.lowered.bytes LONGEST_SOURCE t r.lowered.read in
       let accepted = subst (λ (x : List ℕ). TakenTo Reach.low x) same (r.low, r.lowered.lowers) in
-      Cause.of_later (record { source = source; history = history; is = refl; low = accepted.0; lowered = accepted.1 })
-      (subst (λ (x : List ℕ). length x ≤ LONGEST_SOURCE) same r.lowered.read.short) accepted (of_history histories call history r.low refusal r.run)
+      Cause.of_later (record { source = source; history = history; view = view; is = refl; low = accepted.0; lowered = accepted.1 })
+      (subst (λ (x : List ℕ). length x ≤ LONGEST_SOURCE) same r.lowered.read.short) accepted (of_history histories call history r.low view refusal r.run)
   by_plan call asked reach bytes refusal (HasSource.made agents serial links) r = Cause.of_source (inr (r.short, r.faulty))
 
   pub stands_cause : (call : Call) (asked : Plan) (reach : Reach) (bytes : List ℕ) (refusal : Refusal) → Reads call asked reach bytes
@@ -77,8 +78,8 @@ module _ (histories : history_laws.HaveOneAnswer) where
 
 pub does_accept : (task : Task) (bytes : List ℕ) (kept : Option Record) (high : Option SerialRun) (text : List ℕ) → DoesTask task bytes kept high text
     → TakenTo (reach_of task) bytes
-does_accept (task.Run budget history high serial links) bytes kept made text d = record { low = d.headline.low; lowered = d.headline.lowered; few = d.headline.few }
-does_accept (task.High budget history) bytes kept made text d = (d.runs.program, d.runs.accepted)
+does_accept (task.Run budget history high serial links) bytes kept made text d = (d.free, record { low = d.promises.low; lowered = d.promises.lowered; few = d.promises.few })
+does_accept (task.High budget history) bytes kept made text d = (d.runs.free, (d.runs.program, d.runs.accepted))
 does_accept task.Show bytes kept made text d = (d.tree, d.accepted)
 does_accept task.Check bytes kept made text d = (d.program, d.accepted)
 does_accept task.Low bytes kept made text d = (d.low, d.lowered)
@@ -91,11 +92,11 @@ made_plan : (call : Call) (asked : Plan) (reach : Reach) (bytes : List ℕ) (kep
 made_plan call asked reach bytes kept high text (HasSource.alone f b task t) d =
     subst (λ (x : List ℕ). IsTaken (reach_of task) x) (same_text call f b d.bytes LONGEST_SOURCE t d.read.text)
     (d.read.text.short, does_accept task d.bytes kept high text d.does)
-made_plan call asked reach bytes kept high text (HasSource.replayed source history b t) d =
+made_plan call asked reach bytes kept high text (HasSource.replayed source history b view t) d =
     subst (λ (x : List ℕ). IsTaken Reach.low x) (same_text call source b d.lowered.bytes LONGEST_SOURCE t d.lowered.read)
     (d.lowered.read.short, (d.low, d.lowered.lowers))
 made_plan call asked reach bytes kept high text (HasSource.made agents serial links) d =
-    (d.short, record { low = d.does.headline.low; lowered = d.does.headline.lowered; few = d.does.headline.few })
+    (d.short, record { low = d.does.promises.low; lowered = d.does.promises.lowered; few = d.does.promises.few })
 
 -- what is made is made of an accepted source
 pub made_accepts : (call : Call) (asked : Plan) (reach : Reach) (bytes : List ℕ) (kept : Option Record) (high : Option SerialRun) (text : List ℕ)

@@ -1,5 +1,5 @@
 -- What follows from the causes of the answers: when each comes. The texts are told.
-use Rattle.std.specs.Prelude.{◌≡◌, ◌≢◌, ℕ, Bool, ◌<◌, ◌≤◌, ◌⊎◌, ◌↔◌, List, length, Option, Some, None}
+use Rattle.std.specs.Prelude.{◌≡◌, ◌≢◌, ℕ, Bool, ◌<◌, ◌≤◌, ◌⊎◌, ◌↔◌, List, length, Some, None}
 use Rattle.np_syntax.specs.declared.limits.TheConstants.{LONGEST_SOURCE}
 use Rattle.np_syntax.specs.declared.program.LowProgram.{LowProgram}
 use Rattle.np_io.specs.Causes.{Rose}
@@ -7,6 +7,7 @@ use Rattle.np_words.specs.Plans.{plan}
 use Rattle.np_words.specs.declared.planning.Plan.{Plan}
 use Rattle.np_words.specs.declared.planning.Plan.TheVariants as plans
 use Rattle.np_words.specs.declared.planning.Task.{Task}
+use Rattle.np_words.specs.declared.planning.View.{View}
 use Rattle.np_words.specs.declared.modes.Links.{Links}
 use Rattle.np_generate.specs.Generated.{generated}
 use Rattle.np_sources.specs.declared.limits.TheConstants.{LOAD_BUDGET}
@@ -30,7 +31,7 @@ pub record IsTold (call : Call) (name bytes : List ℕ) : Type 0 where
 -- The source that is read first or generated, how far it is taken, and its bytes; whether a history is read behind it.
 pub data HasSource (call : Call) : Plan → Reach → List ℕ → Type 0 where
   alone : (file bytes : List ℕ) (task : Task) → IsTold call file bytes → HasSource call (plans.Source file task) (reach_of task) bytes
-  replayed : (source history bytes : List ℕ) → IsTold call source bytes → HasSource call (plans.Replay source history) Reach.low bytes
+  replayed : (source history bytes : List ℕ) (view : View) → IsTold call source bytes → HasSource call (plans.Replay source history view) Reach.low bytes
   made : (agents : ℕ) (serial : Bool) (links : Links) → HasSource call (plans.Load agents serial links) (Reach.sites LOAD_BUDGET) (generated agents)
 
 -- the words ask for something of a source, and these are its bytes
@@ -42,30 +43,36 @@ pub record Reads (call : Call) (asked : Plan) (reach : Reach) (bytes : List ℕ)
 pub record Replays (asked : Plan) (bytes : List ℕ) : Type 0 where
   pub source : List ℕ
   pub history : List ℕ
-  pub is : asked ≡ plans.Replay source history
+  pub view : View
+  pub is : asked ≡ plans.Replay source history view
   pub low : LowProgram
   pub lowered : IsLowOf bytes low
 
 -- ---- histories
 
--- the history that is read, and the low program from whose start it is replayed, if it is
-pub data ReadsHistory (call : Call) : Plan → List ℕ → Option LowProgram → Type 0 where
-  alone : (history : List ℕ) → ReadsHistory call (plans.Upgrade history) history None
-  replayed : (source history bytes : List ℕ) (low : LowProgram) → IsTold call source bytes → length bytes ≤ LONGEST_SOURCE → IsLowOf bytes low
-      → ReadsHistory call (plans.Replay source history) history (Some low)
+-- what a history is read for: for its events alone, or to replay it from the start of a low program, and to show this of it
+pub data Purpose : Type 0 where
+  events : Purpose
+  replay : LowProgram → View → Purpose
+
+-- the history that is read, and for what
+pub data ReadsHistory (call : Call) : Plan → List ℕ → Purpose → Type 0 where
+  alone : (history : List ℕ) → ReadsHistory call (plans.Upgrade history) history Purpose.events
+  replayed : (source history bytes : List ℕ) (view : View) (low : LowProgram) → IsTold call source bytes → length bytes ≤ LONGEST_SOURCE → IsLowOf bytes low
+      → ReadsHistory call (plans.Replay source history view) history (Purpose.replay low view)
 
 -- the words ask for something of a history, and these are its bytes
-pub record Follows (call : Call) (low : Option LowProgram) (bytes : List ℕ) : Type 0 where
+pub record Follows (call : Call) (purpose : Purpose) (bytes : List ℕ) : Type 0 where
   pub asked : Plan
   pub planned : plan call.words ≡ Some asked
   pub history : List ℕ
-  pub reads : ReadsHistory call asked history low
+  pub reads : ReadsHistory call asked history purpose
   pub told : IsTold call history bytes
 
 -- what is wrong with a history
-abbrev pub FaultyHistory : Option LowProgram → List ℕ → Refusal → Type 0
-FaultyHistory None bytes refusal = HasNoEvents bytes refusal
-FaultyHistory (Some low) bytes refusal = IsFaulty low bytes refusal
+abbrev pub FaultyHistory : Purpose → List ℕ → Refusal → Type 0
+FaultyHistory Purpose.events bytes refusal = HasNoEvents bytes refusal
+FaultyHistory (Purpose.replay low view) bytes refusal = IsFaulty low view bytes refusal
 
 -- ---- where what is asked for is done
 
@@ -75,7 +82,7 @@ pub record AcceptsSource (call : Call) (file : List ℕ) (reach : Reach) : Type 
   pub short : length bytes ≤ LONGEST_SOURCE
   pub accepted : TakenTo reach bytes
 
-pub record AcceptsReplay (call : Call) (source history : List ℕ) : Type 0 where
+pub record AcceptsReplay (call : Call) (source history : List ℕ) (view : View) : Type 0 where
   pub bytes : List ℕ
   pub told : IsTold call source bytes
   pub short : length bytes ≤ LONGEST_SOURCE
@@ -84,7 +91,7 @@ pub record AcceptsReplay (call : Call) (source history : List ℕ) : Type 0 wher
   pub run : List ℕ
   pub told_run : IsTold call history run
   pub short_run : length run ≤ LONGEST_HISTORY
-  pub replays : HasRun low run
+  pub replays : HasRun low view run
 
 pub record AcceptsHistory (call : Call) (history : List ℕ) : Type 0 where
   pub bytes : List ℕ
@@ -95,7 +102,7 @@ pub record AcceptsHistory (call : Call) (history : List ℕ) : Type 0 where
 -- each text that is read is accepted, and no read of it failed; and so is a generated source that is run
 abbrev pub Accepts : Call → Plan → Type 0
 Accepts call (plans.Source file task) = AcceptsSource call file (reach_of task)
-Accepts call (plans.Replay source history) = AcceptsReplay call source history
+Accepts call (plans.Replay source history view) = AcceptsReplay call source history view
 Accepts call (plans.Upgrade history) = AcceptsHistory call history
 Accepts call (plans.Generate agents) = Unit {0}
 Accepts call (plans.Load agents serial links) = TakenTo (Reach.sites LOAD_BUDGET) (generated agents)
@@ -143,7 +150,7 @@ RefusesOnce = (call : Call) (answer : Answer) (asked : Plan) (reach : Reach) (by
 
 -- a history is refused as too long exactly where it is
 abbrev pub RefusesLongHistories : Type 0
-RefusesLongHistories = (call : Call) (answer : Answer) (low : Option LowProgram) (bytes : List ℕ) → HasCauses call answer → Follows call low bytes
+RefusesLongHistories = (call : Call) (answer : Answer) (purpose : Purpose) (bytes : List ℕ) → HasCauses call answer → Follows call purpose bytes
     → ¬ Rose call.err.before call.err.now → answer.status ≢ NO_MEMORY → IsRefused call answer HistoryTooLong ↔ (LONGEST_HISTORY < length bytes)
 
 -- where the words ask for something of a history alone, it is refused as too long exactly where more was read than a history may have
@@ -151,14 +158,14 @@ abbrev pub CountsLongHistories : Type 0
 CountsLongHistories = (call : Call) (answer : Answer) (history : List ℕ) → HasCauses call answer → plan call.words ≡ Some (plans.Upgrade history)
     → ¬ Rose call.err.before call.err.now → answer.status ≢ NO_MEMORY → IsRefused call answer HistoryTooLong ↔ (LONGEST_HISTORY < call.texts.taken)
 
--- a history that is not too long is refused exactly where it is none, or of no run, and so
+-- a history that is not too long is refused exactly where it is none, or of no run, or of one that has not what is to be shown, and so
 abbrev pub RefusesHistories : Type 0
-RefusesHistories = (call : Call) (answer : Answer) (low : Option LowProgram) (bytes : List ℕ) (refusal : Refusal) → HasCauses call answer
-    → Follows call low bytes → ¬ Rose call.err.before call.err.now → answer.status ≢ NO_MEMORY → length bytes ≤ LONGEST_HISTORY
-    → IsRefused call answer refusal ↔ FaultyHistory low bytes refusal
+RefusesHistories = (call : Call) (answer : Answer) (purpose : Purpose) (bytes : List ℕ) (refusal : Refusal) → HasCauses call answer
+    → Follows call purpose bytes → ¬ Rose call.err.before call.err.now → answer.status ≢ NO_MEMORY → length bytes ≤ LONGEST_HISTORY
+    → IsRefused call answer refusal ↔ FaultyHistory purpose bytes refusal
 
 -- such a history has this one refusal
 abbrev pub RefusesHistoriesOnce : Type 0
-RefusesHistoriesOnce = (call : Call) (answer : Answer) (low : Option LowProgram) (bytes : List ℕ) (refusal : Refusal) → HasCauses call answer
-    → Follows call low bytes → ¬ Rose call.err.before call.err.now → answer.status ≢ NO_MEMORY → length bytes ≤ LONGEST_HISTORY
-    → FaultyHistory low bytes refusal → RefusesAlone BAD_HISTORY call answer refusal
+RefusesHistoriesOnce = (call : Call) (answer : Answer) (purpose : Purpose) (bytes : List ℕ) (refusal : Refusal) → HasCauses call answer
+    → Follows call purpose bytes → ¬ Rose call.err.before call.err.now → answer.status ≢ NO_MEMORY → length bytes ≤ LONGEST_HISTORY
+    → FaultyHistory purpose bytes refusal → RefusesAlone BAD_HISTORY call answer refusal

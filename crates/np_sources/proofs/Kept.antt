@@ -1,5 +1,5 @@
 -- A low program is kept where it has a table, and refused where its nodes are too many.
-use Rattle.std.proofs.Common.{◌≡◌, ◌≢◌, ℕ, ◌≤◌, ◌<◌, inr, List, length, Result, Ok, Err, IfOk, IfErr, sym, subst, ◌∙◌, arith}
+use Rattle.std.proofs.Common.{◌≡◌, ◌≢◌, ℕ, ◌*◌, ◌≤◌, ◌<◌, inr, refl, List, length, Result, Ok, Err, IfOk, IfErr, sym, subst, ◌∙◌, arith}
 use Rattle.np_syntax.specs.declared.limits.TheConstants.{MOST_SITES}
 use Rattle.np_syntax.specs.declared.program.LowProgram.{LowProgram}
 use Rattle.np_syntax.specs.declared.program.Program.{Program}
@@ -12,17 +12,17 @@ use Rattle.daemon_encode.specs.Encoded.{encoded}
 use Rattle.np_serial.proofs.SerialEvents.{low-sites}
 use Rattle.np_verdict.specs.Faults.{IsWellTyped}
 use Rattle.np_verdict.specs.declared.refusal.Refusal.{Refusal}
-use Rattle.np_verdict.specs.declared.refusal.Refusal.TheVariants.{Memory}
+use Rattle.np_verdict.specs.declared.refusal.Refusal.TheVariants.{Memory, TooManyEvents}
 use Rattle.np_sources.specs.declared.lowering.Lowered.{Lowered}
-use Rattle.np_sources.specs.Reaches.{Reach, FaultyTo, HasManyNodes, IsCompiled}
+use Rattle.np_sources.specs.declared.limits.TheConstants.{MOST_EVENTS}
+use Rattle.np_sources.specs.Reaches.{Reach, CannotRun, FaultyTo, HasManyNodes, IsCompiled, IsLowOf}
 
--- what is kept of the low program of a source is the low program of the source
-pub is_compiled : (bytes : List ℕ) (program : Program) (low : LowProgram) → IsWellTyped bytes program → IsAccepted program → low ≡ encoded program
+-- what is kept of the low program of a program is its low program
+pub is_compiled : (p : Program) (low : LowProgram) → IsAccepted p → low ≡ encoded p
     → (r : Result Lowered Refusal) → IfOk r (λ made. made.low ≡ low) → IfOk r (λ made. program_nodes made.low ≤ MOST_CODE_NODES)
-    → IfOk r (λ made. IsCompiled bytes made.low)
-is_compiled bytes program low typed accepted gives (Ok made) same few =
-    record { lowered = record { program = program; accepted = typed; is = same ∙ gives; few = few }; accepted = accepted }
-is_compiled bytes program low typed accepted gives (Err e) same few = tt
+    → IfOk r (λ made. IsCompiled p made.low)
+is_compiled p low accepted gives (Ok made) same few = record { accepted = accepted; is = same ∙ gives; few = few }
+is_compiled p low accepted gives (Err e) same few = tt
 
 -- it runs as well as before
 pub runs_well : (low : LowProgram) → RunsWell (start_low low) low.at → (r : Result Lowered Refusal) → IfOk r (λ made. made.low ≡ low)
@@ -30,12 +30,29 @@ pub runs_well : (low : LowProgram) → RunsWell (start_low low) low.at → (r : 
 runs_well low runs (Ok made) same = subst (λ (p : LowProgram). RunsWell (start_low p) p.at) (sym same) runs
 runs_well low runs (Err e) same = tt
 
--- where it is not kept, the source is too large
-pub too_large : (bytes : List ℕ) (program : Program) (low : LowProgram) → IsWellTyped bytes program → low ≡ encoded program → (r : Result Lowered Refusal)
-    → IfErr r (λ refusal. refusal ≢ Memory → HasManyNodes low refusal) → IfErr r (λ refusal. refusal ≢ Memory → FaultyTo Reach.low bytes refusal)
-too_large bytes program low typed gives (Ok made) refused = tt
-too_large bytes program low typed gives (Err e) refused =
-    λ some. inr (record { program = program; accepted = typed; large = subst (λ (p : LowProgram). HasManyNodes p e) gives (refused some) })
+-- where it is not kept, its nodes are too many
+pub too_many : (p : Program) (low : LowProgram) → low ≡ encoded p → (r : Result Lowered Refusal)
+    → IfErr r (λ refusal. refusal ≢ Memory → HasManyNodes low refusal) → IfErr r (λ refusal. refusal ≢ Memory → HasManyNodes (encoded p) refusal)
+too_many p low gives (Ok made) refused = tt
+too_many p low gives (Err e) refused = λ some. subst (λ (p : LowProgram). HasManyNodes p e) gives (refused some)
+
+-- the low program of the program of a source is that of the source, and where there is none the source is too large
+pub low_of_source : (bytes : List ℕ) (p : Program) → IsWellTyped bytes p → (r : Result LowProgram Refusal) → IfOk r (IsCompiled p) → IfOk r (IsLowOf bytes)
+low_of_source bytes p typed (Ok low) is = record { program = p; accepted = typed; is = is.is; few = is.few }
+low_of_source bytes p typed (Err e) is = tt
+
+pub too_large : (bytes : List ℕ) (p : Program) → IsWellTyped bytes p → (r : Result LowProgram Refusal)
+    → IfErr r (λ refusal. refusal ≢ Memory → HasManyNodes (encoded p) refusal) → IfErr r (λ refusal. refusal ≢ Memory → FaultyTo Reach.low bytes refusal)
+too_large bytes p typed (Ok low) refused = tt
+too_large bytes p typed (Err e) refused = λ some. inr (record { program = p; accepted = typed; large = refused some })
+
+-- it could make too many events
+pub makes_many : (budget : ℕ) (p : Program) (low : LowProgram) → IsCompiled p low → MOST_EVENTS < length low.sites * budget → CannotRun budget p TooManyEvents
+makes_many budget p low is many = inr (record {
+  few = subst (λ (q : LowProgram). program_nodes q ≤ MOST_CODE_NODES) is.is is.few;
+  many = subst (λ (q : LowProgram). MOST_EVENTS < length q.sites * budget) is.is many;
+  is = refl;
+})
 
 -- a low program that can run has few sites, and main stands at one of them
 pub few_sites : (low : LowProgram) → RunsWell (start_low low) low.at → length low.sites ≤ MOST_SITES

@@ -1,4 +1,4 @@
 mod Once
 pub mod Kept
-pub mod Headlines
+pub mod Promises
 pub mod Short

@@ -1,5 +1,5 @@
 -- A source is taken so far or refused, and refused in one way alone.
-use Rattle.std.proofs.Common.{◌≡◌, ℕ, ◌*◌, ◌≤◌, ◌<◌, ◌⊎◌, inl, inr, List, length, sym, subst, ap, ◌∙◌, arith}
+use Rattle.std.proofs.Common.{◌≡◌, ℕ, ◌*◌, ◌≤◌, ◌<◌, ◌⊎◌, inl, inr, List, length, Some, sym, subst, ap, ◌∙◌, arith}
 use Rattle.np_syntax.specs.declared.program.LowProgram.{LowProgram}
 use Rattle.np_syntax.specs.declared.program.Program.{Program}
 use Rattle.np_code.specs.Sizes.{capped, program_nodes}
@@ -8,9 +8,10 @@ use Rattle.daemon_encode.specs.Encoded.{encoded}
 use Rattle.np_verdict.specs.Faults.{Stage, Faulty}
 use Rattle.np_verdict.specs.Lines.{status_of}
 use Rattle.np_verdict.specs.declared.refusal.Refusal.{Refusal}
-use Rattle.np_verdict.specs.declared.refusal.Refusal.TheVariants.{Usage, TooLong, TooManyNodes}
+use Rattle.np_verdict.specs.declared.refusal.Refusal.TheVariants.{Usage, TooLong, LocationTest, TooManyNodes}
+use Rattle.np_words.specs.declared.modes.HighText.{HighText}
 use Rattle.np_verdict.proofs.Verdicts as verdicts
-use Rattle.np_sources.specs.Reaches.{Reach, HasFewEvents, HasManyEvents, HasNoLow, IsLowOf, IsTooLarge, TakenTo, FaultyTo}
+use Rattle.np_sources.specs.Reaches.{Reach, HasFewEvents, HasManyEvents, HasNoLow, IsBarred, IsFree, IsLowOf, IsTooLarge, TakenTo, FaultyTo, barred}
 use Rattle.np_sources.specs.declared.limits.TheConstants.{MOST_EVENTS}
 
 -- a source has one low program
@@ -39,6 +40,17 @@ not_many budget bytes refusal a f =
     let same : a.low ≡ f.low = same_low bytes a.low f.low a.lowered f.lowered in
     few_events (length f.low.sites * budget) (subst (λ (p : LowProgram). length p.sites * budget ≤ MOST_EVENTS) same a.few) f.many
 
+-- nothing bars it, or something does
+free_not_barred : (high : HighText) (bytes : List ℕ) (refusal : Refusal) → IsFree high bytes → IsBarred high bytes refusal → ⊥
+free_not_barred high bytes refusal free f = let none = free f.program f.accepted in let some = f.bars in cc
+
+barred_once : (high : HighText) (bytes : List ℕ) (a b : Refusal) → IsBarred high bytes a → IsBarred high bytes b → a ≡ b
+barred_once high bytes a b f g =
+    let same : f.program ≡ g.program = verdicts.well_typed_once bytes f.program g.program f.accepted g.accepted in
+    let some : Some f.at ≡ Some g.at = sym f.bars ∙ ap (barred high) same ∙ g.bars in
+    let place : f.at ≡ g.at = cc in
+    f.is ∙ ap LocationTest place ∙ sym g.is
+
 -- no source is both taken so far and refused
 pub not_both : (reach : Reach) (bytes : List ℕ) (refusal : Refusal) → TakenTo reach bytes → FaultyTo reach bytes refusal → ⊥
 not_both Reach.tree bytes refusal a f = verdicts.not_both Stage.tree bytes refusal a f
@@ -46,6 +58,8 @@ not_both Reach.program bytes refusal a f = verdicts.not_both Stage.program bytes
 not_both Reach.low bytes refusal a f = low_not_both bytes refusal a.0 a.1 f
 not_both (Reach.sites budget) bytes refusal a (inl f) = low_not_both bytes refusal a.low a.lowered f
 not_both (Reach.sites budget) bytes refusal a (inr f) = not_many budget bytes refusal a f
+not_both (Reach.shown high reach) bytes refusal a (inl f) = free_not_barred high bytes refusal a.0 f
+not_both (Reach.shown high reach) bytes refusal a (inr f) = not_both reach bytes refusal a.1 f.1
 
 large_once : (bytes : List ℕ) (a b : Refusal) → IsTooLarge bytes a → IsTooLarge bytes b → a ≡ b
 large_once bytes a b f g =
@@ -71,6 +85,10 @@ same_fault (Reach.sites budget) bytes a b (inl f) (inl g) = low_fault bytes a b 
 same_fault (Reach.sites budget) bytes a b (inl f) (inr g) = absurd (low_not_both bytes a g.low g.lowered f)
 same_fault (Reach.sites budget) bytes a b (inr f) (inl g) = absurd (low_not_both bytes b f.low f.lowered g)
 same_fault (Reach.sites budget) bytes a b (inr f) (inr g) = f.is ∙ sym g.is
+same_fault (Reach.shown high reach) bytes a b (inl f) (inl g) = barred_once high bytes a b f g
+same_fault (Reach.shown high reach) bytes a b (inl f) (inr g) = absurd (free_not_barred high bytes a g.0 f)
+same_fault (Reach.shown high reach) bytes a b (inr f) (inl g) = absurd (free_not_barred high bytes b f.0 g)
+same_fault (Reach.shown high reach) bytes a b (inr f) (inr g) = same_fault reach bytes a b f.1 g.1
 
 -- ---- refusals that are of no source
 
@@ -84,6 +102,8 @@ not_long Reach.program bytes f = verdicts.not_long Stage.program bytes f
 not_long Reach.low bytes f = low_not_long bytes f
 not_long (Reach.sites budget) bytes (inl f) = low_not_long bytes f
 not_long (Reach.sites budget) bytes (inr f) = let is = f.is in cc
+not_long (Reach.shown high reach) bytes (inl f) = let is = f.is in cc
+not_long (Reach.shown high reach) bytes (inr f) = not_long reach bytes f.1
 
 low_not_usage : (bytes : List ℕ) → HasNoLow bytes Usage → ⊥
 low_not_usage bytes (inl f) = verdicts.not_usage Stage.program bytes f
@@ -95,6 +115,8 @@ not_usage Reach.program bytes f = verdicts.not_usage Stage.program bytes f
 not_usage Reach.low bytes f = low_not_usage bytes f
 not_usage (Reach.sites budget) bytes (inl f) = low_not_usage bytes f
 not_usage (Reach.sites budget) bytes (inr f) = let is = f.is in cc
+not_usage (Reach.shown high reach) bytes (inl f) = let is = f.is in cc
+not_usage (Reach.shown high reach) bytes (inr f) = not_usage reach bytes f.1
 
 abbrev IsOfSource : Refusal → Type 0
 IsOfSource refusal = (status_of refusal ≡ 3) ⊎ (status_of refusal ≡ 6)
@@ -110,3 +132,5 @@ faulty_status Reach.program bytes refusal f = verdicts.faulty_status Stage.progr
 faulty_status Reach.low bytes refusal f = low_status bytes refusal f
 faulty_status (Reach.sites budget) bytes refusal (inl f) = low_status bytes refusal f
 faulty_status (Reach.sites budget) bytes refusal (inr f) = inl (ap status_of f.is)
+faulty_status (Reach.shown high reach) bytes refusal (inl f) = inl (ap status_of f.is)
+faulty_status (Reach.shown high reach) bytes refusal (inr f) = faulty_status reach bytes refusal f.1

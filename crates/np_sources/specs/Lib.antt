@@ -1,4 +1,4 @@
 pub mod Reaches
-pub mod Headline
+pub mod Kept
 pub mod Laws
 pub mod Makes

@@ -1,11 +1,11 @@
 -- What a mode makes of the bytes of a source (docs/LANGUAGE.md, "Reports and refusals").
-use Rattle.std.specs.Prelude.{◌≡◌, ℕ, ◌*◌, ◌≤◌, Bool, false, List, length, codes, Option, Some, None}
+use Rattle.std.specs.Prelude.{◌≡◌, ℕ, ◌*◌, ◌≤◌, List, [], length, codes, Option, Some, None}
 use Rattle.np_syntax.specs.declared.program.LowProgram.{LowProgram}
 use Rattle.np_syntax.specs.declared.program.Program.{Program}
 use Rattle.np_tree.specs.declared.tree.Tree.{Tree}
 use Rattle.np_show.specs.Shown.{shown as canonical}
 use Rattle.np_low_text.specs.LowText.{low_text}
-use Rattle.np_calculus.specs.Config.{Config}
+use Rattle.np_calculus.specs.Reductions.{run}
 use Rattle.np_calculus.specs.Starts.{start_high, start_low}
 use Rattle.np_serial.specs.declared.serial.SerialRun.{SerialRun}
 use Rattle.np_serial.specs.Serial.{IsSerialRun}
@@ -14,58 +14,88 @@ use Rattle.np_verdict.specs.Faults.{HasTree, IsWellTyped}
 use Rattle.np_words.specs.declared.planning.Task.{Task}
 use Rattle.np_words.specs.declared.planning.Task.TheVariants as task
 use Rattle.np_generate.specs.Generated.{generated}
+use Rattle.np_lift.specs.Lift.{lift}
 use Rattle.run_merge.specs.Merged.{past}
+use Rattle.np_words.specs.declared.modes.HighText.{HighText}
+use Rattle.np_words.specs.declared.modes.HighText.TheVariants.{Absent}
 use Rattle.np_on_sites.specs.SitesRuns.{IsSitesRun}
 use Rattle.np_on_sites.specs.declared.record.Record.{Record}
 use Rattle.np_sources.specs.declared.limits.TheConstants.{LOAD_BUDGET, MOST_EVENTS}
 use Rattle.np_sources.specs.declared.sites.Shown.{Shown}
 use Rattle.np_sources.specs.declared.sites.Shown.TheVariants as shown
-use Rattle.np_sources.specs.Headline.{Headline, high_part, load_report, run_report}
-use Rattle.np_sources.specs.Reaches.{IsCompiled, IsLowOf}
+use Rattle.np_sources.specs.Kept.{IsShownSo, KeepsPromises, high_part, load_report, merged, run_report}
+use Rattle.np_sources.specs.Reaches.{IsCompiled, IsFree, IsLowOf}
 
 -- ---- runs
 
--- a run from the start within the budget, and the text of its report
-pub record IsRunOf (sites : List (List ℕ)) (start : Config) (budget : ℕ) (history : Bool) (made : SerialRun) (text : List ℕ) : Type 0 where
-  pub run : IsSerialRun start budget made.events made.last made.end
-  pub report : text ≡ report_text sites made.last.said (high_part history made.events) made.end
+-- the run is one of the program from its start
+abbrev pub HasRun : Program → SerialRun → Type 0
+HasRun p made = run (start_high p) made.events ≡ Some made.last
+
+-- the text is the report of a run of the program, which can be shown so
+pub record IsReportOf (high : HighText) (p : Program) (made : SerialRun) (text : List ℕ) : Type 0 where
+  pub report : text ≡ report_text p.sites made.last.said (high_part high (start_high p) made.events) made.end
+  pub shown : IsShownSo high p made.events
+
+-- the program was run within the budget, and the text is the report
+pub record IsRunOf (budget : ℕ) (high : HighText) (p : Program) (made : SerialRun) (text : List ℕ) : Type 0 where
+  pub run : IsSerialRun (start_high p) budget made.events made.last made.end
+  pub report : IsReportOf high p made text
 
 -- the source is accepted, and its program was run
-pub record Runs (budget : ℕ) (history : Bool) (bytes : List ℕ) (made : SerialRun) (text : List ℕ) : Type 0 where
+pub record Runs (budget : ℕ) (high : HighText) (bytes : List ℕ) (made : SerialRun) (text : List ℕ) : Type 0 where
   pub program : Program
   pub accepted : IsWellTyped bytes program
-  pub run : IsRunOf program.sites (start_high program) budget history made text
+  pub free : IsFree high bytes
+  pub run : IsRunOf budget high program made text
 
 -- the source has this low program, which was run
 pub record RunsLow (budget : ℕ) (bytes : List ℕ) (made : SerialRun) (text : List ℕ) : Type 0 where
   pub low : LowProgram
   pub lowered : IsLowOf bytes low
-  pub run : IsRunOf low.sites (start_low low) budget false made text
+  pub run : IsSerialRun (start_low low) budget made.events made.last made.end
+  pub report : text ≡ report_text low.sites made.last.said [] made.end
 
 -- ---- modes
 
--- the source has this low program, which was run on its sites, and this was kept
-pub record RunsOnSites (budget : ℕ) (bytes : List ℕ) (low : LowProgram) (kept : Record) : Type 0 where
-  pub compiled : IsCompiled bytes low
+-- the program has this low program, which was run on its sites, and this was kept
+pub record RunsOnSites (budget : ℕ) (p : Program) (low : LowProgram) (kept : Record) : Type 0 where
+  pub compiled : IsCompiled p low
   pub few : length low.sites * budget ≤ MOST_EVENTS
   pub ran : IsSitesRun low budget (past kept.histories) kept.end
 
--- the report of what was kept
-abbrev pub report_of : Shown → List (List ℕ) → Record → List ℕ
+-- the report of what was kept, and the high text that it has
+abbrev pub report_of : Shown → Program → Record → List ℕ
 report_of (shown.Printed history high) = run_report history high
 report_of (shown.Counted agents) = load_report agents
 
--- what a run on sites makes is kept, and nothing else
-pub record KeepsSites (budget : ℕ) (report : List (List ℕ) → Record → List ℕ) (bytes : List ℕ) (kept : Option Record) (high : Option SerialRun) (text : List ℕ) : Type 0 where
+abbrev pub high_of : Shown → HighText
+high_of (shown.Printed history high) = high
+high_of (shown.Counted agents) = Absent
+
+-- the run of a program on its sites, with its report, is kept, and nothing else
+pub record KeepsRun (budget : ℕ) (how : Shown) (p : Program) (kept : Option Record) (high : Option SerialRun) (text : List ℕ) : Type 0 where
+  pub low : LowProgram
   pub made : Record
-  pub headline : Headline budget report bytes made text
+  pub ran : RunsOnSites budget p low made
+  pub written : text ≡ report_of how p made
+  pub stepped : IsShownSo (high_of how) p (lift (merged made))
+  pub is_kept : kept ≡ Some made
+  pub is_high : high ≡ None
+
+-- what a run on sites makes is kept, and nothing else
+pub record KeepsSites (budget : ℕ) (how : Shown) (bytes : List ℕ) (kept : Option Record) (high : Option SerialRun) (text : List ℕ) : Type 0 where
+  pub made : Record
+  pub promises : KeepsPromises budget (report_of how) bytes made text
+  pub free : IsFree (high_of how) bytes
+  pub shown : IsShownSo (high_of how) promises.lowered.program (lift (merged made))
   pub is_kept : kept ≡ Some made
   pub is_high : high ≡ None
 
 -- the run is kept whole, and nothing else
-pub record KeepsHigh (budget : ℕ) (history : Bool) (bytes : List ℕ) (kept : Option Record) (high : Option SerialRun) (text : List ℕ) : Type 0 where
+pub record KeepsHigh (budget : ℕ) (shown : HighText) (bytes : List ℕ) (kept : Option Record) (high : Option SerialRun) (text : List ℕ) : Type 0 where
   pub made : SerialRun
-  pub runs : Runs budget history bytes made text
+  pub runs : Runs budget shown bytes made text
   pub is_kept : kept ≡ None
   pub is_high : high ≡ Some made
 
@@ -95,7 +125,7 @@ pub record Lowers (bytes : List ℕ) (kept : Option Record) (high : Option Seria
 
 -- what is made of a source: a run, which is kept, the canonical text, that it is well typed, or the low text
 abbrev pub DoesTask : Task → List ℕ → Option Record → Option SerialRun → List ℕ → Type 0
-DoesTask (task.Run budget history high serial links) bytes kept made text = KeepsSites budget (run_report history high) bytes kept made text
+DoesTask (task.Run budget history high serial links) bytes kept made text = KeepsSites budget (shown.Printed history high) bytes kept made text
 DoesTask (task.High budget history) bytes kept made text = KeepsHigh budget history bytes kept made text
 DoesTask task.Show bytes kept made text = Shows bytes kept made text
 DoesTask task.Check bytes kept made text = Checks bytes kept made text
@@ -103,4 +133,4 @@ DoesTask task.Low bytes kept made text = Lowers bytes kept made text
 
 -- the generated source of so many agents was run
 abbrev pub DoesLoad : ℕ → Option Record → Option SerialRun → List ℕ → Type 0
-DoesLoad agents kept made text = KeepsSites LOAD_BUDGET (load_report agents) (generated agents) kept made text
+DoesLoad agents kept made text = KeepsSites LOAD_BUDGET (shown.Counted agents) (generated agents) kept made text

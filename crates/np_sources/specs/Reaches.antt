@@ -1,6 +1,6 @@
 -- How far a source is taken, and what is wrong with one that is not taken so far (docs/LANGUAGE.md, "Reports and refusals" and
 -- "Limits").
-use Rattle.std.specs.Prelude.{◌≡◌, ℕ, ◌*◌, ◌<◌, ◌≤◌, ◌⊎◌, List, length}
+use Rattle.std.specs.Prelude.{◌≡◌, ℕ, ◌*◌, ◌<◌, ◌≤◌, ◌⊎◌, List, length, Option, None, Some, slice_get}
 use Rattle.np_syntax.specs.declared.program.LowProgram.{LowProgram}
 use Rattle.np_syntax.specs.declared.program.Program.{Program}
 use Rattle.np_code.specs.Sizes.{capped, program_nodes}
@@ -9,22 +9,26 @@ use Rattle.daemon_encode.specs.Encoded.{encoded}
 use Rattle.np_check.specs.Faults.{IsAccepted}
 use Rattle.np_verdict.specs.Faults.{Stage, Accepted, Faulty, IsWellTyped}
 use Rattle.np_verdict.specs.declared.refusal.Refusal.{Refusal}
-use Rattle.np_verdict.specs.declared.refusal.Refusal.TheVariants.{TooManyNodes, TooManyEvents}
+use Rattle.np_verdict.specs.declared.refusal.Refusal.TheVariants.{LocationTest, TooManyNodes, TooManyEvents}
+use Rattle.np_views.specs.Tests.{tests}
+use Rattle.np_words.specs.declared.modes.HighText.{HighText}
+use Rattle.np_words.specs.declared.modes.HighText.TheVariants.{OneStep}
 use Rattle.np_words.specs.declared.planning.Task.{Task}
 use Rattle.np_words.specs.declared.planning.Task.TheVariants as task
 use Rattle.np_sources.specs.declared.limits.TheConstants.{MOST_EVENTS}
 
--- to its tree, to its program, to a low program that has a code, or to a run of that on its sites within a budget
+-- to its tree, to its program, to a low program that has a code, to a run of that on its sites within a budget, or so far that a high text can be shown of it
 pub data Reach : Type 0 where
   tree : Reach
   program : Reach
   low : Reach
   sites : ℕ → Reach
+  shown : HighText → Reach → Reach
 
 -- how far what is asked for takes a source: `show` asks for no types, `low` for the low program, and `run` alone for its run
 abbrev pub reach_of : Task → Reach
-reach_of (task.Run budget history high serial links) = Reach.sites budget
-reach_of (task.High budget history) = Reach.program
+reach_of (task.Run budget history high serial links) = Reach.shown high (Reach.sites budget)
+reach_of (task.High budget history) = Reach.shown history Reach.program
 reach_of task.Show = Reach.tree
 reach_of task.Check = Reach.program
 reach_of task.Low = Reach.low
@@ -38,10 +42,11 @@ pub record IsLowOf (bytes : List ℕ) (low : LowProgram) : Type 0 where
   pub is : low ≡ encoded program
   pub few : program_nodes low ≤ MOST_CODE_NODES
 
--- the source has this low program, and its program is accepted
-pub record IsCompiled (bytes : List ℕ) (low : LowProgram) : Type 0 where
-  pub lowered : IsLowOf bytes low
-  pub accepted : IsAccepted lowered.program
+-- the program is accepted, and this is its low program, whose nodes are not too many
+pub record IsCompiled (p : Program) (low : LowProgram) : Type 0 where
+  pub accepted : IsAccepted p
+  pub is : low ≡ encoded p
+  pub few : program_nodes low ≤ MOST_CODE_NODES
 
 -- the source has a low program, whose sites make few events within the budget
 pub record HasFewEvents (budget : ℕ) (bytes : List ℕ) : Type 0 where
@@ -49,12 +54,22 @@ pub record HasFewEvents (budget : ℕ) (bytes : List ℕ) : Type 0 where
   pub lowered : IsLowOf bytes low
   pub few : length low.sites * budget ≤ MOST_EVENTS
 
+-- the offset of what bars a program from being shown by such a high text: where migration is one step, its first location test
+abbrev pub barred : HighText → Program → Option ℕ
+barred OneStep p = slice_get (tests p.main) 0
+barred _ p = None
+
+-- nothing bars the program of the source, if it has one
+abbrev pub IsFree : HighText → List ℕ → Type 0
+IsFree high bytes = (p : Program) → IsWellTyped bytes p → barred high p ≡ None
+
 -- the source is accepted so far
 abbrev pub TakenTo : Reach → List ℕ → Type 0
 TakenTo Reach.tree bytes = Accepted Stage.tree bytes
 TakenTo Reach.program bytes = Accepted Stage.program bytes
 TakenTo Reach.low bytes = (low : LowProgram) × IsLowOf bytes low
 TakenTo (Reach.sites budget) bytes = HasFewEvents budget bytes
+TakenTo (Reach.shown high reach) bytes = IsFree high bytes × TakenTo reach bytes
 
 -- ---- what is refused
 
@@ -76,6 +91,14 @@ pub record HasManyEvents (budget : ℕ) (bytes : List ℕ) (refusal : Refusal) :
   pub many : MOST_EVENTS < length low.sites * budget
   pub is : refusal ≡ TooManyEvents
 
+-- the source is well typed, and what bars it from being shown stands at the offset of the refusal
+pub record IsBarred (high : HighText) (bytes : List ℕ) (refusal : Refusal) : Type 0 where
+  pub program : Program
+  pub accepted : IsWellTyped bytes program
+  pub at : ℕ
+  pub bars : barred high program ≡ Some at
+  pub is : refusal ≡ LocationTest at
+
 -- the source has no low program
 abbrev pub HasNoLow : List ℕ → Refusal → Type 0
 HasNoLow bytes refusal = Faulty Stage.program bytes refusal ⊎ IsTooLarge bytes refusal
@@ -86,3 +109,13 @@ FaultyTo Reach.tree bytes refusal = Faulty Stage.tree bytes refusal
 FaultyTo Reach.program bytes refusal = Faulty Stage.program bytes refusal
 FaultyTo Reach.low bytes refusal = HasNoLow bytes refusal
 FaultyTo (Reach.sites budget) bytes refusal = HasNoLow bytes refusal ⊎ HasManyEvents budget bytes refusal
+FaultyTo (Reach.shown high reach) bytes refusal = IsBarred high bytes refusal ⊎ (IsFree high bytes × FaultyTo reach bytes refusal)
+
+-- an accepted program is refused so, where it is to be run on its sites: its low program has too many nodes, or these could make too many events
+pub record MakesMany (budget : ℕ) (p : Program) (refusal : Refusal) : Type 0 where
+  pub few : program_nodes (encoded p) ≤ MOST_CODE_NODES
+  pub many : MOST_EVENTS < length (encoded p).sites * budget
+  pub is : refusal ≡ TooManyEvents
+
+abbrev pub CannotRun : ℕ → Program → Refusal → Type 0
+CannotRun budget p refusal = HasManyNodes (encoded p) refusal ⊎ MakesMany budget p refusal

@@ -1,6 +1,7 @@
 //! What each mode makes of the bytes of a source: a text, and a run where it runs the source.
 #![tactic(auto)]
 
+mod high;
 mod job;
 mod laws;
 mod limits;

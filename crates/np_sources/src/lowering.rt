@@ -31,37 +31,45 @@ pub fn low_of(alloc: Global, bytes: &[u8]) -> Result<LowProgram, Refusal>
     ensures runs { IfOk result (λ low. RunsWell (start_low low) low.at) }
     ensures refused { IfErr result (λ refusal. refusal ≢ Refusal.Memory → FaultyTo Reach.low bytes.now refusal) }
 {
-    let Lowered { low, code } = low_with_code(alloc, bytes)?;
+    let checked = checked_source(alloc, bytes)?;
+    let made = low_alone(alloc, &checked);
+    drop(checked);
+    made
+}
+
+/// The low program of a checked program, where its nodes are not too many.
+fn low_alone(alloc: Global, checked: &Checked) -> Result<LowProgram, Refusal>
+    ensures made { IfOk result (IsCompiled checked.now) }
+    ensures runs { IfOk result (λ low. RunsWell (start_low low) low.at) }
+    ensures refused { IfErr result (λ refusal. refusal ≢ Refusal.Memory → HasManyNodes (encoded checked.now) refusal) }
+{
+    let Lowered { low, code } = low_with_code(alloc, checked)?;
     drop(code);
     Ok(low)
 }
 
-/// The low program of a source with its table, or the first refusal of a mode that translates it.
-pub(crate) fn low_with_code(alloc: Global, bytes: &[u8]) -> Result<Lowered, Refusal>
-    requires { length bytes.now ≤ LONGEST_SOURCE }
-    ensures made { IfOk result (λ made. IsCompiled bytes.now made.low) }
+/// The low program of a checked program with its table, where its nodes are not too many.
+pub(crate) fn low_with_code(alloc: Global, checked: &Checked) -> Result<Lowered, Refusal>
+    ensures made { IfOk result (λ made. IsCompiled checked.now made.low) }
     ensures code { IfOk result (λ made. program made.code ≡ made.low) }
     ensures runs { IfOk result (λ made. RunsWell (start_low made.low) made.low.at) }
-    ensures refused { IfErr result (λ refusal. refusal ≢ Refusal.Memory → FaultyTo Reach.low bytes.now refusal) }
+    ensures refused { IfErr result (λ refusal. refusal ≢ Refusal.Memory → HasManyNodes (encoded checked.now) refusal) }
 {
-    let checked = checked_source(alloc, bytes)?;
     match translated(alloc, checked) {
         Ok(low) => coded(alloc, low),
         Err(Memory) => Err(Refusal::Memory),
     }
 }
 
-/// The low program of a checked program, which is dropped.
-fn translated(alloc: Global, checked: Checked) -> Result<LowProgram, Memory>
-    ensures gives { IfOk result (λ low. low ≡ encoded checked) }
-    ensures accepted { IsAccepted checked }
+/// The low program of a checked program.
+fn translated(alloc: Global, checked: &Checked) -> Result<LowProgram, Memory>
+    ensures gives { IfOk result (λ low. low ≡ encoded checked.now) }
+    ensures accepted { IsAccepted checked.now }
     ensures runs { IfOk result (λ low. RunsWell (start_low low) low.at) }
 {
     law_low_runs_well();
     let _ = checked.program();
-    let made = encode(alloc, &checked);
-    drop(checked);
-    made
+    encode(alloc, checked)
 }
 
 /// The low program itself with its table, where it has one.

@@ -1,80 +1,74 @@
 //! Runs of a source, with their reports: at the high level, and of its low program.
 
-ghost use Rattle.std.specs.Prelude.{◌≡◌, ◌≢◌, ◌≤◌, false, length, IfOk, IfErr};
+ghost use Rattle.std.specs.Prelude.{◌≡◌, ◌≢◌, ◌≤◌, [], length, IfOk, IfErr, None};
 ghost use Rattle.np_calculus.specs.Runs.{RunsWell};
-ghost use Rattle.np_calculus.specs.Starts.{start_high, start_low};
+ghost use Rattle.np_calculus.specs.Starts.{start_low};
+ghost use Rattle.np_serial.specs.Serial.{IsSerialRun};
 ghost use Rattle.np_report.specs.Report.{report_text};
-ghost use Rattle.np_verdict.specs.Faults.{Stage, Faulty};
-ghost use Rattle.np_sources.specs.Reaches.{Reach, FaultyTo};
-ghost use Rattle.np_sources.specs.Headline.{high_part};
-ghost use Rattle.np_sources.specs.Makes.{IsRunOf, Runs, RunsLow};
+ghost use Rattle.np_sources.specs.Reaches.{Reach, FaultyTo, barred};
+ghost use Rattle.np_sources.specs.Makes.{HasRun, IsReportOf, IsRunOf, Runs, RunsLow};
 
+use super::high::{checked_for, high_part};
 use super::lowering::low_of;
-use history_text::write_high;
 use np_check::Checked;
 use np_report::report;
 use np_safety::law_runs_well;
 use np_serial::{SerialRun, run_serial, run_serial_low};
-use np_syntax::{Event, LONGEST_SOURCE, List, LowProgram, Memory, Text};
-use np_verdict::{Refusal, checked_source};
+use np_syntax::{LONGEST_SOURCE, LowProgram, Memory, Text};
+use np_verdict::Refusal;
+use np_words::HighText;
 use std::alloc::Global;
 
-/// The run of a source at the high level, with the text of its report. With `history` it has the high text.
+/// The run of a source at the high level, with the text of its report, which has such a high text.
 pub(crate) fn run_of(
     alloc: Global,
     budget: u32,
-    history: bool,
+    high: HighText,
     bytes: &[u8],
 ) -> Result<(SerialRun, Text), Refusal>
     requires { length bytes.now ≤ LONGEST_SOURCE }
-    ensures made { IfOk result (λ made. Runs budget history bytes.now made.0 made.1) }
-    ensures refused { IfErr result (λ refusal. refusal ≢ Refusal.Memory → Faulty Stage.program bytes.now refusal) }
+    ensures made { IfOk result (λ made. Runs budget high bytes.now made.0 made.1) }
+    ensures refused { IfErr result (λ refusal. refusal ≢ Refusal.Memory → FaultyTo (Reach.shown high Reach.program) bytes.now refusal) }
 {
-    let checked = checked_source(alloc, bytes)?;
-    match run(alloc, budget, history, &checked) {
+    let checked = checked_for(alloc, high, bytes)?;
+    let made = run(alloc, budget, high, &checked);
+    drop(checked);
+    match made {
         Ok(made) => Ok(made),
         Err(Memory) => Err(Refusal::Memory),
     }
-}
-
-/// The high text of the events where it is asked for, and nothing where it is not.
-pub(crate) fn high_part(alloc: Global, history: bool, events: &[Event]) -> Result<Text, Memory>
-    ensures { IfOk result (λ text. text ≡ high_part history events.now) }
-{
-    if history {
-        write_high(alloc, events)
-    } else {
-        Ok(List::new(alloc))
-    }
-}
-
-/// The report of a run.
-fn report_of(
-    alloc: Global,
-    sites: &List<Text>,
-    history: bool,
-    made: &SerialRun,
-) -> Result<Text, Memory>
-    ensures { IfOk result (λ text. text ≡ report_text sites.now made.now.last.said (high_part history made.now.events) made.now.end) }
-{
-    let high = high_part(alloc, history, made.events.as_slice())?;
-    report(alloc, sites, made.last.said(), high.as_slice(), made.end)
 }
 
 /// Runs the program and makes the report.
 fn run(
     alloc: Global,
     budget: u32,
-    history: bool,
+    high: HighText,
     checked: &Checked,
 ) -> Result<(SerialRun, Text), Memory>
-    ensures { IfOk result (λ made. IsRunOf checked.now.sites (start_high checked.now) budget history made.0 made.1) }
+    requires { barred high checked.now ≡ None }
+    ensures { IfOk result (λ made. IsRunOf budget high checked.now made.0 made.1) }
 {
     law_runs_well();
-    let program = checked.program();
-    let made = run_serial(alloc, program, budget)?;
-    let text = report_of(alloc, &program.sites, history, &made)?;
+    let made = run_serial(alloc, checked.program(), budget)?;
+    let text = report_of(alloc, high, checked, &made)?;
     Ok((made, text))
+}
+
+/// The report of a run.
+fn report_of(
+    alloc: Global,
+    high: HighText,
+    checked: &Checked,
+    made: &SerialRun,
+) -> Result<Text, Memory>
+    requires free { barred high checked.now ≡ None }
+    requires run { HasRun checked.now made.now }
+    ensures { IfOk result (IsReportOf high checked.now made.now) }
+{
+    let between = high_part(alloc, high, checked, made.events.as_slice())?;
+    let sites = &checked.program().sites;
+    report(alloc, sites, made.last.said(), between.as_slice(), made.end)
 }
 
 /// Runs the low program of a source in one thread, one event after another, for at most so many events, and makes the
@@ -94,9 +88,10 @@ pub fn run_low(alloc: Global, budget: u32, bytes: &[u8]) -> Result<(SerialRun, T
 /// Runs a low program and makes the report.
 fn run_encoded(alloc: Global, budget: u32, low: &LowProgram) -> Result<(SerialRun, Text), Memory>
     requires { RunsWell (start_low low.now) low.now.at }
-    ensures { IfOk result (λ made. IsRunOf low.now.sites (start_low low.now) budget false made.0 made.1) }
+    ensures run { IfOk result (λ made. IsSerialRun (start_low low.now) budget made.0.events made.0.last made.0.end) }
+    ensures report { IfOk result (λ made. made.1 ≡ report_text low.now.sites made.0.last.said [] made.0.end) }
 {
     let made = run_serial_low(alloc, low, budget)?;
-    let text = report_of(alloc, &low.sites, false, &made)?;
+    let text = report(alloc, &low.sites, made.last.said(), b"", made.end)?;
     Ok((made, text))
 }

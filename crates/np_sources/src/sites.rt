@@ -1,25 +1,30 @@
 //! Runs of the low program of a source on its sites, with their reports.
 
-ghost use Rattle.std.specs.Prelude.{◌≡◌, ◌≢◌, ◌<◌, ◌*◌, ◌≤◌, ◌++◌, nat_lt, length, IfOk, IfErr};
+ghost use Rattle.std.specs.Prelude.{◌≡◌, ◌≢◌, ◌<◌, ◌*◌, ◌≤◌, ◌++◌, nat_lt, length, None, IsSome, IfOk, IfErr};
 ghost use Rattle.np_syntax.specs.declared.limits.TheConstants.{LARGEST_BUDGET, MOST_SITES};
+ghost use Rattle.np_calculus.specs.Reductions.{run};
+ghost use Rattle.np_calculus.specs.Starts.{start_high};
 ghost use Rattle.np_code.specs.Programs.{program};
 ghost use Rattle.np_lift.specs.Lift.{lift};
-ghost use Rattle.np_sources.specs.declared.limits.TheConstants.{MOST_EVENTS};
-ghost use Rattle.np_sources.specs.Reaches.{Reach, FaultyTo, IsCompiled};
-ghost use Rattle.np_sources.specs.Headline.{high_part, history_part, run_report, said};
+ghost use Rattle.daemon_encode.specs.Encoded.{encoded};
+ghost use Rattle.np_verdict.specs.Faults.{IsWellTyped};
 ghost use Rattle.np_report.specs.Report.{load_text};
-ghost use Rattle.np_sources.specs.Makes.{KeepsSites, RunsOnSites, report_of};
+ghost use Rattle.np_sources.specs.declared.limits.TheConstants.{MOST_EVENTS};
+ghost use Rattle.np_sources.specs.Reaches.{Reach, CannotRun, FaultyTo, IsCompiled, barred};
+ghost use Rattle.np_sources.specs.Kept.{IsShownSo, high_part, history_part, merged, run_report, said};
+ghost use Rattle.np_sources.specs.Makes.{KeepsRun, KeepsSites, RunsOnSites, high_of, report_of};
 
+use super::high::{checked_for, high_part};
 use super::job::Job;
 use super::limits::MOST_EVENTS;
 use super::lowering::{Lowered, low_with_code};
-use super::runs::high_part;
 use history_text::write_history;
+use np_check::Checked;
 use np_on_sites::{Gate, Record, law_source_runs, run_on_sites};
 use np_report::{load_report, report};
-use np_syntax::{Event, LARGEST_BUDGET, LONGEST_SOURCE, List, LowProgram, Memory, Text};
+use np_syntax::{Event, LARGEST_BUDGET, LONGEST_SOURCE, List, Memory, Text};
 use np_verdict::Refusal;
-use np_words::Links;
+use np_words::{HighText, Links};
 use run_merge::{lift, merge, said};
 use std::alloc::Global;
 use std::thread::Threads;
@@ -37,8 +42,18 @@ pub(crate) struct Course {
 /// printed by a generated source.
 #[derive(Clone, Copy)]
 pub(crate) enum Shown {
-    Printed { history: bool, high: bool },
+    Printed { history: bool, high: HighText },
     Counted { agents: u32 },
+}
+
+/// The high text that is shown.
+fn high_of(shown: Shown) -> HighText
+    ensures { result ≡ high_of shown }
+{
+    match shown {
+        Shown::Printed { high, .. } => high,
+        Shown::Counted { .. } => HighText::Absent,
+    }
 }
 
 /// Runs the low program of a source on its sites, and makes the report.
@@ -53,14 +68,49 @@ pub(crate) fn job_on_sites<R: Threads + Sync, G: Gate>(
     requires short { length bytes.now ≤ LONGEST_SOURCE }
     requires some { 1 ≤ course.budget }
     requires within { course.budget ≤ LARGEST_BUDGET }
-    ensures made { IfOk result (λ job. KeepsSites course.budget (report_of shown) bytes.now job.kept job.high job.text) }
-    ensures refused { IfErr result (λ refusal. refusal ≢ Refusal.Memory → FaultyTo (Reach.sites course.budget) bytes.now refusal) }
+    ensures made { IfOk result (λ job. KeepsSites course.budget shown bytes.now job.kept job.high job.text) }
+    ensures refused { IfErr result (λ refusal. refusal ≢ Refusal.Memory → FaultyTo (Reach.shown (high_of shown) (Reach.sites course.budget)) bytes.now refusal) }
 {
     law_source_runs();
-    let (low, kept) = run_of(alloc, rt, gate, course, bytes)?;
-    let text = text_of(alloc, shown, &low.sites, &kept);
-    drop(low);
-    match text {
+    let checked = checked_to_run(alloc, course.budget, shown, bytes)?;
+    let made = job_of_program(alloc, rt, gate, course, shown, &checked);
+    drop(checked);
+    made
+}
+
+/// The checked program of a source that is to be run on its sites, or the first refusal.
+fn checked_to_run(
+    alloc: Global,
+    _budget: u32,
+    shown: Shown,
+    bytes: &[u8],
+) -> Result<Checked, Refusal>
+    requires { length bytes.now ≤ LONGEST_SOURCE }
+    ensures found { IfOk result (IsWellTyped bytes.now) }
+    ensures free { IfOk result (λ checked. barred (high_of shown) checked ≡ None) }
+    ensures refused { IfErr result (λ refusal. refusal ≢ Refusal.Memory → FaultyTo (Reach.shown (high_of shown) (Reach.sites _budget)) bytes.now refusal) }
+{
+    checked_for(alloc, high_of(shown), bytes)
+}
+
+/// Runs the low program of a checked program on its sites, and makes the report.
+fn job_of_program<R: Threads + Sync, G: Gate>(
+    alloc: Global,
+    rt: &R,
+    gate: &G,
+    course: Course,
+    shown: Shown,
+    checked: &Checked,
+) -> Result<Job, Refusal>
+    requires free { barred (high_of shown) checked.now ≡ None }
+    requires some { 1 ≤ course.budget }
+    requires within { course.budget ≤ LARGEST_BUDGET }
+    ensures made { IfOk result (λ job. KeepsRun course.budget shown checked.now job.kept job.high job.text) }
+    ensures refused { IfErr result (λ refusal. refusal ≢ Refusal.Memory → CannotRun course.budget checked.now refusal) }
+{
+    law_source_runs();
+    let kept = run_of(alloc, rt, gate, course, checked)?;
+    match text_of(alloc, shown, checked, &kept) {
         Ok(text) => Ok(Job {
             kept: Some(kept),
             high: None,
@@ -73,45 +123,44 @@ pub(crate) fn job_on_sites<R: Threads + Sync, G: Gate>(
     }
 }
 
-/// The low program of a source, and what is kept of its run.
+/// What is kept of the run of the low program of a checked program.
 fn run_of<R: Threads + Sync, G: Gate>(
     alloc: Global,
     rt: &R,
     gate: &G,
     course: Course,
-    bytes: &[u8],
-) -> Result<(LowProgram, Record), Refusal>
-    requires short { length bytes.now ≤ LONGEST_SOURCE }
+    checked: &Checked,
+) -> Result<Record, Refusal>
     requires some { 1 ≤ course.budget }
     requires within { course.budget ≤ LARGEST_BUDGET }
-    ensures made { IfOk result (λ made. RunsOnSites course.budget bytes.now made.0 made.1) }
-    ensures refused { IfErr result (λ refusal. refusal ≢ Refusal.Memory → FaultyTo (Reach.sites course.budget) bytes.now refusal) }
+    ensures made { IfOk result (λ kept. RunsOnSites course.budget checked.now (encoded checked.now) kept) }
+    ensures refused { IfErr result (λ refusal. refusal ≢ Refusal.Memory → CannotRun course.budget checked.now refusal) }
 {
     let Course {
         budget,
         serial,
         links,
     } = course;
-    let Lowered { low, code } = lowered_within(alloc, budget, bytes)?;
+    let Lowered { low, code } = lowered_within(alloc, budget, checked)?;
     let made = run_on_sites(alloc, rt, gate, &low, code, budget, serial, links);
+    drop(low);
     match made {
-        Ok(kept) => Ok((low, kept)),
+        Ok(kept) => Ok(kept),
         Err(Memory) => Err(Refusal::Memory),
     }
 }
 
-/// The low program of a source with its table, where its sites make few events within the budget.
-fn lowered_within(alloc: Global, budget: u32, bytes: &[u8]) -> Result<Lowered, Refusal>
-    requires short { length bytes.now ≤ LONGEST_SOURCE }
+/// The low program of a checked program with its table, where its sites make few events within the budget.
+fn lowered_within(alloc: Global, budget: u32, checked: &Checked) -> Result<Lowered, Refusal>
     requires within { budget ≤ LARGEST_BUDGET }
-    ensures compiled { IfOk result (λ made. IsCompiled bytes.now made.low) }
+    ensures compiled { IfOk result (λ made. IsCompiled checked.now made.low) }
     ensures code { IfOk result (λ made. program made.code ≡ made.low) }
     ensures sites { IfOk result (λ made. length made.low.sites ≤ MOST_SITES) }
     ensures site { IfOk result (λ made. made.low.at < length made.low.sites) }
     ensures few { IfOk result (λ made. length made.low.sites * budget ≤ MOST_EVENTS) }
-    ensures refused { IfErr result (λ refusal. refusal ≢ Refusal.Memory → FaultyTo (Reach.sites budget) bytes.now refusal) }
+    ensures refused { IfErr result (λ refusal. refusal ≢ Refusal.Memory → CannotRun budget checked.now refusal) }
 {
-    let made = low_with_code(alloc, bytes)?;
+    let made = low_with_code(alloc, checked)?;
     if are_many(made.low.sites.len(), budget) {
         drop(made);
         return Err(Refusal::TooManyEvents);
@@ -128,12 +177,15 @@ fn are_many(sites: usize, budget: u32) -> bool
     MOST_EVENTS < sites as u32 * budget
 }
 
-/// The report of a run.
-fn text_of(alloc: Global, shown: Shown, sites: &List<Text>, kept: &Record) -> Result<Text, Memory>
-    ensures { IfOk result (λ text. text ≡ report_of shown sites.now kept.now) }
+/// The report of a run of the low program of a checked program.
+fn text_of(alloc: Global, shown: Shown, checked: &Checked, kept: &Record) -> Result<Text, Memory>
+    requires free { barred (high_of shown) checked.now ≡ None }
+    requires run { IsSome (run (start_high checked.now) (lift (merged kept.now))) }
+    ensures text { IfOk result (λ text. text ≡ report_of shown checked.now kept.now) }
+    ensures shown { IfOk result (λ _. IsShownSo (high_of shown) checked.now (lift (merged kept.now))) }
 {
     match shown {
-        Shown::Printed { history, high } => printed_text(alloc, sites, kept, history, high),
+        Shown::Printed { history, high } => printed_text(alloc, checked, kept, history, high),
         Shown::Counted { agents } => counted_text(alloc, agents, kept),
     }
 }
@@ -141,19 +193,22 @@ fn text_of(alloc: Global, shown: Shown, sites: &List<Text>, kept: &Record) -> Re
 /// What was printed, with the texts of the events that are asked for.
 fn printed_text(
     alloc: Global,
-    sites: &List<Text>,
+    checked: &Checked,
     kept: &Record,
     history: bool,
-    high: bool,
+    high: HighText,
 ) -> Result<Text, Memory>
-    ensures { IfOk result (λ text. text ≡ run_report history high sites.now kept.now) }
+    requires free { barred high checked.now ≡ None }
+    requires run { IsSome (run (start_high checked.now) (lift (merged kept.now))) }
+    ensures text { IfOk result (λ text. text ≡ run_report history high checked.now kept.now) }
+    ensures shown { IfOk result (λ _. IsShownSo high checked.now (lift (merged kept.now))) }
 {
     let events = merge(alloc, kept.histories.as_slice())?;
-    let between = between(alloc, history, high, events.as_slice())?;
+    let between = between(alloc, checked, history, high, events.as_slice())?;
     let values = said(alloc, kept.histories.as_slice())?;
     report(
         alloc,
-        sites,
+        &checked.program().sites,
         values.as_slice(),
         between.as_slice(),
         kept.end,
@@ -161,12 +216,21 @@ fn printed_text(
 }
 
 /// The texts of the events that are asked for.
-fn between(alloc: Global, history: bool, high: bool, events: &[Event]) -> Result<Text, Memory>
-    ensures { IfOk result (λ text. text ≡ history_part history events.now ++ high_part high (lift events.now)) }
+fn between(
+    alloc: Global,
+    checked: &Checked,
+    history: bool,
+    high: HighText,
+    events: &[Event],
+) -> Result<Text, Memory>
+    requires free { barred high checked.now ≡ None }
+    requires run { IsSome (run (start_high checked.now) (lift events.now)) }
+    ensures text { IfOk result (λ text. text ≡ history_part history events.now ++ high_part high (start_high checked.now) (lift events.now)) }
+    ensures shown { IfOk result (λ _. IsShownSo high checked.now (lift events.now)) }
 {
     let mut text = history_part(alloc, history, events)?;
     let lifted = lift(alloc, events)?;
-    let high = high_part(alloc, high, lifted.as_slice())?;
+    let high = high_part(alloc, high, checked, lifted.as_slice())?;
     text.append(high.as_slice())?;
     Ok(text)
 }

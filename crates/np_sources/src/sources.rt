@@ -15,7 +15,7 @@ use np_on_sites::Gate;
 use np_show::show;
 use np_syntax::{LONGEST_SOURCE, List, Memory};
 use np_verdict::{Refusal, checked_source, tokens_of, tree_of};
-use np_words::Task;
+use np_words::{HighText, Task};
 use std::alloc::Global;
 use std::thread::Threads;
 
@@ -62,10 +62,10 @@ pub fn job_of<R: Threads + Sync, G: Gate>(
 }
 
 /// Runs a source in the mode `high`: keeps the whole run.
-fn high_source(alloc: Global, budget: u32, history: bool, bytes: &[u8]) -> Result<Job, Refusal>
+fn high_source(alloc: Global, budget: u32, history: HighText, bytes: &[u8]) -> Result<Job, Refusal>
     requires { length bytes.now ≤ LONGEST_SOURCE }
     ensures made { IfOk result (λ job. KeepsHigh budget history bytes.now job.kept job.high job.text) }
-    ensures refused { IfErr result (λ refusal. refusal ≢ Refusal.Memory → Faulty Stage.program bytes.now refusal) }
+    ensures refused { IfErr result (λ refusal. refusal ≢ Refusal.Memory → FaultyTo (Reach.shown history Reach.program) bytes.now refusal) }
 {
     let (made, text) = run_of(alloc, budget, history, bytes)?;
     Ok(Job {

@@ -4,10 +4,12 @@ use Rattle.std.specs.Fmt.{decimal}
 use Rattle.np_types.specs.declared.fault.Rule.{Rule}
 use Rattle.np_types.specs.declared.fault.Rule.TheVariants as rule
 use Rattle.np_verdict.specs.declared.refusal.Refusal.{Refusal}
-use Rattle.np_verdict.specs.declared.refusal.Refusal.TheVariants.{Memory, Usage, ReadFault, TooLong, BadChar, BadString, BigNumber, Syntax, TooDeep, Unbound, SiteTwice, TooManySites, NotASite, TypeFault, TooManyNodes, TooManyEvents, HistoryTooLong, HistSyntax, NotARun}
+use Rattle.np_verdict.specs.declared.refusal.Refusal.TheVariants.{Memory, Usage, ReadFault, TooLong, BadChar, BadString, BigNumber, Syntax, TooDeep}
+use Rattle.np_verdict.specs.declared.refusal.Refusal.TheVariants.{Unbound, SiteTwice, TooManySites, NotASite, TypeFault, LocationTest, TooManyNodes, TooManyEvents}
+use Rattle.np_verdict.specs.declared.refusal.Refusal.TheVariants.{HistoryTooLong, HistSyntax, NotARun, NoLine}
 use Rattle.np_verdict.specs.declared.statuses.TheConstants.{BAD_HISTORY, BAD_SOURCE, BAD_USAGE, NO_MEMORY, READ_FAILED}
 
--- the line of a refusal with its offset, line or index
+-- the line of a refusal with its offset, line, index or count
 abbrev pub placed_line : List ℕ → ℕ → List ℕ
 placed_line name at = name ++ decimal at ++ codes "\n"
 
@@ -28,7 +30,7 @@ rule_text rule.Wide = codes "Wide"
 -- what a refusal writes
 abbrev pub line_of : Refusal → List ℕ
 line_of Memory = []
-line_of Usage = codes "np: 22 Usage\nusage: np MODE FILE [SECOND] [--budget N] [--history] [--high] [--serial] [--links KIND]\n"
+line_of Usage = codes "np: 22 Usage\nusage: np MODE FILE [SECOND] [--budget N] [--history] [--high] [--serial] [--links KIND] [--line K] [--one]\n"
 line_of ReadFault = codes "np: 4 ReadFault\n"
 line_of TooLong = codes "np: 5 TooLong\n"
 line_of (BadChar at) = placed_line (codes "np: 7 BadChar at ") at
@@ -41,11 +43,13 @@ line_of (SiteTwice at) = placed_line (codes "np: 13 SiteTwice at ") at
 line_of (TooManySites at) = placed_line (codes "np: 14 TooManySites at ") at
 line_of (NotASite at) = placed_line (codes "np: 15 NotASite at ") at
 line_of (TypeFault fault) = codes "np: 16 TypeFault " ++ rule_text fault.rule ++ placed_line (codes " at ") fault.at
+line_of (LocationTest at) = placed_line (codes "np: 25 LocationTest at ") at
 line_of (TooManyNodes nodes) = codes "np: 18 TooManyNodes\n"
 line_of TooManyEvents = codes "np: 23 TooManyEvents\n"
 line_of HistoryTooLong = codes "np: 5 TooLong\n"
 line_of (HistSyntax line) = placed_line (codes "np: 20 HistSyntax at ") line
 line_of (NotARun index) = placed_line (codes "np: 21 NotARun at ") index
+line_of (NoLine lines) = placed_line (codes "np: 24 NoLine at ") lines
 
 abbrev pub status_of : Refusal → ℕ
 status_of Memory = NO_MEMORY
@@ -54,4 +58,5 @@ status_of ReadFault = READ_FAILED
 status_of HistoryTooLong = BAD_HISTORY
 status_of (HistSyntax line) = BAD_HISTORY
 status_of (NotARun index) = BAD_HISTORY
+status_of (NoLine lines) = BAD_HISTORY
 status_of _ = BAD_SOURCE

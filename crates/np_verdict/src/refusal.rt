@@ -48,6 +48,9 @@ pub enum Refusal {
     NotASite(u32),
     #[error("the source is not well typed")]
     TypeFault(TypeFault),
+    /// The source tests a location, which a run with migration in one step cannot have.
+    #[error("the source tests a location at {0}")]
+    LocationTest(u32),
     /// The low program has more than 65,536 process nodes: so many, at most the greatest `u64`.
     #[error("the low program has {0} process nodes")]
     TooManyNodes(u64),
@@ -63,6 +66,9 @@ pub enum Refusal {
     /// The index counts the events from 0.
     #[error("the events are no run at {0}")]
     NotARun(u32),
+    /// So many values were printed, and the line that was asked for is none of them.
+    #[error("only {0} values were printed")]
+    NoLine(u32),
 }
 
 /// The refusal of `lex` as a refusal of the program.
@@ -109,7 +115,7 @@ pub fn line(alloc: Global, refusal: Refusal) -> Result<Text, Memory>
         Refusal::Memory => Ok(List::new(alloc)),
         Refusal::Usage => List::from_slice(
             alloc,
-            b"np: 22 Usage\nusage: np MODE FILE [SECOND] [--budget N] [--history] [--high] [--serial] [--links KIND]\n",
+            b"np: 22 Usage\nusage: np MODE FILE [SECOND] [--budget N] [--history] [--high] [--serial] [--links KIND] [--line K] [--one]\n",
         ),
         Refusal::ReadFault => List::from_slice(alloc, b"np: 4 ReadFault\n"),
         Refusal::TooLong => List::from_slice(alloc, b"np: 5 TooLong\n"),
@@ -123,15 +129,17 @@ pub fn line(alloc: Global, refusal: Refusal) -> Result<Text, Memory>
         Refusal::TooManySites(at) => placed_line(alloc, b"np: 14 TooManySites at ", at),
         Refusal::NotASite(at) => placed_line(alloc, b"np: 15 NotASite at ", at),
         Refusal::TypeFault(fault) => fault_line(alloc, fault),
+        Refusal::LocationTest(at) => placed_line(alloc, b"np: 25 LocationTest at ", at),
         Refusal::TooManyNodes(_) => List::from_slice(alloc, b"np: 18 TooManyNodes\n"),
         Refusal::TooManyEvents => List::from_slice(alloc, b"np: 23 TooManyEvents\n"),
         Refusal::HistoryTooLong => List::from_slice(alloc, b"np: 5 TooLong\n"),
         Refusal::HistSyntax(line) => placed_line(alloc, b"np: 20 HistSyntax at ", line),
         Refusal::NotARun(index) => placed_line(alloc, b"np: 21 NotARun at ", index),
+        Refusal::NoLine(lines) => placed_line(alloc, b"np: 24 NoLine at ", lines),
     }
 }
 
-/// The line of a refusal with its offset, line or index.
+/// The line of a refusal with its offset, line, index or count.
 fn placed_line(alloc: Global, name: &[u8], at: u32) -> Result<Text, Memory>
     ensures { IfOk result (λ text. text ≡ placed_line name.now at) }
 {
@@ -190,8 +198,12 @@ pub fn status(refusal: Refusal) -> u8
         | Refusal::TooManySites(_)
         | Refusal::NotASite(_)
         | Refusal::TypeFault(_)
+        | Refusal::LocationTest(_)
         | Refusal::TooManyNodes(_)
         | Refusal::TooManyEvents => BAD_SOURCE,
-        Refusal::HistoryTooLong | Refusal::HistSyntax(_) | Refusal::NotARun(_) => BAD_HISTORY,
+        Refusal::HistoryTooLong
+        | Refusal::HistSyntax(_)
+        | Refusal::NotARun(_)
+        | Refusal::NoLine(_) => BAD_HISTORY,
     }
 }

@@ -5,6 +5,7 @@ pub mod Indexing
 pub mod OneSteps
 pub mod Parts
 pub mod PastRuns
+mod Sayings
 pub mod StartBorn
 pub mod TestForms
 pub mod TestFree

@@ -19,12 +19,8 @@ use Rattle.np_calculus.proofs.Fits.{actor-seen, makes-one, seen-at, some}
 use Rattle.np_calculus.proofs.Rows.{parts, so}
 use Rattle.np_calculus.proofs.Steps.{is-one, is-two}
 use Rattle.np_calculus.proofs.Writes.{every-map, left-by}
-use Rattle.np_views.specs.Past.{agent_of_atom, is_among, later_names, made_agent, made_names, names_of, writes}
+use Rattle.np_views.specs.Past.{agent_of_atom, is_among, is_print, later_names, made_agent, made_names, names_of, writes}
 use Rattle.np_views.proofs.Among.{among-first, among-later, among-left, among-right}
-
-abbrev pub is_print : Kind → Bool
-is_print kind.Print = true
-is_print _ = false
 
 -- where no mark of an atom is that of a packet, and none that is made is, no mark is both after the event
 pub record Apart (x : Contents) (e : Event) (d : Change) : Type 0 where

@@ -13,6 +13,11 @@ use Rattle.np_calculus.specs.Footprints.{Footprint, listed, touches}
 use Rattle.np_calculus.specs.Reductions.{apply}
 use Rattle.np_calculus.specs.Sight.{Contents, inside}
 
+-- whether an event of this kind prints a value
+abbrev pub is_print : Kind → Bool
+is_print kind.Print = true
+is_print _ = false
+
 -- ---- what an event writes
 
 -- the names that an event makes, and the agent among them

@@ -3,4 +3,4 @@
 
 mod laws;
 
-pub use laws::{law_one_step, law_past};
+pub use laws::{law_one_step, law_past, law_said_by_prints};

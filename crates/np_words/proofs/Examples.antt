@@ -3,15 +3,18 @@ use Rattle.std.proofs.Common.{◌≡◌, ℕ, Bool, false, true, List, [], ◌�
 use Rattle.clap.proofs.OnLiterals.{clap_on_literals}
 use Rattle.np_words.specs.Arguments.{command, taken}
 use Rattle.np_words.specs.Plans.{plan}
+use Rattle.np_words.specs.declared.modes.HighText.{HighText}
+use Rattle.np_words.specs.declared.modes.HighText.TheVariants.{Absent, TwoSteps, OneStep}
 use Rattle.np_words.specs.declared.modes.Links.TheVariants.{Tray, Rings}
 use Rattle.np_words.specs.declared.planning.Plan.{Plan}
 use Rattle.np_words.specs.declared.planning.Plan.TheVariants.{Source, Replay, Upgrade, Generate, Load}
+use Rattle.np_words.specs.declared.planning.View.TheVariants.{Said, Past}
 use Rattle.np_words.specs.declared.planning.Task.TheVariants.{Run, High, Show}
 
 abbrev runs : List ℕ → ℕ → Option Plan
-runs file budget = Some (Source file (Run budget false false false Rings))
+runs file budget = Some (Source file (Run budget false Absent false Rings))
 
-abbrev runs_high : List ℕ → ℕ → Bool → Option Plan
+abbrev runs_high : List ℕ → ℕ → HighText → Option Plan
 runs_high file budget history = Some (Source file (High budget history))
 
 abbrev a : List ℕ
@@ -30,7 +33,7 @@ show_file : plan (codes "show" ∷ a ∷ []) ≡ Some (Source a Show)
 unfolding plan taken command clap_on_literals
 show_file = refl
 
-with_budget : plan (codes "high" ∷ a ∷ budget ∷ codes "007" ∷ []) ≡ runs_high a 7 false
+with_budget : plan (codes "high" ∷ a ∷ budget ∷ codes "007" ∷ []) ≡ runs_high a 7 Absent
 unfolding plan taken command clap_on_literals
 with_budget = refl
 
@@ -46,23 +49,39 @@ option_between : plan (codes "run" ∷ budget ∷ codes "5" ∷ a ∷ []) ≡ ru
 unfolding plan taken command clap_on_literals
 option_between = refl
 
-history_of_high : plan (codes "high" ∷ a ∷ codes "--history" ∷ []) ≡ runs_high a 10000 true
+history_of_high : plan (codes "high" ∷ a ∷ codes "--history" ∷ []) ≡ runs_high a 10000 TwoSteps
 unfolding plan taken command clap_on_literals
 history_of_high = refl
 
-replay_two : plan (codes "replay" ∷ a ∷ codes "b" ∷ []) ≡ Some (Replay a (codes "b"))
+replay_two : plan (codes "replay" ∷ a ∷ codes "b" ∷ []) ≡ Some (Replay a (codes "b") Said)
 unfolding plan taken command clap_on_literals
 replay_two = refl
+
+one_step_of_high : plan (codes "high" ∷ a ∷ codes "--history" ∷ codes "--one" ∷ []) ≡ runs_high a 10000 OneStep
+unfolding plan taken command clap_on_literals
+one_step_of_high = refl
+
+one_step_of_run : plan (codes "run" ∷ a ∷ codes "--one" ∷ codes "--high" ∷ []) ≡ Some (Source a (Run 10000 false OneStep false Rings))
+unfolding plan taken command clap_on_literals
+one_step_of_run = refl
+
+past_first : plan (codes "past" ∷ a ∷ codes "b" ∷ []) ≡ Some (Replay a (codes "b") (Past 1))
+unfolding plan taken command clap_on_literals
+past_first = refl
+
+last_line : plan (codes "past" ∷ a ∷ codes "b" ∷ codes "--line" ∷ codes "6400000" ∷ []) ≡ Some (Replay a (codes "b") (Past 6400000))
+unfolding plan taken command clap_on_literals
+last_line = refl
 
 upgrade_one : plan (codes "upgrade" ∷ a ∷ []) ≡ Some (Upgrade a)
 unfolding plan taken command clap_on_literals
 upgrade_one = refl
 
-history_of_run : plan (codes "run" ∷ a ∷ codes "--history" ∷ codes "--high" ∷ []) ≡ Some (Source a (Run 10000 true true false Rings))
+history_of_run : plan (codes "run" ∷ a ∷ codes "--history" ∷ codes "--high" ∷ []) ≡ Some (Source a (Run 10000 true TwoSteps false Rings))
 unfolding plan taken command clap_on_literals
 history_of_run = refl
 
-links_of_run : plan (codes "run" ∷ a ∷ codes "--links" ∷ codes "tray" ∷ codes "--serial" ∷ []) ≡ Some (Source a (Run 10000 false false true Tray))
+links_of_run : plan (codes "run" ∷ a ∷ codes "--links" ∷ codes "tray" ∷ codes "--serial" ∷ []) ≡ Some (Source a (Run 10000 false Absent true Tray))
 unfolding plan taken command clap_on_literals
 links_of_run = refl
 
@@ -96,7 +115,7 @@ fourth_word : plan (codes "run" ∷ a ∷ a ∷ a ∷ []) ≡ None
 unfolding plan taken command clap_on_literals
 fourth_word = refl
 
-other_mode : plan (codes "past" ∷ a ∷ codes "b" ∷ []) ≡ None
+other_mode : plan (codes "prove" ∷ a ∷ codes "b" ∷ []) ≡ None
 unfolding plan taken command clap_on_literals
 other_mode = refl
 
@@ -156,6 +175,31 @@ budget_of_load = refl
 many_loaded : plan (codes "load" ∷ codes "101" ∷ []) ≡ None
 unfolding plan taken command clap_on_literals
 many_loaded = refl
+
+-- `--one` where the events of the high level are not asked for
+one_alone : plan (codes "run" ∷ a ∷ codes "--one" ∷ []) ≡ None
+unfolding plan taken command clap_on_literals
+one_alone = refl
+
+one_of_history : plan (codes "run" ∷ a ∷ codes "--history" ∷ codes "--one" ∷ []) ≡ None
+unfolding plan taken command clap_on_literals
+one_of_history = refl
+
+line_of_replay : plan (codes "replay" ∷ a ∷ codes "b" ∷ codes "--line" ∷ codes "1" ∷ []) ≡ None
+unfolding plan taken command clap_on_literals
+line_of_replay = refl
+
+zero_line : plan (codes "past" ∷ a ∷ codes "b" ∷ codes "--line=0" ∷ []) ≡ None
+unfolding plan taken command clap_on_literals
+zero_line = refl
+
+large_line : plan (codes "past" ∷ a ∷ codes "b" ∷ codes "--line=6400001" ∷ []) ≡ None
+unfolding plan taken command clap_on_literals
+large_line = refl
+
+long_line : plan (codes "past" ∷ a ∷ codes "b" ∷ codes "--line=00000001" ∷ []) ≡ None
+unfolding plan taken command clap_on_literals
+long_line = refl
 
 -- a kind of links that is not built
 other_links : plan (codes "run" ∷ a ∷ codes "--links" ∷ codes "inbox" ∷ []) ≡ None

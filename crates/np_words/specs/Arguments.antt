@@ -27,7 +27,8 @@ flag id = record (new_rule id) { long = Some id; action = Some SetTrue }
 abbrev pub arguments : List Rule
 arguments =
     operand (codes "mode") ∷ operand (codes "file") ∷ further (codes "second")
-    ∷ valued (codes "budget") ∷ flag (codes "history") ∷ flag (codes "high") ∷ flag (codes "serial") ∷ valued (codes "links") ∷ []
+    ∷ valued (codes "budget") ∷ flag (codes "history") ∷ flag (codes "high") ∷ flag (codes "serial") ∷ valued (codes "links")
+    ∷ valued (codes "line") ∷ flag (codes "one") ∷ []
 
 -- the words leave out the program's name
 abbrev pub start : App
@@ -48,6 +49,8 @@ pub record Given : Type 0 where
   pub high : Bool
   pub serial : Bool
   pub links : Option Text
+  pub line : Option Text
+  pub one : Bool
 
 -- whether a flag was given
 abbrev pub is_set : Option Text → Bool
@@ -65,6 +68,8 @@ seen held = record {
   high = held.high;
   serial = held.serial;
   links = option_map (λ text. text.now) held.links;
+  line = option_map (λ text. text.now) held.line;
+  one = held.one;
 }
 
 abbrev pub given : List Row → Given
@@ -77,6 +82,8 @@ given rows = record {
   high = is_set (first_of (codes "high") rows);
   serial = is_set (first_of (codes "serial") rows);
   links = first_of (codes "links") rows;
+  line = first_of (codes "line") rows;
+  one = is_set (first_of (codes "one") rows);
 }
 
 abbrev pub has_fault : Kinds → Bool

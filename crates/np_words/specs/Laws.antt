@@ -22,6 +22,8 @@ two_words mode file = record {
   high = false;
   serial = false;
   links = None;
+  line = None;
+  one = false;
 }
 
 -- MODE and FILE are taken; so is SECOND behind them, and `--budget` with a number

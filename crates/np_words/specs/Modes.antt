@@ -20,18 +20,22 @@ mode_word mode.Show = codes "show"
 mode_word mode.Check = codes "check"
 mode_word mode.Low = codes "low"
 mode_word mode.Replay = codes "replay"
+mode_word mode.Past = codes "past"
 mode_word mode.Upgrade = codes "upgrade"
 mode_word mode.Gen = codes "gen"
 mode_word mode.Load = codes "load"
 
 abbrev pub no_options : Options
-no_options = record { budget = false; history = false; high = false; serial = false; links = false }
+no_options = record { budget = false; history = false; high = false; serial = false; links = false; line = false; one = false }
 
 abbrev pub run_options : Options
-run_options = record { budget = true; history = true; high = true; serial = true; links = true }
+run_options = record no_options { budget = true; history = true; high = true; serial = true; links = true; one = true }
 
 abbrev pub high_options : Options
-high_options = record no_options { budget = true; history = true }
+high_options = record no_options { budget = true; history = true; one = true }
+
+abbrev pub past_options : Options
+past_options = record no_options { line = true }
 
 abbrev pub load_options : Options
 load_options = record no_options { serial = true; links = true }
@@ -46,6 +50,7 @@ modes =
     alone mode.Run run_options ∷ alone mode.High high_options
     ∷ alone mode.Show no_options ∷ alone mode.Check no_options ∷ alone mode.Low no_options
     ∷ record { mode = mode.Replay; second = true; options = no_options }
+    ∷ record { mode = mode.Past; second = true; options = past_options }
     ∷ alone mode.Upgrade no_options ∷ alone mode.Gen no_options ∷ alone mode.Load load_options ∷ []
 
 abbrev pub entry_of : List ℕ → Option Entry
@@ -53,16 +58,16 @@ entry_of word = find (λ (entry : Entry). bytes_eq (mode_word entry.mode) word) 
 
 -- ---- numbers
 
--- one to six digits
-abbrev pub is_numeral : List ℕ → Bool
-is_numeral word = nat_lt 0 (length word) && nat_le (length word) 6 && list_all is_ascii_digit word
+-- one to so many digits
+abbrev pub is_numeral : ℕ → List ℕ → Bool
+is_numeral digits word = nat_lt 0 (length word) && nat_le (length word) digits && list_all is_ascii_digit word
 
 abbrev pub within : ℕ → ℕ → Option ℕ
 within most n = if nat_le 1 n && nat_le n most then Some n else None
 
--- the number of a numeral, from 1 to this
-abbrev pub number_of : ℕ → List ℕ → Option ℕ
-number_of most word = if is_numeral word then within most (digits_value 10 word) else None
+-- the number of a numeral of at most so many digits, from 1 to this
+abbrev pub number_of : ℕ → ℕ → List ℕ → Option ℕ
+number_of digits most word = if is_numeral digits word then within most (digits_value 10 word) else None
 
 -- ---- links
 

@@ -7,12 +7,18 @@ use Rattle.np_generate.specs.declared.source.TheConstants.{MOST_AGENTS}
 use Rattle.np_words.specs.Arguments.{Given, taken}
 use Rattle.np_words.specs.Modes.{entry_of, number_of, links_of}
 use Rattle.np_words.specs.declared.modes.Entry.{Entry}
+use Rattle.np_words.specs.declared.modes.Options.{Options}
 use Rattle.np_words.specs.declared.modes.Links.{Links}
 use Rattle.np_words.specs.declared.modes.Links.TheVariants.{Rings}
+use Rattle.np_words.specs.declared.modes.HighText.{HighText}
+use Rattle.np_words.specs.declared.modes.HighText.TheVariants.{Absent, TwoSteps, OneStep}
+use Rattle.np_words.specs.declared.numerals.TheConstants.{FIRST_LINE, LAST_LINE, LINE_DIGITS, MOST_DIGITS}
 use Rattle.np_words.specs.declared.modes.Mode.{Mode}
 use Rattle.np_words.specs.declared.modes.Mode.TheVariants as modes
 use Rattle.np_words.specs.declared.planning.Plan.{Plan}
 use Rattle.np_words.specs.declared.planning.Plan.TheVariants as plans
+use Rattle.np_words.specs.declared.planning.View.{View}
+use Rattle.np_words.specs.declared.planning.View.TheVariants as views
 use Rattle.np_words.specs.declared.planning.Task.{Task}
 use Rattle.np_words.specs.declared.planning.Task.TheVariants as tasks
 use Rattle.np_words.specs.declared.fail.PlanFail.{PlanFail}
@@ -26,19 +32,34 @@ abbrev pub same : Bool → Bool → Bool
 same true b = b
 same false b = not b
 
+-- no option on how a run goes stands there that the mode does not have, and none on what is shown
+abbrev pub runs_so : Options → Given → Bool
+runs_so options given = only options.budget (is_some given.budget) && only options.serial given.serial && only options.links (is_some given.links)
+
+abbrev pub shows_so : Options → Given → Bool
+shows_so options given = only options.history given.history && only options.high given.high && only options.line (is_some given.line) && only options.one given.one
+
 -- SECOND stands there exactly where the mode has one, and no option that the mode does not have
 abbrev pub is_met : Entry → Given → Bool
-is_met entry given = same entry.second (is_some given.second)
-    && only entry.options.budget (is_some given.budget) && only entry.options.history given.history
-    && only entry.options.high given.high && only entry.options.serial given.serial
-    && only entry.options.links (is_some given.links)
+is_met entry given = same entry.second (is_some given.second) && runs_so entry.options given && shows_so entry.options given
 
 abbrev pub entry_given : Option Text → Option Entry
 entry_given word = word >>= entry_of
 
 abbrev pub budget_of : Option Text → Option ℕ
 budget_of None = Some USUAL_BUDGET
-budget_of (Some word) = number_of LARGEST_BUDGET word
+budget_of (Some word) = number_of MOST_DIGITS LARGEST_BUDGET word
+
+abbrev pub line_of : Option Text → Option ℕ
+line_of None = Some FIRST_LINE
+line_of (Some word) = number_of LINE_DIGITS LAST_LINE word
+
+-- the text of the events of the high level, where it is asked for or not; `--one` stands only where it is
+abbrev pub high_text : Bool → Bool → Option HighText
+high_text false false = Some Absent
+high_text false true = None
+high_text true false = Some TwoSteps
+high_text true true = Some OneStep
 
 abbrev pub kind_of : Option Text → Option Links
 kind_of None = Some Rings
@@ -49,13 +70,15 @@ kind_of (Some word) = links_of word
 abbrev pub run_of : Given → Option Task
 run_of given = do
   budget ← budget_of given.budget
+  high ← high_text given.high given.one
   links ← kind_of given.links
-  Some (tasks.Run budget given.history given.high given.serial links)
+  Some (tasks.Run budget given.history high given.serial links)
 
 abbrev pub high_of : Given → Option Task
 high_of given = do
   budget ← budget_of given.budget
-  Some (tasks.High budget given.history)
+  history ← high_text given.history given.one
+  Some (tasks.High budget history)
 
 -- ---- what FILE and SECOND are
 
@@ -66,21 +89,28 @@ on_source file what = do
   Some (plans.Source file task)
 
 -- FILE is a source, SECOND a history
-abbrev pub replay_of : Text → Option Text → Option Plan
-replay_of file second = do
+abbrev pub on_history : Text → Option Text → Option View → Option Plan
+on_history file second shown = do
   history ← second
-  Some (plans.Replay file history)
+  view ← shown
+  Some (plans.Replay file history view)
+
+-- the past of the line that the words say
+abbrev pub past_of : Given → Option View
+past_of given = do
+  line ← line_of given.line
+  Some (views.Past line)
 
 -- FILE is a number
 abbrev pub generate_of : Text → Option Plan
 generate_of file = do
-  agents ← number_of MOST_AGENTS file
+  agents ← number_of MOST_DIGITS MOST_AGENTS file
   Some (plans.Generate agents)
 
 -- FILE is a number, and the generated source of so many agents is run
 abbrev pub load_of : Text → Given → Option Plan
 load_of file given = do
-  agents ← number_of MOST_AGENTS file
+  agents ← number_of MOST_DIGITS MOST_AGENTS file
   links ← kind_of given.links
   Some (plans.Load agents given.serial links)
 
@@ -94,7 +124,8 @@ plan_for modes.High file given = on_source file (high_of given)
 plan_for modes.Show file given = on_source file (Some tasks.Show)
 plan_for modes.Check file given = on_source file (Some tasks.Check)
 plan_for modes.Low file given = on_source file (Some tasks.Low)
-plan_for modes.Replay file given = replay_of file given.second
+plan_for modes.Replay file given = on_history file given.second (Some views.Said)
+plan_for modes.Past file given = on_history file given.second (past_of given)
 plan_for modes.Upgrade file given = upgrade_of file
 plan_for modes.Gen file given = generate_of file
 plan_for modes.Load file given = load_of file given
@@ -116,9 +147,15 @@ abbrev pub HasBudget : Task → Type 0
 HasBudget (tasks.Run budget history high serial links) = (1 ≤ budget) × (budget ≤ LARGEST_BUDGET)
 HasBudget _ = Unit {0}
 
--- a run has such a budget, and a generated source as many agents as it may have
+-- lines are counted from 1
+abbrev pub HasLine : View → Type 0
+HasLine views.Said = Unit {0}
+HasLine (views.Past line) = 1 ≤ line
+
+-- a run has such a budget, a past is that of a line, and a generated source has as many agents as it may have
 abbrev pub IsWithinLimits : Plan → Type 0
 IsWithinLimits (plans.Source file task) = HasBudget task
+IsWithinLimits (plans.Replay source history view) = HasLine view
 IsWithinLimits (plans.Generate agents) = (1 ≤ agents) × (agents ≤ MOST_AGENTS)
 IsWithinLimits (plans.Load agents serial links) = (1 ≤ agents) × (agents ≤ MOST_AGENTS)
 IsWithinLimits _ = Unit {0}

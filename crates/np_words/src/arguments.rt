@@ -69,7 +69,9 @@ pub fn command<'a>(alloc: Global) -> Result<Command<'a>, AllocError>
     let command = with_flag(alloc, command, "history")?;
     let command = with_flag(alloc, command, "high")?;
     let command = with_flag(alloc, command, "serial")?;
-    with_valued(alloc, command, "links")
+    let command = with_valued(alloc, command, "links")?;
+    let command = with_valued(alloc, command, "line")?;
+    with_flag(alloc, command, "one")
 }
 
 /// What stands for each argument.
@@ -83,6 +85,8 @@ pub struct Given<'a> {
     pub high: bool,
     pub serial: bool,
     pub links: Option<&'a str>,
+    pub line: Option<&'a str>,
+    pub one: bool,
 }
 
 fn value<'a>(matches: &ArgMatches<'a>, id: &str) -> Option<&'a str>
@@ -114,5 +118,7 @@ pub fn given_by<'a>(matches: &ArgMatches<'a>) -> Given<'a>
         high: is_set(matches, "high"),
         serial: is_set(matches, "serial"),
         links: value(matches, "links"),
+        line: value(matches, "line"),
+        one: is_set(matches, "one"),
     }
 }

@@ -12,6 +12,7 @@ pub enum Mode {
     Check,
     Low,
     Replay,
+    Past,
     Upgrade,
     Gen,
     Load,
@@ -25,6 +26,15 @@ pub enum Links {
     Rings,
 }
 
+/// The text of the events of the high level that a report has: none, or one in which a migration is a Depart and later an
+/// Arrive, or one in which the Arrive stands directly behind the Depart.
+#[derive(Clone, Copy, Debug, PartialEq, Eq)]
+pub enum HighText {
+    Absent,
+    TwoSteps,
+    OneStep,
+}
+
 /// Which options a mode has.
 #[derive(Clone, Copy, Debug)]
 pub struct Options {
@@ -33,6 +43,8 @@ pub struct Options {
     pub high: bool,
     pub serial: bool,
     pub links: bool,
+    pub line: bool,
+    pub one: bool,
 }
 
 /// A mode, with the words that may stand behind FILE.
@@ -49,6 +61,8 @@ const NO_OPTIONS: Options = Options {
     high: false,
     serial: false,
     links: false,
+    line: false,
+    one: false,
 };
 
 const RUN_OPTIONS: Options = Options {
@@ -57,11 +71,19 @@ const RUN_OPTIONS: Options = Options {
     high: true,
     serial: true,
     links: true,
+    one: true,
+    ..NO_OPTIONS
 };
 
 const HIGH_OPTIONS: Options = Options {
     budget: true,
     history: true,
+    one: true,
+    ..NO_OPTIONS
+};
+
+const PAST_OPTIONS: Options = Options {
+    line: true,
     ..NO_OPTIONS
 };
 
@@ -72,7 +94,7 @@ const LOAD_OPTIONS: Options = Options {
 };
 
 /// The modes that are built.
-const MODES: [Entry; 9] = [
+const MODES: [Entry; 10] = [
     Entry {
         mode: Mode::Run,
         second: false,
@@ -104,6 +126,11 @@ const MODES: [Entry; 9] = [
         options: NO_OPTIONS,
     },
     Entry {
+        mode: Mode::Past,
+        second: true,
+        options: PAST_OPTIONS,
+    },
+    Entry {
         mode: Mode::Upgrade,
         second: false,
         options: NO_OPTIONS,
@@ -133,6 +160,7 @@ fn mode_word(mode: Mode) -> &'static str
         Mode::Check => "check",
         Mode::Low => "low",
         Mode::Replay => "replay",
+        Mode::Past => "past",
         Mode::Upgrade => "upgrade",
         Mode::Gen => "gen",
         Mode::Load => "load",

@@ -5,8 +5,17 @@ ghost use Rattle.std.specs.Char.{is_ascii_digit};
 ghost use Rattle.std.specs.List.{list_all};
 ghost use Rattle.np_words.specs.Modes as spec;
 
-/// How many digits a number may have.
-const MOST_DIGITS: usize = 6;
+/// How many digits a budget and a number of agents may have.
+pub const MOST_DIGITS: usize = 6;
+
+/// How many digits the number of a line may have.
+pub const LINE_DIGITS: usize = 7;
+
+/// The greatest number of a line of what a run printed: a run has at most so many events.
+pub const LAST_LINE: u32 = 6_400_000;
+
+/// The line that is meant where the words do not say it.
+pub const FIRST_LINE: u32 = 1;
 
 fn is_digit(byte: u8) -> bool
     ensures { result ≡ is_ascii_digit byte }
@@ -20,11 +29,11 @@ fn are_digits(bytes: &[u8]) -> bool
     bytes.iter().all(|byte| is_digit(*byte))
 }
 
-/// Whether these are one to six digits.
-fn is_numeral(bytes: &[u8]) -> bool
-    ensures { result ≡ spec.is_numeral bytes.now }
+/// Whether these are one to so many digits.
+fn is_numeral(digits: usize, bytes: &[u8]) -> bool
+    ensures { result ≡ spec.is_numeral digits bytes.now }
 {
-    0 < bytes.len() && bytes.len() <= MOST_DIGITS && are_digits(bytes)
+    0 < bytes.len() && bytes.len() <= digits && are_digits(bytes)
 }
 
 fn within(most: u32, number: u32) -> Option<u32>
@@ -38,12 +47,12 @@ fn within(most: u32, number: u32) -> Option<u32>
     }
 }
 
-/// The number that a word gives, if it is a numeral of a number from 1 to this.
-pub fn number_of(most: u32, word: &str) -> Option<u32>
-    ensures is { result ≡ spec.number_of most word.now }
+/// The number that a word gives, if it is a numeral of at most so many digits, of a number from 1 to this.
+pub fn number_of(digits: usize, most: u32, word: &str) -> Option<u32>
+    ensures is { result ≡ spec.number_of digits most word.now }
     ensures bounds { IfSome result (λ n. (1 ≤ n) × (n ≤ most)) }
 {
-    if !is_numeral(word.as_bytes()) {
+    if !is_numeral(digits, word.as_bytes()) {
         return None;
     }
     match word.parse::<u32>() {

@@ -7,8 +7,8 @@ ghost use Rattle.np_words.specs.Plans as spec;
 
 use super::arguments::{Given, command, given_by};
 use super::fail::PlanFail;
-use super::modes::{Entry, Links, Mode, entry_of, links_of};
-use super::numerals::number_of;
+use super::modes::{Entry, HighText, Links, Mode, Options, entry_of, links_of};
+use super::numerals::{FIRST_LINE, LAST_LINE, LINE_DIGITS, MOST_DIGITS, number_of};
 use clap::error::ErrorKind;
 use np_generate::MOST_AGENTS;
 use np_io::Word;
@@ -19,23 +19,32 @@ use std::alloc::Global;
 #[derive(Clone, Copy, Debug, PartialEq, Eq)]
 pub enum Task {
     /// Its low program is run on the sites, each of which makes at most `budget` events: one after another with `serial`,
-    /// or each on a thread of its own. With `history` the report has the merged history, and with `high` the run of the
-    /// high level that is read off it.
+    /// or each on a thread of its own. With `history` the report has the merged history, and `high` says whether it has the
+    /// run of the high level that is read off it.
     Run {
         budget: u32,
         history: bool,
-        high: bool,
+        high: HighText,
         serial: bool,
         links: Links,
     },
-    /// It is run at the high level, with at most `budget` events.
+    /// It is run at the high level, with at most `budget` events. `history` says whether the report has them.
     High {
         budget: u32,
-        history: bool,
+        history: HighText,
     },
     Show,
     Check,
     Low,
+}
+
+/// What is shown of a history that is replayed.
+#[derive(Clone, Copy, Debug, PartialEq, Eq)]
+pub enum View {
+    /// What the run printed.
+    Said,
+    /// One line of that, counted from 1, and the events that led to it.
+    Past { line: u32 },
 }
 
 /// What the words ask for: a mode with its operands and options.
@@ -46,9 +55,11 @@ pub enum Plan {
         file: Word,
         task: Task,
     },
+    /// A history of the low program of a source is replayed.
     Replay {
         source: Word,
         history: Word,
+        view: View,
     },
     Upgrade {
         history: Word,
@@ -71,16 +82,32 @@ fn only(may: bool, stands: bool) -> bool
     may || !stands
 }
 
+/// Whether no option on how a run goes stands there that the mode does not have.
+fn runs_so(options: &Options, given: &Given<'_>) -> bool
+    ensures { result ≡ spec.runs_so options.now (seen given.now) }
+{
+    only(options.budget, given.budget.is_some())
+        && only(options.serial, given.serial)
+        && only(options.links, given.links.is_some())
+}
+
+/// Whether no option on what is shown stands there that the mode does not have.
+fn shows_so(options: &Options, given: &Given<'_>) -> bool
+    ensures { result ≡ spec.shows_so options.now (seen given.now) }
+{
+    only(options.history, given.history)
+        && only(options.high, given.high)
+        && only(options.line, given.line.is_some())
+        && only(options.one, given.one)
+}
+
 /// Whether SECOND stands there exactly where the mode has one, and no option that the mode does not have.
 fn is_met(entry: &Entry, given: &Given<'_>) -> bool
     ensures { result ≡ spec.is_met entry.now (seen given.now) }
 {
     entry.second == given.second.is_some()
-        && only(entry.options.budget, given.budget.is_some())
-        && only(entry.options.history, given.history)
-        && only(entry.options.high, given.high)
-        && only(entry.options.serial, given.serial)
-        && only(entry.options.links, given.links.is_some())
+        && runs_so(&entry.options, given)
+        && shows_so(&entry.options, given)
 }
 
 fn budget_of(word: Option<&str>) -> Option<u32>
@@ -88,8 +115,30 @@ fn budget_of(word: Option<&str>) -> Option<u32>
     ensures bounds { IfSome result (λ n. (1 ≤ n) × (n ≤ LARGEST_BUDGET)) }
 {
     match word {
-        Some(word) => number_of(LARGEST_BUDGET, word),
+        Some(word) => number_of(MOST_DIGITS, LARGEST_BUDGET, word),
         None => Some(USUAL_BUDGET),
+    }
+}
+
+fn line_of(word: Option<&str>) -> Option<u32>
+    ensures is { result ≡ spec.line_of (option_map (λ text. text.now) word.entry) }
+    ensures bounds { IfSome result (λ n. 1 ≤ n) }
+{
+    match word {
+        Some(word) => number_of(LINE_DIGITS, LAST_LINE, word),
+        None => Some(FIRST_LINE),
+    }
+}
+
+/// The text of the events of the high level, where it is asked for or not. It has `--one` only where it is asked for.
+fn high_text(asked: bool, one: bool) -> Option<HighText>
+    ensures { result ≡ spec.high_text asked one }
+{
+    match (asked, one) {
+        (false, false) => Some(HighText::Absent),
+        (false, true) => None,
+        (true, false) => Some(HighText::TwoSteps),
+        (true, true) => Some(HighText::OneStep),
     }
 }
 
@@ -109,7 +158,7 @@ fn run_of(given: &Given<'_>) -> Option<Task>
     Some(Task::Run {
         budget: budget_of(given.budget)?,
         history: given.history,
-        high: given.high,
+        high: high_text(given.high, given.one)?,
         serial: given.serial,
         links: kind_of(given.links)?,
     })
@@ -121,7 +170,7 @@ fn high_of(given: &Given<'_>) -> Option<Task>
 {
     Some(Task::High {
         budget: budget_of(given.budget)?,
-        history: given.history,
+        history: high_text(given.history, given.one)?,
     })
 }
 
@@ -139,15 +188,32 @@ fn on_source(alloc: Global, file: &str, task: Option<Task>) -> Result<Plan, Plan
 }
 
 /// The plan where FILE is a source and SECOND a history.
-fn replay_of(alloc: Global, file: &str, second: Option<&str>) -> Result<Plan, PlanFail>
-    ensures plans { spec.Plans (spec.replay_of file.now (option_map (λ text. text.now) second.entry)) result }
+fn on_history(
+    alloc: Global,
+    file: &str,
+    second: Option<&str>,
+    view: Option<View>,
+) -> Result<Plan, PlanFail>
+    requires { IfSome view spec.HasLine }
+    ensures plans { spec.Plans (spec.on_history file.now (option_map (λ text. text.now) second.entry) view) result }
     ensures limits { IfOk result spec.IsWithinLimits }
 {
     let second = second.ok_or(PlanFail::Usage)?;
+    let view = view.ok_or(PlanFail::Usage)?;
     Ok(Plan::Replay {
         source: Word::new(alloc, file)?,
         history: Word::new(alloc, second)?,
+        view,
     })
+}
+
+/// The past of the line that the words say.
+fn past_of(given: &Given<'_>) -> Option<View>
+    ensures is { result ≡ spec.past_of (seen given.now) }
+    ensures limits { IfSome result spec.HasLine }
+{
+    let line = line_of(given.line)?;
+    Some(View::Past { line })
 }
 
 /// The plan where FILE is a history.
@@ -165,7 +231,7 @@ fn generate_of(file: &str) -> Result<Plan, PlanFail>
     ensures plans { spec.Plans (spec.generate_of file.now) result }
     ensures limits { IfOk result spec.IsWithinLimits }
 {
-    match number_of(MOST_AGENTS, file) {
+    match number_of(MOST_DIGITS, MOST_AGENTS, file) {
         Some(agents) => Ok(Plan::Generate { agents }),
         None => Err(PlanFail::Usage),
     }
@@ -176,7 +242,7 @@ fn load_of(file: &str, given: &Given<'_>) -> Result<Plan, PlanFail>
     ensures plans { spec.Plans (spec.load_of file.now (seen given.now)) result }
     ensures limits { IfOk result spec.IsWithinLimits }
 {
-    let agents = number_of(MOST_AGENTS, file).ok_or(PlanFail::Usage)?;
+    let agents = number_of(MOST_DIGITS, MOST_AGENTS, file).ok_or(PlanFail::Usage)?;
     let links = kind_of(given.links).ok_or(PlanFail::Usage)?;
     Ok(Plan::Load {
         agents,
@@ -195,7 +261,8 @@ fn plan_for(alloc: Global, mode: Mode, file: &str, given: &Given<'_>) -> Result<
         Mode::Show => on_source(alloc, file, Some(Task::Show)),
         Mode::Check => on_source(alloc, file, Some(Task::Check)),
         Mode::Low => on_source(alloc, file, Some(Task::Low)),
-        Mode::Replay => replay_of(alloc, file, given.second),
+        Mode::Replay => on_history(alloc, file, given.second, Some(View::Said)),
+        Mode::Past => on_history(alloc, file, given.second, past_of(given)),
         Mode::Upgrade => upgrade_of(alloc, file),
         Mode::Gen => generate_of(file),
         Mode::Load => load_of(file, given),

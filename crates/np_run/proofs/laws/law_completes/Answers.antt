@@ -1,4 +1,4 @@
-use Rattle.std.proofs.Common.{ℕ, ◌≤◌, List, length, Option, None, Some, inl, inr, subst, arith}
+use Rattle.std.proofs.Common.{ℕ, ◌≤◌, List, length, inl, inr, subst, arith}
 use Rattle.np_syntax.specs.declared.limits.TheConstants.{LONGEST_SOURCE}
 use Rattle.np_syntax.specs.declared.program.LowProgram.{LowProgram}
 use Rattle.np_words.specs.declared.planning.Plan.{Plan}
@@ -13,7 +13,7 @@ use Rattle.np_modes.specs.Causes.{RefusesPlan, Stands}
 use Rattle.np_sources.specs.Laws as source_laws
 use Rattle.np_histories.specs.Laws as history_laws
 use Rattle.np_run.specs.Answers.{Call}
-use Rattle.np_run.specs.Laws.{Accepts}
+use Rattle.np_run.specs.Laws.{Accepts, Purpose}
 use Rattle.np_run.proofs.Outcomes.{refused_plan}
 use Rattle.np_run.proofs.Sources.{Says, source_says}
 use Rattle.np_run.proofs.Histories as history
@@ -26,19 +26,19 @@ module _ (sources : source_laws.HaveOneAnswer) (histories : history_laws.HaveOne
   of_source reach bytes refusal short a (inr s) = sources.not_both reach bytes refusal a s.1
 
   -- and none of an accepted history
-  of_history : (low : Option LowProgram) (bytes : List ℕ) (refusal : Refusal) → length bytes ≤ LONGEST_HISTORY → history.AcceptedHistory low bytes → history.SaysHistory low bytes refusal → ⊥
-  of_history low bytes refusal short a (inl s) = let long = s.1 in omega arith
-  of_history low bytes refusal short a (inr s) = history.not_both histories low bytes refusal a s.1
+  of_history : (purpose : Purpose) (bytes : List ℕ) (refusal : Refusal) → length bytes ≤ LONGEST_HISTORY → history.AcceptedHistory purpose bytes → history.SaysHistory purpose bytes refusal → ⊥
+  of_history purpose bytes refusal short a (inl s) = let long = s.1 in omega arith
+  of_history purpose bytes refusal short a (inr s) = history.not_both histories purpose bytes refusal a s.1
 
   of_plan : (call : Call) (asked : Plan) (refusal : Refusal) → Accepts call asked → RefusesPlan call.texts asked refusal → ⊥
   of_plan call (plans.Source file task) refusal a r = of_source (reach_of task) a.bytes refusal a.short a.accepted (source_says call file (reach_of task) a.bytes refusal a.told r)
-  of_plan call (plans.Replay source h) refusal a (inl r) =
+  of_plan call (plans.Replay source h view) refusal a (inl r) =
       of_source Reach.low a.bytes refusal a.short (a.low, a.lowered) (source_says call source Reach.low a.bytes refusal a.told r)
-  of_plan call (plans.Replay source h) refusal a (inr r) =
-      of_history (Some a.low) a.run refusal a.short_run a.replays
-      (subst (λ (low : LowProgram). history.SaysHistory (Some low) a.run refusal) (history.same_low sources call source a.bytes a.low r.low a.told a.lowered r.lowered)
-      (history.run_says call h r.low a.run refusal a.told_run r.run))
-  of_plan call (plans.Upgrade h) refusal a r = of_history None a.bytes refusal a.short a.accepted (history.history_says call h a.bytes refusal a.told r)
+  of_plan call (plans.Replay source h view) refusal a (inr r) =
+      of_history (Purpose.replay a.low view) a.run refusal a.short_run a.replays
+      (subst (λ (low : LowProgram). history.SaysHistory (Purpose.replay low view) a.run refusal) (history.same_low sources call source a.bytes a.low r.low a.told a.lowered r.lowered)
+      (history.run_says call h r.low view a.run refusal a.told_run r.run))
+  of_plan call (plans.Upgrade h) refusal a r = of_history Purpose.events a.bytes refusal a.short a.accepted (history.history_says call h a.bytes refusal a.told r)
   of_plan call (plans.Generate agents) refusal a r = r
   of_plan call (plans.Load agents serial links) refusal a r = sources.not_both (Reach.sites LOAD_BUDGET) (generated agents) refusal a r.faulty
 

@@ -1,5 +1,4 @@
-use Rattle.std.proofs.Common.{◌≡◌, ℕ, ◌≤◌, List, length, Option, subst, ap, ◌∙◌}
-use Rattle.np_syntax.specs.declared.program.LowProgram.{LowProgram}
+use Rattle.std.proofs.Common.{◌≡◌, ℕ, ◌≤◌, List, length, subst, ap, ◌∙◌}
 use Rattle.np_verdict.specs.Lines.{status_of}
 use Rattle.np_verdict.specs.declared.refusal.Refusal.{Refusal}
 use Rattle.np_histories.specs.declared.limits.TheConstants.{LONGEST_HISTORY}
@@ -7,27 +6,27 @@ use Rattle.np_modes.specs.Causes.{Stands}
 use Rattle.np_sources.specs.Laws as source_laws
 use Rattle.np_histories.specs.Laws as history_laws
 use Rattle.np_run.specs.Answers.{Call, IsRefused}
-use Rattle.np_run.specs.Laws.{FaultyHistory, Follows, RefusesAlone}
+use Rattle.np_run.specs.Laws.{FaultyHistory, Follows, RefusesAlone, Purpose}
 use Rattle.np_run.specs.declared.answer.Answer.{Answer}
 use Rattle.np_run.proofs.Outcomes.{Outcome, outcome}
 use Rattle.np_run.proofs.Histories.{stands_says, says_faulty_history, made_accepts, not_both, same_fault, fault_status}
 use Rattle.np_run.proofs.laws.law_refuses_histories_once.Goals as goal
 
 module _ (sources : source_laws.HaveOneAnswer) (histories : history_laws.HaveOneAnswer) where
-  module _ (call : Call) (low : Option LowProgram) (bytes : List ℕ) (f : Follows call low bytes) (short : length bytes ≤ LONGEST_HISTORY) where
+  module _ (call : Call) (purpose : Purpose) (bytes : List ℕ) (f : Follows call purpose bytes) (short : length bytes ≤ LONGEST_HISTORY) where
     -- what has its cause is what is wrong with the history
-    only : (refusal : Refusal) → FaultyHistory low bytes refusal → (other : Refusal) → Stands call.words call.texts other → other ≡ refusal
-    only refusal wrong other s = same_fault histories low bytes other refusal (says_faulty_history low bytes other short (stands_says sources call low bytes other f s)) wrong
+    only : (refusal : Refusal) → FaultyHistory purpose bytes refusal → (other : Refusal) → Stands call.words call.texts other → other ≡ refusal
+    only refusal wrong other s = same_fault histories purpose bytes other refusal (says_faulty_history purpose bytes other short (stands_says sources call purpose bytes other f s)) wrong
 
-    alone : (answer : Answer) (refusal : Refusal) → FaultyHistory low bytes refusal → Outcome call answer → RefusesAlone 7 call answer refusal
-    alone answer refusal wrong (Outcome.made text h) = absurd (not_both histories low bytes refusal (made_accepts sources call low bytes answer.kept answer.high text f h).1 wrong)
+    alone : (answer : Answer) (refusal : Refusal) → FaultyHistory purpose bytes refusal → Outcome call answer → RefusesAlone 7 call answer refusal
+    alone answer refusal wrong (Outcome.made text h) = absurd (not_both histories purpose bytes refusal (made_accepts sources call purpose bytes answer.kept answer.high text f h).1 wrong)
     alone answer refusal wrong (Outcome.refused other e s) =
         let same : other ≡ refusal = only refusal wrong other s.stands in
         record {
-          is = e ∙ ap status_of same ∙ fault_status histories low bytes refusal wrong;
+          is = e ∙ ap status_of same ∙ fault_status histories purpose bytes refusal wrong;
           refused = subst (λ (x : Refusal). IsRefused call answer x) same s;
           only = only refusal wrong;
         }
 
 pub returns : goal.returns
-returns c = λ call answer low bytes refusal h f err some short wrong. alone c.law_one_answer.ensures c.law_one_answer-2.ensures call low bytes f short answer refusal wrong (outcome call answer h err some)
+returns c = λ call answer purpose bytes refusal h f err some short wrong. alone c.law_one_answer.ensures c.law_one_answer-2.ensures call purpose bytes f short answer refusal wrong (outcome call answer h err some)

@@ -39,5 +39,9 @@ module _ (sources : source_laws.HaveOneAnswer) (histories : history_laws.HaveOne
       long call answer asked reach bytes refusal l (stands_cause histories call asked reach bytes refusal r s.stands) s
 
 pub returns : goal.returns
-returns c = λ call answer asked reach bytes h r err some.
-    (λ is. is_long c.law_one_answer.ensures c.law_one_answer-2.ensures asked reach bytes (stands_cause c.law_one_answer-2.ensures call asked reach bytes TooLong r is.stands), λ l. by_outcome c.law_one_answer.ensures c.law_one_answer-2.ensures call answer asked reach bytes r l (outcome call answer h err some))
+returns c = λ call answer asked reach bytes h r err some. (
+  λ is.
+      let cause = stands_cause c.law_one_answer-2.ensures call asked reach bytes TooLong r is.stands in
+      is_long c.law_one_answer.ensures c.law_one_answer-2.ensures asked reach bytes cause,
+  λ l. by_outcome c.law_one_answer.ensures c.law_one_answer-2.ensures call answer asked reach bytes r l (outcome call answer h err some),
+)

@@ -3,6 +3,7 @@ use Rattle.np_syntax.specs.declared.limits.TheConstants.{LONGEST_SOURCE}
 use Rattle.np_syntax.specs.declared.program.LowProgram.{LowProgram}
 use Rattle.np_words.specs.Plans.{plan}
 use Rattle.np_words.specs.declared.planning.Plan.{Plan}
+use Rattle.np_words.specs.declared.planning.View.{View}
 use Rattle.np_words.specs.declared.planning.Plan.TheVariants as plans
 use Rattle.np_sources.specs.Reaches.{Reach, reach_of}
 use Rattle.np_verdict.specs.Lines.{status_of}
@@ -32,10 +33,10 @@ module _ (sources : source_laws.HaveOneAnswer) (histories : history_laws.HaveOne
   of_source texts file reach (inl (inr u)) = let is = u.0 in cc
   of_source texts file reach (inr s) = sources.not_usage reach s.bytes s.faulty
 
-  of_run : (texts : Reading) (history : List ℕ) (low : LowProgram) → RefusesRun texts history low Usage → ⊥
-  of_run texts history low (inl (inl u)) = let is = u.0 in cc
-  of_run texts history low (inl (inr u)) = let is = u.0 in cc
-  of_run texts history low (inr s) = let is = histories.run_status low s.bytes Usage s.faulty in omega (arith, is)
+  of_run : (texts : Reading) (history : List ℕ) (low : LowProgram) (view : View) → RefusesRun texts history low view Usage → ⊥
+  of_run texts history low view (inl (inl u)) = let is = u.0 in cc
+  of_run texts history low view (inl (inr u)) = let is = u.0 in cc
+  of_run texts history low view (inr s) = let is = histories.run_status low view s.bytes Usage s.faulty in omega (arith, is)
 
   of_history : (texts : Reading) (history : List ℕ) → RefusesHistory texts history Usage → ⊥
   of_history texts history (inl (inl u)) = let is = u.0 in cc
@@ -44,8 +45,8 @@ module _ (sources : source_laws.HaveOneAnswer) (histories : history_laws.HaveOne
 
   of_plan : (texts : Reading) (asked : Plan) → RefusesPlan texts asked Usage → ⊥
   of_plan texts (plans.Source file task) r = of_source texts file (reach_of task) r.cause
-  of_plan texts (plans.Replay source history) (inl r) = of_source texts source Reach.low r.cause
-  of_plan texts (plans.Replay source history) (inr r) = of_run texts history r.low r.run
+  of_plan texts (plans.Replay source history view) (inl r) = of_source texts source Reach.low r.cause
+  of_plan texts (plans.Replay source history view) (inr r) = of_run texts history r.low view r.run
   of_plan texts (plans.Upgrade history) r = of_history texts history r
   of_plan texts (plans.Generate agents) r = r
   of_plan texts (plans.Load agents serial links) r = sources.not_usage (Reach.sites LOAD_BUDGET) (generated agents) r.faulty
@@ -60,4 +61,7 @@ module _ (sources : source_laws.HaveOneAnswer) (histories : history_laws.HaveOne
   unplanned call answer p (Outcome.refused refusal e s) = usage_stands call answer.status refusal p e s.stands
 
 pub returns : goal.returns
-returns c = λ call answer h err some. (λ e. unplanned_words c.law_one_answer.ensures c.law_one_answer-2.ensures call (h.usage e).stands, λ p. unplanned c.law_one_answer.ensures c.law_one_answer-2.ensures call answer p (outcome call answer h err some))
+returns c = λ call answer h err some. (
+  λ e. unplanned_words c.law_one_answer.ensures c.law_one_answer-2.ensures call (h.usage e).stands,
+  λ p. unplanned c.law_one_answer.ensures c.law_one_answer-2.ensures call answer p (outcome call answer h err some),
+)

@@ -1,17 +1,15 @@
-use Rattle.std.proofs.Common.{refl}
-use Rattle.np_sources.specs.Makes.{report_of}
-use Rattle.np_sources.proofs.Headlines.{headline}
+use Rattle.np_sources.proofs.Promises.{kept_of, refused_of, residual}
 use Rattle.np_sources.proofs.sites.job_on_sites.Goals as goal
 
-pub returns-in-Ok-clause-made : goal.returns-in-Ok-clause-made
-returns-in-Ok-clause-made g c =
-    let report = report_of c.args.shown in
-    let low = c.in_ok-low.low in
-    let kept = c.in_ok-low.kept in
-    let ran = c.in_ok-low.ensures.made in
-    record {
-      made = kept;
-      headline = headline c.law_source_runs.ensures c.args.course.budget report c.args.bytes.now low kept c.in-Ok.text ran c.in-Ok.ensures;
-      is_kept = refl;
-      is_high = refl;
-    }
+pub returns-in_err-checked-clause-refused : goal.returns-in_err-checked-clause-refused
+returns-in_err-checked-clause-refused g c = residual c.from_residual.result c.in_err-checked.field-0.0 _ c.from_residual.ensures c.in_err-checked.ensures.refused
+
+pub returns-clause-made : goal.returns-clause-made
+returns-clause-made g c =
+    kept_of c.law_source_runs.ensures c.args.course.budget c.args.shown c.args.bytes.now c.in_ok-checked.checked c.in_ok-checked.ensures.found c.in_ok-checked.ensures.free
+    c.job_of_program-made.result c.job_of_program-made.ensures.made
+
+pub returns-clause-refused : goal.returns-clause-refused
+returns-clause-refused g c =
+    refused_of c.args.course.budget _ c.args.bytes.now c.in_ok-checked.checked c.in_ok-checked.ensures.found c.in_ok-checked.ensures.free
+    c.job_of_program-made.result c.job_of_program-made.ensures.refused

@@ -14,9 +14,9 @@ own : IsNumeralModel (λ ds. list_all is_ascii_digit ds ≡ true) (digits_value 
 own = numerals_by_value _ (search rules)
 
 -- a numeral is of digits, and not empty
-digits : (word : List ℕ) → is_numeral word ≡ true → (list_all is_ascii_digit word ≡ true) × (0 < length word)
-digits word e =
-    let long = and-out (nat_lt 0 (length word) && nat_le (length word) 6) _ e in
+digits : (n : ℕ) (word : List ℕ) → is_numeral n word ≡ true → (list_all is_ascii_digit word ≡ true) × (0 < length word)
+digits n word e =
+    let long = and-out (nat_lt 0 (length word) && nat_le (length word) n) _ e in
     let some = and-out (nat_lt 0 (length word)) _ long.0 in
     (long.1, grind (arith, nat_tests, some.0))
 
@@ -33,19 +33,19 @@ by_value : {E : Type 0} (most : ℕ) (word : List ℕ) (r : Result ℕ E) → mo
 by_value most word (Ok n) m some h = ap (within most) h.1
 by_value most word (Err e) m some h = sym (large most (digits_value 10 word) m (λ small. h (some, small)))
 
-gives : {E : Type 0} (most : ℕ) (word : List ℕ) (r : Result ℕ E) → most < 2 ^ 32 → ParsesUnsigned 32 10 word r → is_numeral word ≡ true
-    → read most r ≡ number_of most word
-gives most word r m h e =
-    let d = digits word e in
+gives : {E : Type 0} (n most : ℕ) (word : List ℕ) (r : Result ℕ E) → most < 2 ^ 32 → ParsesUnsigned 32 10 word r → is_numeral n word ≡ true
+    → read most r ≡ number_of n most word
+gives n most word r m h e =
+    let d = digits n word e in
     let parsed : OkIff r ((0 < length word) × (digits_value 10 word < 2 ^ 32)) (digits_value 10 word) = parse_digits own 32 word r h d.0 in
     rw e (by_value most word r m d.1 parsed)
 
 pub returns-in-Ok-clause-is : goal.returns-in-Ok-clause-is
 returns-in-Ok-clause-is c =
-    let numeral : is_numeral c.args.word.now ≡ true = ap is_numeral (sym c.as_bytes.ensures.value) ∙ sym c.is_numeral.ensures ∙ c.if-not-is_numeral.false in
-    c.within.ensures.is ∙ ap (read c.args.most) (sym c.in-Ok.is) ∙ gives c.args.most c.args.word.now c.parse.result c.ranges.most.fits c.parse.ensures.value.0 numeral
+    let numeral : is_numeral c.args.digits c.args.word.now ≡ true = ap (is_numeral c.args.digits) (sym c.as_bytes.ensures.value) ∙ sym c.is_numeral.ensures ∙ c.if-not-is_numeral.false in
+    c.within.ensures.is ∙ ap (read c.args.most) (sym c.in-Ok.is) ∙ gives c.args.digits c.args.most c.args.word.now c.parse.result c.ranges.most.fits c.parse.ensures.value.0 numeral
 
 pub returns-in-Err-clause-is : goal.returns-in-Err-clause-is
 returns-in-Err-clause-is c =
-    let numeral : is_numeral c.args.word.now ≡ true = ap is_numeral (sym c.as_bytes.ensures.value) ∙ sym c.is_numeral.ensures ∙ c.if-not-is_numeral.false in
-    ap (read c.args.most) (sym c.in-Err.is) ∙ gives c.args.most c.args.word.now c.parse.result c.ranges.most.fits c.parse.ensures.value.0 numeral
+    let numeral : is_numeral c.args.digits c.args.word.now ≡ true = ap (is_numeral c.args.digits) (sym c.as_bytes.ensures.value) ∙ sym c.is_numeral.ensures ∙ c.if-not-is_numeral.false in
+    ap (read c.args.most) (sym c.in-Err.is) ∙ gives c.args.digits c.args.most c.args.word.now c.parse.result c.ranges.most.fits c.parse.ensures.value.0 numeral

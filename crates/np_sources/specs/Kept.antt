@@ -4,6 +4,7 @@ use Rattle.std.specs.Prelude.{◌≡◌, ℕ, ◌*◌, ◌≤◌, Bool, true, fa
 use Rattle.np_syntax.specs.declared.event.End.TheVariants.{Rest}
 use Rattle.np_syntax.specs.declared.event.Event.{Event}
 use Rattle.np_syntax.specs.declared.program.LowProgram.{LowProgram}
+use Rattle.np_syntax.specs.declared.program.Program.{Program}
 use Rattle.np_syntax.specs.declared.value.Value.{Value}
 use Rattle.np_calculus.specs.Config.{Config}
 use Rattle.np_calculus.specs.Idle.{Idle}
@@ -14,7 +15,11 @@ use Rattle.np_lift.specs.Lift.{lift}
 use Rattle.np_lift.specs.Posts.{IsAllHanded, IsPaired}
 use Rattle.history_text.specs.declared.format.Format.TheVariants.{Second}
 use Rattle.history_text.specs.Spelling.{high_text, history_text}
+use Rattle.np_views.specs.OneStep.{one_step}
+use Rattle.run_views.specs.Stepped.{IsStepped}
 use Rattle.run_merge.specs.Merged as histories
+use Rattle.np_words.specs.declared.modes.HighText.{HighText}
+use Rattle.np_words.specs.declared.modes.HighText.TheVariants.{Absent, TwoSteps, OneStep}
 use Rattle.np_report.specs.Report.{load_text, report_text}
 use Rattle.np_on_sites.specs.SitesRuns.{IsSitesRun, events_of}
 use Rattle.np_on_sites.specs.declared.record.Record.{Record}
@@ -29,8 +34,8 @@ merged kept = events_of (histories.past kept.histories)
 abbrev pub said : Record → List (ℕ × Value)
 said kept = histories.said (histories.past kept.histories)
 
--- Of a source of these bytes, where each site makes at most so many events; `report` makes a text of the sites' names and what is kept.
-pub record Headline (budget : ℕ) (report : List (List ℕ) → Record → List ℕ) (bytes : List ℕ) (kept : Record) (text : List ℕ) : Type 0 where
+-- Of a source of these bytes, where each site makes at most so many events; `report` makes a text of the program and what is kept.
+pub record KeepsPromises (budget : ℕ) (report : Program → Record → List ℕ) (bytes : List ℕ) (kept : Record) (text : List ℕ) : Type 0 where
   -- the source is accepted, and this is its low program
   pub low : LowProgram
   pub lowered : IsLowOf bytes low
@@ -51,7 +56,7 @@ pub record Headline (budget : ℕ) (report : List (List ℕ) → Record → List
   pub ended : kept.end ≡ Rest → Idle high
   pub handed : kept.end ≡ Rest → IsAllHanded (start_low low) (merged kept)
   -- the text is the report of it
-  pub written : text ≡ report low.sites kept
+  pub written : text ≡ report lowered.program kept
 
 -- ---- reports
 
@@ -60,13 +65,22 @@ abbrev pub history_part : Bool → List Event → List ℕ
 history_part true events = history_text Second events
 history_part false events = []
 
--- the high text, where it is asked for
-abbrev pub high_part : Bool → List Event → List ℕ
-high_part true events = high_text events
-high_part false events = []
+-- the high text, where it is asked for, of a run from this start
+abbrev pub high_part : HighText → Config → List Event → List ℕ
+high_part Absent start events = []
+high_part TwoSteps start events = high_text events
+high_part OneStep start events = high_text (one_step start events)
 
-abbrev pub run_report : Bool → Bool → List (List ℕ) → Record → List ℕ
-run_report history high sites kept = report_text sites (said kept) (history_part history (merged kept) ++ high_part high (lift (merged kept))) kept.end
+abbrev pub run_report : Bool → HighText → Program → Record → List ℕ
+run_report history high p kept =
+    report_text p.sites (said kept) (history_part history (merged kept) ++ high_part high (start_high p) (lift (merged kept))) kept.end
 
-abbrev pub load_report : ℕ → List (List ℕ) → Record → List ℕ
-load_report agents sites kept = load_text agents (said kept) kept.end
+abbrev pub load_report : ℕ → Program → Record → List ℕ
+load_report agents p kept = load_text agents (said kept) kept.end
+
+-- ---- migration in one step
+
+-- what is shown with migration in one step is a run of the calculus where it is one step: it prints the same, and at its end everybody has arrived
+abbrev pub IsShownSo : HighText → Program → List Event → Type 0
+IsShownSo OneStep p events = IsStepped p events (one_step (start_high p) events)
+IsShownSo _ p events = Unit {0}

@@ -1,0 +1,108 @@
+//! The past of each line that the run of a low program prints.
+
+use super::fail::ExampleFail;
+use super::replays::LowRun;
+use super::trial::{Call, Came, came_of};
+use history_text::write_history;
+use np_run::{BAD_HISTORY, DONE};
+use np_syntax::{Event, Kind};
+use std::alloc::{AllocError, Global};
+use std::sync::Wait;
+use std::thread::Threads;
+
+/// How many lines the events print.
+fn lines_of(events: &[Event]) -> usize {
+    events
+        .iter()
+        .filter(|event| event.kind == Kind::Print)
+        .count()
+}
+
+/// Whether the past of a line of the report, counted from 1, is written with that line, and is a run that prints it alone; and
+/// whether one line more is refused. Any other number counts for nothing.
+pub(crate) fn has_past<R: Threads + Wait + Sync>(
+    rt: &R,
+    alloc: Global,
+    run: &LowRun<'_>,
+    line: usize,
+) -> Result<bool, ExampleFail> {
+    let printed = lines_of(run.events);
+    if line == 0 || line > printed.saturating_add(1) {
+        return Ok(true);
+    }
+    let came = past_of(rt, alloc, run, line)?;
+    if line > printed {
+        return Ok(lacks_line(alloc, &came, printed)?);
+    }
+    let text = run.report.lines().nth(line.saturating_sub(1)).unwrap_or("");
+    is_past(rt, alloc, run, &came, text)
+}
+
+/// What comes of asking for the past of a line.
+fn past_of<R: Threads + Wait + Sync>(
+    rt: &R,
+    alloc: Global,
+    run: &LowRun<'_>,
+    line: usize,
+) -> Result<Came, ExampleFail> {
+    let history = write_history(alloc, run.events)?;
+    let words = format!(in alloc; "past a h --line {line}")?;
+    called(rt, alloc, run, words.as_str(), history.as_slice())
+}
+
+/// Whether it is refused that there are only so many lines.
+fn lacks_line(alloc: Global, came: &Came, printed: usize) -> Result<bool, AllocError> {
+    let wanted = format!(in alloc; "np: 24 NoLine at {printed}\n")?;
+    Ok(
+        came.status == BAD_HISTORY
+            && came.out.bytes().is_empty()
+            && came.err.bytes() == wanted.as_bytes(),
+    )
+}
+
+/// Whether a past begins with its line, and what it writes is a run that prints the line alone.
+fn is_past<R: Threads + Wait + Sync>(
+    rt: &R,
+    alloc: Global,
+    run: &LowRun<'_>,
+    came: &Came,
+    text: &str,
+) -> Result<bool, ExampleFail> {
+    let past = std::str::from_utf8(came.out.bytes()).unwrap_or("");
+    let Some(count) = count_in(past) else {
+        return Ok(false);
+    };
+    let head = format!(in alloc; "{text}\nhistory 2\n")?;
+    let wanted = format!(in alloc; "{text}\na run of {count} events\n")?;
+    let again = called(rt, alloc, run, "replay a h", came.out.bytes())?;
+    Ok(
+        came.status == DONE
+            && past.starts_with(head.as_str())
+            && again.status == DONE
+            && again.out.bytes() == wanted.as_bytes(),
+    )
+}
+
+/// What comes of a call with the source and a history.
+fn called<R: Threads + Wait + Sync>(
+    rt: &R,
+    alloc: Global,
+    run: &LowRun<'_>,
+    words: &str,
+    history: &[u8],
+) -> Result<Came, ExampleFail> {
+    let call = Call {
+        words,
+        source: run.source,
+        history: Some(history),
+    };
+    came_of(rt, alloc, run.example, &call)
+}
+
+/// How many events a past says that it has.
+fn count_in(past: &str) -> Option<&str> {
+    past.lines()
+        .last()?
+        .strip_prefix("past of ")?
+        .strip_suffix(" events")
+}
