@@ -6,7 +6,7 @@ use Rattle.std.specs.FinMap.{find, get-entries, get-from_entries}
 use Rattle.np_syntax.specs.declared.process.Tag.{Tag}
 use Rattle.np_tables.specs.Names.{name_cmp}
 use Rattle.np_tables.proofs.Tables.{get-cut, get-put, put_here, total}
-use Rattle.np_calculus.proofs.Common.{Config, Contents, Name, NameMap, apply, arrive_row, at_site, effect, inside, land_row, same_name, same_name-is, same_name-itself, same_tag}
+use Rattle.np_calculus.proofs.Common.{Config, Contents, Event, Name, NameMap, apply, arrive_row, at_site, effect, inside, land_row, same_name, same_name-is, same_name-itself, same_tag}
 use Rattle.np_calculus.specs.declared.config.Atom.{Atom}
 use Rattle.np_calculus.specs.declared.config.Packet.{Packet}
 use Rattle.np_calculus.specs.declared.config.Place.TheVariants as place
@@ -28,7 +28,7 @@ use Rattle.np_holdings.specs.Coming.{Arrives, IsLost, Lands}
 use Rattle.np_holdings.specs.Loads.{agent_load, output_of, packet_load}
 use Rattle.np_holdings.specs.Within.{given}
 use Rattle.np_holdings.proofs.Holds.{hold-come, hold-write}
-use Rattle.np_holdings.proofs.Parts.{holds, no-agent, no-place, of-site, part-of, place-of, same-places}
+use Rattle.np_holdings.proofs.Parts.{holds, no-agent, no-place, numbers-none, of-site, part-of, place-of, same-places}
 
 -- ---- two tables as one
 
@@ -129,6 +129,8 @@ arrives h x item agent atoms is load = (
         subst (λ l. IsStep x.event c (l ∷ []) (next h agent atoms c part items.0 apart) []) (sym load)
             (subst (λ e. IsStep e c (agent_load agent atoms h.site ∷ []) (next h agent atoms c part items.0 apart) []) (sym is) (next-step h agent atoms c part items.0 apart)),
       ),
+  numbers-none h (record h { agents = table.insert h.agents agent atoms }) x.event.made (ap (λ (e : Event). e.made) is) refl,
+  refl,
 )
 
 -- ---- a packet lands
@@ -214,6 +216,8 @@ lands h x item mark packet there is to load stands = (
         land-part h mark packet to c part i a there stands,
         of-landing h x item mark packet is load c _ (land-step h mark packet to c part i a true (is-here h mark packet to c part i a there stands)),
       ),
+  numbers-none h (given h packet.agent there mark (output_of packet)) x.event.made (ap (λ (e : Event). e.made) is) refl,
+  refl,
 )
 
 pub is_lost : IsLost
@@ -226,4 +230,6 @@ is_lost h x item mark packet is to load absent = (
         lost-part h mark packet to c part i a absent,
         of-landing h x item mark packet is load c _ (land-step h mark packet to c part i a false (not-here h mark packet to c part i a absent)),
       ),
+  numbers-none h h x.event.made (ap (λ (e : Event). e.made) is) refl,
+  refl,
 )

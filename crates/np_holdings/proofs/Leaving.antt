@@ -25,7 +25,7 @@ use Rattle.np_holdings.specs.Making.{next_after}
 use Rattle.np_holdings.specs.Within.{IsOwnEvent, gone_on}
 use Rattle.np_holdings.proofs.Holds.{Holds, hold-gone, hold-write, mine-there, not-mine, there-mine}
 use Rattle.np_holdings.proofs.Inversions.{Departed, Sent, departed, sent}
-use Rattle.np_holdings.proofs.Parts.{born-after, holds, part-of, said-after, same-places}
+use Rattle.np_holdings.proofs.Parts.{born-after, holds, numbers-next, numbers-none, part-of, said-after, same-places}
 use Rattle.np_holdings.proofs.Within.{Parted, applied, asks-none, changes, own-made, own-site, parted}
 
 module _ {X : Type 0} where
@@ -128,6 +128,8 @@ sends h x item agent packet old new o g load = (
     sent-part h x agent packet old new o g c part,
     subst (λ l. IsStep x.event c [] (left h x agent packet old new o g c part) (l ∷ [])) (item-is h x agent packet old new o g c part ∙ sym load) (sent-step h x agent packet old new o g c part),
   ),
+  numbers-next h (gone_on h agent new x.event None) x.event.made o.makes refl,
+  tt,
 )
 
 -- ---- a migration
@@ -234,4 +236,7 @@ leaves h x item agent to old new o g load = (
     stay-part h x agent to old new o g c part,
     subst (λ l. IsStep x.event c [] (stay h x agent to old new o g c part) (l ∷ [])) (trip-is h x agent to old new o g c part ∙ sym load) (trip-step h x agent to old new o g c part),
   ),
+  (let trip = parted kind.Depart h.sites old new x.event (record still { places = put agent (place.Way to) ∷ [] }) g in
+      numbers-none h (without h agent) x.event.made (departed (own_sight h.sites old false) x.event trip.change trip.is).none refl),
+  tt,
 )

@@ -16,7 +16,7 @@ use Rattle.np_calculus.specs.Parts.{IsOfSite}
 use Rattle.np_calculus.proofs.Fits.{some}
 use Rattle.np_calculus.proofs.FrameRule.{none_of}
 use Rattle.np_calculus.proofs.OwnNames.{not_true}
-use Rattle.np_holdings.specs.Holdings.{Holding, IsPart, name_of, AreMade}
+use Rattle.np_holdings.specs.Holdings.{AreMade, Holding, IsPart, Numbers, name_of}
 use Rattle.np_holdings.specs.Making.{AreNext, next_after}
 use Rattle.np_holdings.specs.Within.{with_value}
 use Rattle.np_holdings.proofs.Holds.{Holds}
@@ -44,6 +44,15 @@ one-more s k n false true e h = grind (arith, nat_tests)
 one-more s k n false false e h =
     let far : (k ≡ n → ⊥) = λ (i : k ≡ n). let t : same_name (name_of s k) (name_of s n) ≡ true = ap (λ k. same_name (name_of s k) (name_of s n)) i ∙ same_name-itself (name_of s n) in cc in
     grind (arith, nat_tests)
+
+-- the site has made the next names then, or none
+pub numbers-next : (h then : Holding) (x : Made) → AreNext h x → then.next ≡ next_after h.next x → Numbers h x then
+numbers-next h then made.Nothing n e = e
+numbers-next h then (made.One m) n e = (n, e)
+numbers-next h then (made.Two m k) n e = (n.0, n.1, e)
+
+pub numbers-none : (h then : Holding) (x : Made) → x ≡ made.Nothing → then.next ≡ h.next → Numbers h x then
+numbers-none h then x none e = subst (λ y. Numbers h y then) (sym none) e
 
 -- ---- the configuration
 

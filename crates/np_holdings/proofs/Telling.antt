@@ -21,10 +21,10 @@ use Rattle.np_holdings.specs.Holdings.{Holding, IsPart, AreMade}
 use Rattle.np_holdings.specs.Going.{GoesPast, asked_of, change_in, outside, own_sight}
 use Rattle.np_holdings.specs.Loads.{output_of}
 use Rattle.np_holdings.specs.Making.{AreNext}
-use Rattle.np_holdings.specs.Within.{IsOwnEvent, Makes, Tells}
+use Rattle.np_holdings.specs.Within.{IsOwnEvent, Makes, Tells, given, gone_on}
 use Rattle.np_holdings.proofs.Holds.{Holds, hold-come, hold-write, mine-there}
 use Rattle.np_holdings.proofs.Inversions.{Born, Told, born, told}
-use Rattle.np_holdings.proofs.Parts.{holds, no-mark, no-name, place-of, same-places}
+use Rattle.np_holdings.proofs.Parts.{holds, no-mark, no-name, numbers-next, place-of, same-places}
 use Rattle.np_holdings.proofs.Showing.{IsTold}
 use Rattle.np_holdings.proofs.Within.{applied, asks-none, changes, own-made, own-site, part-after}
 
@@ -190,6 +190,8 @@ tells h x agent mark packet old new there o g is_there = (
             refl,
         inner_step c (effect c e d) e (own-site h c part agent old kind.Local e o) (λ p. let p : kind.Local ≡ kind.Post = sym o.kind ∙ p in cc) (own-made h c part agent old kind.Local e o) is,
       ),
+  numbers-next h (given (gone_on h agent new x.event None) packet.agent there mark (output_of packet)) x.event.made o.makes refl,
+  tt,
 )
 
 -- ---- the making of an agent
@@ -315,4 +317,6 @@ makes h x agent child mark first old new o g = (
             refl,
         inner_step c (effect c e d) e (own-site h c part agent old kind.Agent e o) (λ p. let p : kind.Agent ≡ kind.Post = sym o.kind ∙ p in cc) (own-made h c part agent old kind.Agent e o) is,
       ),
+  numbers-next h (given (gone_on h agent new x.event None) child table.empty mark first) x.event.made o.makes refl,
+  tt,
 )

@@ -18,7 +18,7 @@ use Rattle.np_holdings.specs.Going.{Goes, asked_of, change_in, own_sight}
 use Rattle.np_holdings.specs.Making.{AreNext, next_after}
 use Rattle.np_holdings.specs.Within.{GoesOn, GoesOnAlone, IsOwnEvent, gone_on, inner, with_value}
 use Rattle.np_holdings.proofs.Holds.{Holds, hold-write}
-use Rattle.np_holdings.proofs.Parts.{are-new, born-after, holds, no-mark, no-place, of-site, own-names, part-of, said-after, same-places, shows}
+use Rattle.np_holdings.proofs.Parts.{are-new, born-after, holds, no-mark, no-place, numbers-next, of-site, own-names, part-of, said-after, same-places, shows}
 use Rattle.np_holdings.proofs.Showing.{IsTold, own-writes, shown}
 
 -- an event that is shown is enabled
@@ -124,6 +124,8 @@ goes_on h x agent old new k value o local post g = (
   λ m.
       within h agent old new k value x o m post g
       (λ a b there asks. let p = parted k h.sites old new x.event _ g in absurd (asks-none (own_sight h.sites old false) x.event k p.change local p.is a b there asks)),
+  numbers-next h (gone_on h agent new x.event value) x.event.made o.makes refl,
+  tt,
 )
 
 pub goes_on_alone : GoesOnAlone
@@ -132,4 +134,6 @@ goes_on_alone h x agent other old new o asks_for absent g = (
   λ m.
       within h agent old new kind.Local None x o m (λ e. cc) g
       (λ a b there asks. let same : b ≡ other = sym (done (sym (ap (λ q. q >>= asked_of) there ∙ asks) ∙ asks_for)) in ap (table.get h.agents) same ∙ absent),
+  numbers-next h (gone_on h agent new x.event None) x.event.made o.makes refl,
+  tt,
 )

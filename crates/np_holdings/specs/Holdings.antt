@@ -1,7 +1,9 @@
 -- What a site holds, the configurations that are just this, and what the site does (docs/LANGUAGE.md, "History text").
-use Rattle.std.specs.Prelude.{◌≡◌, ◌<◌, ℕ, nat_lt, List, [], ◌∷◌, map, option_map, None, Some, IsSome}
+use Rattle.std.specs.Prelude.{◌≡◌, ◌<◌, ◌+◌, ℕ, nat_lt, List, [], ◌∷◌, map, option_map, None, Some, IsSome, IfSome}
 use Rattle.std.specs.FinMap as table
 use Rattle.std.specs.FinSet as set
+use Rattle.np_syntax.specs.declared.event.Made.{Made}
+use Rattle.np_syntax.specs.declared.event.Made.TheVariants as made
 use Rattle.np_syntax.specs.declared.value.Name.{Name}
 use Rattle.np_syntax.specs.declared.value.Value.{Value}
 use Rattle.np_tables.specs.Names.{NameMap}
@@ -60,10 +62,20 @@ abbrev pub StepsOn : Holding → Deed → Holding → Type 0
 StepsOn h d then = (old : Config) → IsPart h old → Every IsItem (loads (plain d.taken)) → AreApart (inside old ∷ loads (plain d.taken))
     → (new : Config) × IsPart then new × IsStep d.event.event old (loads (plain d.taken)) new (loads (plain d.put))
 
+-- the names that an event makes are the site's next ones, in order, and the site has made them then
+abbrev pub Numbers : Holding → Made → Holding → Type 0
+Numbers h made.Nothing then = then.next ≡ h.next
+Numbers h (made.One m) then = (m ≡ name_of h.site h.next) × (then.next ≡ h.next + 1)
+Numbers h (made.Two m n) then = (m ≡ name_of h.site h.next) × (n ≡ name_of h.site (h.next + 1)) × (then.next ≡ h.next + 2)
+
+-- an event that takes an item puts none on its way
+abbrev pub IsOneWay : Deed → Type 0
+IsOneWay d = IfSome d.taken (λ x. d.put ≡ None)
+
 -- What a site does: it stays the same site, and steps on, if the names that stand there are made. That they are, and that the item is apart, no site
--- can tell: the run of all sites tells it.
+-- can tell: the run of all sites tells it. It numbers its names, and does not both take an item and put one on its way.
 abbrev pub Does : Holding → Deed → Holding → Type 0
-Does h d then = (then.site ≡ h.site) × (AreMade h → StepsOn h d then)
+Does h d then = (then.site ≡ h.site) × (AreMade h → StepsOn h d then) × Numbers h d.event.event.made then × IsOneWay d
 
 -- one after the other
 abbrev pub DoesAll : Holding → List Deed → Holding → Type 0

@@ -19,6 +19,7 @@ ended_run low budget code c e is same most ended =
       last = ended.last;
       reaches = ended.run.reaches;
       said = ended.run.said;
+      ours = ended.run.ours;
       rests = ended.rests;
       spent = ended.spent;
     })

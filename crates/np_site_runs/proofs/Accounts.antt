@@ -65,7 +65,7 @@ is-not-less : (s n : ℕ) → nat_lt s n ≡ false → n ≤ s
 is-not-less s n h = grind (arith, nat_tests)
 
 module _ {A : Type 0} (n s : ℕ) (x y : A) where
-  inner : s < n → cond (nat_lt s n) x y ≡ x
+  pub inner : s < n → cond (nat_lt s n) x y ≡ x
   inner h = ap (λ t. cond t x y) (less-true s n h)
 
   outer : n ≤ s → cond (nat_lt s n) x y ≡ y
@@ -191,7 +191,7 @@ module _ (n : ℕ) (start : ℕ → Holding) (r : Accounts) (hs : List Recorded)
   in-all : (P : Recorded → Type 0) → ((s : ℕ) (h : Recorded) → s < n → IsItsHistory r s h → P h) → AllByRecursion P hs
   in-all P f = recursion_from_All P hs (λ k d less. f k (get_or hs k d) (within k less) (are.each k d (within k less)))
 
-  kept : AreKept hs (held_runs n start r)
+  pub kept : AreKept hs (held_runs n start r)
   kept = record {
     histories = record {
       each = in-all IsHistory (λ s h less is. is.history);
@@ -216,7 +216,7 @@ over-alike : {A : Type 0} (f g : ℕ → List A) (n : ℕ) → ((u : ℕ) → u 
 over-alike f g zero h = refl
 over-alike f g (suc n) h = ap₂ (λ xs ys. xs ++ ys) (h n (omega arith)) (over-alike f g n (λ u less. h u (omega arith)))
 
-rest-is : (n s t : ℕ) (xs : List StampedItem) → s < n → t < n → cond (nat_lt s n && nat_lt t n) xs [] ≡ xs
+pub rest-is : (n s t : ℕ) (xs : List StampedItem) → s < n → t < n → cond (nat_lt s n && nat_lt t n) xs [] ≡ xs
 rest-is n s t xs h k = ap₂ (λ p q. cond (p && q) xs []) (less-true s n h) (less-true t n k)
 
 air-is : (n : ℕ) (rest : ℕ → ℕ → List StampedItem) → air n (λ s t. map (λ x. x.item) (cond (nat_lt s n && nat_lt t n) (rest s t) []))

@@ -4,13 +4,13 @@ use Rattle.std.proofs.lemmas.Bool.{eq-eqb}
 use Rattle.std.specs.List.{AllByRecursion}
 use Rattle.np_merged_run.proofs.Steps.{false_eq}
 use Rattle.run_merge.proofs.InOrder.{all_append, all_filter, all_weaker, at_cond}
-use Rattle.np_stamped_run.specs.Deeds.{Deed, StampedItem, Ticks, ticked}
+use Rattle.np_stamped_run.specs.Deeds.{Deed, StampedItem, Ticks, TicksByOne, ticked}
 use Rattle.np_stamped_run.specs.Turns.{Flows, Waiting, moved, own, puts, takes, takes_at, without}
 use Rattle.np_stamped_run.proofs.Flowing.{IsStamped, each_site, own-here, own-there, takes-here}
 
 -- ---- Lamport's rule
 
-lower : (clock m : ℕ) (o : Option StampedItem) → m ≡ ticked clock o → IfSome o (λ x. x.stamp < m)
+lower : (clock m : ℕ) (o : Option StampedItem) → ticked clock o ≤ m → IfSome o (λ x. x.stamp < m)
 lower clock m None is = tt
 lower clock m (Some x) is = omega arith
 
@@ -24,7 +24,7 @@ ticks-stamped clock (d ∷ ds) ticks = (record { put = ticks.0.put; taken = lowe
 abbrev pub WaitsLow : ℕ → Waiting → Type 0
 WaitsLow m w = (u v : ℕ) → AllByRecursion (λ x. x.stamp ≤ m) (w u v)
 
-one_more : (m clock stamp s : ℕ) (o : Option StampedItem) (w : Waiting) → clock ≤ m → stamp ≡ ticked clock o → WaitsLow m w
+one_more : (m clock stamp s : ℕ) (o : Option StampedItem) (w : Waiting) → clock ≤ m → stamp ≤ ticked clock o → WaitsLow m w
     → ((u v : ℕ) → w u v ≡ takes_at u v s o ++ drop (length (takes_at u v s o)) (w u v)) → stamp ≤ m + 1
 one_more m clock stamp s None w low is waits front = omega arith
 one_more m clock stamp s (Some x) w low is waits front =
@@ -62,20 +62,26 @@ clock-here clock s stamp = rw (eq-eqb s s refl) refl
 clock-there : (clock : ℕ → ℕ) (s stamp u : ℕ) → (u ≡ s → ⊥) → clock_at clock s stamp u ≡ clock u
 clock-there clock s stamp u apart = rw (false_eq u s apart) refl
 
-pub few : (m : ℕ) (ds : List Deed) (clock : ℕ → ℕ) (w rest : Waiting) → ((s : ℕ) → Ticks (clock s) (own s ds)) → ((s : ℕ) → clock s ≤ m) → WaitsLow m w → Flows w ds rest
+pub few : (m : ℕ) (ds : List Deed) (clock : ℕ → ℕ) (w rest : Waiting) → ((s : ℕ) → Ticks (clock s) (own s ds)) → ((s : ℕ) → TicksByOne (clock s) (own s ds)) → ((s : ℕ) → clock s ≤ m) → WaitsLow m w → Flows w ds rest
     → AllByRecursion (λ d. d.event.stamp ≤ m + length ds) ds × WaitsLow (m + length ds) rest
-few m [] clock w rest ticks low waits flow =
+few m [] clock w rest ticks few_ticks low waits flow =
     (tt, λ u v. subst (AllByRecursion (λ x. x.stamp ≤ m + zero)) (flow u v) (all_weaker (λ x. x.stamp ≤ m) (λ x. x.stamp ≤ m + zero) (λ x is. omega arith) (w u v) (waits u v)))
-few m (d ∷ ds) clock w rest ticks low waits flow =
+few m (d ∷ ds) clock w rest ticks few_ticks low waits flow =
     let s = d.event.event.site in
     let t = subst (Ticks (clock d.event.event.site)) (own-here d.event.event.site d ds refl) (ticks d.event.event.site) in
-    let here : d.event.stamp ≤ m + 1 = one_more m (clock d.event.event.site) d.event.stamp d.event.event.site d.taken w (low d.event.event.site) t.0.event waits flow.0 in
+    let b = subst (TicksByOne (clock d.event.event.site)) (own-here d.event.event.site d ds refl) (few_ticks d.event.event.site) in
+    let here : d.event.stamp ≤ m + 1 = one_more m (clock d.event.event.site) d.event.stamp d.event.event.site d.taken w (low d.event.event.site) b.0 waits flow.0 in
     let more = few (m + 1) ds (clock_at clock d.event.event.site d.event.stamp) (moved w d) rest
     (each_site (λ u. Ticks (clock_at clock d.event.event.site d.event.stamp u) (own u ds)) d.event.event.site
     (subst (λ k. Ticks k (own d.event.event.site ds)) (sym (clock-here clock d.event.event.site d.event.stamp)) t.1)
     (λ u apart.
     subst (λ k. Ticks k (own u ds)) (sym (clock-there clock d.event.event.site d.event.stamp u apart))
     (subst (Ticks (clock u)) (own-there d.event.event.site d ds refl u apart) (ticks u))))
+    (each_site (λ u. TicksByOne (clock_at clock d.event.event.site d.event.stamp u) (own u ds)) d.event.event.site
+    (subst (λ k. TicksByOne k (own d.event.event.site ds)) (sym (clock-here clock d.event.event.site d.event.stamp)) b.1)
+    (λ u apart.
+    subst (λ k. TicksByOne k (own u ds)) (sym (clock-there clock d.event.event.site d.event.stamp u apart))
+    (subst (TicksByOne (clock u)) (own-there d.event.event.site d ds refl u apart) (few_ticks u))))
     (each_site (λ u. clock_at clock d.event.event.site d.event.stamp u ≤ m + 1) d.event.event.site
     (subst (λ k. k ≤ m + 1) (sym (clock-here clock d.event.event.site d.event.stamp)) here)
     (λ u apart. subst (λ k. k ≤ m + 1) (sym (clock-there clock d.event.event.site d.event.stamp u apart)) (let k : clock u ≤ m = low u in omega arith)))

@@ -1,5 +1,5 @@
 -- What a site did alone, and one event more; and the stamps of what it did rise.
-use Rattle.std.proofs.Common.{◌≡◌, ◌<◌, ◌==◌, ℕ, Bool, List, [], ◌∷◌, ◌++◌, map, Option, None, Some, IfSome, option_to_list, filter, flat_map, refl, sym, ap, subst, ◌∙◌, arith}
+use Rattle.std.proofs.Common.{◌≡◌, ◌<◌, ◌≤◌, ◌==◌, ℕ, Bool, List, [], ◌∷◌, ◌++◌, map, Option, None, Some, IfSome, option_to_list, filter, flat_map, refl, sym, ap, subst, ◌∙◌, arith}
 use Rattle.std.proofs.lemmas.Grind.{flat_map-append}
 use Rattle.std.proofs.lemmas.List.Elements.{filter-append}
 use Rattle.std.specs.List.{AllByRecursion}
@@ -49,7 +49,7 @@ takes_follow s = follow (λ d. option_to_list d.taken) (λ x. x.item.sender == s
 
 -- ---- rising stamps
 
-above : (clock m : ℕ) (o : Option StampedItem) → m ≡ ticked clock o → clock < m
+above : (clock m : ℕ) (o : Option StampedItem) → ticked clock o ≤ m → clock < m
 above clock m None is = omega arith
 above clock m (Some x) is = omega arith
 

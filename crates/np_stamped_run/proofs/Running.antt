@@ -11,7 +11,7 @@ use Rattle.np_merged_run.proofs.Links.{merged_run}
 use Rattle.stamp_history.specs.Histories.{Recorded}
 use Rattle.run_merge.specs.Merged.{merged, items}
 use Rattle.run_merge.proofs.InOrder.{all_map, all_weaker}
-use Rattle.np_stamped_run.specs.Deeds.{AreSiteRuns, IsDeedOf, Leads, SiteRuns, Ticks, at_start, put_for, taken_from}
+use Rattle.np_stamped_run.specs.Deeds.{AreSiteRuns, IsDeedOf, Leads, SiteRuns, Ticks, TicksByOne, at_start, put_for, taken_from}
 use Rattle.np_stamped_run.specs.Laws.{AreRecorded, MergedIsRun, StampsAreFew}
 use Rattle.np_stamped_run.proofs.Counting.{few, ticks-stamped}
 use Rattle.np_stamped_run.specs.Turns.{AreClocked, AreInTurn, Flows, IsAmong, none_waits}
@@ -42,9 +42,10 @@ module _ (n : ℕ) (r : SiteRuns) (hs : List Recorded) (runs : AreClocked n r.de
   pub are_in_turn : AreInTurn n r.deeds r.rest (in_turn r.deeds hs)
   are_in_turn = record { each = own-turns n r hs runs are; among = all_in_turn (IsAmong n) r.deeds among hs; flow = flow }
 
-  stamps : AllByRecursion (λ d. d.event.stamp ≤ 0 + length (in_turn r.deeds hs)) (in_turn r.deeds hs)
+  stamps : ((s : ℕ) → TicksByOne 0 (r.deeds s)) → AllByRecursion (λ d. d.event.stamp ≤ 0 + length (in_turn r.deeds hs)) (in_turn r.deeds hs)
       × ((u v : ℕ) → AllByRecursion (λ x. x.stamp ≤ 0 + length (in_turn r.deeds hs)) (r.rest u v))
-  stamps = few 0 (in_turn r.deeds hs) (λ s. 0) none_waits r.rest (λ s. subst (Ticks 0) (sym (own-turns n r hs runs are s)) (runs.ticks s))
+  stamps by_one = few 0 (in_turn r.deeds hs) (λ s. 0) none_waits r.rest (λ s. subst (Ticks 0) (sym (own-turns n r hs runs are s)) (runs.ticks s))
+      (λ s. subst (TicksByOne 0) (sym (own-turns n r hs runs are s)) (by_one s))
       (λ s. omega arith) (λ u v. tt) flow
 
 -- what holds before the first of the deeds
@@ -73,8 +74,8 @@ merged_is_run n r hs c runs are shows =
     (one.0, ap (run c) (sym events) ∙ one.1, one.2)
 
 pub stamps_are_few : StampsAreFew
-stamps_are_few n r hs runs are =
-    let all = stamps n r hs (clocked n r runs) are in
+stamps_are_few n r hs runs by_one are =
+    let all = stamps n r hs (clocked n r runs) are by_one in
     let number : length (in_turn r.deeds hs) ≡ length (merged hs) =
     length-map (all_deeds r.deeds hs) (λ r. r.item) ∙ sym (length-map (all_deeds r.deeds hs) _) ∙ ap length (turns-merged n r hs (clocked n r runs) are) in
     let ranks = all_both _ _ (all_deeds r.deeds hs) (all-ranks n r hs (clocked n r runs) are) (all_unmap _ (λ r. r.item) (all_deeds r.deeds hs) all.0) in

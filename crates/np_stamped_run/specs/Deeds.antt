@@ -26,20 +26,25 @@ abbrev pub Leads : Config → List Deed → Config → Type 0
 Leads old [] new = old ≡ new
 Leads old (d ∷ ds) new = (now : Config) × IsStep d.event.event old (loads (plain d.taken)) now (loads (plain d.put)) × Leads now ds new
 
--- Lamport's rule: the clock after an event is one more than it was, or than the stamp of the item that the event takes
+-- Lamport's rule: the clock after an event is at least one more than it was, and than the stamp of the item that the event takes
 abbrev pub ticked : ℕ → Option StampedItem → ℕ
 ticked clock None = clock + 1
 ticked clock (Some x) = max clock x.stamp + 1
 
 -- an event has as its stamp what the clock is then, and so has the item that it puts on its way
 pub record HasStamps (clock : ℕ) (d : Deed) : Type 0 where
-  pub event : d.event.stamp ≡ ticked clock d.taken
+  pub event : ticked clock d.taken ≤ d.event.stamp
   pub put : IfSome d.put (λ x. x.stamp ≡ d.event.stamp)
 
 -- so it is with each of them, from a clock on
 abbrev pub Ticks : ℕ → List Deed → Type 0
 Ticks clock [] = Unit {0}
 Ticks clock (d ∷ ds) = HasStamps clock d × Ticks d.event.stamp ds
+
+-- and no clock goes on by more than Lamport's rule asks for
+abbrev pub TicksByOne : ℕ → List Deed → Type 0
+TicksByOne clock [] = Unit {0}
+TicksByOne clock (d ∷ ds) = (d.event.stamp ≤ ticked clock d.taken) × TicksByOne d.event.stamp ds
 
 -- the clock after them
 abbrev pub clock_after : ℕ → List Deed → ℕ

@@ -39,8 +39,9 @@ pub fn law_said_in_order()
     ensures { SaidInOrder }
 {}
 
-/// The stamps of a site's events rise, and so do those of the items that it puts on one link. No stamp is above the number
-/// of all events. An event that takes what an earlier one put on its way has a greater stamp.
+/// The stamps of a site's events rise, and so do those of the items that it puts on one link. Where no clock goes on by more
+/// than it has to, no stamp is above the number of all events. An event that takes what an earlier one put on its way has a
+/// greater stamp.
 pub fn law_stamps()
     ensures rise { StampsRise }
     ensures few { StampsAreFew }

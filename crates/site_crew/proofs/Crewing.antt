@@ -24,13 +24,14 @@ use Rattle.site_crew.specs.Seats.{AllGrow, AllTurned, AreFirst, Stand, event_cou
 use Rattle.site_crew.proofs.Goings.{turned_at}
 use Rattle.site_crew.proofs.Standing.{stand_first}
 use Rattle.site_crew.proofs.Spending.{IsEndOf, crew_end}
-use Rattle.site_crew.proofs.Whole.{crew_run, long-histories, not-past}
+use Rattle.site_crew.proofs.CrewRuns.{crew_run}
+use Rattle.site_crew.proofs.Whole.{long-histories, not-past}
 
 pub slice_whole : {T : Type 0} (items new : List T) (n : ℕ) → n ≡ length items → length new ≡ length items → take n (new ++ drop (length new) items) ≡ new
 slice_whole items new n e long = grind (arith, common_steps)
 
 -- the history in a place
-at_place : {P : Type 0} (xs : List (Seat P)) (i : ℕ) (s : Seat P) (d : Recorded) → slice_get xs i ≡ Some s → get_or (histories xs) i d ≡ s.site.history
+pub at_place : {P : Type 0} (xs : List (Seat P)) (i : ℕ) (s : Seat P) (d : Recorded) → slice_get xs i ≡ Some s → get_or (histories xs) i d ≡ s.site.history
 at_place xs i s d at = get_or_from_slice_get (histories xs) i s.site.history d (slice_get-map (λ s. s.site.history) xs i ∙ ap (λ o. option_map (λ s. s.site.history) o) at)
 
 pub grow_refl : (hs : List Recorded) → AllGrow hs hs

@@ -1,5 +1,5 @@
 -- What is left on the link to a site is for that site.
-use Rattle.std.proofs.Common.{◌≡◌, ◌==◌, ℕ, Bool, true, false, cond, inl, inr, List, [], ◌∷◌, ◌++◌, length, map, Option, None, Some, refl, sym, ap, subst, ◌∙◌}
+use Rattle.std.proofs.Common.{◌≡◌, ◌<◌, ◌==◌, ℕ, Bool, true, false, cond, inl, inr, List, [], ◌∷◌, ◌++◌, length, map, Option, None, Some, refl, sym, ap, subst, ◌∙◌}
 use Rattle.std.specs.List.{AllByRecursion}
 use Rattle.std.specs.Prelude.{slice_get}
 use Rattle.np_syntax.specs.declared.process.Proc.{Proc}
@@ -21,12 +21,13 @@ use Rattle.agent_move.specs.declared.load.Load.TheVariants as load
 use Rattle.agent_move.specs.Items.{contents_of, item_of}
 use Rattle.agent_move.specs.Loads.{site_for}
 use Rattle.site_links.specs.declared.port.Port as Port
+use Rattle.site_state.specs.Lines.{queue_at}
 use Rattle.site_turn.specs.declared.seat.Seat.{Seat}
 use Rattle.site_turn.specs.Turns.{came_from, shown}
 use Rattle.site_turn.proofs.Steps.{puts_are_own}
 use Rattle.site_crew.specs.Links.{AreSettled}
 use Rattle.site_crew.specs.Seats.{AreSeats}
-use Rattle.site_crew.proofs.Whole.{SeatOf, accounts, are_settled, end_of, here, known_of, queue_of, rest_of}
+use Rattle.site_crew.proofs.Whole.{SeatOf, accounts, are_settled, deeds_of, end_of, here, known_of, queue_of, rest_of}
 
 -- what an item brings, it brings to the site that it is for
 abbrev pub IsDirected : StampedItem → Type 0
@@ -78,18 +79,31 @@ module _ {P R : Type 0} (g : Port.Ghosts P R Item) (code : ProgramTable) (limit 
   end-site k None h = refl
   end-site k (Some s) h = h.number
 
-  pub are_directed : (xs : List (Seat P)) (seats : AreSeats g code limit xs) → AreSettled g xs → AreDirected (length code.sites) (accounts g code limit xs seats)
-  unfolding accounts
-  are_directed xs seats settled =
-      let all : told.AreSettled (length code.sites) (start_holding (program code)) (accounts g code limit xs seats) = are_settled g code limit xs seats settled in
-      record {
-        at = λ u less. end-site u (slice_get xs u) (here g code limit xs seats u);
-        left = λ u t from to.
-            let puts : AllByRecursion (λ x. (x.item.receiver ≡ t) × (x.item.sender ≡ u)) (put_for t ((accounts g code limit xs seats).deeds u)) =
-            puts_are_own u t ((accounts g code limit xs seats).deeds u) (all.each u from).sends in
-            let receivers : AllByRecursion (λ x. x.item.receiver ≡ t) (put_for t ((accounts g code limit xs seats).deeds u)) =
-            all_weaker (λ x. (x.item.receiver ≡ t) × (x.item.sender ≡ u)) (λ x. x.item.receiver ≡ t) (λ x h. h.0) (put_for t ((accounts g code limit xs seats).deeds u)) puts in
-            leads t ((accounts g code limit xs seats).rest u t) (rest-directed u t (slice_get xs u) (slice_get xs t) (here g code limit xs seats t))
-            (all_second (λ x. x.item.receiver ≡ t) (came_on u ((accounts g code limit xs seats).came t)) ((accounts g code limit xs seats).rest u t)
-            (subst (AllByRecursion (λ x. x.item.receiver ≡ t)) (all.links u t from to) receivers));
-      }
+  puts-directed : (u t : ℕ) (o : Option (Seat P)) (h : SeatOf g code limit u o) → AllByRecursion IsDirected (put_for t (deeds_of g code limit u o h))
+  puts-directed u t None h = tt
+  puts-directed u t (Some s) h = subst (AllByRecursion IsDirected) (h.kept.put t) (shown-directed code (g.sent s.port t ++ queue_at s.site.outgoing t))
+
+  module _ (xs : List (Seat P)) (seats : AreSeats g code limit xs) (settled : AreSettled g xs) where
+    all : told.AreSettled (length code.sites) (start_holding (program code)) (accounts g code limit xs seats)
+    all = are_settled g code limit xs seats settled
+
+    receivers : (u t : ℕ) → u < length code.sites → AllByRecursion (λ x. x.item.receiver ≡ t) (put_for t ((accounts g code limit xs seats).deeds u))
+    receivers u t from =
+        all_weaker (λ x. (x.item.receiver ≡ t) × (x.item.sender ≡ u)) (λ x. x.item.receiver ≡ t) (λ x h. h.0) (put_for t ((accounts g code limit xs seats).deeds u))
+        (puts_are_own u t ((accounts g code limit xs seats).deeds u) (all.each u from).sends)
+
+    -- what a site put on its way to a site leads there
+    pub puts_lead : (u t : ℕ) → u < length code.sites → t < length code.sites → AllByRecursion (LeadsTo t) (put_for t ((accounts g code limit xs seats).deeds u))
+    unfolding accounts
+    puts_lead u t from to =
+        leads t (put_for t ((accounts g code limit xs seats).deeds u)) (puts-directed u t (slice_get xs u) (here g code limit xs seats u)) (receivers u t from)
+
+    pub are_directed : AreDirected (length code.sites) (accounts g code limit xs seats)
+    unfolding accounts
+    are_directed = record {
+      at = λ u less. end-site u (slice_get xs u) (here g code limit xs seats u);
+      left = λ u t from to.
+          leads t ((accounts g code limit xs seats).rest u t) (rest-directed u t (slice_get xs u) (slice_get xs t) (here g code limit xs seats t))
+          (all_second (λ x. x.item.receiver ≡ t) (came_on u ((accounts g code limit xs seats).came t)) ((accounts g code limit xs seats).rest u t)
+          (subst (AllByRecursion (λ x. x.item.receiver ≡ t)) (all.links u t from to) (receivers u t from)));
+    }

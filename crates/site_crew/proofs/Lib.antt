@@ -1,9 +1,15 @@
 pub mod Counts
 pub mod Crewing
+pub mod CrewRuns
 pub mod Directed
+pub mod Doing
+pub mod Enabled
 pub mod First
 pub mod Goings
 pub mod Pairs
+pub mod Possible
+pub mod Redoing
+pub mod Replacing
 pub mod Running
 pub mod Spending
 pub mod Standing

@@ -1,5 +1,5 @@
 -- The links are settled one after another.
-use Rattle.std.proofs.Common.{◌≡◌, ◌≢◌, ℕ, ◌+◌, ◌-◌, ◌<◌, ◌≤◌, ◌⊎◌, inl, inr, Bool, true, false, List, [], ◌∷◌, ◌++◌, length, set, get_or, refl, sym, ◌∙◌, ap, subst, arith, Option, Some, length-set, length-append}
+use Rattle.std.proofs.Common.{◌≡◌, ◌≢◌, ℕ, ◌+◌, ◌-◌, ◌<◌, ◌⊎◌, inl, inr, Bool, true, false, List, [], ◌∷◌, ◌++◌, length, set, get_or, refl, sym, ◌∙◌, ap, subst, arith, Option, Some, length-set, length-append}
 use Rattle.std.specs.Prelude.{slice_get}
 use Rattle.std.proofs.lemmas.Option.{slice_get_within, slice_get-get_or}
 use Rattle.std.proofs.lemmas.List.{set-append_left, set-append_right, get_or_append_left, get_or-append-add}
@@ -357,31 +357,27 @@ module _ {P R : Type 0} {g : Port.Ghosts P R Item} where
   still_of_pair p = record { count = p.count; each = λ k c h. let w = p.each k c h in record { before = w.before; was = w.was; still = w.still }; links = p.links }
 
   -- a settle of one pair leaves another one settled
-  settled_kept : {xs ys : List (Seat P)} {w : ℕ} (i j a b : ℕ) → IsPairSettled g i j xs ys w → (b ≡ j → a ≡ i → ⊥) → IsSettled g xs a b → IsSettled g ys a b
+  pub settled_kept : {xs ys : List (Seat P)} {w : ℕ} (i j a b : ℕ) → IsPairSettled g i j xs ys w → (b ≡ j → a ≡ i → ⊥) → IsSettled g xs a b → IsSettled g ys a b
   settled_kept {xs} {ys} i j a b p ne h c d ec ed =
       let u = p.each a c ec in let v = p.each b d ed in
       let old : g.got v.before.port a ++ g.known v.before.port a ≡ g.sent u.before.port b = h u.before v.before u.was v.was in
       rw (v.still.got_same a, v.known_same a ne, u.still.sent_same b) old
 
-  told_same : (n : ℕ) (s t : Seat P) (w : Bool) → ((k : ℕ) → k < n → g.known t.port k ≡ g.known s.port k) → IsTold g n s w → IsTold g n t w
+  pub told_same : (n : ℕ) (s t : Seat P) (w : Bool) → ((k : ℕ) → k < n → g.known t.port k ≡ g.known s.port k) → IsTold g n s w → IsTold g n t w
   told_same n s t w same told = record {
     none = λ e k h. same k h ∙ told.none e k h;
     some = λ none. told.some (λ k h. sym (same k h) ∙ none k h);
   }
 
   -- it leaves the links to another site settled
-  pub others_kept : {xs ys : List (Seat P)} {w : ℕ} (i j n : ℕ) → IsPairSettled g i j xs ys w → n ≤ j → AreSettledBelow g xs n → AreSettledBelow g ys n
-  others_kept {xs} {ys} i j n p le below = record {
-    each = λ k h.
-        let old = below.each k h in
-        let apart : k ≢ j = λ e. absurd (omega arith) in record {
-          settled = λ a. settled_kept i j a k p (λ e f. apart e) (old.settled a);
-          told = λ s at.
-              let b = p.each k s at in
-              let told = old.told b.before b.was in
-              subst (λ (v : Bool). IsTold g (length ys) s v) (sym b.waits_same)
-              (subst (λ (m : ℕ). IsTold g m s b.before.waits) (sym p.count) (told_same (length xs) b.before s b.before.waits (λ m h. b.known_same m (λ e f. apart e)) told));
-        };
+  pub other_kept : {xs ys : List (Seat P)} {w : ℕ} (i j k : ℕ) → IsPairSettled g i j xs ys w → k ≢ j → IsSettledTo g xs k → IsSettledTo g ys k
+  other_kept {xs} {ys} i j k p apart old = record {
+    settled = λ a. settled_kept i j a k p (λ e f. apart e) (old.settled a);
+    told = λ s at.
+        let b = p.each k s at in
+        let told = old.told b.before b.was in
+        subst (λ (v : Bool). IsTold g (length ys) s v) (sym b.waits_same)
+        (subst (λ (m : ℕ). IsTold g m s b.before.waits) (sym p.count) (told_same (length xs) b.before s b.before.waits (λ m h. b.known_same m (λ e f. apart e)) told));
   }
 
   pub here_kept : {xs ys : List (Seat P)} {w : ℕ} (i j : ℕ) → IsPairSettled g i j xs ys w → ((a : ℕ) → a < i → IsSettled g xs a j) → (a : ℕ) → a < i + 1 → IsSettled g ys a j
@@ -449,29 +445,25 @@ module _ {P R : Type 0} {g : Port.Ghosts P R Item} where
         let u = was_then a s at_a in let v = was_then b t at_b in
         rw (u.3, v.3) (h u.0 v.0 u.1 v.1)
 
-    pub settled_more : ((a : ℕ) → a < length xs → IsSettled g xs a j) → IsToldBelow g xs j (length xs) w → AreSettledBelow g xs j → AreSettledBelow g (with_told xs j c w) (j + 1)
-    settled_more here told below = record {
-      each = λ k h.
-          elim (eqb_tells k j) [
-            | inl u ↦ subst (λ (m : ℕ). IsSettledTo g (with_told xs j c w) m) (sym u.1) (record {
-              settled = λ a s t at_a at_b. settled_then still_then a j (λ s t e f. here a (slice_get_within xs a s e) s t e f) s t at_a at_b;
-              told = λ s at.
-                  let is : with_waits c w ≡ s = some_is (slice_get (with_told xs j c w) j) (with_waits c w) s (at_then xs j c w at_j) at in
-                  let old : IsTold g (length xs) c w = told c at_j in
-                  let long : length (with_told xs j c w) ≡ length xs = length-set xs j (with_waits c w) in
-                  subst (λ (o : Seat P). IsTold g (length (with_told xs j c w)) o o.waits) is
-                  (subst (λ (m : ℕ). IsTold g m (with_waits c w) w) (sym long) (told_same (length xs) c (with_waits c w) w (λ k h. refl) old));
-            })
-            | inr u ↦
-                let old = below.each k (omega arith) in record {
-                  settled = λ a. settled_then still_then a k (old.settled a);
-                  told = λ s at.
-                      let b = was_then k s at in
-                      let same : s ≡ b.0 = b.4 u.1 in
-                      let long : length (with_told xs j c w) ≡ length xs = length-set xs j (with_waits c w) in
-                      subst (λ (m : ℕ). IsTold g m s s.waits) (sym long) (subst (λ (o : Seat P). IsTold g (length xs) o o.waits) (sym same) (old.told b.0 b.1));
-                }
-          ];
+    pub here_then : ((a : ℕ) → a < length xs → IsSettled g xs a j) → IsToldBelow g xs j (length xs) w → IsSettledTo g (with_told xs j c w) j
+    here_then here told = record {
+      settled = λ a s t at_a at_b. settled_then still_then a j (λ s t e f. here a (slice_get_within xs a s e) s t e f) s t at_a at_b;
+      told = λ s at.
+          let is : with_waits c w ≡ s = some_is (slice_get (with_told xs j c w) j) (with_waits c w) s (at_then xs j c w at_j) at in
+          let old : IsTold g (length xs) c w = told c at_j in
+          let long : length (with_told xs j c w) ≡ length xs = length-set xs j (with_waits c w) in
+          subst (λ (o : Seat P). IsTold g (length (with_told xs j c w)) o o.waits) is
+          (subst (λ (m : ℕ). IsTold g m (with_waits c w) w) (sym long) (told_same (length xs) c (with_waits c w) w (λ k h. refl) old));
+    }
+
+    pub other_then : (k : ℕ) → k ≢ j → IsSettledTo g xs k → IsSettledTo g (with_told xs j c w) k
+    other_then k apart old = record {
+      settled = λ a. settled_then still_then a k (old.settled a);
+      told = λ s at.
+          let b = was_then k s at in
+          let same : s ≡ b.0 = b.4 apart in
+          let long : length (with_told xs j c w) ≡ length xs = length-set xs j (with_waits c w) in
+          subst (λ (m : ℕ). IsTold g m s s.waits) (sym long) (subst (λ (o : Seat P). IsTold g (length xs) o o.waits) (sym same) (old.told b.0 b.1));
     }
 
   pub told_nothing : (xs : List (Seat P)) (j : ℕ) → IsToldBelow g xs j 0 false

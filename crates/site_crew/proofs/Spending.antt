@@ -16,7 +16,8 @@ use Rattle.site_crew.specs.Seats.{Stand, histories}
 use Rattle.site_crew.proofs.Directed.{are_directed}
 use Rattle.site_crew.proofs.Pairs.{some_is}
 use Rattle.site_crew.proofs.Stillness.{Whole, none-rest, quiet_of, rests_of, still-end}
-use Rattle.site_crew.proofs.Whole.{accounts, are_histories, here, sites_end, some}
+use Rattle.site_crew.proofs.CrewRuns.{run_of}
+use Rattle.site_crew.proofs.Whole.{accounts, here, sites_end, some}
 
 module _ {P R : Type 0} (g : Port.Ghosts P R Item) (code : ProgramTable) (limit : ℕ) (xs : List (Seat P)) (stand : Stand g code limit xs) (is : IsProgram code) where
   -- how many events the history in a place has
@@ -73,7 +74,7 @@ crew_end g code limit xs stand is =
     let e = sites_end g code limit xs stand.seats stand.settled stand.whole is.at in (
       e.whole,
       record {
-        run = record { sites = are_histories g code limit xs stand.seats stand.whole; reaches = e.runs; said = e.said };
+        run = run_of g code limit xs stand is e;
         rests = rests_of g code limit xs stand is e;
         quiet = λ idle. record { each = quiet_of g code limit xs stand is e idle };
         spent = only_spent g code limit xs stand is e;

@@ -1,9 +1,11 @@
 -- A crew stands at the low start, and after each round.
-use Rattle.std.proofs.Common.{◌≡◌, ◌<◌, ℕ, List, [], ◌++◌, length, Option, Some, IfSome, refl, sym, ap, subst, subst₂, ◌∙◌, arith}
+use Rattle.std.proofs.Common.{◌≡◌, ◌<◌, ℕ, List, [], ◌++◌, length, get_or, Option, Some, IfSome, refl, sym, ap, subst, subst₂, ◌∙◌, arith}
 use Rattle.std.specs.Prelude.{slice_get}
+use Rattle.std.proofs.lemmas.Option.{slice_get_within, slice_get-get_or}
 use Rattle.stamp_history.specs.Histories.{IsHistory, without_events}
-use Rattle.site_links.specs.Words.{IsFullMake, IsUnused}
+use Rattle.site_links.specs.Words.{Begins, IsFullMake, IsUnused}
 use Rattle.site_links.specs.declared.port.Port as Port
+use Rattle.site_links.proofs.Kept.{Begins-empty}
 use Rattle.np_holdings.specs.Holdings.{Holding}
 use Rattle.np_site_runs.specs.Accounts.{IsAccount, came_on}
 use Rattle.np_site_runs.specs.Starting.{start_holding}
@@ -11,12 +13,13 @@ use Rattle.np_site_runs.proofs.Accounts.{account_starts}
 use Rattle.np_code.specs.Programs.{ProgramTable, program}
 use Rattle.agent_move.specs.declared.item.Item.{Item}
 use Rattle.site_state.specs.Lines.{queue_at}
+use Rattle.site_state.specs.Standings.{Standing}
 use Rattle.site_turn.specs.declared.seat.Seat.{Seat}
 use Rattle.site_turn.specs.Turns.{IsStrange, Kept, came_from, shown}
 use Rattle.site_crew.specs.Links.{AllStill, AreSettled}
-use Rattle.site_crew.specs.Seats.{AllTurned, AreFirst, AreSeats, AreWhole, IsFirst, Stand}
-use Rattle.site_crew.proofs.Pairs.{linked_after}
-use Rattle.site_crew.proofs.Goings.{seat_still, seats_turned}
+use Rattle.site_crew.specs.Seats.{AllTurned, AreFirst, AreFresh, AreSeats, AreWhole, IsFirst, Stand}
+use Rattle.site_crew.proofs.Pairs.{linked_after, some_is}
+use Rattle.site_crew.proofs.Goings.{seat_still, seats_turned, turned_at}
 
 no_history : (k limit : ℕ) → IsHistory (without_events k limit)
 no_history k limit = record { within = omega arith; rising = tt; one_each = refl }
@@ -28,7 +31,7 @@ module _ {P R : Type 0} {g : Port.Ghosts P R Item} {code : ProgramTable} where
     came = [];
     account = subst₂ (λ (m : ℕ) (e : Holding). IsAccount (length code.sites) m (start_holding (program code) k) [] e []) (sym is.site.number) (sym is.site.holding)
         (account_starts (length code.sites) k (start_holding (program code) k) refl);
-    clock = is.site.clock;
+    clock = let zero : s.site.clock ≡ 0 = is.site.clock in omega arith;
     events = ap (λ h. h.events) is.site.history;
     from = 0;
     within = subst (λ (o : Option Item). IfSome o (λ x. 0 < length code.sites)) (sym is.aside) tt;
@@ -74,11 +77,37 @@ module _ {P R : Type 0} {g : Port.Ghosts P R Item} {code : ProgramTable} where
       };
     };
     whole = record { each = λ i s at. let e = first.each i s at in subst IsHistory (sym e.2.site.history) (no_history i limit) };
+    fresh = record { clocks = λ none i s at. let e = first.each i s at in e.2.site.clock };
   }
 
+  -- turns in which no site makes an event leave each clock at 0
+  pub fresh_again : {xs ys zs : List (Seat P)} → AreFresh xs → AllTurned g code xs ys → AllStill g ys zs → AreFresh zs
+  fresh_again {xs} {ys} {zs} fresh turned still = record {
+    clocks = λ none i s at.
+        let b = still.each i s at in
+        let a = turned_at turned i b.before b.was in
+        let site : s.site ≡ b.before.site = b.still.site_same in
+        let empty : b.before.site.history.events ≡ [] = ap (λ (v : Standing). v.history.events) (sym site) ∙ none i s at in
+        let was : a.0.site.history.events ≡ [] = Begins-empty a.0.site.history.events (subst (λ es. Begins es a.0.site.history.events) empty a.2.history.events) in
+        let first : a.0.site.clock ≡ 0 = fresh.clocks (λ k x there. none-before none k x there) i a.0 a.1 in
+        ap (λ (v : Standing). v.clock) site ∙ a.2.clock (empty ∙ sym was) ∙ first;
+  }
+    where
+      none-before : ((i : ℕ) (s : Seat P) → slice_get zs i ≡ Some s → s.site.history.events ≡ []) → (k : ℕ) (x : Seat P) → slice_get xs k ≡ Some x → x.site.history.events ≡ []
+      none-before none k x there =
+          let low : k < length xs = slice_get_within xs k x there in
+          let less : k < length zs = omega (arith, still.count, turned.count) in
+          let z : Seat P = get_or zs k x in
+          let at : slice_get zs k ≡ Some z = slice_get-get_or zs k x less in
+          let b = still.each k z at in
+          let a = turned_at turned k b.before b.was in
+          let same : x ≡ a.0 = some_is (slice_get xs k) x a.0 there a.1 in
+          let empty : b.before.site.history.events ≡ [] = ap (λ (v : Standing). v.history.events) (sym b.still.site_same) ∙ none k z at in
+          ap (λ (v : Seat P). v.site.history.events) same ∙ Begins-empty a.0.site.history.events (subst (λ es. Begins es a.0.site.history.events) empty a.2.history.events)
+
   -- after turns, once the links are settled again
-  pub stand_again : {limit : ℕ} {xs ys zs : List (Seat P)} → AreSeats g code limit xs → AllTurned g code xs ys → AllStill g ys zs → AreSettled g zs → AreWhole zs → Stand g code limit zs
-  stand_again {limit} {xs} {ys} {zs} seats turned still settled whole =
+  pub stand_again : {limit : ℕ} {xs ys zs : List (Seat P)} → AreSeats g code limit xs → AreFresh xs → AllTurned g code xs ys → AllStill g ys zs → AreSettled g zs → AreWhole zs → Stand g code limit zs
+  stand_again {limit} {xs} {ys} {zs} seats fresh turned still settled whole =
       let after = seats_turned seats turned in record {
         seats = record {
           count = still.count ∙ after.count;
@@ -87,4 +116,5 @@ module _ {P R : Type 0} {g : Port.Ghosts P R Item} {code : ProgramTable} where
         };
         settled = settled;
         whole = whole;
+        fresh = fresh_again fresh turned still;
       }

@@ -143,7 +143,7 @@ module _ {P R : Type 0} (g : Port.Ghosts P R Item) (code : ProgramTable) (limit 
         let long : s < length (histories xs) = subst (λ (m : ℕ). s < m) (sym (long-histories xs ∙ seats.count)) h in
         its s (slice_get xs s) (here s) (whole.each s) (get_or (histories xs) s d) (sym (slice_get-map (λ s. s.site.history) xs s) ∙ slice_get-get_or (histories xs) s d long)
 
-    are_theirs : AreWhole xs → AreTheirs (length code.sites) accounts (histories xs)
+    pub are_theirs : AreWhole xs → AreTheirs (length code.sites) accounts (histories xs)
     unfolding accounts
     are_theirs whole = record {
       count = long-histories xs ∙ seats.count;
@@ -158,8 +158,3 @@ module _ {P R : Type 0} (g : Port.Ghosts P R Item) (code : ProgramTable) (limit 
 
     pub sites_end : AreSettled g xs → AreWhole xs → code.at < length code.sites → SitesEnd (length code.sites) accounts (histories xs) (start_low (program code))
     sites_end settled whole at = low_sites_end (program code) accounts (histories xs) at (are_settled settled) (are_theirs whole)
-
-  pub crew_run : (xs : List (Seat P)) → Stand g code limit xs → IsProgram code → (end : Config) × IsCrewRun (program code) limit (histories xs) end
-  crew_run xs stand is =
-      let e = sites_end xs stand.seats stand.settled stand.whole is.at in
-      (e.whole, record { sites = are_histories xs stand.seats stand.whole; reaches = e.runs; said = e.said })

@@ -1,5 +1,7 @@
 pub mod Crews
+pub mod Following
 pub mod Links
+pub mod Lists
 pub mod Quiet
 pub mod Runs
 pub mod Seats

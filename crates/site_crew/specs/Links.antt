@@ -1,5 +1,5 @@
 -- Seats side by side, one for each site in order, and their links.
-use Rattle.std.specs.Prelude.{◌≡◌, ◌+◌, ◌<◌, ℕ, Bool, false, List, [], ◌++◌, length, Some, slice_get}
+use Rattle.std.specs.Prelude.{◌≡◌, ◌≢◌, ◌+◌, ◌<◌, ℕ, Bool, false, List, [], ◌++◌, length, Some, slice_get}
 use Rattle.site_links.specs.declared.port.Port as Port
 use Rattle.agent_move.specs.declared.item.Item.{Item}
 use Rattle.site_turn.specs.declared.seat.Seat.{Seat}
@@ -63,6 +63,12 @@ module _ {P R : Type 0} (g : Port.Ghosts P R Item) where
   -- and so with all sites
   abbrev pub AreSettled : List (Seat P) → Type 0
   AreSettled xs = AreSettledBelow xs (length xs)
+
+  -- all links to a site are settled, and of the links to another site no more than is known of them has changed
+  pub record AreSettledIn (j : ℕ) (xs ys : List (Seat P)) : Type 0 where
+    pub still : AllStill xs ys
+    pub here : IsSettledTo ys j
+    pub others : (k : ℕ) → k ≢ j → IsSettledTo xs k → IsSettledTo ys k
 
   -- what stood in a place before the link from i to j was settled
   pub record Was (i j : ℕ) (xs : List (Seat P)) (k : ℕ) (s : Seat P) : Type 0 where

@@ -8,6 +8,7 @@ use Rattle.np_calculus.specs.Reductions.{run}
 use Rattle.np_calculus.specs.Starts.{start_low}
 use Rattle.stamp_history.specs.Histories.{IsHistory, Recorded}
 use Rattle.run_merge.specs.Merged.{items, merged, said}
+use Rattle.run_save.specs.Ours.{IsOurs}
 use Rattle.np_code.specs.Programs.{ProgramTable}
 
 -- the code of a program that a crew can run
@@ -28,11 +29,12 @@ pub record AreHistoriesOf (n most : ℕ) (hs : List Recorded) : Type 0 where
   pub each : (s : ℕ) (d : Recorded) → s < n → IsHistoryOf s most (slice_index_or hs s d)
 
 -- Each site has its history, within the budget. The merged histories are a run from the low start to this end, in which the values are said that the
--- histories have as printed, in their order.
+-- histories have as printed, in their order; and it is one that sites make by themselves.
 pub record IsCrewRun (low : LowProgram) (most : ℕ) (hs : List Recorded) (end : Config) : Type 0 where
   pub sites : AreHistoriesOf (length low.sites) most hs
   pub reaches : run (start_low low) (items (merged hs)) ≡ Some end
   pub said : end.said ≡ said hs
+  pub ours : IsOurs low (items (merged hs))
 
 -- the site has its history, with as many events as the budget
 pub record IsSpent (most : ℕ) (hs : List Recorded) (site : ℕ) : Type 0 where

@@ -46,6 +46,10 @@ pub record AreFirst {P : Type 0} (code : ProgramTable) (budget : ℕ) (ports : L
 pub record AreWhole {P : Type 0} (xs : List (Seat P)) : Type 0 where
   pub each : (i : ℕ) (s : Seat P) → slice_get xs i ≡ Some s → IsHistory s.site.history
 
+-- where no site has made an event, each clock is still at 0
+pub record AreFresh {P : Type 0} (xs : List (Seat P)) : Type 0 where
+  pub clocks : ((i : ℕ) (s : Seat P) → slice_get xs i ≡ Some s → s.site.history.events ≡ []) → (i : ℕ) (s : Seat P) → slice_get xs i ≡ Some s → s.site.clock ≡ 0
+
 module _ {P R : Type 0} (g : Port.Ghosts P R Item) (code : ProgramTable) where
   -- the seat of the site with this number, which has gone on from the low start
   pub record IsSeat (limit k : ℕ) (s : Seat P) : Type 0 where
@@ -66,6 +70,7 @@ module _ {P R : Type 0} (g : Port.Ghosts P R Item) (code : ProgramTable) where
     pub seats : AreSeats budget xs
     pub settled : AreSettled g xs
     pub whole : AreWhole xs
+    pub fresh : AreFresh xs
 
   -- each seat is what a turn leaves
   pub record AllTurned (xs ys : List (Seat P)) : Type 0 where

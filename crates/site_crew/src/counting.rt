@@ -20,7 +20,7 @@ pub fn events_of<P>(seats: &[Seat<P>]) -> u64
 }
 
 /// How many events a history has.
-fn count<P>(seat: &Seat<P>) -> u32
+pub fn count<P>(seat: &Seat<P>) -> u32
     ensures count { result ≡ length seat.now.site.history.events }
     ensures history { IsHistory seat.now.site.history }
 {

@@ -1,18 +1,24 @@
-ghost use Rattle.std.specs.Prelude.{◌≡◌, ◌≤◌, true, false, length, map, None, Some, IfOk, IfSome, OnOk, OnErr};
+ghost use Rattle.std.specs.Prelude.{◌≡◌, ◌<◌, ◌≤◌, ◌^◌, true, false, length, map, None, Some, IfErr, IfOk, IfSome, IsSome, OnOk, OnErr};
 ghost use Rattle.np_syntax.specs.declared.limits.TheConstants.{LARGEST_BUDGET, MOST_SITES};
 ghost use Rattle.np_code.specs.Programs.{program};
+ghost use Rattle.np_calculus.specs.Reductions.{run};
+ghost use Rattle.np_calculus.specs.Starts.{start_low};
 ghost use Rattle.site_crew.specs.Crews.{GoesOn, HasEnded, HasRun, IsJudged, IsRoundOf, NoneFailed};
+ghost use Rattle.site_crew.specs.Lists.{HasFailed, HasFollowed, IsToFollow};
 ghost use Rattle.site_crew.specs.Runs.{IsProgram};
-ghost use Rattle.site_crew.specs.Seats.{histories};
+ghost use Rattle.site_crew.specs.Seats.{event_count, histories};
 
 use crate::counting::events_of;
+use crate::follow_fail::FollowFail;
+use crate::following::follow_all;
+use crate::past::refused;
 use crate::quiet::{all_quiet, are_over};
 use crate::round::Round;
 use crate::rounds::{serial_round, threads_round};
 use crate::starting::seats_for;
 use agent_move::Item;
 use np_code::Code;
-use np_syntax::{End, List, LowProgram, Memory};
+use np_syntax::{End, Event, List, LowProgram, Memory};
 use site_links::Port;
 use site_turn::{Gate, Seat};
 use stamp_history::History;
@@ -111,6 +117,55 @@ impl<R, P: Port<R, Item>> Crew<R, P> {
                 Round::Spent => return Ok(End::Spent),
             }
         }
+    }
+
+    /// Does the events of a run of the program again, in their order, under the stamps 1, 2, 3 and so on; from there the crew can go
+    /// on by itself. The list is refused where a site has more events in it than the budget, or where it is no run that the sites
+    /// make by themselves, and then the crew is as it was. Where memory runs out, the crew has failed: its histories are those of
+    /// the events that were done, which are a run, and each later round answers Memory and changes nothing. A post, which no code
+    /// for sites has, is never done: it is answered as memory that is wanting.
+    pub fn follow(&mut self, rt: &R, low: &LowProgram, events: &[Event]) -> Result<(), FollowFail>
+        requires table { program self.old.code ≡ low.now }
+        requires none { event_count self.old.histories ≡ 0 }
+        requires sound { self.old.failed ≡ false }
+        requires run { IsSome (run (start_low low.now) events.now) }
+        requires few { length events.now < 2 ^ 32 }
+        ensures on { GoesOn self.old self.new }
+        ensures run { HasRun self.new }
+        ensures ok { OnOk result (HasFollowed low.now events.now self.new) }
+        ensures err { IfErr result (HasFailed low.now events.now self.old self.new) }
+    {
+        if let Err(fail) = refused(self.alloc, low, self.code.sites(), self.budget, events) {
+            self.failed = fail.is_memory();
+            return Err(fail);
+        }
+        match self.follow_list(rt, low, events) {
+            Ok(()) => Ok(()),
+            Err(_) => Err(FollowFail::Memory),
+        }
+    }
+
+    /// Does the events of such a run again.
+    fn follow_list(&mut self, rt: &R, _low: &LowProgram, events: &[Event]) -> Result<(), Memory>
+        requires table { program self.old.code ≡ _low.now }
+        requires none { event_count self.old.histories ≡ 0 }
+        requires sound { self.old.failed ≡ false }
+        requires list { IsToFollow _low.now self.old.budget events.now }
+        ensures on { GoesOn self.old self.new }
+        ensures run { HasRun self.new }
+        ensures ok { OnOk result (HasFollowed _low.now events.now self.new) }
+        ensures err { OnErr result (self.new.failed ≡ true) }
+    {
+        let done = follow_all(
+            rt,
+            self.alloc,
+            &self.code,
+            self.budget,
+            self.seats.as_mut_slice(),
+            events,
+        );
+        self.failed = done.is_err();
+        done
     }
 
     /// The histories of the sites, in the order of their numbers.

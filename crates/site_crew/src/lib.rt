@@ -1,9 +1,14 @@
 //! All sites of a program, each on a thread of its own, by rounds.
 #![tactic(auto)]
 
+mod bringing;
 mod counting;
 mod crew;
+mod follow_fail;
+mod following;
+mod forcing;
 mod laws;
+mod past;
 mod quiet;
 mod round;
 mod rounds;
@@ -13,6 +18,8 @@ mod turns;
 
 pub use counting::events_of;
 pub use crew::Crew;
+pub use follow_fail::FollowFail;
+pub use following::follow_all;
 pub use laws::law_crew_run;
 pub use round::Round;
 pub use rounds::{serial_round, threads_round};

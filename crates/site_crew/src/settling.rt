@@ -1,6 +1,6 @@
 //! Once no thread has the ports, the links are settled.
-ghost use Rattle.std.specs.Prelude.{◌≡◌, ◌+◌, ◌<◌, length};
-ghost use Rattle.site_crew.specs.Links.{AllStill, AreLinked, AreSettled, AreSettledBelow, IsOneMore, IsPairSettled};
+ghost use Rattle.std.specs.Prelude.{◌<◌, length};
+ghost use Rattle.site_crew.specs.Links.{AllStill, AreLinked, AreSettled, AreSettledIn, IsOneMore, IsPairSettled};
 
 use agent_move::Item;
 use site_links::Port;
@@ -17,13 +17,11 @@ pub fn settle_all<R, P: Port<R, Item>>(rt: &R, seats: &mut [Seat<P>])
     }
 }
 
-/// Settles the links to one site from all.
-fn settle_to<R, P: Port<R, Item>>(rt: &R, seats: &mut [Seat<P>], to: usize)
+/// Settles the links to one site from all. Its seat tells then whether something waits for it.
+pub fn settle_to<R, P: Port<R, Item>>(rt: &R, seats: &mut [Seat<P>], to: usize)
     requires linked { AreLinked P.Port seats.old }
     requires to { to < length seats.old }
-    requires below { AreSettledBelow P.Port seats.old to }
-    ensures still { AllStill P.Port seats.old seats.new }
-    ensures below { AreSettledBelow P.Port seats.new (to + 1) }
+    ensures { AreSettledIn P.Port to seats.old seats.new }
 {
     let mut waits = false;
     for from in 0..seats.len() {

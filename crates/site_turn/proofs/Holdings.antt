@@ -1,5 +1,5 @@
 -- What the calculus sees of a site of which nothing has changed but the room, and histories that have grown.
-use Rattle.std.proofs.Common.{◌≡◌, List, [], ◌∷◌, ◌++◌, Option, None, Some, option_map, refl, sym, ap, ◌∙◌, append_assoc, subst}
+use Rattle.std.proofs.Common.{◌≡◌, ◌+◌, suc, List, [], ◌∷◌, ◌++◌, length, Option, None, Some, option_map, refl, sym, ap, ◌∙◌, append_assoc, append-nil, length-append, arith, subst}
 use Rattle.np_syntax.specs.declared.value.Name.{Name}
 use Rattle.np_syntax.specs.declared.value.Value.{Value}
 use Rattle.np_syntax.specs.declared.process.Proc.{Proc}
@@ -34,10 +34,30 @@ history_same old new e =
 pub history_trans : {a b c : Recorded} → HistoryGrows a b → HistoryGrows b c → HistoryGrows a c
 history_trans h k = record { site = k.site ∙ h.site; budget = k.budget ∙ h.budget; events = begins_trans h.events k.events; said = begins_trans h.said k.said }
 
+-- what is longer is not the same
+longer : {T : Type 0} (xs : List T) (x : T) → xs ++ x ∷ [] ≡ xs → ⊥
+longer xs x e = let n : length xs + 1 ≡ length xs = sym (length-append xs (x ∷ [])) ∙ ap length e in absurd (omega arith)
+
+none-between : {T : Type 0} (xs ys zs : List T) → xs ≡ (xs ++ ys) ++ zs → ys ≡ []
+none-between xs [] zs e = refl
+none-between xs (y ∷ ys) zs e =
+    let n : length xs ≡ (length xs + suc (length ys)) + length zs = ap length e ∙ length-append (xs ++ y ∷ ys) zs ∙ ap (λ m. m + length zs) (length-append xs (y ∷ ys)) in
+    absurd (omega arith)
+
+-- where the end is as the beginning, so is all between them
+pub same_between : {T : Type 0} {a b c : List T} → Begins b a → Begins c b → c ≡ a → (b ≡ a) × (c ≡ b)
+same_between {T} {a} {b} {c} h k e =
+    let none : h.rest ≡ [] = none-between a h.rest k.rest (sym e ∙ k.is ∙ ap (λ l. l ++ k.rest) h.is) in
+    let first : b ≡ a = h.is ∙ ap (λ l. a ++ l) none ∙ append-nil a in
+    (first, e ∙ sym first)
+
 -- an event more
 pub recorded_events : (h : Recorded) (e : Stamped) (v : Option Value) → (recorded h e v).events ≡ h.events ++ e ∷ []
 recorded_events h e None = refl
 recorded_events h e (Some v) = refl
+
+pub not_recorded : (h : Recorded) (e : Stamped) (v : Option Value) (new : List Stamped) → new ≡ (recorded h e v).events → new ≡ h.events → ⊥
+not_recorded h e v new is same = longer h.events e (sym (recorded_events h e v) ∙ sym is ∙ same)
 
 pub recorded_grows : (h : Recorded) (e : Stamped) (v : Option Value) → HistoryGrows h (recorded h e v)
 recorded_grows h e None = record { site = refl; budget = refl; events = record { rest = e ∷ []; is = refl }; said = Begins-same h.said h.said refl }

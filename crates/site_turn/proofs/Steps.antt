@@ -1,5 +1,5 @@
 -- Steps of a turn.
-use Rattle.std.proofs.Common.{◌≡◌, ◌<◌, ◌==◌, ℕ, Bool, true, false, cond, List, [], ◌∷◌, ◌++◌, length, map, filter, flat_map, Option, None, Some, IfSome, option_map, option_to_list, refl, sym, ap, ap₂, subst, subst₂, ◌∙◌, append-nil, append_assoc, inl, inr}
+use Rattle.std.proofs.Common.{◌≡◌, ◌<◌, ◌≤◌, ◌==◌, ℕ, Bool, true, false, cond, List, [], ◌∷◌, ◌++◌, length, map, filter, flat_map, Option, None, Some, IfSome, option_map, option_to_list, refl, sym, ap, ap₂, subst, subst₂, ◌∙◌, append-nil, append_assoc, arith, inl, inr}
 use Rattle.std.proofs.lemmas.Bool.{eq-eqb, eqb-true}
 use Rattle.std.proofs.lemmas.Bool.Decides.{eqb_tells}
 use Rattle.std.proofs.lemmas.List.{map-append}
@@ -33,7 +33,7 @@ use Rattle.site_state.specs.Lines.{Waiting, queue_at, room_at}
 use Rattle.site_state.specs.Standings.{IsOut, SameSite, Standing, holding_of}
 use Rattle.site_turn.specs.declared.seat.Seat.{Seat}
 use Rattle.site_turn.specs.Turns.{Accepts, AsideIsStrange, HistoryGrows, IsStrange, Kept, Seated, SetsAside, Turned, came_from, shown}
-use Rattle.site_turn.proofs.Holdings.{history_same, history_trans, holding_same, recorded_events, recorded_grows}
+use Rattle.site_turn.proofs.Holdings.{history_same, history_trans, holding_same, not_recorded, recorded_events, recorded_grows, same_between}
 
 -- ---- from step to step
 
@@ -45,6 +45,7 @@ module _ {P R : Type 0} {g : Port.Ghosts P R Item} {code : ProgramTable} where
     lines = refl;
     budget = refl;
     history = history_same a.site.history a.site.history refl;
+    clock = λ same. refl;
     aside = λ h. h;
     kept = λ start h. h;
   }
@@ -56,6 +57,7 @@ module _ {P R : Type 0} {g : Port.Ghosts P R Item} {code : ProgramTable} where
     lines = k.lines ∙ h.lines;
     budget = k.budget ∙ h.budget;
     history = history_trans h.history k.history;
+    clock = λ same. let b = same_between h.history.events k.history.events same in k.clock b.1 ∙ h.clock b.0;
     aside = λ s. k.aside (h.aside s);
     kept = λ start s. k.kept start (h.kept start s);
   }
@@ -96,7 +98,7 @@ module _ {P R : Type 0} {g : Port.Ghosts P R Item} {code : ProgramTable} where
     deeds = h.deeds;
     came = h.came;
     account = subst₂ (λ (n : ℕ) (e : Holding). IsAccount (length code.sites) n start h.deeds e h.came) (sym s.number) (sym s.holding) h.account;
-    clock = s.clock ∙ h.clock;
+    clock = subst (λ (m : ℕ). clock_after 0 h.deeds ≤ m) (sym s.clock) h.clock;
     events = ap (λ r. r.events) s.history ∙ h.events;
     from = h.from;
     within = subst (λ (o : Option Item). IfSome o (λ x. h.from < length code.sites)) (sym s.aside) h.within;
@@ -112,6 +114,7 @@ module _ {P R : Type 0} {g : Port.Ghosts P R Item} {code : ProgramTable} where
     lines = lines;
     budget = budget;
     history = history_same a.site.history b.site.history s.history;
+    clock = λ same. s.clock;
     aside = aside_still a b f s.number s.aside;
     kept = kept_still s;
   }
@@ -256,19 +259,27 @@ put-more code old (Some x) new h t =
 abbrev deed_at : ProgramTable → Standing → Event → Option Item → Option Item → Deed
 deed_at code new event taken out = deed_of code (record { stamp = new.clock; event = event }) taken out
 
+-- a later clock ticks later
+ticked-later : (m n : ℕ) (o : Option StampedItem) → m ≤ n → ticked m o ≤ ticked n o
+ticked-later m n None h = omega arith
+ticked-later m n (Some x) h = omega arith
+
 -- the event is the next one of the account
 module _ (code : ProgramTable) (old new : Standing) (event : Event) (taken out : Option Item) (did : Did code old new event taken out) (lines : length old.outgoing ≡ length code.sites) where
   abbrev deed : Deed
   deed = deed_at code new event taken out
 
-  pub account_more : (start : Holding) (ds : List Deed) (came : List Came) → IsAccount (length code.sites) old.site start ds (holding_of code old) came → old.clock ≡ clock_after 0 ds
+  pub account_more : (start : Holding) (ds : List Deed) (came : List Came) → IsAccount (length code.sites) old.site start ds (holding_of code old) came → clock_after 0 ds ≤ old.clock
       → (from : ℕ) → IfSome (option_map (item_of code) taken) (λ x. from < length code.sites)
       → IsAccount (length code.sites) new.site start (ds ++ deed_at code new event taken out ∷ []) (holding_of code new) (came ++ taken_on from (deed_at code new event taken out))
   account_more start ds came account clock from within =
       let own : IsDeedOf (length code.sites) old.site deed =
       record { at = did.at; to = sent-within code (length code.sites) new out did.put (put-lines old.outgoing out new.outgoing did.outgoing ∙ lines) } in
       let stamps : HasStamps (clock_after 0 ds) deed =
-      record { event = did.clock ∙ ap (λ c. ticked c (option_map (item_of code) taken)) clock; put = sent-stamp code new.clock new out did.put refl } in
+      record {
+        event = subst (λ (m : ℕ). ticked (clock_after 0 ds) (option_map (item_of code) taken) ≤ m) (sym did.clock) (ticked-later (clock_after 0 ds) old.clock (option_map (item_of code) taken) clock);
+        put = sent-stamp code new.clock new out did.put refl;
+      } in
       let next : IsNextDeed (length code.sites) old.site ds (holding_of code old) deed (holding_of code new) =
       record { own = own; does = did.does; stamps = stamps } in
       subst (λ (n : ℕ). IsAccount (length code.sites) n start (ds ++ deed ∷ []) (holding_of code new) (came ++ taken_on from deed)) (sym did.site)
@@ -299,13 +310,14 @@ module _ {P R : Type 0} {g : Port.Ghosts P R Item} {code : ProgramTable} where
     lines = put-lines a.site.outgoing done.out b.site.outgoing done.did.outgoing;
     budget = budget;
     history = grows_more code a.site b.site done.event None done.out done.did lines;
+    clock = λ same. absurd (not_recorded a.site.history _ done.did.value b.site.history.events (ap (λ h. h.events) done.did.history) same);
     aside = aside_still a b (λ h. sym failed ∙ h) done.did.site aside;
     kept = λ start h.
         let d : Deed = deed_at code b.site done.event None done.out in record {
           deeds = h.deeds ++ d ∷ [];
           came = h.came ++ taken_on 0 d;
           account = account_more code a.site b.site done.event None done.out done.did lines start h.deeds h.came h.account h.clock 0 tt;
-          clock = sym (clock_goes_on 0 h.deeds d);
+          clock = let last : clock_after 0 (h.deeds ++ d ∷ []) ≡ b.site.clock = clock_goes_on 0 h.deeds d in omega arith;
           events = events_more code a.site b.site done.event None done.out done.did lines h.deeds h.events;
           from = h.from;
           within = subst (λ (o : Option Item). IfSome o (λ x. h.from < length code.sites)) (sym aside) h.within;
@@ -374,12 +386,13 @@ module _ {P R : Type 0} {g : Port.Ghosts P R Item} {code : ProgramTable} where
         lines = did.outgoing.sites;
         budget = accepts.budget ∙ budget;
         history = grows_more code a.site b.site event (Some item) None did lines;
+        clock = λ same. absurd (not_recorded a.site.history _ did.value b.site.history.events (ap (λ h. h.events) did.history) same);
         aside = λ h ok. subst (λ (o : Option Item). IfSome o (IsStrange b.site.site)) (sym accepts.aside) tt;
         kept = λ start h. record {
           deeds = h.deeds ++ d ∷ [];
           came = h.came ++ taken_on from d;
           account = account_more code a.site b.site event (Some item) None did lines start h.deeds h.came h.account h.clock from low;
-          clock = sym (clock_goes_on 0 h.deeds d);
+          clock = let last : clock_after 0 (h.deeds ++ d ∷ []) ≡ b.site.clock = clock_goes_on 0 h.deeds d in omega arith;
           events = events_more code a.site b.site event (Some item) None did lines h.deeds h.events;
           from = from;
           within = subst (λ (o : Option Item). IfSome o (λ x. from < length code.sites)) (sym accepts.aside) tt;
@@ -406,12 +419,13 @@ module _ {P R : Type 0} {g : Port.Ghosts P R Item} {code : ProgramTable} where
         lines = s.outgoing.sites;
         budget = sets.budget ∙ budget;
         history = history_same a.site.history b.site.history s.history;
+        clock = λ same. s.clock;
         aside = λ h. sets.strange;
         kept = λ start h. record {
           deeds = h.deeds;
           came = h.came;
           account = subst₂ (λ (n : ℕ) (e : Holding). IsAccount (length code.sites) n start h.deeds e h.came) (sym s.site) (sym (holding_same code a.site b.site s)) h.account;
-          clock = s.clock ∙ h.clock;
+          clock = subst (λ (m : ℕ). clock_after 0 h.deeds ≤ m) (sym s.clock) h.clock;
           events = ap (λ r. r.events) s.history ∙ h.events;
           from = from;
           within = subst (λ (o : Option Item). IfSome o (λ x. from < length code.sites)) (sym sets.aside) low;

@@ -1,5 +1,5 @@
 -- What a turn leaves of a site and its port (docs/LANGUAGE.md, "History text").
-use Rattle.std.specs.Prelude.{◌≡◌, ◌<◌, ◌^◌, ℕ, false, List, ◌++◌, length, map, Option, None, Some, IfSome, option_map, option_to_list}
+use Rattle.std.specs.Prelude.{◌≡◌, ◌<◌, ◌≤◌, ◌^◌, ℕ, false, List, ◌++◌, length, map, Option, None, Some, IfSome, option_map, option_to_list}
 use Rattle.stamp_history.specs.Histories.{Recorded}
 use Rattle.site_links.specs.Words.{Begins, Keeps}
 use Rattle.site_links.specs.declared.port.Port as Port
@@ -69,7 +69,8 @@ module _ {P R : Type 0} (g : Port.Ghosts P R Item) (code : ProgramTable) where
     pub deeds : List Deed
     pub came : List Came
     pub account : IsAccount (length code.sites) s.site.site start deeds (holding_of code s.site) came
-    pub clock : s.site.clock ≡ clock_after 0 deeds
+    -- the clock may be later than its last event
+    pub clock : clock_after 0 deeds ≤ s.site.clock
     pub events : s.site.history.events ≡ map (λ d. d.event) deeds
     -- the site on whose link the item came that is set aside
     pub from : ℕ
@@ -91,5 +92,7 @@ module _ {P R : Type 0} (g : Port.Ghosts P R Item) (code : ProgramTable) where
     pub lines : length new.site.outgoing ≡ length old.site.outgoing
     pub budget : new.budget ≡ old.budget
     pub history : HistoryGrows old.site.history new.site.history
+    -- where no event is added the clock stands still
+    pub clock : new.site.history.events ≡ old.site.history.events → new.site.clock ≡ old.site.clock
     pub aside : AsideIsStrange old → AsideIsStrange new
     pub kept : (start : Holding) → Kept start old → Kept start new

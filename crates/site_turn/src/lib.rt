@@ -10,5 +10,6 @@ mod turning;
 
 pub use effort::Effort;
 pub use gate::{Free, Gate};
+pub use receiving::{admit, has_room};
 pub use seat::Seat;
 pub use turning::{LOOKS, turn};

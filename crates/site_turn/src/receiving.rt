@@ -35,7 +35,7 @@ pub fn receive<R, P: Port<R, Item>>(rt: &R, code: &Code, seat: &mut Seat<P>) -> 
 }
 
 /// Accepts an item, or sets it aside.
-fn admit<P>(seat: &mut Seat<P>, item: Item) -> bool
+pub fn admit<P>(seat: &mut Seat<P>, item: Item) -> bool
     requires room { HasRoom seat.old.site }
     requires aside { seat.old.aside ≡ None }
     ensures yes { result ≡ true → Accepts seat.old item seat.new }

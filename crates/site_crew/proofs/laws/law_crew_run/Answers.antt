@@ -1,4 +1,4 @@
-use Rattle.site_crew.proofs.Whole.{crew_run}
+use Rattle.site_crew.proofs.CrewRuns.{crew_run}
 use Rattle.site_crew.proofs.laws.law_crew_run.Goals as goal
 
 pub returns : goal.returns

@@ -11,7 +11,7 @@ pub settle_all-requires-after_bounds : goal.settle_all-requires-after_bounds
 settle_all-requires-after_bounds g c κs within = (seats_turned c.requires.stand.seats c.threads_turns.ensures).linked
 
 pub returns-clause-stand : goal.returns-clause-stand
-returns-clause-stand g c = stand_again c.requires.stand.seats c.threads_turns.ensures c.settle_all.ensures.still c.settle_all.ensures.settled c.events_of.ensures.whole
+returns-clause-stand g c = stand_again c.requires.stand.seats c.requires.stand.fresh c.threads_turns.ensures c.settle_all.ensures.still c.settle_all.ensures.settled c.events_of.ensures.whole
 
 pub returns-clause-count : goal.returns-clause-count
 returns-clause-count g c = c.settle_all.ensures.still.count ∙ c.threads_turns.ensures.count

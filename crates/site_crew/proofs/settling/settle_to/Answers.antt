@@ -1,15 +1,15 @@
-use Rattle.std.proofs.Common.{◌≡◌, ◌<◌, ◌≤◌, ℕ, Some, get_or, length, arith, subst}
+use Rattle.std.proofs.Common.{◌≡◌, ◌<◌, ℕ, Some, get_or, length, arith, subst}
 use Rattle.std.specs.Prelude.{slice_get}
 use Rattle.std.proofs.lemmas.Option.{slice_get-get_or}
 use Rattle.site_crew.specs.Links.{IsSettled, IsToldBelow}
-use Rattle.site_crew.proofs.Pairs.{all_still_refl, all_still_trans, here_kept, linked_after, others_kept, settled_more, still_of_pair, still_then, told_nothing}
+use Rattle.site_crew.proofs.Pairs.{all_still_refl, all_still_trans, here_kept, here_then, linked_after, other_kept, other_then, still_of_pair, still_then, told_nothing}
 use Rattle.site_crew.proofs.settling.settle_to.Goals as goal
 
 pub loop-from-init : goal.loop-from-init
 loop-from-init g c = record {
   still = all_still_refl _;
   linked = c.requires.linked;
-  below = c.requires.below;
+  others = λ k apart old. old;
   here = λ i h. absurd (omega arith);
   told = told_nothing c.args.seats.now c.args.to;
 }
@@ -26,10 +26,10 @@ settle_more-waits-requires-clause-places g c κs within =
 pub loop-from-preserved : goal.loop-from-preserved
 loop-from-preserved g c =
     let i = c.loop-from.invariant in let p = c.settle_more-waits.ensures in let s = still_of_pair p.pair in
-    let le : c.args.to ≤ c.args.to = omega arith in record {
+    record {
       still = all_still_trans i.still s;
       linked = linked_after i.linked s;
-      below = others_kept c.loop-from.from c.args.to c.args.to p.pair le i.below;
+      others = λ k apart old. other_kept c.loop-from.from c.args.to k p.pair apart (i.others k apart old);
       here = here_kept c.loop-from.from c.args.to p.pair i.here;
       told = p.told i.told;
     }
@@ -42,6 +42,7 @@ returns g c =
     let x = get_or c.loop-from.seats c.args.to c.index-seats-to.result in
     let at : slice_get c.loop-from.seats c.args.to ≡ Some x = slice_get-get_or c.loop-from.seats c.args.to c.index-seats-to.result h in record {
       still = all_still_trans i.still (still_then c.loop-from.seats c.args.to x c.loop-from.waits at);
-      below = settled_more c.loop-from.seats c.args.to x c.loop-from.waits at (subst (λ (m : ℕ). (a : ℕ) → a < m → IsSettled g.P.Port c.loop-from.seats a c.args.to) e i.here)
-          (subst (λ (m : ℕ). IsToldBelow g.P.Port c.loop-from.seats c.args.to m c.loop-from.waits) e i.told) i.below;
+      here = here_then c.loop-from.seats c.args.to x c.loop-from.waits at (subst (λ (m : ℕ). (a : ℕ) → a < m → IsSettled g.P.Port c.loop-from.seats a c.args.to) e i.here)
+          (subst (λ (m : ℕ). IsToldBelow g.P.Port c.loop-from.seats c.args.to m c.loop-from.waits) e i.told);
+      others = λ k apart old. other_then c.loop-from.seats c.args.to x c.loop-from.waits at k apart (i.others k apart old);
     }

@@ -9,3 +9,9 @@ look-requires-after_bounds g c κs within = seated_after c.step.ensures (seated_
 
 pub returns-in-Quiet : goal.returns-in-Quiet
 returns-in-Quiet g c = turned_trans (turned_trans c.poll.ensures c.step.ensures) c.look.ensures
+
+pub returns-in-Did : goal.returns-in-Did
+returns-in-Did g c = turned_trans c.poll.ensures c.step.ensures
+
+pub returns-in-Spent : goal.returns-in-Spent
+returns-in-Spent g c = turned_trans c.poll.ensures c.step.ensures

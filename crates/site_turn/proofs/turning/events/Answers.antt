@@ -9,3 +9,6 @@ send_new-requires-after_bounds g c κs within = seated_after c.event.ensures c.l
 
 pub loop-number-preserved : goal.loop-number-preserved
 loop-number-preserved g c = let i = c.loop-number.invariant in let t = turned_trans c.event.ensures c.send_new.ensures in record { turned = turned_trans i.turned t; seated = seated_after t i.seated }
+
+pub returns-then-not-event : goal.returns-then-not-event
+returns-then-not-event g c = turned_trans c.loop-number.invariant.turned c.event.ensures

@@ -1,5 +1,5 @@
 use Rattle.site_crew.proofs.Crewing.{none_failed, stand_made}
-use Rattle.site_crew.proofs.Whole.{crew_run}
+use Rattle.site_crew.proofs.CrewRuns.{crew_run}
 use Rattle.site_crew.proofs.crew.Crew.new.Goals as goal
 
 pub invariant_of-result : goal.invariant_of-result

@@ -6,7 +6,7 @@ use Rattle.site_crew.specs.Crews.{HasRun, IsJudged}
 use Rattle.site_crew.specs.Runs.{IsCrewRun}
 use Rattle.site_crew.specs.Seats.{event_count, histories}
 use Rattle.site_crew.proofs.Crewing.{has_run, round_told, slice_whole, told_ok}
-use Rattle.site_crew.proofs.Whole.{crew_run}
+use Rattle.site_crew.proofs.CrewRuns.{crew_run}
 use Rattle.site_crew.proofs.crew.Crew.serial_round.Goals as goal
 
 pub returns-then-self-clause-run : goal.returns-then-self-clause-run

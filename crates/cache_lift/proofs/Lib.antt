@@ -1,0 +1,5 @@
+pub mod Examples
+pub mod Parts
+pub mod Standings
+pub mod Table
+pub mod WithoutMessengers

@@ -1,0 +1,19 @@
+-- The list of two parts, and what stands for what after them.
+use Rattle.std.proofs.Common.{◌≡◌, Option, None, Some, List, [], ◌∷◌, ◌++◌, refl, ap, ◌∙◌}
+use Rattle.np_lift.specs.Posts.{prepended}
+use Rattle.cache_lift.specs.Lift.{lifted, lift_from, standing_after}
+use Rattle.cache_lift.specs.Laws.{LiftOfParts, StandingOfParts}
+
+prepended-append : {A : Type 0} (o : Option A) (xs ys : List A) → prepended o (xs ++ ys) ≡ prepended o xs ++ ys
+prepended-append None xs ys = refl
+prepended-append (Some x) xs ys = refl
+
+pub lift-of-parts : LiftOfParts
+lift-of-parts s [] k = refl
+lift-of-parts s (e ∷ h) k =
+    ap (prepended (lifted s e).event) (lift-of-parts (lifted s e).standing h k)
+    ∙ prepended-append (lifted s e).event (lift_from (lifted s e).standing h) (lift_from (standing_after (lifted s e).standing h) k)
+
+pub standing-of-parts : StandingOfParts
+standing-of-parts s [] k = refl
+standing-of-parts s (e ∷ h) k = standing-of-parts (lifted s e).standing h k

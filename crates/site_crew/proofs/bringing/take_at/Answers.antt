@@ -1,0 +1,36 @@
+use Rattle.std.proofs.Common.{◌≡◌, Some, get_or, subst}
+use Rattle.std.specs.Prelude.{slice_get}
+use Rattle.std.proofs.lemmas.List.{get_or-set_same}
+use Rattle.std.proofs.lemmas.Option.{slice_get-get_or}
+use Rattle.stamp_history.specs.Histories.{IsHistory}
+use Rattle.site_turn.specs.declared.seat.Seat.{Seat}
+use Rattle.site_crew.proofs.Goings.{seat_seated}
+use Rattle.site_crew.proofs.Redoing.{added_one}
+use Rattle.site_crew.proofs.Replacing.{grows_moved, stand_moved}
+use Rattle.site_crew.proofs.bringing.take_at.Goals as goal
+
+pub take_for-took-requires-after_bounds : goal.take_for-took-requires-after_bounds
+take_for-took-requires-after_bounds g c κs within =
+    let xs = c.args.seats.now in let i = c.args.event.site in let x = c.index-seats-at.result in
+    seat_seated (c.requires.stand.seats.each i (get_or xs i x) (slice_get-get_or xs i x c.requires.at))
+
+pub returns-clause-stand : goal.returns-clause-stand
+returns-clause-stand g c =
+    let xs = c.args.seats.now in let i = c.args.event.site in let a = get_or xs i c.index-seats-at.result in
+    let at : slice_get xs i ≡ Some a = slice_get-get_or xs i c.index-seats-at.result c.requires.at in
+    let new = c.take_for-took.new.seat in
+    let history : IsHistory new.site.history =
+    subst (λ (s : Seat _). IsHistory s.site.history) (get_or-set_same xs i new c.index-seats-at-2.result c.requires.at) c.count.ensures.history in
+    stand_moved c.requires.stand at (c.take_for-took.ensures.moves i) history
+
+pub returns-clause-grow : goal.returns-clause-grow
+returns-clause-grow g c =
+    let xs = c.args.seats.now in let i = c.args.event.site in let a = get_or xs i c.index-seats-at.result in
+    let at : slice_get xs i ≡ Some a = slice_get-get_or xs i c.index-seats-at.result c.requires.at in
+    grows_moved xs i a c.take_for-took.new.seat at (c.take_for-took.ensures.moves i).turned
+
+pub returns-clause-yes : goal.returns-clause-yes
+returns-clause-yes g c = λ e.
+    let xs = c.args.seats.now in let i = c.args.event.site in let a = get_or xs i c.index-seats-at.result in
+    let at : slice_get xs i ≡ Some a = slice_get-get_or xs i c.index-seats-at.result c.requires.at in
+    added_one c.args.event c.args.stamp xs a c.take_for-took.new.seat at (c.take_for-took.ensures.yes e)

@@ -1,0 +1,18 @@
+use Rattle.std.proofs.Common.{List, ap, length, subst, sym, ◌∙◌}
+use Rattle.np_calculus.specs.Config.{Config}
+use Rattle.np_code.specs.Programs.{program}
+use Rattle.site_turn.specs.declared.seat.Seat.{Seat}
+use Rattle.site_crew.specs.Runs.{IsCrewRun}
+use Rattle.site_crew.specs.Seats.{histories}
+use Rattle.site_crew.proofs.Crewing.{slice_whole}
+use Rattle.site_crew.proofs.CrewRuns.{crew_run}
+use Rattle.site_crew.proofs.Whole.{long-histories}
+use Rattle.site_crew.proofs.crew.Crew.follow_list.Goals as goal
+
+pub returns-clause-run : goal.returns-clause-run
+returns-clause-run g c =
+    let was = c.self.inside in
+    let now = c.follow_all-done.new.seats in
+    let same = sym (long-histories now) ∙ c.follow_all-done.ensures.grow.count ∙ long-histories c.as_mut_slice.result.now ∙ ap length c.as_mut_slice.ensures.value in
+    subst (λ (xs : List (Seat _)). (end : Config) × IsCrewRun (program was.code) was.budget (histories xs) end) (sym (slice_whole was.seats.items now was.seats.len was.seats.ok.0 same))
+    (crew_run g.P.Port was.code was.budget now c.follow_all-done.ensures.stand c.self.invariant.program)

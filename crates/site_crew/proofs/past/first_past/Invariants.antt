@@ -1,0 +1,6 @@
+use Rattle.std.proofs.Common.{◌<◌, ◌≤◌, ℕ}
+use Rattle.np_following.specs.Following.{events_at}
+use Rattle.site_crew.proofs.past.first_past.Given as goal
+
+abbrev pub invariant-loop-site : goal.invariant-loop-site
+invariant-loop-site l = (u : ℕ) → u < l.site → events_at u l.events ≤ l.budget

@@ -1,0 +1,92 @@
+-- What seats are while the events of a list are done again (docs/LANGUAGE.md, "History text").
+use Rattle.std.specs.Prelude.{◌≡◌, ◌≢◌, ◌<◌, ◌≤◌, ◌+◌, ℕ, false, max, List, [], ◌∷◌, ◌++◌, length, Some, slice_get}
+use Rattle.np_syntax.specs.declared.event.Event.{Event}
+use Rattle.site_links.specs.declared.port.Port as Port
+use Rattle.np_code.specs.Programs.{ProgramTable}
+use Rattle.np_following.specs.Following.{AreOf}
+use Rattle.agent_move.specs.declared.item.Item.{Item}
+use Rattle.site_state.specs.Doing.{HasRoom, IsPossible}
+use Rattle.site_turn.specs.declared.seat.Seat.{Seat}
+use Rattle.site_turn.specs.Turns.{Turned}
+use Rattle.site_crew.specs.Crews.{NoneFailed}
+use Rattle.site_crew.specs.Links.{IsSettledTo}
+use Rattle.site_crew.specs.Seats.{AreFresh, AreSeats, AreWhole, Stand, histories}
+
+-- ---- one seat
+
+-- its site has recorded the event as its last, with this stamp, which its clock shows then
+pub record Adds {P : Type 0} (e : Event) (stamp : ℕ) (old new : Seat P) : Type 0 where
+  pub events : new.site.history.events ≡ old.site.history.events ++ record { stamp = stamp; event = e } ∷ []
+  pub clock : new.site.clock ≡ stamp
+  pub sound : old.failed ≡ false → new.failed ≡ false
+
+-- its site has recorded some event as its last, with the stamp that its clock shows then
+pub record HasAccepted {P : Type 0} (old new : Seat P) : Type 0 where
+  pub event : Event
+  pub events : new.site.history.events ≡ old.site.history.events ++ record { stamp = new.site.clock; event = event } ∷ []
+
+-- this is the last of the list
+pub record IsLast {T : Type 0} (xs : List T) (x : T) : Type 0 where
+  pub before : ℕ
+  pub count : length xs ≡ before + 1
+  pub last : slice_get xs before ≡ Some x
+
+-- it has made no event, and its clock has gone on to no more than this stamp
+pub record Rests {P : Type 0} (late : ℕ) (old new : Seat P) : Type 0 where
+  pub history : new.site.history ≡ old.site.history
+  pub clock : new.site.clock ≤ max old.site.clock late
+  pub later : old.site.clock ≤ new.site.clock
+  pub failed : new.failed ≡ old.failed
+
+-- its site can do the event, and record it with this stamp
+pub record CanForce {P : Type 0} (code : ProgramTable) (e : Event) (stamp : ℕ) (s : Seat P) : Type 0 where
+  pub room : HasRoom s.site
+  pub possible : IsPossible code s.site e
+  pub above : s.site.clock < stamp
+
+-- ---- all seats
+
+pub record AllRest {P : Type 0} (late : ℕ) (xs ys : List (Seat P)) : Type 0 where
+  pub count : length ys ≡ length xs
+  pub each : (i : ℕ) (a b : Seat P) → slice_get xs i ≡ Some a → slice_get ys i ≡ Some b → Rests late a b
+
+-- the site of the event has recorded it, and the others have made no event
+pub record HaveAdded {P : Type 0} (e : Event) (stamp late : ℕ) (xs ys : List (Seat P)) : Type 0 where
+  pub count : length ys ≡ length xs
+  pub at : e.site < length xs
+  pub there : (a b : Seat P) → slice_get xs e.site ≡ Some a → slice_get ys e.site ≡ Some b → Adds e stamp a b
+  pub others : (i : ℕ) (a b : Seat P) → i ≢ e.site → slice_get xs i ≡ Some a → slice_get ys i ≡ Some b → Rests late a b
+
+-- where no site has made an event, the stamp is 0
+pub record IsNotEarly {P : Type 0} (stamp : ℕ) (xs : List (Seat P)) : Type 0 where
+  pub none : ((i : ℕ) (s : Seat P) → slice_get xs i ≡ Some s → s.site.history.events ≡ []) → stamp ≡ 0
+
+-- each clock is at no less than this stamp
+pub record AreLate {P : Type 0} (stamp : ℕ) (xs : List (Seat P)) : Type 0 where
+  pub each : (i : ℕ) (s : Seat P) → slice_get xs i ≡ Some s → stamp ≤ s.site.clock
+
+-- each clock is at this stamp
+pub record AreAt {P : Type 0} (stamp : ℕ) (xs : List (Seat P)) : Type 0 where
+  pub each : (i : ℕ) (s : Seat P) → slice_get xs i ≡ Some s → s.site.clock ≡ stamp
+
+module _ {P R : Type 0} (g : Port.Ghosts P R Item) (code : ProgramTable) where
+  -- the seat in a place at a later time, of which no link but those to one site has changed
+  pub record Moves (i to : ℕ) (old new : Seat P) : Type 0 where
+    pub turned : Turned g code old new
+    pub sent : (k : ℕ) → k ≢ to → g.sent new.port k ≡ g.sent old.port k
+    pub got : i ≢ to → (k : ℕ) → (g.got new.port k ≡ g.got old.port k) × (g.known new.port k ≡ g.known old.port k)
+    pub waits : i ≢ to → new.waits ≡ old.waits
+
+  -- between rounds, but that the links to one site need not be settled
+  pub record StandBut (budget to : ℕ) (xs : List (Seat P)) : Type 0 where
+    pub seats : AreSeats g code budget xs
+    pub settled : (j : ℕ) → j < length xs → j ≢ to → IsSettledTo g xs j
+    pub whole : AreWhole xs
+    pub fresh : AreFresh xs
+
+  -- between rounds, where the events of the list were done, and no others
+  pub record HaveDone (budget : ℕ) (events : List Event) (xs : List (Seat P)) : Type 0 where
+    pub stand : Stand g code budget xs
+    pub of : AreOf events (histories xs)
+    pub clocks : (i : ℕ) (s : Seat P) → slice_get xs i ≡ Some s → s.site.clock ≤ length events
+    pub sound : NoneFailed xs

@@ -1,0 +1,59 @@
+//! Whether a crew does the events of a list again.
+ghost use Rattle.std.specs.Prelude.{◌≡◌, ◌<◌, ◌^◌, length, IfErr, IsSome, OnOk, MatchOption};
+ghost use Rattle.np_calculus.specs.Reductions.{run};
+ghost use Rattle.np_calculus.specs.Starts.{start_low};
+ghost use Rattle.np_following.specs.Following.{events_at};
+ghost use Rattle.site_crew.specs.Lists.{AreWithin, IsFirstPast, IsRefused, IsToFollow};
+
+use crate::follow_fail::FollowFail;
+use np_syntax::{Event, LowProgram};
+use run_save::ours_until;
+use std::alloc::Global;
+
+/// How many events of a list are of a site.
+fn events_at(events: &[Event], site: u32) -> usize
+    ensures { result ≡ events_at site events.now }
+{
+    let mut count = 0;
+    for event in events {
+        if event.site == site {
+            count += 1;
+        }
+    }
+    count
+}
+
+/// The first of so many sites that has more events in a list than the budget. It goes through the list once for each site.
+fn first_past(events: &[Event], sites: u32, budget: u32) -> Option<u32>
+    ensures { MatchOption result (AreWithin sites budget events.now) (IsFirstPast sites budget events.now) }
+{
+    for site in 0..sites {
+        if events_at(events, site) > budget as usize {
+            return Some(site);
+        }
+    }
+    None
+}
+
+/// Why a run of a program is not one for its sites to follow, if it is not.
+pub fn refused(
+    alloc: Global,
+    low: &LowProgram,
+    sites: u32,
+    budget: u32,
+    events: &[Event],
+) -> Result<(), FollowFail>
+    requires sites { sites ≡ length low.now.sites }
+    requires run { IsSome (run (start_low low.now) events.now) }
+    requires few { length events.now < 2 ^ 32 }
+    ensures ok { OnOk result (IsToFollow low.now budget events.now) }
+    ensures err { IfErr result (IsRefused low.now budget events.now) }
+{
+    if let Some(site) = first_past(events, sites, budget) {
+        return Err(FollowFail::BudgetPast(site));
+    }
+    match ours_until(alloc, low, events)? {
+        Some(index) => Err(FollowFail::NotOurs(index)),
+        None => Ok(()),
+    }
+}
