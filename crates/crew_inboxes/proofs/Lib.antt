@@ -1,0 +1,5 @@
+pub mod Items
+pub mod Links
+pub mod Sitting
+pub mod Taking
+pub mod Weaving
