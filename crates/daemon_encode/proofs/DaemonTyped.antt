@@ -57,14 +57,14 @@ module _ (n : ℕ) where
       good-made low types _ _ (outs-Send _ _ _ _)
       (an_agent low types a ha, a_site low types s hs, sends-on low types _ _ (ty.Tuple []) (ty.Tuple []) (its-channel types 7 (ty.Tuple []) refl) (least-unit low types) (sub-itself (ty.Tuple [])))
 
-  freed : (types : Types) (m : ℕ) → table.get types m ≡ Some ty.Places → Good low types (frees n m)
+  pub freed : (types : Types) (m : ℕ) → table.get types m ≡ Some ty.Places → Good low types (frees n m)
   freed types m h = given types 0 _ _ (sends-on low types _ _ ty.Places ty.Places (its-channel types 10 ty.Places refl) (least-variable low types m ty.Places h) (sub-itself ty.Places))
 
   -- its site is put into its lock
-  held : (types : Types) (l s : ℕ) → table.get types l ≡ Some lock_type → table.get types s ≡ Some ty.Site → Good low types (gives 0 (variable l) (variable s))
+  pub held : (types : Types) (l s : ℕ) → table.get types l ≡ Some lock_type → table.get types s ≡ Some ty.Site → Good low types (gives 0 (variable l) (variable s))
   held types l s hl hs = given types 0 _ _ (sends-on low types _ _ ty.Site ty.Site (a_lock types l hl) (least-variable low types s ty.Site hs) (sub-itself ty.Site))
 
-  noted : (types : Types) (i : ℕ) (x : Pat) (t : Ty) (inner : Types) (m : ℕ) (p : Proc) → listed carried i ≡ Some (cap.Both, t) → cover x t types ≡ Ok inner
+  pub noted : (types : Types) (i : ℕ) (x : Pat) (t : Ty) (inner : Types) (m : ℕ) (p : Proc) → listed carried i ≡ Some (cap.Both, t) → cover x t types ≡ Ok inner
       → Good low (table.insert inner m ty.Places) p → Good low types (notes n (channel n i) x m p)
   noted types i x t inner m p h covers g =
       good-made low types _ _ (outs-Rep _ _ _) (takes-from low types _ _ t inner _ (its-channel types i t h) covers

@@ -47,7 +47,7 @@ itself : (types : Types) → Narrower types types
 itself types = record { all = λ x t h. record { type = t; is = h; below = sub-itself t } }
 
 -- a binder that no one has yet
-newer : (types : Types) (s : ℕ) (t : Ty) → table.get types s ≡ None → Narrower (table.insert types s t) types
+pub newer : (types : Types) (s : ℕ) (t : Ty) → table.get types s ≡ None → Narrower (table.insert types s t) types
 newer types s t none = record { all = λ x u h. record { type = u; is = slot_past types s t x (λ e. differs x u e h) ∙ h; below = sub-itself u } }
   where
     differs : (x : ℕ) (u : Ty) → x ≡ s → table.get types x ≡ Some u → ⊥
@@ -66,24 +66,24 @@ other y x h e =
     let c : true ≡ false = sym r ∙ s in
     cc
 
-room-bind : (types : Types) (free : Free) (k x : ℕ) (t : Ty) → free x ≡ true → Room types free k → Room (table.insert types x t) (without free x) k
+pub room-bind : (types : Types) (free : Free) (k x : ℕ) (t : Ty) → free x ≡ true → Room types free k → Room (table.insert types x t) (without free x) k
 room-bind types free k x t f r = record {
   unbound = λ y h. let a = and-out (free y) (not (eq_by_cmp nat_cmp y x)) h in slot_past types x t y (other y x a.1) ∙ r.unbound y a.0;
   small = λ y h. r.small y (and-out (free y) (not (eq_by_cmp nat_cmp y x)) h).0;
   fresh = λ y h. slot_past types x t y (λ e. let l = r.small x f in omega (arith, e)) ∙ r.fresh y h;
 }
 
-room-new : (types : Types) (free : Free) (k : ℕ) (t : Ty) → Room types free k → Room (table.insert types k t) free (k + 1)
+pub room-new : (types : Types) (free : Free) (k : ℕ) (t : Ty) → Room types free k → Room (table.insert types k t) free (k + 1)
 room-new types free k t r = record {
   unbound = λ y h. slot_past types k t y (λ e. let l = r.small y h in omega (arith, e)) ∙ r.unbound y h;
   small = λ y h. let l = r.small y h in omega arith;
   fresh = λ y h. slot_past types k t y (λ e. omega (arith, e)) ∙ r.fresh y (omega arith);
 }
 
-room-rise : (types : Types) (free : Free) (k j : ℕ) → k ≤ j → Room types free k → Room types free j
+pub room-rise : (types : Types) (free : Free) (k j : ℕ) → k ≤ j → Room types free k → Room types free j
 room-rise types free k j l r = record { unbound = r.unbound; small = λ y h. let s = r.small y h in omega arith; fresh = λ y h. r.fresh y (omega arith) }
 
-both-narrower : (a b c : Types) → Narrower a b → Narrower b c → Narrower a c
+pub both-narrower : (a b c : Types) → Narrower a b → Narrower b c → Narrower a c
 both-narrower a b c h k = record { all = λ x t is. let y = k.all x t is in let z = h.all x y.type y.is in record { type = z.type; is = z.is; below = sub-trans z.type y.type t z.below y.below } }
 
 module _ (k : ℕ) where
@@ -147,23 +147,23 @@ module _ (n : ℕ) (some : nat_lt 0 n ≡ true) where
   abbrev pub Keep : Proc → Type 0
   Keep p = (types : Types) (free : Free) (a : Expr) (k : ℕ) → Place types free a k → clean p free ≡ true → Good w types p → Done types k (translated n p a k)
 
-  moved : (small large : Types) → Narrower small large → (a : Expr) → Tested w large is_agent a → Tested w small is_agent a
+  pub moved : (small large : Types) → Narrower small large → (a : Expr) → Tested w large is_agent a → Tested w small is_agent a
   moved small large less a t = weak_tested w w (same_world w) small large less is_agent agent_below a t
 
-  inside : (types : Types) (free : Free) (a : Expr) (k x : ℕ) (t : Ty) → free x ≡ true → Place types free a k → Place (table.insert types x t) (without free x) a k
+  pub inside : (types : Types) (free : Free) (a : Expr) (k x : ℕ) (t : Ty) → free x ≡ true → Place types free a k → Place (table.insert types x t) (without free x) a k
   inside types free a k x t f pl = record { room = room-bind types free k x t f pl.room; agent = moved _ types (newer types x t (pl.room.unbound x f)) a pl.agent }
 
-  later : (types : Types) (free : Free) (a : Expr) (k j : ℕ) → k ≤ j → Place types free a k → Place types free a j
+  pub later : (types : Types) (free : Free) (a : Expr) (k j : ℕ) → k ≤ j → Place types free a k → Place types free a j
   later types free a k j l pl = record { room = room-rise types free k j l pl.room; agent = pl.agent }
 
-  covered : (x : Pat) (t : Ty) (types inner : Types) (free left : Free) (a : Expr) (k : ℕ) → Place types free a k → taken x free ≡ Some left → cover x t types ≡ Ok inner → Place inner left a k
+  pub covered : (x : Pat) (t : Ty) (types inner : Types) (free left : Free) (a : Expr) (k : ℕ) → Place types free a k → taken x free ≡ Some left → cover x t types ≡ Ok inner → Place inner left a k
   covered x t types inner free left a k pl h c = let r = keeps k x t types inner free left pl.room h c in record { room = r.0; agent = moved inner types r.1 a pl.agent }
 
-  after_out : (o : Option Free) (p : Free → Bool) → after o p ≡ true → (left : Free) × (o ≡ Some left) × (p left ≡ true)
+  pub after_out : (o : Option Free) (p : Free → Bool) → after o p ≡ true → (left : Free) × (o ≡ Some left) × (p left ≡ true)
   after_out None p h = absurd cc
   after_out (Some left) p h = (left, refl, h)
 
-  two_done : (types tp tq : Types) (k : ℕ) (f : Proc → Proc → ProcForm) (tag : Tag) (o : ℕ) (p q : Translation) (a : Expr)
+  pub two_done : (types tp tq : Types) (k : ℕ) (f : Proc → Proc → ProcForm) (tag : Tag) (o : ℕ) (p q : Translation) (a : Expr)
       → ((p' q' : Proc) → Good w tp p' → Good w tq q' → Good w types (record { tag = tag; at = o; form = f p' q' }))
       → Done tp k (p a k) → ((j : ℕ) → k ≤ j → Done tq j (q a j)) → Done types k (around_both f tag o p q a k)
   two_done types tp tq k f tag o p q a make d e =

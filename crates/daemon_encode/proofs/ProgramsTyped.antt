@@ -29,17 +29,17 @@ is_below : (x n : ℕ) → nat_lt x n ≡ true → x < n
 is_below x n h = grind (arith, nat_tests)
 
 -- the binders of the program
-own_binders : Program → Free
+pub own_binders : Program → Free
 own_binders p x = nat_lt x p.binders
 
-at_first : (p : Program) (some : nat_lt 0 (length p.sites) ≡ true) → Place (length p.sites) some table.empty (own_binders p) (main (length p.sites)) p.binders
+pub at_first : (p : Program) (some : nat_lt 0 (length p.sites) ≡ true) → Place (length p.sites) some table.empty (own_binders p) (main (length p.sites)) p.binders
 unfolding own_binders
 at_first p some = record {
   room = record { unbound = λ x h. get-empty nat_cmp x; small = λ x h. is_below x p.binders h; fresh = λ x h. get-empty nat_cmp x };
   agent = record { type = ty.Agent; is = least-agent (low (length p.sites)) table.empty (length p.sites) 0; passes = ap is_agent outs-Agent };
 }
 
-clean-main : (p : Program) → IsAccepted p → clean p.main (own_binders p) ≡ true
+pub clean-main : (p : Program) → IsAccepted p → clean p.main (own_binders p) ≡ true
 unfolding own_binders
 clean-main p a = sound-clean (own_binders p) a.sound.main a.sound.once (λ x m. below-is x p.binders (among-below p.binders a.sound.bound a.sound.below x m))
 

@@ -30,7 +30,7 @@ use Rattle.daemon_encode.proofs.Making.{least-pair, tested-variable, an_agent, a
 use Rattle.daemon_encode.proofs.DaemonTyped.{low, its-channel, two, given}
 
 -- a type that is a ground type by its form is that type
-agent_sub : (t : Ty) → is_agent (out-Ty t) ≡ true → sub t ty.Agent ≡ true
+pub agent_sub : (t : Ty) → is_agent (out-Ty t) ≡ true → sub t ty.Agent ≡ true
 agent_sub t h = sub-out t ty.Agent ∙ go (out-Ty t) h
   where
     go : (y : TyLayer) → is_agent y ≡ true → sub_at y (out-Ty ty.Agent) ≡ true
@@ -44,13 +44,13 @@ site_sub t h = sub-out t ty.Site ∙ go (out-Ty t) h
     go Ty-F.Site h = ap is_site outs-Site
     go _ h = absurd cc
 
-agent_nodes : (t : Ty) → is_agent (out-Ty t) ≡ true → nodes t ≡ 1
+pub agent_nodes : (t : Ty) → is_agent (out-Ty t) ≡ true → nodes t ≡ 1
 agent_nodes t h = (as_many ty.Agent t).0 (agent_sub t h) ∙ nodes-agent
 
 site_nodes : (t : Ty) → is_site (out-Ty t) ≡ true → nodes t ≡ 1
 site_nodes t h = (as_many ty.Site t).0 (site_sub t h) ∙ nodes-site
 
-sub_pair : (s t u v : Ty) → sub s u ≡ true → sub t v ≡ true → sub (pair_type s t) (pair_type u v) ≡ true
+pub sub_pair : (s t u v : Ty) → sub s u ≡ true → sub t v ≡ true → sub (pair_type s t) (pair_type u v) ≡ true
 sub_pair s t u v h k = sub-out _ _ ∙ rw (outs-Tuple (s ∷ t ∷ []), outs-Tuple (u ∷ v ∷ []), h, k) refl
 
 module _ (n : ℕ) (some : nat_lt 0 n ≡ true) where
@@ -67,13 +67,13 @@ module _ (n : ℕ) (some : nat_lt 0 n ≡ true) where
       sends-on w types _ _ s t (its-channel n types i t h) is below,
     )
 
-    told : (i : ℕ) (e : Expr) (s t : Ty) → listed carried i ≡ Some (cap.Both, t) → least w types e ≡ Ok s → sub s t ≡ true → Good w types (tells n k (channel n i) e)
+    pub told : (i : ℕ) (e : Expr) (s t : Ty) → listed carried i ≡ Some (cap.Both, t) → least w types e ≡ Ok s → sub s t ≡ true → Good w types (tells n k (channel n i) e)
     told i e s t h is below = told_as role.Infra i e s t h is below
 
     heard : (i : ℕ) (t : Ty) (p : Proc) → listed carried i ≡ Some (cap.Both, t) → Good w types p → Good w types (takes k (channel n i) nothing p)
     heard i t p h g = good-made w types _ _ (outs-Inp _ _ _) (takes-from w types _ _ t types p (its-channel n types i t h) (cover-nothing types t) g)
 
-    least-letter : (c v : Expr) → Sending w types c v → least w types (letter c v) ≡ Ok ty.Letter
+    pub least-letter : (c v : Expr) → Sending w types c v → least w types (letter c v) ≡ Ok ty.Letter
     least-letter c v s = least-form w types (letter c v) ∙ least-pack w types 0 c v ∙ rw (s.on.is, s.on.chan, s.may_write, s.is, s.below) refl
 
     pub good-post : (b c v : Expr) → Tested w types is_agent b → Sending w types c v → Good w types (post_text n k b c v)
@@ -82,7 +82,7 @@ module _ (n : ℕ) (some : nat_lt 0 n ≡ true) where
         (least-pair w types b (letter c v) t.type ty.Letter t.is (least-letter c v s) (agent_nodes t.type t.passes) nodes-letter)
         (sub_pair t.type ty.Letter ty.Agent ty.Letter (agent_sub t.type t.passes) (sub-itself ty.Letter))
 
-    settled : (e : Expr) (p : Proc) → Tested w types is_site e → Good w types p → Good w types (settles n k e p)
+    pub settled : (e : Expr) (p : Proc) → Tested w types is_site e → Good w types p → Good w types (settles n k e p)
     settled e p t g =
         heard 7 (ty.Tuple []) _ refl (two n types k _ _ g (given n types k _ _ (sends-on w types _ _ t.type ty.Site (its-channel n types 9 ty.Site refl) t.is (site_sub t.type t.passes))))
 
@@ -99,7 +99,7 @@ module _ (n : ℕ) (some : nat_lt 0 n ≡ true) where
         (told 3 a ta.type ty.Agent refl ta.is (agent_sub ta.type ta.passes)))
 
   -- the letters of an agent are taken
-  good-server : (types : Types) (k : ℕ) (b : Expr) (l t : ℕ) → (l ≡ t → ⊥) → Tested w (table.insert (table.insert types l ty.Letter) t ty.Site) is_agent b → Good w types (server_text n k b l t)
+  pub good-server : (types : Types) (k : ℕ) (b : Expr) (l t : ℕ) → (l ≡ t → ⊥) → Tested w (table.insert (table.insert types l ty.Letter) t ty.Site) is_agent b → Good w types (server_text n k b l t)
   good-server types k b l t apart tb =
       let one = table.insert types l ty.Letter in
       let all = table.insert one t ty.Site in

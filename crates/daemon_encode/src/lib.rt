@@ -12,5 +12,10 @@ mod translator;
 mod writer;
 
 pub use laws::{law_encodes_typed, law_examples, law_low_runs_well, law_translates};
+pub use own_names::{CURRENTLOC, MAIN, MESSAGE, REGISTER};
+pub use pieces::{expression, name, nothing, pair, site, two_names, unit, variable};
 pub use programs::encode;
-pub use servers::daemon;
+pub use servers::{daemon, lock_type};
+pub use translated::Translated;
+pub use translator::{Translator, behind};
+pub use writer::Writer;

@@ -31,7 +31,7 @@ pub fn daemon(alloc: Global, sites: u32, at: u32, first_binder: u32) -> Result<P
 }
 
 /// The type of lock channels.
-fn lock_type(alloc: Global) -> Result<Ty, Memory>
+pub fn lock_type(alloc: Global) -> Result<Ty, Memory>
     ensures { IfOk result (λ ty. ty ≡ lock_type) }
 {
     Ok(Ty::Chan(Cap::Both, Boxed::of(alloc, Ty::Site)?))
@@ -80,7 +80,7 @@ impl Writer {
     }
 
     /// The map is given back.
-    fn frees(self, places: u32) -> Result<Boxed<Proc>, Memory>
+    pub fn frees(self, places: u32) -> Result<Boxed<Proc>, Memory>
         requires { self.node ≡ 0 }
         ensures { IfOk result (λ p. p ≡ spec.frees self.sites places) }
     {
@@ -88,7 +88,7 @@ impl Writer {
     }
 
     /// A server that takes the map for what it is told.
-    fn notes(
+    pub fn notes(
         self,
         chan: u32,
         names: Pat,
@@ -135,7 +135,7 @@ impl Writer {
     }
 
     /// The map with the lock channel of one more agent.
-    fn with_lock(self, places: u32, agent: u32, lock: u32) -> Result<Expr, Memory>
+    pub fn with_lock(self, places: u32, agent: u32, lock: u32) -> Result<Expr, Memory>
         ensures { IfOk result (λ e. e ≡ spec.with_lock places agent lock) }
     {
         let places = Boxed::of(self.alloc, variable(places))?;

@@ -13,7 +13,7 @@ use np_syntax::{Boxed, Expr, ExprForm, Memory, Proc, ProcForm};
 
 impl Writer {
     /// `pack(c, v)`
-    fn letter(self, chan: &Expr, value: &Expr) -> Result<Expr, Memory>
+    pub fn letter(self, chan: &Expr, value: &Expr) -> Result<Expr, Memory>
         ensures { IfOk result (λ e. e ≡ spec.letter chan.now value.now) }
     {
         let chan = chan.copy(self.alloc)?;
@@ -34,7 +34,7 @@ impl Writer {
     }
 
     /// An agent waits for its site, and then has it.
-    fn settles(self, at: Expr, body: Boxed<Proc>) -> Result<Boxed<Proc>, Memory>
+    pub fn settles(self, at: Expr, body: Boxed<Proc>) -> Result<Boxed<Proc>, Memory>
         ensures { IfOk result (λ p. p ≡ spec.settles self.sites self.node at body) }
     {
         let place = self.gives(self.channel(CURRENTLOC), at)?;
@@ -80,7 +80,7 @@ impl Writer {
     }
 
     /// What takes the letters of an agent.
-    fn server_text(self, agent: Expr, letter: u32, place: u32) -> Result<Boxed<Proc>, Memory>
+    pub fn server_text(self, agent: Expr, letter: u32, place: u32) -> Result<Boxed<Proc>, Memory>
         ensures { IfOk result (λ p. p ≡ spec.server_text self.sites self.node agent letter place) }
     {
         let taken = pair(self.alloc, agent, variable(place))?;
@@ -92,7 +92,7 @@ impl Writer {
     }
 
     /// What a new agent does once it is registered.
-    fn begins(self, parent: &Expr, at: u32, body: Boxed<Proc>) -> Result<Boxed<Proc>, Memory>
+    pub fn begins(self, parent: &Expr, at: u32, body: Boxed<Proc>) -> Result<Boxed<Proc>, Memory>
         ensures { IfOk result (λ p. p ≡ spec.begins self.sites self.node parent.now at body) }
     {
         let parent = parent.copy(self.alloc)?;

@@ -31,7 +31,7 @@ pub fn behind(next: u32, count: u32) -> Result<u32, Memory>
 }
 
 impl Translator {
-    fn writer(self, tag: Tag) -> Writer
+    pub fn writer(self, tag: Tag) -> Writer
         ensures sites { result.sites ≡ self.sites }
         ensures node { result.node ≡ tag.node }
     {
@@ -43,7 +43,7 @@ impl Translator {
     }
 
     /// A form that is kept, with its tag and offset.
-    fn kept(self, tag: Tag, at: u32, form: ProcForm, next: u32) -> Result<Translated, Memory>
+    pub fn kept(self, tag: Tag, at: u32, form: ProcForm, next: u32) -> Result<Translated, Memory>
         ensures { IfOk result (λ t. t ≡ spec.kept tag at form next) }
     {
         let proc = Boxed::of(self.alloc, Proc { tag, at, form })?;
@@ -145,14 +145,14 @@ impl Translator {
     }
 
     /// A form without processes in it.
-    fn same(self, tag: Tag, at: u32, form: &ProcForm, next: u32) -> Result<Translated, Memory>
+    pub fn same(self, tag: Tag, at: u32, form: &ProcForm, next: u32) -> Result<Translated, Memory>
         ensures { IfOk result (λ t. t ≡ spec.kept tag at form.now next) }
     {
         let form = form.copy(self.alloc)?;
         self.kept(tag, at, form, next)
     }
 
-    fn channel(
+    pub fn channel(
         self,
         tag: Tag,
         at: u32,
@@ -166,7 +166,7 @@ impl Translator {
         self.kept(tag, at, ProcForm::New(chan, ty, body.proc), body.next)
     }
 
-    fn input(
+    pub fn input(
         self,
         tag: Tag,
         at: u32,
@@ -181,7 +181,7 @@ impl Translator {
         self.kept(tag, at, ProcForm::Inp(chan, names, body.proc), body.next)
     }
 
-    fn replicated(
+    pub fn replicated(
         self,
         tag: Tag,
         at: u32,
@@ -196,7 +196,7 @@ impl Translator {
         self.kept(tag, at, ProcForm::Rep(chan, names, body.proc), body.next)
     }
 
-    fn bind(
+    pub fn bind(
         self,
         tag: Tag,
         at: u32,
@@ -211,7 +211,7 @@ impl Translator {
         self.kept(tag, at, ProcForm::Let(names, value, body.proc), body.next)
     }
 
-    fn test(
+    pub fn test(
         self,
         tag: Tag,
         at: u32,
@@ -225,7 +225,7 @@ impl Translator {
         self.kept(tag, at, ProcForm::If(test, met, unmet.proc), unmet.next)
     }
 
-    fn iflocal(
+    pub fn iflocal(
         self,
         tag: Tag,
         at: u32,
@@ -244,7 +244,7 @@ impl Translator {
         self.kept(tag, at, form, unmet.next)
     }
 
-    fn lookup(
+    pub fn lookup(
         self,
         tag: Tag,
         at: u32,
@@ -280,7 +280,7 @@ impl Translator {
         Ok(Translated { proc, next })
     }
 
-    fn migration(
+    pub fn migration(
         self,
         tag: Tag,
         agent: &Expr,

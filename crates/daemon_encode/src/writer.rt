@@ -51,7 +51,7 @@ impl Writer {
         Proc { tag, at: 0, form }
     }
 
-    fn boxed(self, role: Role, form: ProcForm) -> Result<Boxed<Proc>, Memory>
+    pub fn boxed(self, role: Role, form: ProcForm) -> Result<Boxed<Proc>, Memory>
         ensures { IfOk result (λ p. p ≡ spec.process self.node role form) }
     {
         Boxed::of(self.alloc, self.process(role, form))

@@ -1,0 +1,10 @@
+use Rattle.np_safety.proofs.Lows.{low-well-typed}
+use Rattle.cache_encode.specs.Encoded.{encoded_cached}
+use Rattle.cache_encode.proofs.ProgramsTyped.{cached-faultless}
+use Rattle.cache_encode.proofs.laws.law_cached_typed.Goals as goal
+
+pub returns-clause-faultless : goal.returns-clause-faultless
+returns-clause-faultless c = cached-faultless
+
+pub returns-clause-along : goal.returns-clause-along
+returns-clause-along c p a = low-well-typed (encoded_cached p) (cached-faultless p a)

@@ -1,0 +1,70 @@
+//! Agents with caches: a creation, and main's bracket.
+
+ghost use Rattle.std.specs.Prelude.{◌≡◌, ◌+◌, ◌≤◌, IfOk};
+ghost use Rattle.cache_encode.specs.Texts as spec;
+
+use super::caches::with_cache;
+use daemon_encode::{CURRENTLOC, REGISTER, Writer, name, pair, variable};
+use np_syntax::{Boxed, Expr, Memory, Proc, ProcForm};
+
+/// A new agent tells the daemon its site.
+fn registers(writer: Writer, agent: u32, at: u32) -> Result<Boxed<Proc>, Memory>
+    ensures { IfOk result (λ p. p ≡ spec.registers writer.sites writer.node agent at) }
+{
+    let told = pair(writer.alloc, variable(agent), variable(at))?;
+    writer.tells(writer.channel(REGISTER), told)
+}
+
+/// What a new agent does: its site's binder, and the first of those of its server and its cache.
+fn child_text(
+    writer: Writer,
+    parent: &Expr,
+    agent: u32,
+    at: u32,
+    first: u32,
+    body: Boxed<Proc>,
+) -> Result<Boxed<Proc>, Memory>
+    requires { first + 6 ≤ u32.MAX }
+    ensures { IfOk result (λ p. p ≡ spec.child_text writer.sites writer.node parent.now agent at first body) }
+{
+    let begins = writer.begins(parent, at, body)?;
+    let server = writer.server_text(variable(agent), first, first + 1)?;
+    let both = writer.beside(begins, server)?;
+    let kept = with_cache(writer, first + 2, both)?;
+    let registers = registers(writer, agent, at)?;
+    writer.beside(kept, registers)
+}
+
+/// A creation by an agent, and what the new agent and the other do.
+pub fn agent_text(
+    writer: Writer,
+    parent: &Expr,
+    agent: u32,
+    at: u32,
+    first: u32,
+    body: Boxed<Proc>,
+    rest: Boxed<Proc>,
+) -> Result<Boxed<Proc>, Memory>
+    requires { first + 6 ≤ u32.MAX }
+    ensures { IfOk result (λ p. p ≡ spec.agent_text writer.sites writer.node parent.now agent at first body rest) }
+{
+    let child = child_text(writer, parent, agent, at, first, body)?;
+    let rest = writer.settles(variable(at), rest)?;
+    let creates = writer.plain(ProcForm::Agent(agent, child, rest))?;
+    writer.takes(writer.channel(CURRENTLOC), name(at), creates)
+}
+
+/// Main's bracket, at this site: the binders of its server and its cache are numbered from the first on.
+pub fn main_text(
+    writer: Writer,
+    at: u32,
+    first: u32,
+    body: Boxed<Proc>,
+) -> Result<Boxed<Proc>, Memory>
+    requires zero { writer.node ≡ 0 }
+    requires numbers { first + 6 ≤ u32.MAX }
+    ensures { IfOk result (λ p. p ≡ spec.main_text writer.sites at first body) }
+{
+    let main = writer.main_text(at, first, first + 1, body)?;
+    with_cache(writer, first + 2, main)
+}

@@ -1,0 +1,171 @@
+//! A post, which goes by a messenger where the cache has a hint. It is a post from an agent to another, of a value for a channel.
+
+ghost use Rattle.std.specs.Prelude.{◌≡◌, ◌+◌, ◌≤◌, IfOk};
+ghost use Rattle.np_syntax.specs.declared.process.ProcForm as shape;
+ghost use Rattle.daemon_encode.specs.Pieces as piece;
+ghost use Rattle.daemon_encode.specs.Texts as central;
+ghost use Rattle.cache_encode.specs.Texts as spec;
+
+use super::caches::{keeps, looks};
+use super::own_names::{CACHE, WHERE};
+use daemon_encode::{MESSAGE, Translated, Translator, Writer, name, pair, variable};
+use np_syntax::{Boxed, Expr, Memory, Proc, ProcForm, Role, Tag};
+
+/// The daemon is asked where an agent is.
+fn asks(writer: Writer, from: &Expr, to: &Expr) -> Result<Boxed<Proc>, Memory>
+    ensures { IfOk result (λ p. p ≡ spec.asks writer.sites writer.node from.now to.now) }
+{
+    let from = from.copy(writer.alloc)?;
+    let to = to.copy(writer.alloc)?;
+    let asked = pair(writer.alloc, from, to)?;
+    writer.tells(writer.channel(WHERE), asked)
+}
+
+/// The letter of a post, and who it is for.
+fn addressed(writer: Writer, to: &Expr, chan: &Expr, value: &Expr) -> Result<Expr, Memory>
+    ensures { IfOk result (λ e. e ≡ piece.pair to.now (central.letter chan.now value.now)) }
+{
+    let letter = writer.letter(chan, value)?;
+    let to = to.copy(writer.alloc)?;
+    pair(writer.alloc, to, letter)
+}
+
+/// What a messenger does that misses the agent.
+fn hands_back(
+    writer: Writer,
+    from: &Expr,
+    to: &Expr,
+    chan: &Expr,
+    value: &Expr,
+) -> Result<Boxed<Proc>, Memory>
+    ensures { IfOk result (λ p. p ≡ spec.hands_back writer.sites writer.node from.now to.now chan.now value.now) }
+{
+    let addressed = addressed(writer, to, chan, value)?;
+    let message = writer.tells(writer.channel(MESSAGE), addressed)?;
+    let asks = asks(writer, from, to)?;
+    writer.beside(message, asks)
+}
+
+/// A messenger looks for the agent at its site.
+fn meets(
+    writer: Writer,
+    to: &Expr,
+    chan: &Expr,
+    value: &Expr,
+    unmet: Boxed<Proc>,
+) -> Result<Boxed<Proc>, Memory>
+    ensures { IfOk result (λ p. p ≡ piece.infra writer.node (shape.IfLocal to.now chan.now value.now (piece.stop writer.node) unmet)) }
+{
+    let stop = writer.infra(ProcForm::Stop)?;
+    let forms = Translator {
+        alloc: writer.alloc,
+        sites: writer.sites,
+    };
+    let tag = Tag {
+        node: writer.node,
+        role: Role::Infra,
+    };
+    let unmet = Translated {
+        proc: unmet,
+        next: 0,
+    };
+    let tried = forms.iflocal(tag, 0, to, chan, value, stop, unmet)?;
+    Ok(tried.proc)
+}
+
+/// What a messenger does, whose hint is a site.
+fn messenger_text(
+    writer: Writer,
+    from: &Expr,
+    to: &Expr,
+    chan: &Expr,
+    value: &Expr,
+    at: u32,
+) -> Result<Boxed<Proc>, Memory>
+    ensures { IfOk result (λ p. p ≡ spec.messenger_text writer.sites writer.node from.now to.now chan.now value.now at) }
+{
+    let unmet = hands_back(writer, from, to, chan, value)?;
+    let tries = meets(writer, to, chan, value, unmet)?;
+    writer.infra(ProcForm::Migrate(variable(at), tries))
+}
+
+/// A messenger is made.
+fn makes_messenger(
+    writer: Writer,
+    from: &Expr,
+    to: &Expr,
+    chan: &Expr,
+    value: &Expr,
+    at: u32,
+    messenger: u32,
+) -> Result<Boxed<Proc>, Memory>
+    ensures { IfOk result (λ p. p ≡ spec.makes_messenger writer.sites writer.node from.now to.now chan.now value.now at messenger) }
+{
+    let body = messenger_text(writer, from, to, chan, value, at)?;
+    let stop = writer.infra(ProcForm::Stop)?;
+    writer.boxed(Role::Post, ProcForm::Agent(messenger, body, stop))
+}
+
+/// A process takes the site of a hint, and another has the cache.
+fn reads_hint(writer: Writer, places: u32, made: Boxed<Proc>) -> Result<Boxed<Proc>, Memory>
+    requires { places + 3 ≤ u32.MAX }
+    ensures { IfOk result (λ p. p ≡ spec.reads_hint writer.sites writer.node places made) }
+{
+    let holds = writer.gives(variable(places + 1), variable(places + 2))?;
+    let both = writer.beside(made, holds)?;
+    let reads = writer.takes(variable(places + 1), name(places + 2), both)?;
+    let keeps = keeps(writer, places)?;
+    writer.beside(reads, keeps)
+}
+
+/// What becomes of a post where there is a hint: its binders are numbered from that of the cache on.
+fn goes_by_hint(
+    writer: Writer,
+    from: &Expr,
+    to: &Expr,
+    chan: &Expr,
+    value: &Expr,
+    places: u32,
+) -> Result<Boxed<Proc>, Memory>
+    requires { places + 3 ≤ u32.MAX }
+    ensures { IfOk result (λ p. p ≡ spec.goes_by_hint writer.sites writer.node from.now to.now chan.now value.now places) }
+{
+    let made = makes_messenger(writer, from, to, chan, value, places + 2, places + 3)?;
+    reads_hint(writer, places, made)
+}
+
+/// What becomes of it where there is none.
+fn goes_by_daemon(
+    writer: Writer,
+    from: &Expr,
+    to: &Expr,
+    chan: &Expr,
+    value: &Expr,
+    places: u32,
+) -> Result<Boxed<Proc>, Memory>
+    ensures { IfOk result (λ p. p ≡ spec.goes_by_daemon writer.sites writer.node from.now to.now chan.now value.now places) }
+{
+    let message = writer.post_text(to, chan, value)?;
+    let asks = asks(writer, from, to)?;
+    let both = writer.beside(message, asks)?;
+    let keeps = keeps(writer, places)?;
+    writer.beside(both, keeps)
+}
+
+/// A post: its binders are numbered from the first on.
+pub fn post_text(
+    writer: Writer,
+    from: &Expr,
+    to: &Expr,
+    chan: &Expr,
+    value: &Expr,
+    first: u32,
+) -> Result<Boxed<Proc>, Memory>
+    requires { first + 3 ≤ u32.MAX }
+    ensures { IfOk result (λ p. p ≡ spec.post_text writer.sites writer.node from.now to.now chan.now value.now first) }
+{
+    let met = goes_by_hint(writer, from, to, chan, value, first)?;
+    let unmet = goes_by_daemon(writer, from, to, chan, value, first)?;
+    let known = looks(writer, to.copy(writer.alloc)?, first, first + 1, met, unmet)?;
+    writer.takes(writer.channel(CACHE), name(first), known)
+}

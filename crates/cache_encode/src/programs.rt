@@ -1,0 +1,53 @@
+//! The low program of a checked program.
+
+ghost use Rattle.std.specs.Prelude.{◌≡◌, ◌<◌, ◌^◌, length, IfOk};
+ghost use Rattle.cache_encode.specs.Encoded.{encoded_cached, main_of};
+
+use super::creations::main_text;
+use super::servers::cached_daemon;
+use super::translator::translate;
+use daemon_encode::{MAIN, Translator, Writer, behind};
+use np_check::Checked;
+use np_syntax::{Boxed, LowProgram, Memory, Proc, Program, copy_texts};
+use std::alloc::Global;
+
+/// Main's process in the low program, and the number of the next binder.
+fn main_of(alloc: Global, sites: u32, p: &Program) -> Result<(Boxed<Proc>, u32), Memory>
+    ensures { IfOk result (λ r. main_of sites p.now ≡ (r.0, r.1)) }
+{
+    let writer = Writer {
+        alloc,
+        sites,
+        node: 0,
+    };
+    let forms = Translator { alloc, sites };
+    let body = translate(forms, &p.main, &writer.agent(MAIN), p.binders)?;
+    let first = body.next;
+    let next = behind(first, 7)?;
+    let main = main_text(writer, p.at, first, body.proc)?;
+    Ok((main, next))
+}
+
+/// The low program of a program.
+fn low_program(alloc: Global, p: &Program) -> Result<LowProgram, Memory>
+    requires { length p.now.sites < 2 ^ 32 }
+    ensures { IfOk result (λ low. low ≡ encoded_cached p.now) }
+{
+    let count = p.sites.len() as u32;
+    let (main, next) = main_of(alloc, count, p)?;
+    let daemon = cached_daemon(alloc, count, p.at, next)?;
+    let sites = copy_texts(alloc, p.sites.as_slice())?;
+    Ok(LowProgram {
+        sites,
+        at: p.at,
+        main: main.into_inner(),
+        daemon: daemon.into_inner(),
+    })
+}
+
+/// The low program of a checked program, whose agents have caches.
+pub fn encode_cached(alloc: Global, p: &Checked) -> Result<LowProgram, Memory>
+    ensures { IfOk result (λ low. low ≡ encoded_cached p.now) }
+{
+    low_program(alloc, p.program())
+}
