@@ -55,7 +55,7 @@ module _ (hs : List Recorded) (are : AreInPlace hs) where
 
 -- ---- stamps
 
-numbered-below : {X : Type 0} (n : ℕ) (rs : List (Ranked X)) → AreNumbered n rs → AllByRecursion (λ r. r.rank.stamp < n + length rs) rs
+pub numbered-below : {X : Type 0} (n : ℕ) (rs : List (Ranked X)) → AreNumbered n rs → AllByRecursion (λ r. r.rank.stamp < n + length rs) rs
 numbered-below n [] h = tt
 numbered-below n (r ∷ rs) h = (omega arith, all_weaker (λ (x : Ranked _). x.rank.stamp < n + 1 + length rs) (λ (x : Ranked _). x.rank.stamp < n + suc (length rs)) (λ x less. omega arith) rs (numbered-below (n + 1) rs h.1))
 

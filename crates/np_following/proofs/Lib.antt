@@ -1,3 +1,4 @@
 pub mod Following
 pub mod Names
 pub mod Parts
+pub mod Resuming

@@ -2,6 +2,7 @@
 use Rattle.std.specs.Prelude.{◌≡◌, ◌≢◌, ◌<◌, ◌+◌, ◌==◌, ℕ, List, [], ◌∷◌, ◌++◌, length, take, count_by, slice_get, Some}
 use Rattle.std.specs.List.{AllByRecursion}
 use Rattle.np_syntax.specs.declared.event.Event.{Event}
+use Rattle.stamp_history.specs.declared.stamped.Stamped.{Stamped}
 use Rattle.stamp_history.specs.Histories.{IsHistory, Recorded}
 use Rattle.run_merge.specs.declared.rank.Ranked.{Ranked}
 use Rattle.run_merge.specs.Laws.{HasOwnSite}
@@ -40,6 +41,29 @@ NoneFollow = (hs : List Recorded) → ((s : ℕ) (h : Recorded) → slice_get hs
 abbrev pub OneMoreFollows : Type 0
 OneMoreFollows = (events : List Event) (e : Event) (old new : List Recorded) → AreInPlace old → AreInPlace new → AreOf events old
     → HaveOneMore old new e (length events + 1) → AreOf (events ++ e ∷ []) new
+
+-- ---- what comes behind a list
+
+-- histories at a later time: what is added to each is stamped above this number
+pub record HaveLater (n : ℕ) (old new : List Recorded) : Type 0 where
+  pub count : length new ≡ length old
+  pub each : (s : ℕ) (h k : Recorded) → slice_get old s ≡ Some h → slice_get new s ≡ Some k
+      → (added : List Stamped) × (k.events ≡ h.events ++ added) × AllByRecursion (λ e. n < e.stamp) added
+
+-- the merged histories begin with the events of the list, with the stamps 1, 2, 3 and so on, and each event behind them has a greater stamp
+pub record IsResumed (events : List Event) (hs : List Recorded) : Type 0 where
+  pub first : List (Ranked Event)
+  pub rest : List (Ranked Event)
+  pub is : merged hs ≡ first ++ rest
+  pub its : items first ≡ events
+  pub stamps : AreNumbered 1 first
+  pub later : AllByRecursion (λ r. length events < r.rank.stamp) rest
+
+abbrev pub ResumesWhereLater : Type 0
+ResumesWhereLater = (events : List Event) (old new : List Recorded) → AreInPlace old → AreInPlace new → AreOf events old → HaveLater (length events) old new
+    → IsResumed events new
+
+-- ---- room
 
 -- where the first events of a list were done, the site of the next one has done fewer than the whole list has of it
 abbrev pub RoomIsLeft : Type 0

@@ -1,4 +1,4 @@
-ghost use Rattle.np_following.specs.Following.{NoneFollow, OneMoreFollows, RoomIsLeft};
+ghost use Rattle.np_following.specs.Following.{NoneFollow, OneMoreFollows, ResumesWhereLater, RoomIsLeft};
 ghost use Rattle.np_following.specs.Names.{NextIsCounted};
 ghost use Rattle.np_following.specs.Parts.{EnabledInPart, EventIsOfSite};
 
@@ -21,4 +21,10 @@ pub fn law_one_more_follows()
     ensures none { NoneFollow }
     ensures more { OneMoreFollows }
     ensures room { RoomIsLeft }
+{}
+
+/// Where such histories go on by events that are stamped above the number of the events of the list, the merged histories begin with
+/// those, and go on with the others.
+pub fn law_resumes()
+    ensures { ResumesWhereLater }
 {}

@@ -3,4 +3,4 @@
 
 mod laws;
 
-pub use laws::{law_enabled_in_part, law_next_is_counted, law_one_more_follows};
+pub use laws::{law_enabled_in_part, law_next_is_counted, law_one_more_follows, law_resumes};

@@ -23,7 +23,7 @@ some_history bytes events r = record { format = r.format; events = events; is = 
 abbrev some_refusal : (bytes : List ℕ) (refusal : Refusal) → HasNoEvents bytes refusal → IsSomewhereRefused bytes
 some_refusal bytes refusal h = record { line = h.line; is = h.refused }
 
-events_once : (bytes : List ℕ) (a b : List Event) → IsRead bytes a → IsRead bytes b → a ≡ b
+pub events_once : (bytes : List ℕ) (a b : List Event) → IsRead bytes a → IsRead bytes b → a ≡ b
 events_once bytes a b r s = (one_reading bytes).events (some_history bytes a r) (some_history bytes b s)
 
 read_not_refused : (bytes : List ℕ) (events : List Event) (refusal : Refusal) → IsRead bytes events → HasNoEvents bytes refusal → ⊥

@@ -11,4 +11,4 @@ mod replaying;
 pub use events::upgraded;
 pub use laws::law_one_answer;
 pub use limits::LONGEST_HISTORY;
-pub use replaying::replayed;
+pub use replaying::{replayed, run_in};

@@ -1,11 +1,11 @@
 //! The replay of a history of a low program.
 
-ghost use Rattle.std.specs.Prelude.{◌≡◌, ◌≢◌, ◌<◌, ◌≤◌, ◌⊎◌, ◌^◌, length, Some, IfOk, IfErr};
+ghost use Rattle.std.specs.Prelude.{◌≡◌, ◌≢◌, ◌<◌, ◌≤◌, ◌⊎◌, ◌^◌, length, Some, IsSome, IfOk, IfErr};
 ghost use Rattle.np_calculus.specs.Reductions.{run};
 ghost use Rattle.np_calculus.specs.Starts.{start_low};
 ghost use Rattle.np_report.specs.Report.{replay_text};
 ghost use Rattle.np_words.specs.Plans.{HasLine};
-ghost use Rattle.np_histories.specs.Histories.{Replays, Ends, Lacks, Shows, Stops, IsFaulty, of_replay};
+ghost use Rattle.np_histories.specs.Histories.{Replays, Ends, HasNoEvents, HasNoRun, IsRead, Lacks, Shows, Stops, IsFaulty, of_replay};
 
 use super::events::events_of;
 use super::limits::LONGEST_HISTORY;
@@ -13,7 +13,7 @@ use super::pasts::past_told;
 use np_configuration::Cfg;
 use np_replay::{ReplayFail, replay};
 use np_report::replay_report;
-use np_syntax::{Event, LowProgram, Memory, Text};
+use np_syntax::{Event, List, LowProgram, Memory, Text};
 use np_verdict::Refusal;
 use np_words::View;
 use std::alloc::Global;
@@ -93,4 +93,23 @@ pub fn replayed(alloc: Global, low: &LowProgram, view: View, bytes: &[u8]) -> Re
 {
     let events = events_of(alloc, bytes)?;
     shown_events(alloc, low, view, events.as_slice())
+}
+
+/// The events of a history, where they are a run of a low program.
+pub fn run_in(alloc: Global, low: &LowProgram, bytes: &[u8]) -> Result<List<Event>, Refusal>
+    requires sites { length low.now.sites < 2 ^ 32 }
+    requires short { length bytes.now ≤ LONGEST_HISTORY }
+    ensures read { IfOk result (IsRead bytes.now) }
+    ensures run { IfOk result (λ events. IsSome (run (start_low low.now) events)) }
+    ensures few { IfOk result (λ events. length events < 2 ^ 32) }
+    ensures refused { IfErr result (λ refusal. refusal ≢ Refusal.Memory → HasNoEvents bytes.now refusal ⊎ HasNoRun low.now bytes.now refusal) }
+{
+    let events = events_of(alloc, bytes)?;
+    match end_of(alloc, low, events.as_slice()) {
+        Ok(last) => {
+            drop(last);
+            Ok(events)
+        }
+        Err(refusal) => Err(refusal),
+    }
 }

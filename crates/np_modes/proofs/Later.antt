@@ -1,15 +1,19 @@
 -- What two calls, one after the other, saw of their texts, seen from before the first to after the second.
 use Rattle.std.proofs.Common.{◌≡◌, ◌≢◌, ℕ, ◌<◌, ◌≤◌, ◌⊎◌, inl, inr, List, length, Option, Result, Ok, Err, IfOk, IfErr, IfSome, subst, arith}
+use Rattle.np_syntax.specs.declared.limits.TheConstants.{LONGEST_SOURCE}
 use Rattle.np_syntax.specs.declared.program.LowProgram.{LowProgram}
+use Rattle.np_syntax.specs.declared.program.Program.{Program}
 use Rattle.np_io.specs.Causes.{Counts, Rose, NoneFell}
 use Rattle.np_io.specs.Bytes.{Held, StayHeld}
 use Rattle.np_verdict.specs.declared.refusal.Refusal.{Refusal}
 use Rattle.np_verdict.specs.declared.refusal.Refusal.TheVariants.{Memory}
 use Rattle.np_sources.specs.declared.job.Job.{Job}
-use Rattle.np_sources.specs.Reaches.{Reach}
+use Rattle.np_sources.specs.Reaches.{IsCompiled, Reach}
+use Rattle.np_sources.specs.declared.sites.Shown.{Shown}
+use Rattle.np_verdict.specs.Faults.{IsWellTyped}
 use Rattle.np_words.specs.declared.planning.View.{View}
-use Rattle.np_modes.specs.Readings.{IsRead, IsUnread, seen}
-use Rattle.np_modes.specs.Causes.{IsLowered, OfRun, OfReplay, RefusesSource, RefusesRun, RefusesReplay}
+use Rattle.np_modes.specs.Readings.{IsRead, IsText, IsUnread, seen}
+use Rattle.np_modes.specs.Causes.{IsLowered, OfResume, OfRun, OfReplay, OfSaved, RefusesResume, RefusesSaved, RefusesSource, RefusesRun, RefusesReplay}
 
 rose_later : (a b c : ℕ) → a ≤ b → Rose b c → Rose a c
 rose_later a b c h r = omega (arith, h, r)
@@ -57,3 +61,37 @@ module _ (held-0 held-1 : Held) (count-0 count-1 count-2 : Counts) (taken-1 take
   replay_refused source history low view l (Ok job) h = tt
   replay_refused source history low view l (Err e) h =
       λ some. inr (record { low = low; lowered = lowered_before source low l; run = run_refused history low view e (h some) })
+
+  -- ---- a run that goes on from a history
+
+  pub resume_made : (source saved : List ℕ) (budget : ℕ) (how : Shown) (bytes : List ℕ) → IsText (seen held-0 count-0 count-1 taken-1 begun-0 begun-1) source LONGEST_SOURCE bytes
+      → (r : Result Job Refusal) → IfOk r (λ job. OfSaved (seen held-1 count-1 count-2 taken-2 begun-1 begun-2) saved budget how bytes job.kept job.high job.text)
+      → IfOk r (λ job. OfResume (seen held-0 count-0 count-2 taken-2 begun-0 begun-2) source saved budget how job.kept job.high job.text)
+  resume_made source saved budget how bytes text (Ok job) run = record {
+    bytes = bytes;
+    read = record { short = text.short; whole = text.whole };
+    run = record { bytes = run.bytes; read = read_later saved _ run.bytes run.read; goes_on = run.goes_on };
+  }
+  resume_made source saved budget how bytes text (Err e) run = tt
+
+  saved_refused : (saved : List ℕ) (low : LowProgram) (budget : ℕ) (refusal : Refusal) → RefusesSaved (seen held-1 count-1 count-2 taken-2 begun-1 begun-2) saved low budget refusal
+      → RefusesSaved (seen held-0 count-0 count-2 taken-2 begun-0 begun-2) saved low budget refusal
+  saved_refused saved low budget refusal (inl u) = inl (unread_later saved _ _ refusal u)
+  saved_refused saved low budget refusal (inr s) = inr (record { bytes = s.bytes; read = read_later saved _ s.bytes s.read; unfit = s.unfit })
+
+  pub resume_refused : (source saved : List ℕ) (budget : ℕ) (bytes : List ℕ) (p : Program) (low : LowProgram)
+      → IsText (seen held-0 count-0 count-1 taken-1 begun-0 begun-1) source LONGEST_SOURCE bytes → IsWellTyped bytes p → IsCompiled p low → (r : Result Job Refusal)
+      → IfErr r (λ refusal. refusal ≢ Memory → RefusesSaved (seen held-1 count-1 count-2 taken-2 begun-1 begun-2) saved low budget refusal)
+      → IfErr r (λ refusal. refusal ≢ Memory → RefusesSource (seen held-0 count-0 count-2 taken-2 begun-0 begun-2) source Reach.low refusal
+      ⊎ RefusesResume (seen held-0 count-0 count-2 taken-2 begun-0 begun-2) source saved budget refusal)
+  resume_refused source saved budget bytes p low text typed is (Ok job) h = tt
+  resume_refused source saved budget bytes p low text typed is (Err e) h =
+      λ some. inr (record {
+        low = low;
+        lowered = record {
+          bytes = bytes;
+          read = record { short = text.short; whole = text.whole };
+          lowers = record { program = p; accepted = typed; is = is.is; few = is.few };
+        };
+        run = saved_refused saved low budget e (h some);
+      })

@@ -1,10 +1,15 @@
 -- What a call makes of its texts, and the cause of each refusal (docs/LANGUAGE.md, "Reports and refusals").
-use Rattle.std.specs.Prelude.{◌≡◌, ℕ, ◌+◌, ◌≤◌, ◌⊎◌, List, length, Option, Some, None}
-use Rattle.np_syntax.specs.declared.limits.TheConstants.{LONGEST_SOURCE}
+use Rattle.std.specs.Prelude.{◌≡◌, ℕ, ◌+◌, ◌<◌, ◌≤◌, ◌⊎◌, List, length, Option, Some, None}
+use Rattle.np_syntax.specs.declared.limits.TheConstants.{LONGEST_SOURCE, MOST_SITES}
+use Rattle.np_syntax.specs.declared.event.Event.{Event}
 use Rattle.np_syntax.specs.declared.program.LowProgram.{LowProgram}
+use Rattle.np_calculus.specs.Config.{Config}
+use Rattle.np_calculus.specs.Reductions.{run}
+use Rattle.np_calculus.specs.Starts.{start_low}
 use Rattle.np_serial.specs.declared.serial.SerialRun.{SerialRun}
 use Rattle.np_generate.specs.Generated.{generated}
 use Rattle.np_histories.specs.Histories.{HasNoEvents, IsFaulty, Replays, Upgrades}
+use Rattle.np_histories.specs.Histories as histories
 use Rattle.np_histories.specs.declared.limits.TheConstants.{LONGEST_HISTORY}
 use Rattle.np_verdict.specs.declared.refusal.Refusal.{Refusal}
 use Rattle.np_verdict.specs.declared.refusal.Refusal.TheVariants.{Usage, TooLong, HistoryTooLong}
@@ -13,9 +18,12 @@ use Rattle.np_words.specs.declared.planning.Plan.{Plan}
 use Rattle.np_words.specs.declared.planning.Plan.TheVariants as plans
 use Rattle.np_words.specs.declared.planning.Task.{Task}
 use Rattle.np_words.specs.declared.planning.View.{View}
+use Rattle.np_words.specs.declared.planning.View.TheVariants as view
 use Rattle.np_modes.specs.Readings.{Reading, IsText, IsRead, IsUnread}
-use Rattle.np_sources.specs.Reaches.{Reach, FaultyTo, IsLowOf, reach_of}
-use Rattle.np_sources.specs.Makes.{DoesLoad, DoesTask}
+use Rattle.np_sources.specs.Reaches.{Reach, CanGoOn, CannotGoOn, FaultyTo, IsLowOf, reach_of}
+use Rattle.np_sources.specs.Makes.{DoesLoad, DoesTask, KeepsResumed, in_two_steps}
+use Rattle.np_sources.specs.declared.sites.Shown.{Shown}
+use Rattle.np_sources.specs.declared.sites.Shown.TheVariants as shown
 use Rattle.np_sources.specs.declared.limits.TheConstants.{LOAD_BUDGET}
 use Rattle.np_on_sites.specs.declared.record.Record.{Record}
 
@@ -47,6 +55,24 @@ pub record OfReplay (texts : Reading) (source history : List ℕ) (view : View) 
   pub lowered : IsLowered texts source low
   pub run : OfRun texts history low view kept high text
 
+-- the bytes are a history, and the run of the source of those bytes goes on from its events
+pub record GoesOnFrom (budget : ℕ) (how : Shown) (source bytes : List ℕ) (kept : Option Record) (high : Option SerialRun) (text : List ℕ) : Type 0 where
+  pub events : List Event
+  pub history : histories.IsRead bytes events
+  pub keeps : KeepsResumed budget how source events kept high text
+
+-- the history was read, and the run goes on from it
+pub record OfSaved (texts : Reading) (saved : List ℕ) (budget : ℕ) (how : Shown) (source : List ℕ) (kept : Option Record) (high : Option SerialRun) (text : List ℕ) : Type 0 where
+  pub bytes : List ℕ
+  pub read : IsRead texts saved LONGEST_HISTORY bytes
+  pub goes_on : GoesOnFrom budget how source bytes kept high text
+
+-- both were read, and the run of the source goes on from the history
+pub record OfResume (texts : Reading) (source saved : List ℕ) (budget : ℕ) (how : Shown) (kept : Option Record) (high : Option SerialRun) (text : List ℕ) : Type 0 where
+  pub bytes : List ℕ
+  pub read : IsText texts source LONGEST_SOURCE bytes
+  pub run : OfSaved texts saved budget how bytes kept high text
+
 -- the history was read, and this is its text in the second format
 pub record OfUpgrade (texts : Reading) (history : List ℕ) (kept : Option Record) (high : Option SerialRun) (text : List ℕ) : Type 0 where
   pub bytes : List ℕ
@@ -69,6 +95,8 @@ pub record OfLoad (agents : ℕ) (kept : Option Record) (high : Option SerialRun
 abbrev pub Does : Reading → Plan → Option Record → Option SerialRun → List ℕ → Type 0
 Does texts (plans.Source file task) kept high text = OfSource texts file task kept high text
 Does texts (plans.Replay source history view) kept high text = OfReplay texts source history view kept high text
+Does texts (plans.Resume source saved budget history shows serial links) kept high text =
+    OfResume texts source saved budget (shown.Printed history (in_two_steps shows)) kept high text
 Does texts (plans.Upgrade history) kept high text = OfUpgrade texts history kept high text
 Does texts (plans.Generate agents) kept high text = OfNumber agents kept high text
 Does texts (plans.Load agents serial links) kept high text = OfLoad agents kept high text
@@ -107,6 +135,46 @@ pub record RefusesReplay (texts : Reading) (source history : List ℕ) (view : V
   pub lowered : IsLowered texts source low
   pub run : RefusesRun texts history low view refusal
 
+-- there are few sites, and main's is one of them
+pub record CanRun (low : LowProgram) : Type 0 where
+  pub sites : length low.sites ≤ MOST_SITES
+  pub at : low.at < length low.sites
+
+-- the bytes are a history of a run of the low program from which its sites do not go on
+pub record StopsThere (budget : ℕ) (low : LowProgram) (bytes : List ℕ) (refusal : Refusal) : Type 0 where
+  pub events : List Event
+  pub history : histories.IsRead bytes events
+  pub last : Config
+  pub reaches : run (start_low low) events ≡ Some last
+  pub cannot : CannotGoOn budget low events refusal
+
+-- the bytes are a history of a run of the low program from which its sites can go on
+pub record IsFit (budget : ℕ) (low : LowProgram) (bytes : List ℕ) : Type 0 where
+  pub events : List Event
+  pub history : histories.IsRead bytes events
+  pub last : Config
+  pub reaches : run (start_low low) events ≡ Some last
+  pub can : CanGoOn budget low events
+
+-- the bytes are no history, or of no run of the low program, or of one from which its sites do not go on
+abbrev pub IsUnfit : ℕ → LowProgram → List ℕ → Refusal → Type 0
+IsUnfit budget low bytes refusal = IsFaulty low view.Said bytes refusal ⊎ StopsThere budget low bytes refusal
+
+-- the history was read, and it is unfit
+pub record IsUnfitSaved (texts : Reading) (saved : List ℕ) (low : LowProgram) (budget : ℕ) (refusal : Refusal) : Type 0 where
+  pub bytes : List ℕ
+  pub read : IsRead texts saved LONGEST_HISTORY bytes
+  pub unfit : IsUnfit budget low bytes refusal
+
+abbrev pub RefusesSaved : Reading → List ℕ → LowProgram → ℕ → Refusal → Type 0
+RefusesSaved texts saved low budget refusal = IsUnread texts saved LONGEST_HISTORY HistoryTooLong refusal ⊎ IsUnfitSaved texts saved low budget refusal
+
+-- the source is accepted, and the history is refused
+pub record RefusesResume (texts : Reading) (source saved : List ℕ) (budget : ℕ) (refusal : Refusal) : Type 0 where
+  pub low : LowProgram
+  pub lowered : IsLowered texts source low
+  pub run : RefusesSaved texts saved low budget refusal
+
 -- the history was read, and it is none
 pub record IsFaultyHistory (texts : Reading) (history : List ℕ) (refusal : Refusal) : Type 0 where
   pub bytes : List ℕ
@@ -125,6 +193,8 @@ pub record RefusesLoad (agents : ℕ) (refusal : Refusal) : Type 0 where
 abbrev pub RefusesPlan : Reading → Plan → Refusal → Type 0
 RefusesPlan texts (plans.Source file task) refusal = RefusesSource texts file (reach_of task) refusal
 RefusesPlan texts (plans.Replay source history view) refusal = RefusesSource texts source Reach.low refusal ⊎ RefusesReplay texts source history view refusal
+RefusesPlan texts (plans.Resume source saved budget history shows serial links) refusal =
+    RefusesSource texts source Reach.low refusal ⊎ RefusesResume texts source saved budget refusal
 RefusesPlan texts (plans.Upgrade history) refusal = RefusesHistory texts history refusal
 RefusesPlan texts (plans.Generate agents) refusal = ⊥
 RefusesPlan texts (plans.Load agents serial links) refusal = RefusesLoad agents refusal
@@ -141,6 +211,7 @@ pub data Stands (words : List (List ℕ)) (texts : Reading) : Refusal → Type 0
 abbrev pub texts_of : Plan → ℕ
 texts_of (plans.Source file task) = 1
 texts_of (plans.Replay source history view) = 2
+texts_of (plans.Resume source saved budget history shows serial links) = 2
 texts_of (plans.Upgrade history) = 1
 texts_of (plans.Generate agents) = 0
 texts_of (plans.Load agents serial links) = 0

@@ -8,18 +8,20 @@ ghost use Rattle.np_modes.specs.Causes.{OfSource, OfNumber, RefusesSource, Does,
 
 use super::histories::{replay, upgrade};
 use super::reading::read_text;
+use super::resuming::{Report, resume};
 use np_generate::{MOST_AGENTS, generated};
 use np_io::{Texts, Word};
 use np_on_sites::Gate;
-use np_sources::{Job, job_of, load_of, text_alone};
+use np_sources::{Course, Job, job_of, load_of, text_alone};
 use np_syntax::{LONGEST_SOURCE, Memory};
 use np_verdict::Refusal;
 use np_words::{Plan, PlanFail, Task, plan_of};
 use std::alloc::Global;
+use std::sync::Wait;
 use std::thread::Threads;
 
 /// Does what the words ask for.
-pub fn work<R: Threads + Sync, G: Gate, T: Texts>(
+pub fn work<R: Threads + Wait + Sync, G: Gate, T: Texts>(
     alloc: Global,
     rt: &R,
     gate: &G,
@@ -40,7 +42,7 @@ pub fn work<R: Threads + Sync, G: Gate, T: Texts>(
 }
 
 /// Does what is planned.
-fn done<R: Threads + Sync, G: Gate, T: Texts>(
+fn done<R: Threads + Wait + Sync, G: Gate, T: Texts>(
     alloc: Global,
     rt: &R,
     gate: &G,
@@ -61,6 +63,26 @@ fn done<R: Threads + Sync, G: Gate, T: Texts>(
             history,
             view,
         } => replay(alloc, texts, source, history, *view),
+        Plan::Resume {
+            source,
+            saved,
+            budget,
+            history,
+            high,
+            serial,
+            links,
+        } => {
+            let course = Course {
+                budget: *budget,
+                serial: *serial,
+                links: *links,
+            };
+            let report = Report {
+                history: *history,
+                high: *high,
+            };
+            resume(alloc, rt, gate, texts, source, saved, course, report)
+        }
         Plan::Upgrade { history } => upgrade(alloc, texts, history),
         Plan::Generate { agents } => generate(alloc, *agents),
         Plan::Load {
@@ -72,7 +94,7 @@ fn done<R: Threads + Sync, G: Gate, T: Texts>(
 }
 
 /// Does with the source of this name what is asked for.
-fn on_source<R: Threads + Sync, G: Gate, T: Texts>(
+fn on_source<R: Threads + Wait + Sync, G: Gate, T: Texts>(
     alloc: Global,
     rt: &R,
     gate: &G,

@@ -4,5 +4,6 @@
 mod histories;
 mod jobs;
 mod reading;
+mod resuming;
 
 pub use jobs::work;

@@ -1,25 +1,35 @@
-//! The run of a low program on its sites.
+//! The run of a low program on its sites, from its start or from events that are done again.
 
-ghost use Rattle.std.specs.Prelude.{◌≡◌, ◌<◌, ◌≤◌, length, IfOk};
+ghost use Rattle.std.specs.Prelude.{◌≡◌, ◌<◌, ◌≤◌, false, length, IfErr, IfOk, IsSome, OnOk};
 ghost use Rattle.np_syntax.specs.declared.limits.TheConstants.{LARGEST_BUDGET, MOST_SITES};
 ghost use Rattle.np_code.specs.Programs.{program};
+ghost use Rattle.np_calculus.specs.Reductions.{run};
+ghost use Rattle.np_calculus.specs.Starts.{start_low};
 ghost use Rattle.run_merge.specs.Merged.{past};
+ghost use Rattle.np_following.specs.Following.{IsResumed};
+ghost use Rattle.site_crew.specs.Crews.{HasEnded};
+ghost use Rattle.run_save.specs.Ours.{IsOurs};
+ghost use Rattle.site_crew.specs.Lists.{AreWithin, IsRefused};
+ghost use Rattle.site_crew.specs.Seats.{event_count};
 ghost use Rattle.np_on_sites.specs.SitesRuns.{IsSitesRun};
 
 use super::record::Record;
 use agent_move::Item;
+use crew_inboxes::Inboxes;
 use np_code::Code;
-use np_syntax::{End, LowProgram, Memory};
+use np_following::law_resumes;
+use np_syntax::{End, Event, LowProgram, Memory};
 use np_words::Links;
-use site_crew::Crew;
+use site_crew::{Crew, FollowFail};
 use site_links::{Port, Rings, Tray};
 use site_turn::Gate;
 use std::alloc::Global;
+use std::sync::Wait;
 use std::thread::Threads;
 
 /// Runs a low program on its sites until none can act, or none that has made fewer events than the budget. Each site has a
 /// thread of its own; with `serial` they take turns one after another.
-pub fn run_on_sites<R: Threads + Sync, G: Gate>(
+pub fn run_on_sites<R: Threads + Wait + Sync, G: Gate>(
     alloc: Global,
     rt: &R,
     gate: &G,
@@ -41,6 +51,7 @@ pub fn run_on_sites<R: Threads + Sync, G: Gate>(
         Links::Rings => {
             run_over::<R, Rings<Item>, G>(alloc, rt, gate, low, code, budget, serial)
         }
+        Links::Inbox => run_over::<R, Inboxes, G>(alloc, rt, gate, low, code, budget, serial),
     }
 }
 
@@ -65,6 +76,112 @@ fn run_over<R: Threads + Sync, P: Port<R, Item>, G: Gate>(
     match crew.run(rt, gate, serial) {
         Ok(end) => kept(crew, end),
         Err(memory) => Err(memory),
+    }
+}
+
+/// Goes on with a run of a low program: the sites do its events again, in their order, and then run as in `run_on_sites`. These
+/// events count for the budget too.
+pub fn resume_on_sites<R: Threads + Wait + Sync, G: Gate>(
+    alloc: Global,
+    rt: &R,
+    gate: &G,
+    low: &LowProgram,
+    code: Code,
+    events: &[Event],
+    budget: u32,
+    serial: bool,
+    links: Links,
+) -> Result<Record, FollowFail>
+    requires code { program code ≡ low.now }
+    requires sites { length low.now.sites ≤ MOST_SITES }
+    requires site { low.now.at < length low.now.sites }
+    requires some { 1 ≤ budget }
+    requires within { budget ≤ LARGEST_BUDGET }
+    requires run { IsSome (run (start_low low.now) events.now) }
+    ensures run { IfOk result (λ kept. IsSitesRun low.now budget (past kept.histories) kept.end) }
+    ensures resumed { IfOk result (λ kept. IsResumed events.now (past kept.histories)) }
+    ensures followed { OnOk result (AreWithin (length low.now.sites) budget events.now × IsOurs low.now events.now) }
+    ensures refused { IfErr result (IsRefused low.now budget events.now) }
+{
+    match links {
+        Links::Tray => resume_over::<R, Tray<Item>, G>(
+            alloc, rt, gate, low, code, events, budget, serial,
+        ),
+        Links::Rings => resume_over::<R, Rings<Item>, G>(
+            alloc, rt, gate, low, code, events, budget, serial,
+        ),
+        Links::Inbox => resume_over::<R, Inboxes, G>(
+            alloc, rt, gate, low, code, events, budget, serial,
+        ),
+    }
+}
+
+/// So over one kind of links.
+fn resume_over<R: Threads + Sync, P: Port<R, Item>, G: Gate>(
+    alloc: Global,
+    rt: &R,
+    gate: &G,
+    low: &LowProgram,
+    code: Code,
+    events: &[Event],
+    budget: u32,
+    serial: bool,
+) -> Result<Record, FollowFail>
+    requires code { program code ≡ low.now }
+    requires sites { length low.now.sites ≤ MOST_SITES }
+    requires site { low.now.at < length low.now.sites }
+    requires some { 1 ≤ budget }
+    requires within { budget ≤ LARGEST_BUDGET }
+    requires run { IsSome (run (start_low low.now) events.now) }
+    ensures run { IfOk result (λ kept. IsSitesRun low.now budget (past kept.histories) kept.end) }
+    ensures resumed { IfOk result (λ kept. IsResumed events.now (past kept.histories)) }
+    ensures followed { OnOk result (AreWithin (length low.now.sites) budget events.now × IsOurs low.now events.now) }
+    ensures refused { IfErr result (IsRefused low.now budget events.now) }
+{
+    let mut crew: Crew<R, P> = Crew::new(alloc, low, code, budget)?;
+    match resumed(&mut crew, rt, gate, low, events, serial) {
+        Ok(end) => kept_at(crew, end),
+        Err(fail) => Err(fail),
+    }
+}
+
+/// A crew that has made no event does these, and runs on.
+fn resumed<R: Threads + Sync, P: Port<R, Item>, G: Gate>(
+    crew: &mut Crew<R, P>,
+    rt: &R,
+    gate: &G,
+    low: &LowProgram,
+    events: &[Event],
+    serial: bool,
+) -> Result<End, FollowFail>
+    requires code { program crew.old.code ≡ low.now }
+    requires none { event_count crew.old.histories ≡ 0 }
+    requires sound { crew.old.failed ≡ false }
+    requires run { IsSome (run (start_low low.now) events.now) }
+    ensures code { crew.new.code ≡ crew.old.code }
+    ensures budget { crew.new.budget ≡ crew.old.budget }
+    ensures ended { IfOk result (HasEnded crew.new) }
+    ensures resumed { OnOk result (IsResumed events.now crew.new.histories) }
+    ensures followed { OnOk result (AreWithin (length low.now.sites) crew.old.budget events.now × IsOurs low.now events.now) }
+    ensures refused { IfErr result (IsRefused low.now crew.old.budget events.now) }
+{
+    law_resumes();
+    crew.follow(rt, low, events)?;
+    match crew.run(rt, gate, serial) {
+        Ok(end) => Ok(end),
+        Err(Memory) => Err(FollowFail::Memory),
+    }
+}
+
+/// The record of a crew whose run has ended, where it did events again.
+fn kept_at<R, P: Port<R, Item>>(crew: Crew<R, P>, end: End) -> Result<Record, FollowFail>
+    ensures histories { IfOk result (λ kept. past kept.histories ≡ crew.histories) }
+    ensures end { IfOk result (λ kept. kept.end ≡ end) }
+    ensures refused { IfErr result (λ fail. fail ≡ FollowFail.Memory) }
+{
+    match kept(crew, end) {
+        Ok(record) => Ok(record),
+        Err(Memory) => Err(FollowFail::Memory),
     }
 }
 

@@ -12,7 +12,7 @@ use Rattle.np_run.specs.Answers.{Call, ErrFailed, HasCauses, IsDone, IsRefused, 
 use Rattle.np_run.specs.declared.answer.Answer.{Answer}
 use Rattle.np_on_sites.specs.declared.record.Record.{Record}
 use Rattle.np_verdict.specs.declared.refusal.Refusal.{Refusal}
-use Rattle.np_verdict.specs.declared.refusal.Refusal.TheVariants.{Memory, Usage, ReadFault, TooLong, HistoryTooLong, HistSyntax, NotARun, NoLine}
+use Rattle.np_verdict.specs.declared.refusal.Refusal.TheVariants.{Memory, Usage, ReadFault, TooLong, HistoryTooLong, HistSyntax, NotARun, NoLine, NotOurs, BudgetPast}
 use Rattle.np_verdict.specs.declared.refusal.Refusal.TheVariants.{BadChar, BadString, BigNumber, Syntax, TooDeep}
 use Rattle.np_verdict.specs.declared.refusal.Refusal.TheVariants.{Unbound, SiteTwice, TooManySites, NotASite, TypeFault, LocationTest, TooManyNodes, TooManyEvents}
 
@@ -143,6 +143,8 @@ answered call status HistoryTooLong is t = of_history call status HistoryTooLong
 answered call status (HistSyntax line) is t = of_history call status (HistSyntax line) (λ e. cc) is refl t
 answered call status (NotARun index) is t = of_history call status (NotARun index) (λ e. cc) is refl t
 answered call status (NoLine lines) is t = of_history call status (NoLine lines) (λ e. cc) is refl t
+answered call status (NotOurs index) is t = of_history call status (NotOurs index) (λ e. cc) is refl t
+answered call status (BudgetPast site) is t = of_history call status (BudgetPast site) (λ e. cc) is refl t
 
 -- the line of the refusal could not be written whole
 pub unwritten : (call : Call) → ErrFailed call (refusing WRITE_FAILED) → Begins call → HasCauses call (refusing WRITE_FAILED)

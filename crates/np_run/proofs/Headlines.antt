@@ -10,6 +10,7 @@ use Rattle.np_words.specs.declared.planning.Task.{Task}
 use Rattle.np_words.specs.declared.planning.Task.TheVariants as task
 use Rattle.np_on_sites.specs.declared.record.Record.{Record}
 use Rattle.np_sources.specs.Kept.{KeepsPromises, load_report, run_report}
+use Rattle.np_sources.specs.Makes.{in_two_steps}
 use Rattle.np_sources.specs.declared.limits.TheConstants.{LOAD_BUDGET}
 use Rattle.np_modes.specs.Causes.{Does, HasMade, OfSource}
 use Rattle.np_modes.specs.Readings.{Reading}
@@ -55,6 +56,10 @@ module _ (words : List (List ℕ)) (texts : Reading) (kept : Record) where
       → Headline words texts kept text
   of_plan (plans.Source name asked) o high text is planned d = of_task name asked o high text is planned d
   of_plan (plans.Replay source history view) o high text is planned d = not_kept o is d.run.is_kept
+  of_plan (plans.Resume name saved budget history shows serial links) o high text is planned d =
+      let keeps = d.run.goes_on.keeps.keeps in
+      of_sites budget (run_report history (in_two_steps shows)) d.bytes o keeps.made text is keeps.is_kept
+      (AsksForRun.resumed name saved d.bytes budget history shows serial links planned d.read) keeps.promises
   of_plan (plans.Upgrade history) o high text is planned d = not_kept o is d.is_kept
   of_plan (plans.Generate agents) o high text is planned d = not_kept o is d.is_kept
   of_plan (plans.Load agents serial links) o high text is planned d =

@@ -1,23 +1,25 @@
 -- What a refusal says of a source that is told, and what is made of one.
-use Rattle.std.proofs.Common.{◌≡◌, ℕ, ◌≤◌, ◌<◌, ◌⊎◌, List, length, Option, inl, inr, refl, subst, ap, arith}
+use Rattle.std.proofs.Common.{◌≡◌, ℕ, ◌≤◌, ◌<◌, ◌⊎◌, List, length, Option, inl, inr, subst, ap, arith}
 use Rattle.np_syntax.specs.declared.limits.TheConstants.{LONGEST_SOURCE}
 use Rattle.np_syntax.specs.declared.program.LowProgram.{LowProgram}
 use Rattle.np_words.specs.declared.planning.Plan.{Plan}
 use Rattle.np_words.specs.declared.planning.View.{View}
+use Rattle.np_words.specs.declared.planning.View.TheVariants as views
 use Rattle.np_words.specs.declared.planning.Task.{Task}
 use Rattle.np_words.specs.declared.planning.Task.TheVariants as task
 use Rattle.np_serial.specs.declared.serial.SerialRun.{SerialRun}
 use Rattle.np_verdict.specs.Lines.{status_of}
 use Rattle.np_verdict.specs.declared.refusal.Refusal.{Refusal}
-use Rattle.np_verdict.specs.declared.refusal.Refusal.TheVariants.{ReadFault, TooLong}
+use Rattle.np_verdict.specs.declared.refusal.Refusal.TheVariants.{ReadFault, TooLong, TooManyEvents}
 use Rattle.np_histories.specs.Laws as history_laws
+use Rattle.np_sources.specs.Laws as source_laws
 use Rattle.np_sources.specs.Makes.{DoesTask}
 use Rattle.np_sources.specs.Reaches.{Reach, TakenTo, FaultyTo, reach_of}
 use Rattle.np_on_sites.specs.declared.record.Record.{Record}
 use Rattle.np_modes.specs.Readings.{IsUnread}
-use Rattle.np_modes.specs.Causes.{Does, HasMade, IsFaultySource, RefusesSource, RefusesRun, RefusesPlan, Stands}
+use Rattle.np_modes.specs.Causes.{Does, HasMade, IsFaultySource, IsUnfit, RefusesSource, RefusesRun, RefusesSaved, RefusesPlan, Stands}
 use Rattle.np_run.specs.Answers.{Call}
-use Rattle.np_run.specs.Laws.{HasSource, IsTold, Reads, Replays}
+use Rattle.np_run.specs.Laws.{HasSource, IsTold, Reads, ReadsBoth, Replays}
 use Rattle.np_run.proofs.Outcomes.{one, refused_plan, told, same_text}
 
 -- ---- what a refusal says
@@ -44,20 +46,31 @@ says_faulty reach bytes refusal short (inr s) = s.1
 
 -- a refusal that comes once the source is accepted
 abbrev pub IsOfHistory : Refusal → Type 0
-IsOfHistory refusal = (refusal ≡ ReadFault) ⊎ (status_of refusal ≡ 7)
+IsOfHistory refusal = (refusal ≡ ReadFault) ⊎ (status_of refusal ≡ 7) ⊎ (refusal ≡ TooManyEvents)
 
 module _ (histories : history_laws.HaveOneAnswer) where
   pub of_history : (call : Call) (history : List ℕ) (low : LowProgram) (view : View) (refusal : Refusal) → RefusesRun call.texts history low view refusal → IsOfHistory refusal
   of_history call history low view refusal (inl (inl f)) = inl f.0
-  of_history call history low view refusal (inl (inr l)) = inr (ap status_of l.0)
-  of_history call history low view refusal (inr s) = inr (histories.run_status low view s.bytes refusal s.faulty)
+  of_history call history low view refusal (inl (inr l)) = inr (inl (ap status_of l.0))
+  of_history call history low view refusal (inr s) = inr (inl (histories.run_status low view s.bytes refusal s.faulty))
+
+module _ (sources : source_laws.HaveOneAnswer) (histories : history_laws.HaveOneAnswer) where
+  -- what is wrong with a history from which a run is to go on
+  pub unfit_status : (budget : ℕ) (low : LowProgram) (bytes : List ℕ) (refusal : Refusal) → IsUnfit budget low bytes refusal → (refusal ≡ TooManyEvents) ⊎ (status_of refusal ≡ 7)
+  unfit_status budget low bytes refusal (inl f) = inr (histories.run_status low views.Said bytes refusal f)
+  unfit_status budget low bytes refusal (inr f) = sources.stop_status budget low f.events refusal f.cannot
+
+  of_saved : (call : Call) (saved : List ℕ) (low : LowProgram) (budget : ℕ) (refusal : Refusal) → RefusesSaved call.texts saved low budget refusal → IsOfHistory refusal
+  of_saved call saved low budget refusal (inl (inl f)) = inl f.0
+  of_saved call saved low budget refusal (inl (inr l)) = inr (inl (ap status_of l.0))
+  of_saved call saved low budget refusal (inr s) = elim (unfit_status budget low s.bytes refusal s.unfit) [ inl many ↦ inr (inr many) | inr seven ↦ inr (inl seven) ]
 
 -- a refusal speaks of the source, or of the history behind it
 pub data Cause (asked : Plan) (reach : Reach) (bytes : List ℕ) (refusal : Refusal) : Type 0 where
   of_source : Says reach bytes refusal → Cause asked reach bytes refusal
   of_later : Replays asked bytes → length bytes ≤ LONGEST_SOURCE → TakenTo reach bytes → IsOfHistory refusal → Cause asked reach bytes refusal
 
-module _ (histories : history_laws.HaveOneAnswer) where
+module _ (sources : source_laws.HaveOneAnswer) (histories : history_laws.HaveOneAnswer) where
   by_plan : (call : Call) (asked : Plan) (reach : Reach) (bytes : List ℕ) (refusal : Refusal) → HasSource call asked reach bytes
       → RefusesPlan call.texts asked refusal → Cause asked reach bytes refusal
   by_plan call asked reach bytes refusal (HasSource.alone f b task t) r = Cause.of_source (source_says call f (reach_of task) b refusal t r)
@@ -65,8 +78,15 @@ module _ (histories : history_laws.HaveOneAnswer) where
   by_plan call asked reach bytes refusal (HasSource.replayed source history b view t) (inr r) =
       let same : r.lowered.bytes ≡ b = same_text call source b r.lowered.bytes LONGEST_SOURCE t r.lowered.read in
       let accepted = subst (λ (x : List ℕ). TakenTo Reach.low x) same (r.low, r.lowered.lowers) in
-      Cause.of_later (record { source = source; history = history; view = view; is = refl; low = accepted.0; lowered = accepted.1 })
+      Cause.of_later (record { both = ReadsBoth.replayed source history view; low = accepted.0; lowered = accepted.1 })
       (subst (λ (x : List ℕ). length x ≤ LONGEST_SOURCE) same r.lowered.read.short) accepted (of_history histories call history r.low view refusal r.run)
+  by_plan call asked reach bytes refusal (HasSource.resumed source saved b budget history high serial links t) (inl r) =
+      Cause.of_source (source_says call source Reach.low b refusal t r)
+  by_plan call asked reach bytes refusal (HasSource.resumed source saved b budget history high serial links t) (inr r) =
+      let same : r.lowered.bytes ≡ b = same_text call source b r.lowered.bytes LONGEST_SOURCE t r.lowered.read in
+      let accepted = subst (λ (x : List ℕ). TakenTo Reach.low x) same (r.low, r.lowered.lowers) in
+      Cause.of_later (record { both = ReadsBoth.resumed source saved budget history high serial links; low = accepted.0; lowered = accepted.1 })
+      (subst (λ (x : List ℕ). length x ≤ LONGEST_SOURCE) same r.lowered.read.short) accepted (of_saved sources histories call saved r.low budget refusal r.run)
   by_plan call asked reach bytes refusal (HasSource.made agents serial links) r = Cause.of_source (inr (r.short, r.faulty))
 
   pub stands_cause : (call : Call) (asked : Plan) (reach : Reach) (bytes : List ℕ) (refusal : Refusal) → Reads call asked reach bytes
@@ -95,6 +115,9 @@ made_plan call asked reach bytes kept high text (HasSource.alone f b task t) d =
 made_plan call asked reach bytes kept high text (HasSource.replayed source history b view t) d =
     subst (λ (x : List ℕ). IsTaken Reach.low x) (same_text call source b d.lowered.bytes LONGEST_SOURCE t d.lowered.read)
     (d.lowered.read.short, (d.low, d.lowered.lowers))
+made_plan call asked reach bytes kept high text (HasSource.resumed source saved b budget history shows serial links t) d =
+    let promises = d.run.goes_on.keeps.keeps.promises in
+    subst (λ (x : List ℕ). IsTaken Reach.low x) (same_text call source b d.bytes LONGEST_SOURCE t d.read) (d.read.short, (promises.low, promises.lowered))
 made_plan call asked reach bytes kept high text (HasSource.made agents serial links) d =
     (d.short, record { low = d.does.promises.low; lowered = d.does.promises.lowered; few = d.does.promises.few })
 

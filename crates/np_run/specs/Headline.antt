@@ -19,16 +19,20 @@ use Rattle.np_words.specs.declared.planning.Plan.TheVariants as plans
 use Rattle.np_words.specs.declared.planning.Task.TheVariants as task
 use Rattle.np_on_sites.specs.declared.record.Record.{Record}
 use Rattle.np_sources.specs.Kept.{load_report, merged, run_report, said}
+use Rattle.np_sources.specs.Makes.{in_two_steps}
 use Rattle.np_sources.specs.Reaches.{IsLowOf}
 use Rattle.np_sources.specs.declared.limits.TheConstants.{LOAD_BUDGET}
-use Rattle.np_modes.specs.Readings.{Reading, IsRead}
+use Rattle.np_modes.specs.Readings.{Reading, IsRead, IsText}
 
--- The words ask for a run of a source of these bytes, in which each site makes at most so many events, and for this report: `run` of a file, or `load` of
--- a generated source. Whether sites take turns or have threads, and what carries items between them, is free.
+-- The words ask for a run of a source of these bytes, in which each site makes at most so many events, and for this report: `run` of a file, `resume` of
+-- a file and a history, or `load` of a generated source. Whether sites take turns or have threads, and what carries items between them, is free.
 pub data AsksForRun (words : List (List ℕ)) (texts : Reading) : ℕ → (Program → Record → List ℕ) → List ℕ → Type 0 where
   file : (name bytes : List ℕ) (budget : ℕ) (history : Bool) (high : HighText) (serial : Bool) (links : Links)
       → plan words ≡ Some (plans.Source name (task.Run budget history high serial links)) → IsRead texts name LONGEST_SOURCE bytes
       → AsksForRun words texts budget (run_report history high) bytes
+  resumed : (name saved bytes : List ℕ) (budget : ℕ) (history high serial : Bool) (links : Links)
+      → plan words ≡ Some (plans.Resume name saved budget history high serial links) → IsText texts name LONGEST_SOURCE bytes
+      → AsksForRun words texts budget (run_report history (in_two_steps high)) bytes
   loaded : (agents : ℕ) (serial : Bool) (links : Links) → plan words ≡ Some (plans.Load agents serial links)
       → AsksForRun words texts LOAD_BUDGET (load_report agents) (generated agents)
 

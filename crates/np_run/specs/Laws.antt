@@ -12,12 +12,13 @@ use Rattle.np_words.specs.declared.modes.Links.{Links}
 use Rattle.np_generate.specs.Generated.{generated}
 use Rattle.np_sources.specs.declared.limits.TheConstants.{LOAD_BUDGET}
 use Rattle.np_verdict.specs.declared.refusal.Refusal.{Refusal}
-use Rattle.np_verdict.specs.declared.refusal.Refusal.TheVariants.{TooLong, HistoryTooLong}
+use Rattle.np_verdict.specs.declared.refusal.Refusal.TheVariants.{TooLong, HistoryTooLong, TooManyEvents}
+use Rattle.np_verdict.specs.Lines.{status_of}
 use Rattle.np_verdict.specs.declared.statuses.TheConstants.{BAD_HISTORY, BAD_SOURCE, BAD_USAGE, BUDGET_SPENT, DONE, NO_MEMORY}
 use Rattle.np_histories.specs.Histories.{HasEvents, HasRun, HasNoEvents, IsFaulty}
 use Rattle.np_histories.specs.declared.limits.TheConstants.{LONGEST_HISTORY}
 use Rattle.np_sources.specs.Reaches.{Reach, TakenTo, FaultyTo, IsLowOf, reach_of}
-use Rattle.np_modes.specs.Causes.{Stands}
+use Rattle.np_modes.specs.Causes.{IsFit, IsUnfit, Stands}
 use Rattle.np_run.specs.Answers.{Call, HasCauses, IsRefused}
 use Rattle.np_run.specs.declared.answer.Answer.{Answer}
 
@@ -32,6 +33,8 @@ pub record IsTold (call : Call) (name bytes : List ℕ) : Type 0 where
 pub data HasSource (call : Call) : Plan → Reach → List ℕ → Type 0 where
   alone : (file bytes : List ℕ) (task : Task) → IsTold call file bytes → HasSource call (plans.Source file task) (reach_of task) bytes
   replayed : (source history bytes : List ℕ) (view : View) → IsTold call source bytes → HasSource call (plans.Replay source history view) Reach.low bytes
+  resumed : (source saved bytes : List ℕ) (budget : ℕ) (history high serial : Bool) (links : Links) → IsTold call source bytes
+      → HasSource call (plans.Resume source saved budget history high serial links) Reach.low bytes
   made : (agents : ℕ) (serial : Bool) (links : Links) → HasSource call (plans.Load agents serial links) (Reach.sites LOAD_BUDGET) (generated agents)
 
 -- the words ask for something of a source, and these are its bytes
@@ -39,27 +42,34 @@ pub record Reads (call : Call) (asked : Plan) (reach : Reach) (bytes : List ℕ)
   pub planned : plan call.words ≡ Some asked
   pub source : HasSource call asked reach bytes
 
+-- a history is read behind the source
+pub data ReadsBoth : Plan → Type 0 where
+  replayed : (source history : List ℕ) (view : View) → ReadsBoth (plans.Replay source history view)
+  resumed : (source saved : List ℕ) (budget : ℕ) (history high serial : Bool) (links : Links) → ReadsBoth (plans.Resume source saved budget history high serial links)
+
 -- the source has a low program, and then the history is read
 pub record Replays (asked : Plan) (bytes : List ℕ) : Type 0 where
-  pub source : List ℕ
-  pub history : List ℕ
-  pub view : View
-  pub is : asked ≡ plans.Replay source history view
+  pub both : ReadsBoth asked
   pub low : LowProgram
   pub lowered : IsLowOf bytes low
 
 -- ---- histories
 
--- what a history is read for: for its events alone, or to replay it from the start of a low program, and to show this of it
+-- What a history is read for: for its events alone; or to replay it from the start of a low program, and to show this of it; or to go on from it, where
+-- each site makes at most so many events.
 pub data Purpose : Type 0 where
   events : Purpose
   replay : LowProgram → View → Purpose
+  resume : LowProgram → ℕ → Purpose
 
 -- the history that is read, and for what
 pub data ReadsHistory (call : Call) : Plan → List ℕ → Purpose → Type 0 where
   alone : (history : List ℕ) → ReadsHistory call (plans.Upgrade history) history Purpose.events
   replayed : (source history bytes : List ℕ) (view : View) (low : LowProgram) → IsTold call source bytes → length bytes ≤ LONGEST_SOURCE → IsLowOf bytes low
       → ReadsHistory call (plans.Replay source history view) history (Purpose.replay low view)
+  resumed : (source saved bytes : List ℕ) (budget : ℕ) (history high serial : Bool) (links : Links) (low : LowProgram) → IsTold call source bytes
+      → length bytes ≤ LONGEST_SOURCE → IsLowOf bytes low
+      → ReadsHistory call (plans.Resume source saved budget history high serial links) saved (Purpose.resume low budget)
 
 -- the words ask for something of a history, and these are its bytes
 pub record Follows (call : Call) (purpose : Purpose) (bytes : List ℕ) : Type 0 where
@@ -73,6 +83,7 @@ pub record Follows (call : Call) (purpose : Purpose) (bytes : List ℕ) : Type 0
 abbrev pub FaultyHistory : Purpose → List ℕ → Refusal → Type 0
 FaultyHistory Purpose.events bytes refusal = HasNoEvents bytes refusal
 FaultyHistory (Purpose.replay low view) bytes refusal = IsFaulty low view bytes refusal
+FaultyHistory (Purpose.resume low budget) bytes refusal = IsUnfit budget low bytes refusal
 
 -- ---- where what is asked for is done
 
@@ -93,6 +104,17 @@ pub record AcceptsReplay (call : Call) (source history : List ℕ) (view : View)
   pub short_run : length run ≤ LONGEST_HISTORY
   pub replays : HasRun low view run
 
+pub record AcceptsResume (call : Call) (source saved : List ℕ) (budget : ℕ) : Type 0 where
+  pub bytes : List ℕ
+  pub told : IsTold call source bytes
+  pub short : length bytes ≤ LONGEST_SOURCE
+  pub low : LowProgram
+  pub lowered : IsLowOf bytes low
+  pub run : List ℕ
+  pub told_run : IsTold call saved run
+  pub short_run : length run ≤ LONGEST_HISTORY
+  pub fit : IsFit budget low run
+
 pub record AcceptsHistory (call : Call) (history : List ℕ) : Type 0 where
   pub bytes : List ℕ
   pub told : IsTold call history bytes
@@ -103,6 +125,7 @@ pub record AcceptsHistory (call : Call) (history : List ℕ) : Type 0 where
 abbrev pub Accepts : Call → Plan → Type 0
 Accepts call (plans.Source file task) = AcceptsSource call file (reach_of task)
 Accepts call (plans.Replay source history view) = AcceptsReplay call source history view
+Accepts call (plans.Resume source saved budget history high serial links) = AcceptsResume call source saved budget
 Accepts call (plans.Upgrade history) = AcceptsHistory call history
 Accepts call (plans.Generate agents) = Unit {0}
 Accepts call (plans.Load agents serial links) = TakenTo (Reach.sites LOAD_BUDGET) (generated agents)
@@ -164,8 +187,8 @@ RefusesHistories = (call : Call) (answer : Answer) (purpose : Purpose) (bytes : 
     → Follows call purpose bytes → ¬ Rose call.err.before call.err.now → answer.status ≢ NO_MEMORY → length bytes ≤ LONGEST_HISTORY
     → IsRefused call answer refusal ↔ FaultyHistory purpose bytes refusal
 
--- such a history has this one refusal
+-- such a history has this one refusal, of status 7, but for one of a run that cannot go on because its sites could make too many events
 abbrev pub RefusesHistoriesOnce : Type 0
 RefusesHistoriesOnce = (call : Call) (answer : Answer) (purpose : Purpose) (bytes : List ℕ) (refusal : Refusal) → HasCauses call answer
     → Follows call purpose bytes → ¬ Rose call.err.before call.err.now → answer.status ≢ NO_MEMORY → length bytes ≤ LONGEST_HISTORY
-    → FaultyHistory purpose bytes refusal → RefusesAlone BAD_HISTORY call answer refusal
+    → FaultyHistory purpose bytes refusal → RefusesAlone (status_of refusal) call answer refusal × ((refusal ≡ TooManyEvents) ⊎ (status_of refusal ≡ BAD_HISTORY))

@@ -68,7 +68,7 @@ pub fn law_refuses_histories()
     np_histories::law_one_answer();
 }
 
-/// Such a history has one refusal, with status 7.
+/// Such a history has one refusal, with status 7; or with status 3, where the sites could make too many events going on from it.
 pub fn law_refuses_histories_once()
     ensures { RefusesHistoriesOnce }
 {

@@ -1,17 +1,22 @@
 -- A source is taken so far or refused, and refused in one way alone.
-use Rattle.std.proofs.Common.{◌≡◌, ℕ, ◌*◌, ◌≤◌, ◌<◌, ◌⊎◌, inl, inr, List, length, Some, sym, subst, ap, ◌∙◌, arith}
+use Rattle.std.proofs.Common.{◌≡◌, ℕ, zero, suc, ◌+◌, ◌*◌, ◌≤◌, ◌<◌, ◌⊎◌, inl, inr, List, length, Some, refl, sym, subst, ap, ◌∙◌, arith}
+use Rattle.np_syntax.specs.declared.event.Event.{Event}
 use Rattle.np_syntax.specs.declared.program.LowProgram.{LowProgram}
 use Rattle.np_syntax.specs.declared.program.Program.{Program}
+use Rattle.np_calculus.specs.Config.{Config}
+use Rattle.np_calculus.specs.Starts.{start_low}
 use Rattle.np_code.specs.Sizes.{capped, program_nodes}
 use Rattle.np_code.specs.declared.limits.TheConstants.{MOST_CODE_NODES}
 use Rattle.daemon_encode.specs.Encoded.{encoded}
 use Rattle.np_verdict.specs.Faults.{Stage, Faulty}
 use Rattle.np_verdict.specs.Lines.{status_of}
 use Rattle.np_verdict.specs.declared.refusal.Refusal.{Refusal}
-use Rattle.np_verdict.specs.declared.refusal.Refusal.TheVariants.{Usage, TooLong, LocationTest, TooManyNodes}
+use Rattle.np_verdict.specs.declared.refusal.Refusal.TheVariants.{Usage, TooLong, LocationTest, TooManyNodes, TooManyEvents, NotOurs, BudgetPast}
 use Rattle.np_words.specs.declared.modes.HighText.{HighText}
 use Rattle.np_verdict.proofs.Verdicts as verdicts
-use Rattle.np_sources.specs.Reaches.{Reach, HasFewEvents, HasManyEvents, HasNoLow, IsBarred, IsFree, IsLowOf, IsTooLarge, TakenTo, FaultyTo, barred}
+use Rattle.run_save.specs.Ours.{PrefixIsOurs, StopsBeingOurs}
+use Rattle.site_crew.specs.Lists.{AreWithin, IsFirstPast}
+use Rattle.np_sources.specs.Reaches.{Reach, CanGoOn, CannotGoOn, HasFewEvents, HasManyEvents, HasNoLow, IsBarred, IsFree, IsLowOf, IsTooLarge, TakenTo, FaultyTo, barred}
 use Rattle.np_sources.specs.declared.limits.TheConstants.{MOST_EVENTS}
 
 -- a source has one low program
@@ -134,3 +139,48 @@ faulty_status (Reach.sites budget) bytes refusal (inl f) = low_status bytes refu
 faulty_status (Reach.sites budget) bytes refusal (inr f) = inl (ap status_of f.is)
 faulty_status (Reach.shown high reach) bytes refusal (inl f) = inl (ap status_of f.is)
 faulty_status (Reach.shown high reach) bytes refusal (inr f) = faulty_status reach bytes refusal f.1
+
+-- ---- saved events
+
+compare : (m n : ℕ) → (m < n) ⊎ (m ≡ n) ⊎ (n < m)
+compare zero zero = inr (inl refl)
+compare zero (suc n) = inl (omega arith)
+compare (suc m) zero = inr (inr (omega arith))
+compare (suc m) (suc n) = elim (compare m n) [ inl h ↦ inl (omega arith) | inr h ↦ elim h [ inl e ↦ inr (inl (ap suc e)) | inr g ↦ inr (inr (omega arith)) ] ]
+
+not_past : (sites budget : ℕ) (events : List Event) (s : ℕ) → AreWithin sites budget events → IsFirstPast sites budget events s → ⊥
+not_past sites budget events s within past = let few = within.each s past.site in let more = past.more in omega arith
+
+first_once : (sites budget : ℕ) (events : List Event) (s t : ℕ) → IsFirstPast sites budget events s → IsFirstPast sites budget events t → s ≡ t
+first_once sites budget events s t a b = elim (compare s t) [
+  | inl h ↦ let few = b.before s h in let more = a.more in absurd (omega arith)
+  | inr h ↦ elim h [ inl e ↦ e | inr g ↦ let few = a.before t g in let more = b.more in absurd (omega arith) ]
+]
+
+stops_once : (start : Config) (events : List Event) (i j : ℕ) → StopsBeingOurs start events i → StopsBeingOurs start events j → i ≡ j
+stops_once start events i j a b = elim (compare i j) [
+  | inl h ↦ absurd (a.not (b.before (i + 1) (omega arith)))
+  | inr h ↦ elim h [ inl e ↦ e | inr g ↦ absurd (b.not (a.before (j + 1) (omega arith))) ]
+]
+
+pub goes_on : PrefixIsOurs → (budget : ℕ) (low : LowProgram) (events : List Event) (refusal : Refusal) → CanGoOn budget low events → CannotGoOn budget low events refusal → ⊥
+goes_on prefix budget low events refusal a (inl h) = few_events (length low.sites * budget) a.few h.many
+goes_on prefix budget low events refusal a (inr (inl h)) = not_past (length low.sites) budget events h.site a.within h.past
+goes_on prefix budget low events refusal a (inr (inr h)) = h.stops.not (prefix low events (h.index + 1) a.ours)
+
+pub same_stop : (budget : ℕ) (low : LowProgram) (events : List Event) (a b : Refusal) → CannotGoOn budget low events a → CannotGoOn budget low events b → a ≡ b
+same_stop budget low events a b (inl h) (inl k) = h.is ∙ sym k.is
+same_stop budget low events a b (inl h) (inr (inl k)) = absurd (few_events (length low.sites * budget) k.few h.many)
+same_stop budget low events a b (inl h) (inr (inr k)) = absurd (few_events (length low.sites * budget) k.few h.many)
+same_stop budget low events a b (inr (inl h)) (inl k) = absurd (few_events (length low.sites * budget) h.few k.many)
+same_stop budget low events a b (inr (inr h)) (inl k) = absurd (few_events (length low.sites * budget) h.few k.many)
+same_stop budget low events a b (inr (inl h)) (inr (inl k)) = h.is ∙ ap BudgetPast (first_once (length low.sites) budget events h.site k.site h.past k.past) ∙ sym k.is
+same_stop budget low events a b (inr (inl h)) (inr (inr k)) = absurd (not_past (length low.sites) budget events h.site k.within h.past)
+same_stop budget low events a b (inr (inr h)) (inr (inl k)) = absurd (not_past (length low.sites) budget events k.site h.within k.past)
+same_stop budget low events a b (inr (inr h)) (inr (inr k)) = h.is ∙ ap NotOurs (stops_once (start_low low) events h.index k.index h.stops k.stops) ∙ sym k.is
+
+pub stop_status : (budget : ℕ) (low : LowProgram) (events : List Event) (refusal : Refusal) → CannotGoOn budget low events refusal
+    → (refusal ≡ TooManyEvents) ⊎ (status_of refusal ≡ 7)
+stop_status budget low events refusal (inl h) = inl h.is
+stop_status budget low events refusal (inr (inl h)) = inr (ap status_of h.is)
+stop_status budget low events refusal (inr (inr h)) = inr (ap status_of h.is)

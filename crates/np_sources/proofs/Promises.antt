@@ -1,10 +1,11 @@
 -- A run of the low program of a source on its sites keeps what is promised.
 use Rattle.std.proofs.Common.{IsErr, IsErrAnd, ◌≡◌, ◌≢◌, ℕ, inl, inr, List, Option, None, IsSome, Some, refl, Result, Ok, Err, IfOk, IfErr, sym, subst}
+use Rattle.np_syntax.specs.declared.event.Event.{Event}
 use Rattle.np_syntax.specs.declared.program.LowProgram.{LowProgram}
 use Rattle.np_syntax.specs.declared.program.Program.{Program}
 use Rattle.np_calculus.specs.Config.{Config}
 use Rattle.np_calculus.specs.Reductions.{run}
-use Rattle.np_calculus.specs.Starts.{start_high}
+use Rattle.np_calculus.specs.Starts.{start_high, start_low}
 use Rattle.np_lift.specs.Lift.{lift}
 use Rattle.run_merge.specs.Merged.{past}
 use Rattle.np_verdict.specs.Faults.{Faulty, IsWellTyped, Stage}
@@ -13,13 +14,14 @@ use Rattle.np_verdict.specs.declared.refusal.Refusal.TheVariants.{Memory}
 use Rattle.np_verdict.proofs.Verdicts.{not_both, well_typed_once}
 use Rattle.np_words.specs.declared.modes.HighText.{HighText}
 use Rattle.np_words.specs.declared.modes.HighText.TheVariants.{Absent}
+use Rattle.np_following.specs.Following.{IsResumed}
 use Rattle.np_on_sites.specs.SourceRuns.{SitesRunsAreSourceRuns}
 use Rattle.np_on_sites.specs.declared.record.Record.{Record}
 use Rattle.np_sources.specs.declared.job.Job.{Job}
 use Rattle.np_sources.specs.declared.sites.Shown.{Shown}
-use Rattle.np_sources.specs.Kept.{KeepsPromises, merged}
-use Rattle.np_sources.specs.Makes.{KeepsRun, KeepsSites, RunsOnSites, high_of, report_of}
-use Rattle.np_sources.specs.Reaches.{Reach, CannotRun, FaultyTo, IsFree, barred}
+use Rattle.np_sources.specs.Kept.{IsShownSo, KeepsPromises, merged}
+use Rattle.np_sources.specs.Makes.{KeepsResumed, KeepsRun, KeepsSites, RunsOnSites, high_of, report_of}
+use Rattle.np_sources.specs.Reaches.{Reach, CanGoOn, CannotRun, FaultyTo, IsFree, barred}
 
 pub promises : SitesRunsAreSourceRuns → (budget : ℕ) (report : Program → Record → List ℕ) (bytes : List ℕ) (p : Program)
     (low : LowProgram) (kept : Record) (text : List ℕ) → IsWellTyped bytes p → RunsOnSites budget p low kept → text ≡ report p kept → KeepsPromises budget report bytes kept text
@@ -122,3 +124,38 @@ pub refused_absent : {X : Type 0} (reach : Reach) (bytes : List ℕ) (r : Result
     → IfErr r (λ refusal. refusal ≢ Memory → FaultyTo reach bytes refusal)
 refused_absent reach bytes (Ok x) h = tt
 refused_absent reach bytes (Err e) h = λ some. absent reach bytes e (h some)
+
+-- ---- a run that is kept, with its report
+
+module _ (how : Shown) (p : Program) (made : Record) where
+  pub keeps_run : (budget : ℕ) (low : LowProgram) → RunsOnSites budget p low made → (r : Result Job Refusal) → IfOk r (λ job. job.kept ≡ Some made) → IfOk r (λ job. job.high ≡ None)
+      → IfOk r (λ job. job.text ≡ report_of how p made) → IfOk r (λ _. IsShownSo (high_of how) p (lift (merged made)))
+      → IfOk r (λ job. KeepsRun budget how p job.kept job.high job.text)
+  keeps_run budget low ran (Ok job) kept high text shown = record { low = low; made = made; ran = ran; written = text; stepped = shown; is_kept = kept; is_high = high }
+  keeps_run budget low ran (Err e) kept high text shown = tt
+
+  -- so it is with one that goes on from saved events
+  pub keeps_resumed : SitesRunsAreSourceRuns → (budget : ℕ) (low : LowProgram) (bytes : List ℕ) (events : List Event) → IsWellTyped bytes p → barred (high_of how) p ≡ None
+      → RunsOnSites budget p low made → IsSome (run (start_low low) events) → CanGoOn budget low events → IsResumed events (past made.histories)
+      → (r : Result Job Refusal) → IfOk r (λ job. job.kept ≡ Some made) → IfOk r (λ job. job.high ≡ None) → IfOk r (λ job. job.text ≡ report_of how p made)
+      → IfOk r (λ _. IsShownSo (high_of how) p (lift (merged made))) → IfOk r (λ job. KeepsResumed budget how bytes events job.kept job.high job.text)
+  unfolding promises
+  keeps_resumed law budget low bytes events typed free ran runs can resumed (Ok job) kept high text shown = record {
+    keeps = record {
+      made = made;
+      promises = promises law budget (report_of how) bytes p low made job.text typed ran text;
+      free = free_of (high_of how) bytes p typed free;
+      shown = shown;
+      is_kept = kept;
+      is_high = high;
+    };
+    run = runs;
+    can = can;
+    resumed = resumed;
+  }
+  keeps_resumed law budget low bytes events typed free ran runs can resumed (Err e) kept high text shown = tt
+
+-- want of memory is no other refusal
+pub only_memory : {X : Type 0} (P : Refusal → Type 0) (r : Result X Refusal) → IfErr r (λ refusal. refusal ≡ Memory) → IfErr r (λ refusal. refusal ≢ Memory → P refusal)
+only_memory P (Ok x) h = tt
+only_memory P (Err e) h = λ some. absurd (some h)

@@ -1,10 +1,11 @@
 -- A source is taken so far or refused, and refused in one way alone (docs/LANGUAGE.md, "Reports and refusals").
 use Rattle.std.specs.Prelude.{◌≡◌, ℕ, ◌⊎◌, List}
+use Rattle.np_syntax.specs.declared.event.Event.{Event}
 use Rattle.np_syntax.specs.declared.program.LowProgram.{LowProgram}
 use Rattle.np_verdict.specs.Lines.{status_of}
 use Rattle.np_verdict.specs.declared.refusal.Refusal.{Refusal}
-use Rattle.np_verdict.specs.declared.refusal.Refusal.TheVariants.{Usage, TooLong}
-use Rattle.np_sources.specs.Reaches.{Reach, IsLowOf, TakenTo, FaultyTo}
+use Rattle.np_verdict.specs.declared.refusal.Refusal.TheVariants.{Usage, TooLong, TooManyEvents}
+use Rattle.np_sources.specs.Reaches.{CanGoOn, CannotGoOn, FaultyTo, IsLowOf, Reach, TakenTo}
 
 pub record HaveOneAnswer : Type 0 where
   -- a source has one low program
@@ -18,3 +19,9 @@ pub record HaveOneAnswer : Type 0 where
   pub not_usage : (reach : Reach) (bytes : List ℕ) → FaultyTo reach bytes Usage → ⊥
   -- the status of the others is 3, but for want of memory
   pub status : (reach : Reach) (bytes : List ℕ) (refusal : Refusal) → FaultyTo reach bytes refusal → (status_of refusal ≡ 3) ⊎ (status_of refusal ≡ 6)
+  -- a run goes on from saved events, or is refused in one way
+  pub goes_on : (budget : ℕ) (low : LowProgram) (events : List Event) (refusal : Refusal) → CanGoOn budget low events → CannotGoOn budget low events refusal → ⊥
+  pub same_stop : (budget : ℕ) (low : LowProgram) (events : List Event) (a b : Refusal) → CannotGoOn budget low events a → CannotGoOn budget low events b → a ≡ b
+  -- with status 7, but for too many events
+  pub stop_status : (budget : ℕ) (low : LowProgram) (events : List Event) (refusal : Refusal) → CannotGoOn budget low events refusal
+      → (refusal ≡ TooManyEvents) ⊎ (status_of refusal ≡ 7)

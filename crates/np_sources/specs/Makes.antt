@@ -1,5 +1,6 @@
 -- What a mode makes of the bytes of a source (docs/LANGUAGE.md, "Reports and refusals").
-use Rattle.std.specs.Prelude.{◌≡◌, ℕ, ◌*◌, ◌≤◌, List, [], length, codes, Option, Some, None}
+use Rattle.std.specs.Prelude.{◌≡◌, ℕ, ◌*◌, ◌≤◌, Bool, true, false, List, [], length, codes, Option, Some, None, IsSome}
+use Rattle.np_syntax.specs.declared.event.Event.{Event}
 use Rattle.np_syntax.specs.declared.program.LowProgram.{LowProgram}
 use Rattle.np_syntax.specs.declared.program.Program.{Program}
 use Rattle.np_tree.specs.declared.tree.Tree.{Tree}
@@ -17,14 +18,15 @@ use Rattle.np_generate.specs.Generated.{generated}
 use Rattle.np_lift.specs.Lift.{lift}
 use Rattle.run_merge.specs.Merged.{past}
 use Rattle.np_words.specs.declared.modes.HighText.{HighText}
-use Rattle.np_words.specs.declared.modes.HighText.TheVariants.{Absent}
+use Rattle.np_words.specs.declared.modes.HighText.TheVariants.{Absent, TwoSteps}
+use Rattle.np_following.specs.Following.{IsResumed}
 use Rattle.np_on_sites.specs.SitesRuns.{IsSitesRun}
 use Rattle.np_on_sites.specs.declared.record.Record.{Record}
 use Rattle.np_sources.specs.declared.limits.TheConstants.{LOAD_BUDGET, MOST_EVENTS}
 use Rattle.np_sources.specs.declared.sites.Shown.{Shown}
 use Rattle.np_sources.specs.declared.sites.Shown.TheVariants as shown
 use Rattle.np_sources.specs.Kept.{IsShownSo, KeepsPromises, high_part, load_report, merged, run_report}
-use Rattle.np_sources.specs.Reaches.{IsCompiled, IsFree, IsLowOf}
+use Rattle.np_sources.specs.Reaches.{CanGoOn, IsCompiled, IsFree, IsLowOf}
 
 -- ---- runs
 
@@ -69,6 +71,11 @@ abbrev pub report_of : Shown → Program → Record → List ℕ
 report_of (shown.Printed history high) = run_report history high
 report_of (shown.Counted agents) = load_report agents
 
+-- the high text, where it is asked for, of migration in two steps
+abbrev pub in_two_steps : Bool → HighText
+in_two_steps true = TwoSteps
+in_two_steps false = Absent
+
 abbrev pub high_of : Shown → HighText
 high_of (shown.Printed history high) = high
 high_of (shown.Counted agents) = Absent
@@ -91,6 +98,14 @@ pub record KeepsSites (budget : ℕ) (how : Shown) (bytes : List ℕ) (kept : Op
   pub shown : IsShownSo (high_of how) promises.lowered.program (lift (merged made))
   pub is_kept : kept ≡ Some made
   pub is_high : high ≡ None
+
+-- So it is with a run that goes on from these events, which are one of the low program, and which its sites can go on from: the merged histories begin
+-- with them, and what comes behind them is stamped later.
+pub record KeepsResumed (budget : ℕ) (how : Shown) (bytes : List ℕ) (events : List Event) (kept : Option Record) (high : Option SerialRun) (text : List ℕ) : Type 0 where
+  pub keeps : KeepsSites budget how bytes kept high text
+  pub run : IsSome (run (start_low keeps.promises.low) events)
+  pub can : CanGoOn budget keeps.promises.low events
+  pub resumed : IsResumed events (past keeps.made.histories)
 
 -- the run is kept whole, and nothing else
 pub record KeepsHigh (budget : ℕ) (shown : HighText) (bytes : List ℕ) (kept : Option Record) (high : Option SerialRun) (text : List ℕ) : Type 0 where

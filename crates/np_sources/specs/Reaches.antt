@@ -1,16 +1,20 @@
 -- How far a source is taken, and what is wrong with one that is not taken so far (docs/LANGUAGE.md, "Reports and refusals" and
 -- "Limits").
 use Rattle.std.specs.Prelude.{◌≡◌, ℕ, ◌*◌, ◌<◌, ◌≤◌, ◌⊎◌, List, length, Option, None, Some, slice_get}
+use Rattle.np_syntax.specs.declared.event.Event.{Event}
 use Rattle.np_syntax.specs.declared.program.LowProgram.{LowProgram}
 use Rattle.np_syntax.specs.declared.program.Program.{Program}
+use Rattle.np_calculus.specs.Starts.{start_low}
 use Rattle.np_code.specs.Sizes.{capped, program_nodes}
 use Rattle.np_code.specs.declared.limits.TheConstants.{MOST_CODE_NODES}
 use Rattle.daemon_encode.specs.Encoded.{encoded}
 use Rattle.np_check.specs.Faults.{IsAccepted}
 use Rattle.np_verdict.specs.Faults.{Stage, Accepted, Faulty, IsWellTyped}
 use Rattle.np_verdict.specs.declared.refusal.Refusal.{Refusal}
-use Rattle.np_verdict.specs.declared.refusal.Refusal.TheVariants.{LocationTest, TooManyNodes, TooManyEvents}
+use Rattle.np_verdict.specs.declared.refusal.Refusal.TheVariants.{LocationTest, TooManyNodes, TooManyEvents, NotOurs, BudgetPast}
 use Rattle.np_views.specs.Tests.{tests}
+use Rattle.run_save.specs.Ours.{IsOurs, StopsBeingOurs}
+use Rattle.site_crew.specs.Lists.{AreWithin, IsFirstPast}
 use Rattle.np_words.specs.declared.modes.HighText.{HighText}
 use Rattle.np_words.specs.declared.modes.HighText.TheVariants.{OneStep}
 use Rattle.np_words.specs.declared.planning.Task.{Task}
@@ -119,3 +123,35 @@ pub record MakesMany (budget : ℕ) (p : Program) (refusal : Refusal) : Type 0 w
 
 abbrev pub CannotRun : ℕ → Program → Refusal → Type 0
 CannotRun budget p refusal = HasManyNodes (encoded p) refusal ⊎ MakesMany budget p refusal
+
+-- ---- saved events, of a run of a low program
+
+-- its sites make few events within the budget, they have no more of the saved ones, and made those by themselves
+pub record CanGoOn (budget : ℕ) (low : LowProgram) (events : List Event) : Type 0 where
+  pub few : length low.sites * budget ≤ MOST_EVENTS
+  pub within : AreWithin (length low.sites) budget events
+  pub ours : IsOurs low events
+
+-- its sites could make too many events within the budget
+pub record CouldMakeMany (budget : ℕ) (low : LowProgram) (refusal : Refusal) : Type 0 where
+  pub many : MOST_EVENTS < length low.sites * budget
+  pub is : refusal ≡ TooManyEvents
+
+-- they make few, and this is the first site that has more of the saved events than the budget
+pub record ArePastBudget (budget : ℕ) (low : LowProgram) (events : List Event) (refusal : Refusal) : Type 0 where
+  pub few : length low.sites * budget ≤ MOST_EVENTS
+  pub site : ℕ
+  pub past : IsFirstPast (length low.sites) budget events site
+  pub is : refusal ≡ BudgetPast site
+
+-- none has more, and from the event at this index on they are not what the sites make by themselves
+pub record AreNotOurs (budget : ℕ) (low : LowProgram) (events : List Event) (refusal : Refusal) : Type 0 where
+  pub few : length low.sites * budget ≤ MOST_EVENTS
+  pub within : AreWithin (length low.sites) budget events
+  pub index : ℕ
+  pub stops : StopsBeingOurs (start_low low) events index
+  pub is : refusal ≡ NotOurs index
+
+-- so it is refused to go on from them
+abbrev pub CannotGoOn : ℕ → LowProgram → List Event → Refusal → Type 0
+CannotGoOn budget q events refusal = CouldMakeMany budget q refusal ⊎ ArePastBudget budget q events refusal ⊎ AreNotOurs budget q events refusal

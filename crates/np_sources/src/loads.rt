@@ -16,10 +16,11 @@ use np_syntax::Memory;
 use np_verdict::Refusal;
 use np_words::Links;
 use std::alloc::Global;
+use std::sync::Wait;
 use std::thread::Threads;
 
 /// Runs the generated source of so many agents on its sites. It is no longer than a source may be.
-pub fn load_of<R: Threads + Sync, G: Gate>(
+pub fn load_of<R: Threads + Wait + Sync, G: Gate>(
     alloc: Global,
     rt: &R,
     gate: &G,

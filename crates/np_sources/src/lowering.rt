@@ -8,6 +8,7 @@ ghost use Rattle.np_code.specs.Programs.{program};
 ghost use Rattle.np_code.specs.Sizes.{program_nodes};
 ghost use Rattle.np_code.specs.declared.limits.TheConstants.{MOST_CODE_NODES};
 ghost use Rattle.daemon_encode.specs.Encoded.{encoded};
+ghost use Rattle.np_verdict.specs.Faults.{IsWellTyped};
 ghost use Rattle.np_sources.specs.Reaches.{Reach, FaultyTo, HasManyNodes, IsCompiled, IsLowOf};
 
 use daemon_encode::{encode, law_low_runs_well};
@@ -22,6 +23,31 @@ use std::alloc::Global;
 pub(crate) struct Lowered {
     pub low: LowProgram,
     pub code: Code,
+}
+
+/// A checked source with its low program.
+#[derive(Drop)]
+pub struct Compiled {
+    pub checked: Checked,
+    pub low: LowProgram,
+}
+
+/// A source with its low program, or the first refusal of a mode that translates it.
+pub fn compiled_of(alloc: Global, bytes: &[u8]) -> Result<Compiled, Refusal>
+    requires { length bytes.now ≤ LONGEST_SOURCE }
+    ensures found { IfOk result (λ made. IsWellTyped bytes.now made.checked) }
+    ensures compiled { IfOk result (λ made. IsCompiled made.checked made.low) }
+    ensures runs { IfOk result (λ made. RunsWell (start_low made.low) made.low.at) }
+    ensures refused { IfErr result (λ refusal. refusal ≢ Refusal.Memory → FaultyTo Reach.low bytes.now refusal) }
+{
+    let checked = checked_source(alloc, bytes)?;
+    match low_alone(alloc, &checked) {
+        Ok(low) => Ok(Compiled { checked, low }),
+        Err(refusal) => {
+            drop(checked);
+            Err(refusal)
+        }
+    }
 }
 
 /// The low program of a source, or the first refusal of a mode that translates it.
@@ -87,7 +113,7 @@ fn coded(alloc: Global, low: LowProgram) -> Result<Lowered, Refusal>
 }
 
 /// The table of a low program, or the refusal where its nodes are too many.
-fn code_of(alloc: Global, low: &LowProgram) -> Result<Code, Refusal>
+pub(crate) fn code_of(alloc: Global, low: &LowProgram) -> Result<Code, Refusal>
     ensures code { IfOk result (λ code. program code ≡ low.now) }
     ensures few { IfOk result (λ _. program_nodes low.now ≤ MOST_CODE_NODES) }
     ensures refused { IfErr result (λ refusal. refusal ≢ Refusal.Memory → HasManyNodes low.now refusal) }

@@ -1,6 +1,6 @@
 //! Runs of the low program of a source on its sites, with their reports.
 
-ghost use Rattle.std.specs.Prelude.{◌≡◌, ◌≢◌, ◌<◌, ◌*◌, ◌≤◌, ◌++◌, nat_lt, length, None, IsSome, IfOk, IfErr};
+ghost use Rattle.std.specs.Prelude.{◌≡◌, ◌≢◌, ◌<◌, ◌*◌, ◌≤◌, ◌++◌, nat_lt, length, None, Some, IsSome, IfOk, IfErr};
 ghost use Rattle.np_syntax.specs.declared.limits.TheConstants.{LARGEST_BUDGET, MOST_SITES};
 ghost use Rattle.np_calculus.specs.Reductions.{run};
 ghost use Rattle.np_calculus.specs.Starts.{start_high};
@@ -27,12 +27,13 @@ use np_verdict::Refusal;
 use np_words::{HighText, Links};
 use run_merge::{lift, merge, said};
 use std::alloc::Global;
+use std::sync::Wait;
 use std::thread::Threads;
 
 /// How the sites run: each makes at most so many events; with `serial` they take turns one after another; and what carries
 /// agents and packets from one to another.
 #[derive(Clone, Copy)]
-pub(crate) struct Course {
+pub struct Course {
     pub budget: u32,
     pub serial: bool,
     pub links: Links,
@@ -41,7 +42,7 @@ pub(crate) struct Course {
 /// What the report of a run shows: what was printed, with the texts of its events that are asked for; or how much was
 /// printed by a generated source.
 #[derive(Clone, Copy)]
-pub(crate) enum Shown {
+pub enum Shown {
     Printed { history: bool, high: HighText },
     Counted { agents: u32 },
 }
@@ -57,7 +58,7 @@ fn high_of(shown: Shown) -> HighText
 }
 
 /// Runs the low program of a source on its sites, and makes the report.
-pub(crate) fn job_on_sites<R: Threads + Sync, G: Gate>(
+pub(crate) fn job_on_sites<R: Threads + Wait + Sync, G: Gate>(
     alloc: Global,
     rt: &R,
     gate: &G,
@@ -94,7 +95,7 @@ fn checked_to_run(
 }
 
 /// Runs the low program of a checked program on its sites, and makes the report.
-fn job_of_program<R: Threads + Sync, G: Gate>(
+fn job_of_program<R: Threads + Wait + Sync, G: Gate>(
     alloc: Global,
     rt: &R,
     gate: &G,
@@ -110,6 +111,24 @@ fn job_of_program<R: Threads + Sync, G: Gate>(
 {
     law_source_runs();
     let kept = run_of(alloc, rt, gate, course, checked)?;
+    job_of_kept(alloc, shown, checked, kept)
+}
+
+/// The report of what is kept of a run of a checked program, with that.
+pub(crate) fn job_of_kept(
+    alloc: Global,
+    shown: Shown,
+    checked: &Checked,
+    kept: Record,
+) -> Result<Job, Refusal>
+    requires free { barred (high_of shown) checked.now ≡ None }
+    requires run { IsSome (run (start_high checked.now) (lift (merged kept))) }
+    ensures kept { IfOk result (λ job. job.kept ≡ Some kept) }
+    ensures high { IfOk result (λ job. job.high ≡ None) }
+    ensures text { IfOk result (λ job. job.text ≡ report_of shown checked.now kept) }
+    ensures shown { IfOk result (λ _. IsShownSo (high_of shown) checked.now (lift (merged kept))) }
+    ensures refused { IfErr result (λ refusal. refusal ≡ Refusal.Memory) }
+{
     match text_of(alloc, shown, checked, &kept) {
         Ok(text) => Ok(Job {
             kept: Some(kept),
@@ -124,7 +143,7 @@ fn job_of_program<R: Threads + Sync, G: Gate>(
 }
 
 /// What is kept of the run of the low program of a checked program.
-fn run_of<R: Threads + Sync, G: Gate>(
+fn run_of<R: Threads + Wait + Sync, G: Gate>(
     alloc: Global,
     rt: &R,
     gate: &G,
@@ -169,7 +188,7 @@ fn lowered_within(alloc: Global, budget: u32, checked: &Checked) -> Result<Lower
 }
 
 /// Whether so many sites could make too many events within the budget.
-fn are_many(sites: usize, budget: u32) -> bool
+pub(crate) fn are_many(sites: usize, budget: u32) -> bool
     requires sites { sites ≤ MOST_SITES }
     requires within { budget ≤ LARGEST_BUDGET }
     ensures { result ≡ nat_lt MOST_EVENTS (sites * budget) }

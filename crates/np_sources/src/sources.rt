@@ -17,10 +17,11 @@ use np_syntax::{LONGEST_SOURCE, List, Memory};
 use np_verdict::{Refusal, checked_source, tokens_of, tree_of};
 use np_words::{HighText, Task};
 use std::alloc::Global;
+use std::sync::Wait;
 use std::thread::Threads;
 
 /// Does with the bytes of a source what is asked for.
-pub fn job_of<R: Threads + Sync, G: Gate>(
+pub fn job_of<R: Threads + Wait + Sync, G: Gate>(
     alloc: Global,
     rt: &R,
     gate: &G,

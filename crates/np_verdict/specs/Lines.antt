@@ -6,10 +6,10 @@ use Rattle.np_types.specs.declared.fault.Rule.TheVariants as rule
 use Rattle.np_verdict.specs.declared.refusal.Refusal.{Refusal}
 use Rattle.np_verdict.specs.declared.refusal.Refusal.TheVariants.{Memory, Usage, ReadFault, TooLong, BadChar, BadString, BigNumber, Syntax, TooDeep}
 use Rattle.np_verdict.specs.declared.refusal.Refusal.TheVariants.{Unbound, SiteTwice, TooManySites, NotASite, TypeFault, LocationTest, TooManyNodes, TooManyEvents}
-use Rattle.np_verdict.specs.declared.refusal.Refusal.TheVariants.{HistoryTooLong, HistSyntax, NotARun, NoLine}
+use Rattle.np_verdict.specs.declared.refusal.Refusal.TheVariants.{HistoryTooLong, HistSyntax, NotARun, NoLine, NotOurs, BudgetPast}
 use Rattle.np_verdict.specs.declared.statuses.TheConstants.{BAD_HISTORY, BAD_SOURCE, BAD_USAGE, NO_MEMORY, READ_FAILED}
 
--- the line of a refusal with its offset, line, index or count
+-- the line of a refusal with its offset, line, index, count or site
 abbrev pub placed_line : List ℕ → ℕ → List ℕ
 placed_line name at = name ++ decimal at ++ codes "\n"
 
@@ -50,6 +50,8 @@ line_of HistoryTooLong = codes "np: 5 TooLong\n"
 line_of (HistSyntax line) = placed_line (codes "np: 20 HistSyntax at ") line
 line_of (NotARun index) = placed_line (codes "np: 21 NotARun at ") index
 line_of (NoLine lines) = placed_line (codes "np: 24 NoLine at ") lines
+line_of (NotOurs index) = placed_line (codes "np: 26 NotOurs at ") index
+line_of (BudgetPast site) = placed_line (codes "np: 27 BudgetPast at ") site
 
 abbrev pub status_of : Refusal → ℕ
 status_of Memory = NO_MEMORY
@@ -59,4 +61,6 @@ status_of HistoryTooLong = BAD_HISTORY
 status_of (HistSyntax line) = BAD_HISTORY
 status_of (NotARun index) = BAD_HISTORY
 status_of (NoLine lines) = BAD_HISTORY
+status_of (NotOurs index) = BAD_HISTORY
+status_of (BudgetPast site) = BAD_HISTORY
 status_of _ = BAD_SOURCE

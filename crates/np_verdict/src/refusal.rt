@@ -69,6 +69,13 @@ pub enum Refusal {
     /// So many values were printed, and the line that was asked for is none of them.
     #[error("only {0} values were printed")]
     NoLine(u32),
+    /// The sites do not make such a run by themselves. The index is that of the event at which it stops being one, counted
+    /// from 0.
+    #[error("the sites make no such run at {0}")]
+    NotOurs(u32),
+    /// A site has more events in the history than the budget. It is the first such site.
+    #[error("the site {0} has more events than the budget")]
+    BudgetPast(u32),
 }
 
 /// The refusal of `lex` as a refusal of the program.
@@ -136,10 +143,12 @@ pub fn line(alloc: Global, refusal: Refusal) -> Result<Text, Memory>
         Refusal::HistSyntax(line) => placed_line(alloc, b"np: 20 HistSyntax at ", line),
         Refusal::NotARun(index) => placed_line(alloc, b"np: 21 NotARun at ", index),
         Refusal::NoLine(lines) => placed_line(alloc, b"np: 24 NoLine at ", lines),
+        Refusal::NotOurs(index) => placed_line(alloc, b"np: 26 NotOurs at ", index),
+        Refusal::BudgetPast(site) => placed_line(alloc, b"np: 27 BudgetPast at ", site),
     }
 }
 
-/// The line of a refusal with its offset, line, index or count.
+/// The line of a refusal with its offset, line, index, count or site.
 fn placed_line(alloc: Global, name: &[u8], at: u32) -> Result<Text, Memory>
     ensures { IfOk result (λ text. text ≡ placed_line name.now at) }
 {
@@ -204,6 +213,8 @@ pub fn status(refusal: Refusal) -> u8
         Refusal::HistoryTooLong
         | Refusal::HistSyntax(_)
         | Refusal::NotARun(_)
-        | Refusal::NoLine(_) => BAD_HISTORY,
+        | Refusal::NoLine(_)
+        | Refusal::NotOurs(_)
+        | Refusal::BudgetPast(_) => BAD_HISTORY,
     }
 }

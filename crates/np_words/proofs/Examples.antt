@@ -1,13 +1,13 @@
 -- What some words ask for.
-use Rattle.std.proofs.Common.{◌≡◌, ℕ, Bool, false, true, List, [], ◌∷◌, Option, None, Some, codes, refl}
+use Rattle.std.proofs.Common.{◌≡◌, ℕ, false, true, List, [], ◌∷◌, Option, None, Some, codes, refl}
 use Rattle.clap.proofs.OnLiterals.{clap_on_literals}
 use Rattle.np_words.specs.Arguments.{command, taken}
 use Rattle.np_words.specs.Plans.{plan}
 use Rattle.np_words.specs.declared.modes.HighText.{HighText}
 use Rattle.np_words.specs.declared.modes.HighText.TheVariants.{Absent, TwoSteps, OneStep}
-use Rattle.np_words.specs.declared.modes.Links.TheVariants.{Tray, Rings}
+use Rattle.np_words.specs.declared.modes.Links.TheVariants.{Tray, Rings, Inbox}
 use Rattle.np_words.specs.declared.planning.Plan.{Plan}
-use Rattle.np_words.specs.declared.planning.Plan.TheVariants.{Source, Replay, Upgrade, Generate, Load}
+use Rattle.np_words.specs.declared.planning.Plan.TheVariants.{Source, Replay, Resume, Upgrade, Generate, Load}
 use Rattle.np_words.specs.declared.planning.View.TheVariants.{Said, Past}
 use Rattle.np_words.specs.declared.planning.Task.TheVariants.{Run, High, Show}
 
@@ -73,6 +73,15 @@ last_line : plan (codes "past" ∷ a ∷ codes "b" ∷ codes "--line" ∷ codes 
 unfolding plan taken command clap_on_literals
 last_line = refl
 
+resume_two : plan (codes "resume" ∷ a ∷ codes "b" ∷ []) ≡ Some (Resume a (codes "b") 10000 false false false Rings)
+unfolding plan taken command clap_on_literals
+resume_two = refl
+
+resume_all : plan (codes "resume" ∷ a ∷ codes "b" ∷ budget ∷ codes "5" ∷ codes "--history" ∷ codes "--high" ∷ codes "--serial" ∷ codes "--links=inbox" ∷ [])
+    ≡ Some (Resume a (codes "b") 5 true true true Inbox)
+unfolding plan taken command clap_on_literals
+resume_all = refl
+
 upgrade_one : plan (codes "upgrade" ∷ a ∷ []) ≡ Some (Upgrade a)
 unfolding plan taken command clap_on_literals
 upgrade_one = refl
@@ -84,6 +93,10 @@ history_of_run = refl
 links_of_run : plan (codes "run" ∷ a ∷ codes "--links" ∷ codes "tray" ∷ codes "--serial" ∷ []) ≡ Some (Source a (Run 10000 false Absent true Tray))
 unfolding plan taken command clap_on_literals
 links_of_run = refl
+
+inbox_of_run : plan (codes "run" ∷ a ∷ codes "--links" ∷ codes "inbox" ∷ []) ≡ Some (Source a (Run 10000 false Absent false Inbox))
+unfolding plan taken command clap_on_literals
+inbox_of_run = refl
 
 load_one : plan (codes "load" ∷ codes "1" ∷ []) ≡ Some (Load 1 false Rings)
 unfolding plan taken command clap_on_literals
@@ -122,6 +135,10 @@ other_mode = refl
 no_second : plan (codes "replay" ∷ a ∷ []) ≡ None
 unfolding plan taken command clap_on_literals
 no_second = refl
+
+no_saved : plan (codes "resume" ∷ a ∷ []) ≡ None
+unfolding plan taken command clap_on_literals
+no_saved = refl
 
 second_of_upgrade : plan (codes "upgrade" ∷ a ∷ a ∷ []) ≡ None
 unfolding plan taken command clap_on_literals
@@ -185,6 +202,10 @@ one_of_history : plan (codes "run" ∷ a ∷ codes "--history" ∷ codes "--one"
 unfolding plan taken command clap_on_literals
 one_of_history = refl
 
+one_of_resume : plan (codes "resume" ∷ a ∷ codes "b" ∷ codes "--high" ∷ codes "--one" ∷ []) ≡ None
+unfolding plan taken command clap_on_literals
+one_of_resume = refl
+
 line_of_replay : plan (codes "replay" ∷ a ∷ codes "b" ∷ codes "--line" ∷ codes "1" ∷ []) ≡ None
 unfolding plan taken command clap_on_literals
 line_of_replay = refl
@@ -201,8 +222,8 @@ long_line : plan (codes "past" ∷ a ∷ codes "b" ∷ codes "--line=00000001" �
 unfolding plan taken command clap_on_literals
 long_line = refl
 
--- a kind of links that is not built
-other_links : plan (codes "run" ∷ a ∷ codes "--links" ∷ codes "inbox" ∷ []) ≡ None
+-- no kind of links
+other_links : plan (codes "run" ∷ a ∷ codes "--links" ∷ codes "ring" ∷ []) ≡ None
 unfolding plan taken command clap_on_literals
 other_links = refl
 

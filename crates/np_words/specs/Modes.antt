@@ -21,6 +21,7 @@ mode_word mode.Check = codes "check"
 mode_word mode.Low = codes "low"
 mode_word mode.Replay = codes "replay"
 mode_word mode.Past = codes "past"
+mode_word mode.Resume = codes "resume"
 mode_word mode.Upgrade = codes "upgrade"
 mode_word mode.Gen = codes "gen"
 mode_word mode.Load = codes "load"
@@ -37,6 +38,9 @@ high_options = record no_options { budget = true; history = true; one = true }
 abbrev pub past_options : Options
 past_options = record no_options { line = true }
 
+abbrev pub resume_options : Options
+resume_options = record no_options { budget = true; history = true; high = true; serial = true; links = true }
+
 abbrev pub load_options : Options
 load_options = record no_options { serial = true; links = true }
 
@@ -51,6 +55,7 @@ modes =
     ∷ alone mode.Show no_options ∷ alone mode.Check no_options ∷ alone mode.Low no_options
     ∷ record { mode = mode.Replay; second = true; options = no_options }
     ∷ record { mode = mode.Past; second = true; options = past_options }
+    ∷ record { mode = mode.Resume; second = true; options = resume_options }
     ∷ alone mode.Upgrade no_options ∷ alone mode.Gen no_options ∷ alone mode.Load load_options ∷ []
 
 abbrev pub entry_of : List ℕ → Option Entry
@@ -74,10 +79,11 @@ number_of digits most word = if is_numeral digits word then within most (digits_
 abbrev pub links_word : Links → List ℕ
 links_word links.Tray = codes "tray"
 links_word links.Rings = codes "rings"
+links_word links.Inbox = codes "inbox"
 
 -- the kinds that are built
 abbrev pub kinds : List Links
-kinds = links.Tray ∷ links.Rings ∷ []
+kinds = links.Tray ∷ links.Rings ∷ links.Inbox ∷ []
 
 abbrev pub links_of : List ℕ → Option Links
 links_of word = find (λ kind. bytes_eq (links_word kind) word) kinds

@@ -95,6 +95,14 @@ on_history file second shown = do
   view ← shown
   Some (plans.Replay file history view)
 
+-- FILE is a source, SECOND a saved history from which on it is run
+abbrev pub resume_of : Text → Given → Option Plan
+resume_of file given = do
+  saved ← given.second
+  budget ← budget_of given.budget
+  links ← kind_of given.links
+  Some (plans.Resume file saved budget given.history given.high given.serial links)
+
 -- the past of the line that the words say
 abbrev pub past_of : Given → Option View
 past_of given = do
@@ -126,6 +134,7 @@ plan_for modes.Check file given = on_source file (Some tasks.Check)
 plan_for modes.Low file given = on_source file (Some tasks.Low)
 plan_for modes.Replay file given = on_history file given.second (Some views.Said)
 plan_for modes.Past file given = on_history file given.second (past_of given)
+plan_for modes.Resume file given = resume_of file given
 plan_for modes.Upgrade file given = upgrade_of file
 plan_for modes.Gen file given = generate_of file
 plan_for modes.Load file given = load_of file given
@@ -152,10 +161,12 @@ abbrev pub HasLine : View → Type 0
 HasLine views.Said = Unit {0}
 HasLine (views.Past line) = 1 ≤ line
 
--- a run has such a budget, a past is that of a line, and a generated source has as many agents as it may have
+-- a run has such a budget, also one that goes on from a saved history, a past is that of a line, and a generated source has as many
+-- agents as it may have
 abbrev pub IsWithinLimits : Plan → Type 0
 IsWithinLimits (plans.Source file task) = HasBudget task
 IsWithinLimits (plans.Replay source history view) = HasLine view
+IsWithinLimits (plans.Resume source saved budget history high serial links) = (1 ≤ budget) × (budget ≤ LARGEST_BUDGET)
 IsWithinLimits (plans.Generate agents) = (1 ≤ agents) × (agents ≤ MOST_AGENTS)
 IsWithinLimits (plans.Load agents serial links) = (1 ≤ agents) × (agents ≤ MOST_AGENTS)
 IsWithinLimits _ = Unit {0}

@@ -13,17 +13,19 @@ pub enum Mode {
     Low,
     Replay,
     Past,
+    Resume,
     Upgrade,
     Gen,
     Load,
 }
 
 /// What carries agents and packets from site to site: lists that are handed over while all sites pause, or a ring for each
-/// ordered pair of sites.
+/// ordered pair of sites, or one queue for each receiving site, into which all sites push.
 #[derive(Clone, Copy, Debug, PartialEq, Eq)]
 pub enum Links {
     Tray,
     Rings,
+    Inbox,
 }
 
 /// The text of the events of the high level that a report has: none, or one in which a migration is a Depart and later an
@@ -87,6 +89,15 @@ const PAST_OPTIONS: Options = Options {
     ..NO_OPTIONS
 };
 
+const RESUME_OPTIONS: Options = Options {
+    budget: true,
+    history: true,
+    high: true,
+    serial: true,
+    links: true,
+    ..NO_OPTIONS
+};
+
 const LOAD_OPTIONS: Options = Options {
     serial: true,
     links: true,
@@ -94,7 +105,7 @@ const LOAD_OPTIONS: Options = Options {
 };
 
 /// The modes that are built.
-const MODES: [Entry; 10] = [
+const MODES: [Entry; 11] = [
     Entry {
         mode: Mode::Run,
         second: false,
@@ -131,6 +142,11 @@ const MODES: [Entry; 10] = [
         options: PAST_OPTIONS,
     },
     Entry {
+        mode: Mode::Resume,
+        second: true,
+        options: RESUME_OPTIONS,
+    },
+    Entry {
         mode: Mode::Upgrade,
         second: false,
         options: NO_OPTIONS,
@@ -148,7 +164,7 @@ const MODES: [Entry; 10] = [
 ];
 
 /// The kinds of links that are built.
-const KINDS: [Links; 2] = [Links::Tray, Links::Rings];
+const KINDS: [Links; 3] = [Links::Tray, Links::Rings, Links::Inbox];
 
 fn mode_word(mode: Mode) -> &'static str
     ensures { result.now ≡ spec.mode_word mode }
@@ -161,6 +177,7 @@ fn mode_word(mode: Mode) -> &'static str
         Mode::Low => "low",
         Mode::Replay => "replay",
         Mode::Past => "past",
+        Mode::Resume => "resume",
         Mode::Upgrade => "upgrade",
         Mode::Gen => "gen",
         Mode::Load => "load",
@@ -183,6 +200,7 @@ fn links_word(links: Links) -> &'static str
     match links {
         Links::Tray => "tray",
         Links::Rings => "rings",
+        Links::Inbox => "inbox",
     }
 }
 

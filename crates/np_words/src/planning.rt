@@ -61,6 +61,17 @@ pub enum Plan {
         history: Word,
         view: View,
     },
+    /// The low program of a source is run on the sites, from a saved history on, whose events count for the budget too. The
+    /// other fields are as in `Task::Run`, but that a migration is always a Depart and later an Arrive in the high text.
+    Resume {
+        source: Word,
+        saved: Word,
+        budget: u32,
+        history: bool,
+        high: bool,
+        serial: bool,
+        links: Links,
+    },
     Upgrade {
         history: Word,
     },
@@ -207,6 +218,25 @@ fn on_history(
     })
 }
 
+/// The plan where FILE is a source and SECOND a saved history, from which on it is run.
+fn resume_of(alloc: Global, file: &str, given: &Given<'_>) -> Result<Plan, PlanFail>
+    ensures plans { spec.Plans (spec.resume_of file.now (seen given.now)) result }
+    ensures limits { IfOk result spec.IsWithinLimits }
+{
+    let saved = given.second.ok_or(PlanFail::Usage)?;
+    let budget = budget_of(given.budget).ok_or(PlanFail::Usage)?;
+    let links = kind_of(given.links).ok_or(PlanFail::Usage)?;
+    Ok(Plan::Resume {
+        source: Word::new(alloc, file)?,
+        saved: Word::new(alloc, saved)?,
+        budget,
+        history: given.history,
+        high: given.high,
+        serial: given.serial,
+        links,
+    })
+}
+
 /// The past of the line that the words say.
 fn past_of(given: &Given<'_>) -> Option<View>
     ensures is { result ≡ spec.past_of (seen given.now) }
@@ -263,6 +293,7 @@ fn plan_for(alloc: Global, mode: Mode, file: &str, given: &Given<'_>) -> Result<
         Mode::Low => on_source(alloc, file, Some(Task::Low)),
         Mode::Replay => on_history(alloc, file, given.second, Some(View::Said)),
         Mode::Past => on_history(alloc, file, given.second, past_of(given)),
+        Mode::Resume => resume_of(alloc, file, given),
         Mode::Upgrade => upgrade_of(alloc, file),
         Mode::Gen => generate_of(file),
         Mode::Load => load_of(file, given),

@@ -45,3 +45,10 @@ whole_more {P} xs n d whole here is i s at h =
           subst (λ (v : Seat P). IsHistory v.site.history) (here ∙ same) is
       | inr w ↦ whole i s at (omega arith)
     ]
+
+pub none_counted : {P : Type 0} (xs : List (Seat P)) → ((i : ℕ) (s : Seat P) → slice_get xs i ≡ Some s → s.site.history.events ≡ []) → event_count (histories xs) ≡ 0
+none_counted [] none = refl
+none_counted (s ∷ ss) none =
+    let first : length s.site.history.events ≡ 0 = ap length (none 0 s refl) in
+    let rest : event_count (histories ss) ≡ 0 = none_counted ss (λ i t at. none (suc i) t at) in
+    omega arith

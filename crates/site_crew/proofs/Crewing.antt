@@ -13,14 +13,14 @@ use Rattle.np_code.specs.Programs.{ProgramTable, program}
 use Rattle.agent_move.specs.declared.item.Item.{Item}
 use Rattle.site_state.specs.Standings.{Standing}
 use Rattle.site_turn.specs.declared.seat.Seat.{Seat}
-use Rattle.site_turn.specs.Turns.{HistoryGrows}
-use Rattle.site_turn.proofs.Holdings.{history_same}
+use Rattle.site_turn.specs.Turns.{HistoryGrows, IsLater}
+use Rattle.site_turn.proofs.Holdings.{history_same, later_same}
 use Rattle.site_crew.specs.Crews.{CrewState, IsCrew, IsJudged, IsRoundOf, NoneFailed, Tells}
 use Rattle.site_crew.specs.declared.round.Round.{Round}
 use Rattle.site_crew.specs.declared.round.Round.TheVariants as round
 use Rattle.site_crew.specs.Links.{AllStill}
 use Rattle.site_crew.specs.Runs.{IsCrewRun, IsProgram, OnlySpentCan}
-use Rattle.site_crew.specs.Seats.{AllGrow, AllTurned, AreFirst, Stand, event_count, histories}
+use Rattle.site_crew.specs.Seats.{AllGrow, AllLater, AllTurned, AreFirst, Stand, clocks, event_count, histories}
 use Rattle.site_crew.proofs.Goings.{turned_at}
 use Rattle.site_crew.proofs.Standing.{stand_first}
 use Rattle.site_crew.proofs.Spending.{IsEndOf, crew_end}
@@ -33,6 +33,13 @@ slice_whole items new n e long = grind (arith, common_steps)
 -- the history in a place
 pub at_place : {P : Type 0} (xs : List (Seat P)) (i : ℕ) (s : Seat P) (d : Recorded) → slice_get xs i ≡ Some s → get_or (histories xs) i d ≡ s.site.history
 at_place xs i s d at = get_or_from_slice_get (histories xs) i s.site.history d (slice_get-map (λ s. s.site.history) xs i ∙ ap (λ o. option_map (λ s. s.site.history) o) at)
+
+-- the clock in a place
+pub clock_in : {P : Type 0} (xs : List (Seat P)) (i : ℕ) (s : Seat P) → slice_get xs i ≡ Some s → get_or (clocks xs) i 0 ≡ s.site.clock
+clock_in xs i s at = get_or_from_slice_get (clocks xs) i s.site.clock 0 (slice_get-map (λ s. s.site.clock) xs i ∙ ap (λ o. option_map (λ s. s.site.clock) o) at)
+
+pub later_refl : (cs : List ℕ) (hs : List Recorded) → AllLater cs hs cs hs
+later_refl cs hs = record { count = refl; each = λ i d h. later_same (get_or cs i 0) (get_or cs i 0) (get_or hs i d).events (get_or hs i d).events refl refl }
 
 pub grow_refl : (hs : List Recorded) → AllGrow hs hs
 grow_refl hs = record { count = refl; each = λ i d h. history_same (get_or hs i d) (get_or hs i d) refl }
@@ -53,6 +60,26 @@ module _ {P R : Type 0} {g : Port.Ghosts P R Item} {code : ProgramTable} where
             let lx : i < length xs = subst (λ (m : ℕ). i < m) (long-histories xs) h in
             let lz : i < length zs = subst (λ (m : ℕ). i < m) (sym long) lx in
             grow_of turned still i d lz (slice_get zs i) refl;
+      }
+
+  later_of : {xs ys zs : List (Seat P)} → AllTurned g code xs ys → AllStill g ys zs → (i : ℕ) (d : Recorded) → i < length zs → (o : Option (Seat P)) → slice_get zs i ≡ o
+      → IsLater (get_or (clocks xs) i 0) (get_or (histories xs) i d).events (get_or (clocks zs) i 0) (get_or (histories zs) i d).events
+  later_of {xs} {ys} {zs} turned still i d h None e = absurd (not-past zs i e h)
+  later_of {xs} {ys} {zs} turned still i d h (Some s) e =
+      let b = still.each i s e in let a = turned_at turned i b.before b.was in
+      let first : IsLater (get_or (clocks xs) i 0) (get_or (histories xs) i d).events b.before.site.clock b.before.site.history.events =
+      subst₂ (λ (n : ℕ) (x : Recorded). IsLater n x.events b.before.site.clock b.before.site.history.events) (sym (clock_in xs i a.0 a.1)) (sym (at_place xs i a.0 d a.1)) a.2.later in
+      subst₂ (λ (m : ℕ) (y : Recorded). IsLater (get_or (clocks xs) i 0) (get_or (histories xs) i d).events m y.events)
+      (sym (clock_in zs i s e ∙ ap (λ (v : Standing). v.clock) b.still.site_same)) (sym (at_place zs i s d e ∙ ap (λ (v : Standing). v.history) b.still.site_same)) first
+
+  pub later_again : {xs ys zs : List (Seat P)} → AllTurned g code xs ys → AllStill g ys zs → AllLater (clocks xs) (histories xs) (clocks zs) (histories zs)
+  later_again {xs} {ys} {zs} turned still =
+      let long : length zs ≡ length xs = still.count ∙ turned.count in record {
+        count = long-histories zs ∙ long ∙ sym (long-histories xs);
+        each = λ i d h.
+            let lx : i < length xs = subst (λ (m : ℕ). i < m) (long-histories xs) h in
+            let lz : i < length zs = subst (λ (m : ℕ). i < m) (sym long) lx in
+            later_of turned still i d lz (slice_get zs i) refl;
       }
 
   -- ports as they were made, and first sites at them

@@ -1,9 +1,11 @@
 -- The events of a list are done one after another.
-use Rattle.std.proofs.Common.{◌≡◌, ◌<◌, ◌≤◌, ◌+◌, inl, inr, ℕ, zero, suc, max, false, List, [], ◌∷◌, ◌++◌, length, Option, None, Some, option_map, refl, sym, ap, subst, ◌∙◌, arith, length-append}
+use Rattle.std.proofs.Common.{◌≡◌, ◌<◌, ◌≤◌, ◌+◌, inl, inr, ℕ, zero, suc, max, Bool, false, Result, Ok, Err, OnOk, List, [], ◌∷◌, ◌++◌, length, get_or, Option, None, Some, option_map, refl, sym, ap, subst, ◌∙◌, arith, length-append}
 use Rattle.std.specs.Prelude.{slice_get}
 use Rattle.std.proofs.lemmas.Bool.Decides.{eqb_tells}
 use Rattle.std.proofs.lemmas.Option.{slice_get-map}
+use Rattle.np_syntax.specs.declared.memory.Memory.{Memory}
 use Rattle.np_syntax.specs.declared.event.Event.{Event}
+use Rattle.np_syntax.specs.declared.program.LowProgram.{LowProgram}
 use Rattle.stamp_history.specs.declared.stamped.Stamped.{Stamped}
 use Rattle.stamp_history.specs.Histories.{Recorded}
 use Rattle.site_links.specs.declared.port.Port as Port
@@ -12,9 +14,10 @@ use Rattle.np_following.specs.Following.{AreInPlace, AreOf, HaveOneMore}
 use Rattle.np_following.proofs.Following.{none_follow, one_more_follows}
 use Rattle.agent_move.specs.declared.item.Item.{Item}
 use Rattle.site_turn.specs.declared.seat.Seat.{Seat}
-use Rattle.site_crew.specs.Crews.{NoneFailed}
+use Rattle.site_crew.specs.Crews.{CrewState, NoneFailed}
+use Rattle.site_crew.specs.Lists.{HasFollowed, IsToFollow}
 use Rattle.site_crew.specs.Following.{AllRest, AreAt, AreLate, HaveAdded, HaveDone, IsNotEarly}
-use Rattle.site_crew.specs.Seats.{Stand, event_count, histories}
+use Rattle.site_crew.specs.Seats.{Stand, clocks, event_count, histories}
 use Rattle.site_crew.proofs.Pairs.{some_is}
 use Rattle.site_crew.proofs.Replacing.{rests_later, rests_trans, there_too}
 use Rattle.site_crew.proofs.Whole.{long-histories}
@@ -171,3 +174,26 @@ module _ {P R : Type 0} {g : Port.Ghosts P R Item} {code : ProgramTable} where
         let zero : length events ≡ 0 = ap length (sym done.of.items ∙ empty.items) in
         is ∙ zero;
   }
+
+-- ---- what a crew shows that has done them
+
+clocks_at : {P : Type 0} (n : ℕ) (xs : List (Seat P)) → AreAt n xs → (s : ℕ) → s < length xs → get_or (clocks xs) s 0 ≡ n
+clocks_at n [] at s less = absurd (omega arith)
+clocks_at n (x ∷ xs) at zero less = at.each 0 x refl
+clocks_at n (x ∷ xs) at (suc s) less = clocks_at n xs (record { each = λ i t is. at.each (suc i) t is }) s (omega arith)
+
+pub has_followed : {P R : Type 0} {g : Port.Ghosts P R Item} {code : ProgramTable} {budget : ℕ} (low : LowProgram) (events : List Event) (c : CrewState) (xs : List (Seat P)) → c.histories ≡ histories xs
+    → c.clocks ≡ clocks xs → c.failed ≡ false → IsToFollow low c.budget events → HaveDone g code budget events xs → AreAt (length events) xs → HasFollowed low events c
+has_followed low events c xs same times sound list done at = record {
+  within = list.within;
+  ours = list.ours;
+  of = subst (AreOf events) (sym same) done.of;
+  clocks = λ s less.
+      let low : s < length xs = subst (λ (m : ℕ). s < m) (ap length same ∙ long-histories xs) less in
+      ap (λ cs. get_or cs s 0) times ∙ clocks_at (length events) xs at s low;
+  sound = sound;
+}
+
+pub on_followed : {A B : Type 0} (r : Result (Unit {0}) Memory) (failed : Bool) (C : Type 0) → (A → B → failed ≡ false → C) → OnOk r A → OnOk r B → OnOk r (failed ≡ false) → OnOk r C
+on_followed (Ok u) failed C f a b sound = f a b sound
+on_followed (Err m) failed C f a b sound = tt

@@ -27,7 +27,7 @@ use Rattle.site_state.specs.Doing.{HasDoneEvent, HasTaken}
 use Rattle.site_state.specs.Standings.{Standing, Stays, with_clock}
 use Rattle.site_turn.specs.declared.seat.Seat.{Seat}
 use Rattle.site_turn.specs.Turns.{Accepts, SetsAside, Turned}
-use Rattle.site_turn.proofs.Holdings.{not_recorded, recorded_events}
+use Rattle.site_turn.proofs.Holdings.{later_weaker, not_recorded, recorded_events}
 use Rattle.site_turn.proofs.Steps.{turned_done, turned_stays}
 use Rattle.site_crew.specs.Following.{Adds, AllRest, HasAccepted, HaveAdded, IsLast, IsNotEarly, Moves, Rests, StandBut}
 use Rattle.site_crew.specs.Links.{AreSettledIn}
@@ -118,6 +118,7 @@ module _ {P R : Type 0} {g : Port.Ghosts P R Item} {code : ProgramTable} where
         budget = t.budget;
         history = t.history;
         clock = λ same. absurd (not_recorded a.site.history _ done.did.value b.site.history.events (ap (λ (h : Recorded). h.events) done.did.history) same);
+        later = later_weaker later t.later;
         aside = t.aside;
         kept = λ start h. t.kept start (kept_later clock later h);
       }

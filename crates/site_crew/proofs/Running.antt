@@ -1,19 +1,25 @@
 -- A crew goes on until no event is added.
 use Rattle.std.proofs.Common.{◌≡◌, ◌<◌, ◌≤◌, ◌*◌, ◌-◌, ℕ, suc, List, [], ◌∷◌, length, get_or, refl, sym, ap₂, subst, ◌∙◌, arith}
 use Rattle.stamp_history.specs.Histories.{Recorded}
-use Rattle.site_turn.proofs.Holdings.{history_trans}
+use Rattle.site_turn.proofs.Holdings.{history_trans, later_trans}
 use Rattle.np_syntax.specs.declared.event.End.TheVariants as ends
 use Rattle.site_crew.specs.declared.round.Round.{Round}
 use Rattle.site_crew.specs.declared.round.Round.TheVariants as round
 use Rattle.site_crew.specs.Crews.{CrewState, GoesOn, HasEnded, IsRoundOf}
 use Rattle.site_crew.specs.Runs.{AreHistoriesOf}
-use Rattle.site_crew.specs.Seats.{AllGrow, event_count}
+use Rattle.site_crew.specs.Seats.{AllGrow, AllLater, event_count}
 use Rattle.site_crew.proofs.Crewing.{grow_refl}
 
 pub grow_trans : {xs ys zs : List Recorded} → AllGrow xs ys → AllGrow ys zs → AllGrow xs zs
 grow_trans {xs} {ys} {zs} h k = record {
   count = k.count ∙ h.count;
   each = λ i d lt. history_trans (h.each i d lt) (k.each i d (subst (λ (m : ℕ). i < m) (sym h.count) lt));
+}
+
+pub all_later_trans : {us vs ws : List ℕ} {xs ys zs : List Recorded} → AllLater us xs vs ys → AllLater vs ys ws zs → AllLater us xs ws zs
+all_later_trans {us} {vs} {ws} {xs} {ys} {zs} h k = record {
+  count = k.count ∙ h.count;
+  each = λ i d lt. later_trans (h.each i d lt) (k.each i d (subst (λ (m : ℕ). i < m) (sym h.count) lt));
 }
 
 pub on_refl : (c : CrewState) → GoesOn c c

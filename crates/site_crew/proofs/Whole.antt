@@ -3,7 +3,6 @@ use Rattle.std.proofs.Common.{◌≡◌, ◌<◌, ℕ, zero, suc, List, [], ◌�
 use Rattle.std.specs.Prelude.{slice_get}
 use Rattle.std.proofs.lemmas.List.{map-append}
 use Rattle.std.proofs.lemmas.Option.{slice_get-get_or, slice_get-map}
-use Rattle.np_calculus.specs.Config.{Config}
 use Rattle.np_calculus.specs.Starts.{start_low}
 use Rattle.stamp_history.specs.Histories.{IsHistory, Recorded}
 use Rattle.site_links.specs.declared.port.Port as Port
@@ -22,8 +21,8 @@ use Rattle.site_state.specs.Standings.{holding_of}
 use Rattle.site_turn.specs.declared.seat.Seat.{Seat}
 use Rattle.site_turn.specs.Turns.{came_from, shown}
 use Rattle.site_crew.specs.Links.{AreSettled}
-use Rattle.site_crew.specs.Runs.{AreHistoriesOf, IsCrewRun, IsProgram}
-use Rattle.site_crew.specs.Seats.{AreSeats, AreWhole, IsSeat, Stand, histories}
+use Rattle.site_crew.specs.Runs.{AreHistoriesOf}
+use Rattle.site_crew.specs.Seats.{AreSeats, AreWhole, IsSeat, histories}
 use Rattle.site_crew.proofs.Pairs.{some_is}
 
 pub not-past : {T : Type 0} (xs : List T) (k : ℕ) → slice_get xs k ≡ None → k < length xs → ⊥

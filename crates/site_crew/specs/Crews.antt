@@ -15,19 +15,21 @@ use Rattle.site_crew.specs.declared.round.Round.{Round}
 use Rattle.site_crew.specs.declared.round.Round.TheVariants as round
 use Rattle.site_crew.specs.Quiet.{AllQuiet, AreOver}
 use Rattle.site_crew.specs.Runs.{IsCrewRun, IsProgram, OnlySpentCan}
-use Rattle.site_crew.specs.Seats.{AllGrow, Stand, event_count}
+use Rattle.site_crew.specs.Seats.{AllGrow, AllLater, Stand, event_count}
 
--- the code that it runs, its budget, whether memory ran out, and the histories of its sites in the order of their numbers
+-- the code that it runs, its budget, whether memory ran out, and the histories and the clocks of its sites in the order of their numbers
 pub record CrewState : Type 0 where
   pub code : ProgramTable
   pub budget : ℕ
   pub failed : Bool
   pub histories : List Recorded
+  pub clocks : List ℕ
 
 abbrev pub crew_code : Coded CrewState
 crew_code =
-    code_by (ProgramTable × (ℕ × (Bool × List Recorded))) (coded× table_code (coded× coded_ℕ (coded× coded_bool (coded_list recorded_code))))
-    (λ c. (c.code, (c.budget, (c.failed, c.histories)))) (λ p. record { code = p.0; budget = p.1.0; failed = p.1.1.0; histories = p.1.1.1 }) (λ _. refl)
+    code_by (ProgramTable × (ℕ × (Bool × (List Recorded × List ℕ)))) (coded× table_code (coded× coded_ℕ (coded× coded_bool (coded× (coded_list recorded_code) (coded_list coded_ℕ)))))
+    (λ c. (c.code, (c.budget, (c.failed, (c.histories, c.clocks)))))
+    (λ p. record { code = p.0; budget = p.1.0; failed = p.1.1.0; histories = p.1.1.1.0; clocks = p.1.1.1.1 }) (λ _. refl)
 
 -- no seat has wanted for memory
 pub record NoneFailed {P : Type 0} (xs : List (Seat P)) : Type 0 where
@@ -49,6 +51,10 @@ pub record GoesOn (old new : CrewState) : Type 0 where
   pub code : new.code ≡ old.code
   pub budget : new.budget ≡ old.budget
   pub histories : AllGrow old.histories new.histories
+
+-- what is added to its histories is stamped above the clocks that its sites had
+abbrev pub AddsLater : CrewState → CrewState → Type 0
+AddsLater old new = AllLater old.clocks old.histories new.clocks new.histories
 
 -- whether an event was added, and if not whether the whole rests
 abbrev pub Tells : ℕ → ℕ → Config → Round → Type 0

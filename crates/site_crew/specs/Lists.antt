@@ -1,5 +1,5 @@
 -- The events of a list that a crew is to do again (docs/LANGUAGE.md, "History text").
-use Rattle.std.specs.Prelude.{◌≡◌, ◌<◌, ◌≤◌, ◌^◌, ℕ, true, false, List, length, IsSome}
+use Rattle.std.specs.Prelude.{◌≡◌, ◌<◌, ◌≤◌, ◌^◌, ℕ, true, false, List, length, get_or, IsSome}
 use Rattle.np_syntax.specs.declared.event.Event.{Event}
 use Rattle.np_syntax.specs.declared.program.LowProgram.{LowProgram}
 use Rattle.np_calculus.specs.Reductions.{run}
@@ -35,11 +35,12 @@ IsRefused low budget events fail.Memory = Unit {0}
 
 -- ---- a crew
 
--- the list is one to follow, and the merged histories are just its events, with the stamps 1, 2, 3 and so on
+-- the list is one to follow, the merged histories are just its events, with the stamps 1, 2, 3 and so on, and each clock is at their number
 pub record HasFollowed (low : LowProgram) (events : List Event) (c : CrewState) : Type 0 where
   pub within : AreWithin (length low.sites) c.budget events
   pub ours : IsOurs low events
   pub of : AreOf events c.histories
+  pub clocks : (s : ℕ) → s < length c.histories → get_or c.clocks s 0 ≡ length events
   pub sound : c.failed ≡ false
 
 -- A site has more events in the list than the budget, and this is the first such site; or none has, and this is the index of the event at which the list

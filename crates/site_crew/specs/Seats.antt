@@ -8,12 +8,16 @@ use Rattle.agent_move.specs.declared.item.Item.{Item}
 use Rattle.site_state.specs.Lines.{AreEmpty}
 use Rattle.site_state.specs.Standings.{Standing, holding_of}
 use Rattle.site_turn.specs.declared.seat.Seat.{Seat}
-use Rattle.site_turn.specs.Turns.{AsideIsStrange, HistoryGrows, Kept, Placed, Turned}
+use Rattle.site_turn.specs.Turns.{AsideIsStrange, HistoryGrows, IsLater, Kept, Placed, Turned}
 use Rattle.site_crew.specs.Links.{AreLinked, AreSettled}
 
 -- the histories of the seats
 abbrev pub histories : {P : Type 0} → List (Seat P) → List Recorded
 histories = map (λ s. s.site.history)
+
+-- and their clocks
+abbrev pub clocks : {P : Type 0} → List (Seat P) → List ℕ
+clocks = map (λ s. s.site.clock)
 
 -- how many events they have
 abbrev pub event_count : List Recorded → ℕ
@@ -81,3 +85,8 @@ module _ {P R : Type 0} (g : Port.Ghosts P R Item) (code : ProgramTable) where
 pub record AllGrow (xs ys : List Recorded) : Type 0 where
   pub count : length ys ≡ length xs
   pub each : (i : ℕ) (d : Recorded) → i < length xs → HistoryGrows (get_or xs i d) (get_or ys i d)
+
+-- what is added to each is stamped above the clock that its site had
+pub record AllLater (was : List ℕ) (xs : List Recorded) (is : List ℕ) (ys : List Recorded) : Type 0 where
+  pub count : length ys ≡ length xs
+  pub each : (i : ℕ) (d : Recorded) → i < length xs → IsLater (get_or was i 0) (get_or xs i d).events (get_or is i 0) (get_or ys i d).events

@@ -66,6 +66,23 @@ fn send_for<R, P: Port<R, Item>>(
     }
 }
 
+/// Puts that item on its link, and settles the links to the site of the event, so that it is there whatever the link is.
+fn put_for<R, P: Port<R, Item>>(
+    rt: &R,
+    code: &Code,
+    budget: u32,
+    seats: &mut [Seat<P>],
+    event: Event,
+)
+    requires stand { Stand P.Port code.now budget seats.old }
+    requires to { event.site < length code.now.sites }
+    ensures stand { Stand P.Port code.now budget seats.new }
+    ensures rest { AllRest 0 seats.old seats.new }
+{
+    send_for(rt, code, budget, seats, event);
+    settle_to(rt, seats, event.site as usize);
+}
+
 /// Takes an item from the port and accepts it.
 fn take<R, P: Port<R, Item>>(rt: &R, code: &Code, seat: &mut Seat<P>) -> bool
     requires { Seated P.Port code.now seat.old }
@@ -174,7 +191,7 @@ pub fn bring_at<R, P: Port<R, Item>>(
 {
     let at = event.site as usize;
     catch_at(rt, code, budget, seats, at, stamp - 1);
-    send_for(rt, code, budget, seats, event);
+    put_for(rt, code, budget, seats, event);
     let took = take_at(rt, code, budget, seats, event, stamp);
     settle_to(rt, seats, at);
     if took { Ok(()) } else { Err(Memory) }

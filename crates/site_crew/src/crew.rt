@@ -1,9 +1,9 @@
-ghost use Rattle.std.specs.Prelude.{◌≡◌, ◌<◌, ◌≤◌, ◌^◌, true, false, length, map, None, Some, IfErr, IfOk, IfSome, IsSome, OnOk, OnErr};
+ghost use Rattle.std.specs.Prelude.{◌≡◌, ◌≤◌, true, false, length, map, None, Some, IfErr, IfOk, IfSome, IsSome, OnOk, OnErr};
 ghost use Rattle.np_syntax.specs.declared.limits.TheConstants.{LARGEST_BUDGET, MOST_SITES};
 ghost use Rattle.np_code.specs.Programs.{program};
 ghost use Rattle.np_calculus.specs.Reductions.{run};
 ghost use Rattle.np_calculus.specs.Starts.{start_low};
-ghost use Rattle.site_crew.specs.Crews.{GoesOn, HasEnded, HasRun, IsJudged, IsRoundOf, NoneFailed};
+ghost use Rattle.site_crew.specs.Crews.{AddsLater, GoesOn, HasEnded, HasRun, IsJudged, IsRoundOf, NoneFailed};
 ghost use Rattle.site_crew.specs.Lists.{HasFailed, HasFollowed, IsToFollow};
 ghost use Rattle.site_crew.specs.Runs.{IsProgram};
 ghost use Rattle.site_crew.specs.Seats.{event_count, histories};
@@ -39,13 +39,13 @@ pub struct Crew<R, P: Port<R, Item>> {
 
 impl<R, P: Port<R, Item>> Model for Crew<R, P> {
     ghost use Rattle.site_crew.specs.Crews.{CrewState, IsCrew, crew_code};
-    ghost use Rattle.site_crew.specs.Seats.{histories};
+    ghost use Rattle.site_crew.specs.Seats.{clocks, histories};
 
     ghost Value = { CrewState };
 
     ghost coded = { crew_code };
 
-    ghost view = { λ c. record { code = c.code; budget = c.budget; failed = c.failed; histories = histories c.seats.items } };
+    ghost view = { λ c. record { code = c.code; budget = c.budget; failed = c.failed; histories = histories c.seats.items; clocks = clocks c.seats.items } };
 
     ghost invariant = { λ c. IsCrew P.Port c.code c.budget c.failed c.seats.items };
 }
@@ -57,6 +57,7 @@ impl<R, P: Port<R, Item>> Crew<R, P> {
         requires program { IsProgram code }
         requires budget { budget ≤ LARGEST_BUDGET }
         ensures crew { IfOk result (λ crew. (crew.code ≡ code) × (crew.budget ≡ budget) × (crew.failed ≡ false)) }
+        ensures none { IfOk result (λ crew. event_count crew.histories ≡ 0) }
         ensures run { IfOk result HasRun }
     {
         let ports = P::make(alloc, code.sites())?;
@@ -75,6 +76,7 @@ impl<R, P: Port<R, Item>> Crew<R, P> {
     /// histories are still a run, and each later round answers Memory and changes nothing.
     pub fn serial_round(&mut self, rt: &R) -> Result<Round, Memory>
         ensures on { GoesOn self.old self.new }
+        ensures later { AddsLater self.old self.new }
         ensures run { HasRun self.new }
         ensures ok { IfOk result (IsRoundOf self.old self.new) }
         ensures sound { OnOk result (self.new.failed ≡ false) }
@@ -105,6 +107,7 @@ impl<R, P: Port<R, Item>> Crew<R, P> {
     /// Goes on by such rounds until one adds no event.
     pub fn serial_run(&mut self, rt: &R) -> Result<End, Memory>
         ensures on { GoesOn self.old self.new }
+        ensures later { AddsLater self.old self.new }
         ensures run { HasRun self.new }
         ensures ok { IfOk result (HasEnded self.new) }
         ensures err { OnErr result (self.new.failed ≡ true) }
@@ -123,13 +126,12 @@ impl<R, P: Port<R, Item>> Crew<R, P> {
     /// on by itself. The list is refused where a site has more events in it than the budget, or where it is no run that the sites
     /// make by themselves, and then the crew is as it was. Where memory runs out, the crew has failed: its histories are those of
     /// the events that were done, which are a run, and each later round answers Memory and changes nothing. A post, which no code
-    /// for sites has, is never done: it is answered as memory that is wanting.
+    /// for sites has, is never done: it is answered as memory that is wanting. So is a list of 2^32 events and more.
     pub fn follow(&mut self, rt: &R, low: &LowProgram, events: &[Event]) -> Result<(), FollowFail>
         requires table { program self.old.code ≡ low.now }
         requires none { event_count self.old.histories ≡ 0 }
         requires sound { self.old.failed ≡ false }
         requires run { IsSome (run (start_low low.now) events.now) }
-        requires few { length events.now < 2 ^ 32 }
         ensures on { GoesOn self.old self.new }
         ensures run { HasRun self.new }
         ensures ok { OnOk result (HasFollowed low.now events.now self.new) }
@@ -188,6 +190,7 @@ impl<R: Threads + Sync, P: Port<R, Item>> Crew<R, P> {
     /// histories are still a run, and each later round answers Memory and changes nothing.
     pub fn round<G: Gate>(&mut self, rt: &R, gate: &G) -> Result<Round, Memory>
         ensures on { GoesOn self.old self.new }
+        ensures later { AddsLater self.old self.new }
         ensures run { HasRun self.new }
         ensures ok { IfOk result (IsRoundOf self.old self.new) }
         ensures sound { OnOk result (self.new.failed ≡ false) }
@@ -219,6 +222,7 @@ impl<R: Threads + Sync, P: Port<R, Item>> Crew<R, P> {
     /// Goes on by such rounds until one adds no event.
     pub fn threads_run<G: Gate>(&mut self, rt: &R, gate: &G) -> Result<End, Memory>
         ensures on { GoesOn self.old self.new }
+        ensures later { AddsLater self.old self.new }
         ensures run { HasRun self.new }
         ensures ok { IfOk result (HasEnded self.new) }
         ensures err { OnErr result (self.new.failed ≡ true) }
@@ -236,6 +240,7 @@ impl<R: Threads + Sync, P: Port<R, Item>> Crew<R, P> {
     /// Goes on until a round adds no event: with `serial` the sites take their turns one after another, else on threads.
     pub fn run<G: Gate>(&mut self, rt: &R, gate: &G, serial: bool) -> Result<End, Memory>
         ensures on { GoesOn self.old self.new }
+        ensures later { AddsLater self.old self.new }
         ensures run { HasRun self.new }
         ensures ok { IfOk result (HasEnded self.new) }
         ensures err { OnErr result (self.new.failed ≡ true) }

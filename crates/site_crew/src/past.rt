@@ -1,5 +1,5 @@
 //! Whether a crew does the events of a list again.
-ghost use Rattle.std.specs.Prelude.{◌≡◌, ◌<◌, ◌^◌, length, IfErr, IsSome, OnOk, MatchOption};
+ghost use Rattle.std.specs.Prelude.{◌≡◌, length, IfErr, IsSome, OnOk, MatchOption};
 ghost use Rattle.np_calculus.specs.Reductions.{run};
 ghost use Rattle.np_calculus.specs.Starts.{start_low};
 ghost use Rattle.np_following.specs.Following.{events_at};
@@ -35,7 +35,8 @@ fn first_past(events: &[Event], sites: u32, budget: u32) -> Option<u32>
     None
 }
 
-/// Why a run of a program is not one for its sites to follow, if it is not.
+/// Why a run of a program is not one for its sites to follow, if it is not. A list that is longer than its indexes can tell is
+/// answered as memory that is wanting.
 pub fn refused(
     alloc: Global,
     low: &LowProgram,
@@ -45,12 +46,14 @@ pub fn refused(
 ) -> Result<(), FollowFail>
     requires sites { sites ≡ length low.now.sites }
     requires run { IsSome (run (start_low low.now) events.now) }
-    requires few { length events.now < 2 ^ 32 }
     ensures ok { OnOk result (IsToFollow low.now budget events.now) }
     ensures err { IfErr result (IsRefused low.now budget events.now) }
 {
     if let Some(site) = first_past(events, sites, budget) {
         return Err(FollowFail::BudgetPast(site));
+    }
+    if events.len() > u32::MAX as usize {
+        return Err(FollowFail::Memory);
     }
     match ours_until(alloc, low, events)? {
         Some(index) => Err(FollowFail::NotOurs(index)),

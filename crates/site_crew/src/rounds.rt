@@ -1,7 +1,7 @@
 //! A round: all sites take their turns, and then the links are settled.
 ghost use Rattle.std.specs.Prelude.{◌≡◌, ◌≤◌, length};
 ghost use Rattle.np_syntax.specs.declared.limits.TheConstants.{MOST_SITES};
-ghost use Rattle.site_crew.specs.Seats.{AllGrow, Stand, event_count, histories};
+ghost use Rattle.site_crew.specs.Seats.{AllGrow, AllLater, Stand, clocks, event_count, histories};
 
 use crate::counting::events_of;
 use crate::quiet::are_over;
@@ -29,6 +29,7 @@ pub fn threads_round<R: Threads + Sync, P: Port<R, Item>, G: Gate>(
     ensures stand { Stand P.Port code.now budget seats.new }
     ensures count { length seats.new ≡ length seats.old }
     ensures grow { AllGrow (histories seats.old) (histories seats.new) }
+    ensures later { AllLater (clocks seats.old) (histories seats.old) (clocks seats.new) (histories seats.new) }
     ensures total { result ≡ event_count (histories seats.new) }
 {
     let before = events_of(seats);
@@ -54,6 +55,7 @@ fn threads_pass<R: Threads + Sync, P: Port<R, Item>, G: Gate>(
     ensures stand { Stand P.Port code.now _budget seats.new }
     ensures count { length seats.new ≡ length seats.old }
     ensures grow { AllGrow (histories seats.old) (histories seats.new) }
+    ensures later { AllLater (clocks seats.old) (histories seats.old) (clocks seats.new) (histories seats.new) }
     ensures total { result ≡ event_count (histories seats.new) }
 {
     threads_turns(rt, alloc, code, gate, walks, seats);
@@ -74,6 +76,7 @@ pub fn serial_round<R, P: Port<R, Item>>(
     ensures stand { Stand P.Port code.now budget seats.new }
     ensures count { length seats.new ≡ length seats.old }
     ensures grow { AllGrow (histories seats.old) (histories seats.new) }
+    ensures later { AllLater (clocks seats.old) (histories seats.old) (clocks seats.new) (histories seats.new) }
     ensures total { result ≡ event_count (histories seats.new) }
 {
     let before = events_of(seats);
@@ -98,6 +101,7 @@ fn serial_pass<R, P: Port<R, Item>>(
     ensures stand { Stand P.Port code.now _budget seats.new }
     ensures count { length seats.new ≡ length seats.old }
     ensures grow { AllGrow (histories seats.old) (histories seats.new) }
+    ensures later { AllLater (clocks seats.old) (histories seats.old) (clocks seats.new) (histories seats.new) }
     ensures total { result ≡ event_count (histories seats.new) }
 {
     serial_turns(rt, alloc, code, walks, seats);

@@ -1,5 +1,5 @@
 -- What the calculus sees of a site of which nothing has changed but the room, and histories that have grown.
-use Rattle.std.proofs.Common.{◌≡◌, ◌+◌, suc, List, [], ◌∷◌, ◌++◌, length, Option, None, Some, option_map, refl, sym, ap, ◌∙◌, append_assoc, append-nil, length-append, arith, subst}
+use Rattle.std.proofs.Common.{◌≡◌, ◌+◌, ◌<◌, ◌≤◌, ℕ, suc, List, [], ◌∷◌, ◌++◌, length, Option, None, Some, option_map, refl, sym, ap, ◌∙◌, append_assoc, append-nil, length-append, arith, subst}
 use Rattle.np_syntax.specs.declared.value.Name.{Name}
 use Rattle.np_syntax.specs.declared.value.Value.{Value}
 use Rattle.np_syntax.specs.declared.process.Proc.{Proc}
@@ -19,7 +19,8 @@ use Rattle.agent_pool.specs.declared.held.Held.{Held}
 use Rattle.agent_pool.specs.Pools.{Pool, atoms_of, seen_as}
 use Rattle.site_state.specs.Doing.{recorded}
 use Rattle.site_state.specs.Standings.{SameAgents, SameSite, Standing, holding_of, without_room}
-use Rattle.site_turn.specs.Turns.{HistoryGrows}
+use Rattle.run_merge.proofs.InOrder.{all_append, all_weaker}
+use Rattle.site_turn.specs.Turns.{HistoryGrows, IsLater}
 
 -- ---- lists
 
@@ -62,6 +63,36 @@ not_recorded h e v new is same = longer h.events e (sym (recorded_events h e v) 
 pub recorded_grows : (h : Recorded) (e : Stamped) (v : Option Value) → HistoryGrows h (recorded h e v)
 recorded_grows h e None = record { site = refl; budget = refl; events = record { rest = e ∷ []; is = refl }; said = Begins-same h.said h.said refl }
 recorded_grows h e (Some v) = record { site = refl; budget = refl; events = record { rest = e ∷ []; is = refl }; said = record { rest = v ∷ []; is = refl } }
+
+-- ---- stamps
+
+pub later_same : (n m : ℕ) (xs ys : List Stamped) → m ≡ n → ys ≡ xs → IsLater n xs m ys
+later_same n m xs ys e is =
+    let at : IsLater n xs n xs = record { clock = omega arith; begins = record { rest = []; is = sym (append-nil xs) }; above = tt } in
+    subst (λ (zs : List Stamped). IsLater n xs m zs) (sym is) (subst (λ (k : ℕ). IsLater n xs k xs) (sym e) at)
+
+pub later_trans : {a b c : ℕ} {xs ys zs : List Stamped} → IsLater a xs b ys → IsLater b ys c zs → IsLater a xs c zs
+unfolding begins_trans
+later_trans {a} {b} {c} {xs} {ys} {zs} h k =
+    let low : a ≤ b = h.clock in let high : b ≤ c = k.clock in record {
+      clock = omega arith;
+      begins = begins_trans h.begins k.begins;
+      above = all_append (λ e. a < e.stamp) h.begins.rest k.begins.rest h.above
+          (all_weaker (λ (e : Stamped). b < e.stamp) (λ e. a < e.stamp) (λ e more. omega arith) k.begins.rest k.above);
+    }
+
+-- above a later clock
+pub later_weaker : {n m k : ℕ} {xs ys : List Stamped} → n ≤ m → IsLater m xs k ys → IsLater n xs k ys
+later_weaker {n} {m} {k} {xs} {ys} low h =
+    let high : m ≤ k = h.clock in record {
+      clock = omega arith;
+      begins = h.begins;
+      above = all_weaker (λ (e : Stamped). m < e.stamp) (λ e. n < e.stamp) (λ e more. omega arith) h.begins.rest h.above;
+    }
+
+-- one event more
+pub later_one : (n m : ℕ) (xs ys : List Stamped) (e : Stamped) → n < m → e.stamp ≡ m → ys ≡ xs ++ e ∷ [] → IsLater n xs m ys
+later_one n m xs ys e low stamp is = record { clock = omega arith; begins = record { rest = e ∷ []; is = is }; above = (subst (λ (k : ℕ). n < k) (sym stamp) low, tt) }
 
 -- ---- agents
 

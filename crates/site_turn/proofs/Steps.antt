@@ -8,6 +8,7 @@ use Rattle.np_calculus.specs.declared.config.Place.TheVariants as place
 use Rattle.np_syntax.specs.declared.event.Event.{Event}
 use Rattle.np_syntax.specs.declared.process.Proc.{Proc}
 use Rattle.np_tables.proofs.Tables.{same_name-itself}
+use Rattle.stamp_history.specs.Histories.{Recorded}
 use Rattle.site_links.specs.Words.{Keeps, only_at}
 use Rattle.site_links.specs.declared.port.Port as Port
 use Rattle.site_links.proofs.Kept.{Keeps-refl, Keeps-trans}
@@ -32,8 +33,8 @@ use Rattle.site_state.specs.declared.stepping.Stepped.TheVariants as stepped
 use Rattle.site_state.specs.Lines.{Waiting, queue_at, room_at}
 use Rattle.site_state.specs.Standings.{IsOut, SameSite, Standing, holding_of}
 use Rattle.site_turn.specs.declared.seat.Seat.{Seat}
-use Rattle.site_turn.specs.Turns.{Accepts, AsideIsStrange, HistoryGrows, IsStrange, Kept, Seated, SetsAside, Turned, came_from, shown}
-use Rattle.site_turn.proofs.Holdings.{history_same, history_trans, holding_same, not_recorded, recorded_events, recorded_grows, same_between}
+use Rattle.site_turn.specs.Turns.{Accepts, AsideIsStrange, HistoryGrows, IsLater, IsStrange, Kept, Seated, SetsAside, Turned, came_from, shown}
+use Rattle.site_turn.proofs.Holdings.{history_same, history_trans, holding_same, later_one, later_same, later_trans, not_recorded, recorded_events, recorded_grows, same_between}
 
 -- ---- from step to step
 
@@ -46,6 +47,7 @@ module _ {P R : Type 0} {g : Port.Ghosts P R Item} {code : ProgramTable} where
     budget = refl;
     history = history_same a.site.history a.site.history refl;
     clock = λ same. refl;
+    later = later_same a.site.clock a.site.clock a.site.history.events a.site.history.events refl refl;
     aside = λ h. h;
     kept = λ start h. h;
   }
@@ -58,6 +60,7 @@ module _ {P R : Type 0} {g : Port.Ghosts P R Item} {code : ProgramTable} where
     budget = k.budget ∙ h.budget;
     history = history_trans h.history k.history;
     clock = λ same. let b = same_between h.history.events k.history.events same in k.clock b.1 ∙ h.clock b.0;
+    later = later_trans h.later k.later;
     aside = λ s. k.aside (h.aside s);
     kept = λ start s. k.kept start (h.kept start s);
   }
@@ -115,6 +118,7 @@ module _ {P R : Type 0} {g : Port.Ghosts P R Item} {code : ProgramTable} where
     budget = budget;
     history = history_same a.site.history b.site.history s.history;
     clock = λ same. s.clock;
+    later = later_same a.site.clock b.site.clock a.site.history.events b.site.history.events s.clock (ap (λ (h : Recorded). h.events) s.history);
     aside = aside_still a b f s.number s.aside;
     kept = kept_still s;
   }
@@ -264,6 +268,10 @@ ticked-later : (m n : ℕ) (o : Option StampedItem) → m ≤ n → ticked m o �
 ticked-later m n None h = omega arith
 ticked-later m n (Some x) h = omega arith
 
+ticks : (m : ℕ) (o : Option StampedItem) → m < ticked m o
+ticks m None = omega arith
+ticks m (Some x) = omega arith
+
 -- the event is the next one of the account
 module _ (code : ProgramTable) (old new : Standing) (event : Event) (taken out : Option Item) (did : Did code old new event taken out) (lines : length old.outgoing ≡ length code.sites) where
   abbrev deed : Deed
@@ -297,6 +305,12 @@ module _ (code : ProgramTable) (old new : Standing) (event : Event) (taken out :
       ∙ sym (append_assoc (shown code sent) (shown code (queue_at old.outgoing t)) (put_for t (deed ∷ [])))
       ∙ ap (λ l. l ++ put_for t (deed ∷ [])) (sym (map-append (item_of code) sent (queue_at old.outgoing t)) ∙ e) ∙ sym (puts_follow t ds (deed ∷ []))
 
+  pub later_more : IsLater old.clock old.history.events new.clock new.history.events
+  later_more =
+      let tick : old.clock < new.clock = subst (λ (m : ℕ). old.clock < m) (sym did.clock) (ticks old.clock (option_map (item_of code) taken)) in
+      later_one old.clock new.clock old.history.events new.history.events (record { stamp = new.clock; event = event }) tick refl
+      (ap (λ (h : Recorded). h.events) did.history ∙ recorded_events old.history (record { stamp = new.clock; event = event }) did.value)
+
   pub grows_more : HistoryGrows old.history new.history
   grows_more = subst (HistoryGrows old.history) (sym did.history) (recorded_grows old.history (record { stamp = new.clock; event = event }) did.value)
 
@@ -311,6 +325,7 @@ module _ {P R : Type 0} {g : Port.Ghosts P R Item} {code : ProgramTable} where
     budget = budget;
     history = grows_more code a.site b.site done.event None done.out done.did lines;
     clock = λ same. absurd (not_recorded a.site.history _ done.did.value b.site.history.events (ap (λ h. h.events) done.did.history) same);
+    later = later_more code a.site b.site done.event None done.out done.did lines;
     aside = aside_still a b (λ h. sym failed ∙ h) done.did.site aside;
     kept = λ start h.
         let d : Deed = deed_at code b.site done.event None done.out in record {
@@ -387,6 +402,7 @@ module _ {P R : Type 0} {g : Port.Ghosts P R Item} {code : ProgramTable} where
         budget = accepts.budget ∙ budget;
         history = grows_more code a.site b.site event (Some item) None did lines;
         clock = λ same. absurd (not_recorded a.site.history _ did.value b.site.history.events (ap (λ h. h.events) did.history) same);
+        later = later_more code a.site b.site event (Some item) None did lines;
         aside = λ h ok. subst (λ (o : Option Item). IfSome o (IsStrange b.site.site)) (sym accepts.aside) tt;
         kept = λ start h. record {
           deeds = h.deeds ++ d ∷ [];
@@ -420,6 +436,7 @@ module _ {P R : Type 0} {g : Port.Ghosts P R Item} {code : ProgramTable} where
         budget = sets.budget ∙ budget;
         history = history_same a.site.history b.site.history s.history;
         clock = λ same. s.clock;
+        later = later_same a.site.clock b.site.clock a.site.history.events b.site.history.events s.clock (ap (λ (h : Recorded). h.events) s.history);
         aside = λ h. sets.strange;
         kept = λ start h. record {
           deeds = h.deeds;

@@ -1,5 +1,7 @@
 -- What a turn leaves of a site and its port (docs/LANGUAGE.md, "History text").
 use Rattle.std.specs.Prelude.{◌≡◌, ◌<◌, ◌≤◌, ◌^◌, ℕ, false, List, ◌++◌, length, map, Option, None, Some, IfSome, option_map, option_to_list}
+use Rattle.std.specs.List.{AllByRecursion}
+use Rattle.stamp_history.specs.declared.stamped.Stamped.{Stamped}
 use Rattle.stamp_history.specs.Histories.{Recorded}
 use Rattle.site_links.specs.Words.{Begins, Keeps}
 use Rattle.site_links.specs.declared.port.Port as Port
@@ -32,6 +34,12 @@ pub record HistoryGrows (old new : Recorded) : Type 0 where
   pub budget : new.budget ≡ old.budget
   pub events : Begins new.events old.events
   pub said : Begins new.said old.said
+
+-- Events at a later time, and the clock that it was at them and is then: the clock only goes on, and what is added is stamped above the one that it was.
+pub record IsLater (was : ℕ) (old : List Stamped) (is : ℕ) (new : List Stamped) : Type 0 where
+  pub clock : was ≤ is
+  pub begins : Begins new old
+  pub above : AllByRecursion (λ e. was < e.stamp) begins.rest
 
 module _ {P : Type 0} where
   -- if memory did not run out, an item that is set aside is one that the site cannot accept
@@ -94,5 +102,6 @@ module _ {P R : Type 0} (g : Port.Ghosts P R Item) (code : ProgramTable) where
     pub history : HistoryGrows old.site.history new.site.history
     -- where no event is added the clock stands still
     pub clock : new.site.history.events ≡ old.site.history.events → new.site.clock ≡ old.site.clock
+    pub later : IsLater old.site.clock old.site.history.events new.site.clock new.site.history.events
     pub aside : AsideIsStrange old → AsideIsStrange new
     pub kept : (start : Holding) → Kept start old → Kept start new

@@ -1,6 +1,7 @@
 use denote.Exit.{no}
 use denote.Param.Send.{arg_send, param_send}
 use Rattle.site_crossing.proofs.Ports.{rings_send, trays_send}
+use Rattle.crew_inboxes.proofs.Items.{inboxes_send}
 use Rattle.np_on_sites.proofs.running.run_on_sites.Goals as goal
 
 pub run_over-requires-send-P : goal.run_over-requires-send-P
@@ -8,3 +9,6 @@ run_over-requires-send-P g c κs within = param_send 1 _ (arg_send _ no _ trays_
 
 pub run_over-requires-in-Rings-send-P : goal.run_over-requires-in-Rings-send-P
 run_over-requires-in-Rings-send-P g c κs within = param_send 1 _ (arg_send _ no _ rings_send)
+
+pub run_over-requires-in-Inbox-send-P : goal.run_over-requires-in-Inbox-send-P
+run_over-requires-in-Inbox-send-P g c κs within = param_send 1 _ (arg_send _ no _ inboxes_send)

@@ -28,7 +28,7 @@ module _ (sources : source_laws.HaveOneAnswer) (histories : history_laws.HaveOne
   -- and none of an accepted history
   of_history : (purpose : Purpose) (bytes : List ℕ) (refusal : Refusal) → length bytes ≤ LONGEST_HISTORY → history.AcceptedHistory purpose bytes → history.SaysHistory purpose bytes refusal → ⊥
   of_history purpose bytes refusal short a (inl s) = let long = s.1 in omega arith
-  of_history purpose bytes refusal short a (inr s) = history.not_both histories purpose bytes refusal a s.1
+  of_history purpose bytes refusal short a (inr s) = history.not_both sources histories purpose bytes refusal a s.1
 
   of_plan : (call : Call) (asked : Plan) (refusal : Refusal) → Accepts call asked → RefusesPlan call.texts asked refusal → ⊥
   of_plan call (plans.Source file task) refusal a r = of_source (reach_of task) a.bytes refusal a.short a.accepted (source_says call file (reach_of task) a.bytes refusal a.told r)
@@ -38,6 +38,12 @@ module _ (sources : source_laws.HaveOneAnswer) (histories : history_laws.HaveOne
       of_history (Purpose.replay a.low view) a.run refusal a.short_run a.replays
       (subst (λ (low : LowProgram). history.SaysHistory (Purpose.replay low view) a.run refusal) (history.same_low sources call source a.bytes a.low r.low a.told a.lowered r.lowered)
       (history.run_says call h r.low view a.run refusal a.told_run r.run))
+  of_plan call (plans.Resume source h budget shows high serial links) refusal a (inl r) =
+      of_source Reach.low a.bytes refusal a.short (a.low, a.lowered) (source_says call source Reach.low a.bytes refusal a.told r)
+  of_plan call (plans.Resume source h budget shows high serial links) refusal a (inr r) =
+      of_history (Purpose.resume a.low budget) a.run refusal a.short_run a.fit
+      (subst (λ (low : LowProgram). history.SaysHistory (Purpose.resume low budget) a.run refusal) (history.same_low sources call source a.bytes a.low r.low a.told a.lowered r.lowered)
+      (history.saved_says call h r.low budget a.run refusal a.told_run r.run))
   of_plan call (plans.Upgrade h) refusal a r = of_history Purpose.events a.bytes refusal a.short a.accepted (history.history_says call h a.bytes refusal a.told r)
   of_plan call (plans.Generate agents) refusal a r = r
   of_plan call (plans.Load agents serial links) refusal a r = sources.not_both (Reach.sites LOAD_BUDGET) (generated agents) refusal a r.faulty

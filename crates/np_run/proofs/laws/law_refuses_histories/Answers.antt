@@ -14,10 +14,10 @@ module _ (sources : source_laws.HaveOneAnswer) (histories : history_laws.HaveOne
   by_outcome : (call : Call) (answer : Answer) (purpose : Purpose) (bytes : List ℕ) (refusal : Refusal) → Follows call purpose bytes → length bytes ≤ LONGEST_HISTORY
       → FaultyHistory purpose bytes refusal → Outcome call answer → IsRefused call answer refusal
   by_outcome call answer purpose bytes refusal f short wrong (Outcome.made text h) =
-      absurd (not_both histories purpose bytes refusal (made_accepts sources call purpose bytes answer.kept answer.high text f h).1 wrong)
+      absurd (not_both sources histories purpose bytes refusal (made_accepts sources call purpose bytes answer.kept answer.high text f h).1 wrong)
   by_outcome call answer purpose bytes refusal f short wrong (Outcome.refused other e s) =
       let first : FaultyHistory purpose bytes other = says_faulty_history purpose bytes other short (stands_says sources call purpose bytes other f s.stands) in
-      subst (λ (x : Refusal). IsRefused call answer x) (same_fault histories purpose bytes other refusal first wrong) s
+      subst (λ (x : Refusal). IsRefused call answer x) (same_fault sources histories purpose bytes other refusal first wrong) s
 
 pub returns : goal.returns
 returns c = λ call answer purpose bytes refusal h f err some short. (

@@ -16,17 +16,20 @@ module _ (sources : source_laws.HaveOneAnswer) (histories : history_laws.HaveOne
   module _ (call : Call) (purpose : Purpose) (bytes : List ℕ) (f : Follows call purpose bytes) (short : length bytes ≤ LONGEST_HISTORY) where
     -- what has its cause is what is wrong with the history
     only : (refusal : Refusal) → FaultyHistory purpose bytes refusal → (other : Refusal) → Stands call.words call.texts other → other ≡ refusal
-    only refusal wrong other s = same_fault histories purpose bytes other refusal (says_faulty_history purpose bytes other short (stands_says sources call purpose bytes other f s)) wrong
+    only refusal wrong other s = same_fault sources histories purpose bytes other refusal (says_faulty_history purpose bytes other short (stands_says sources call purpose bytes other f s)) wrong
 
-    alone : (answer : Answer) (refusal : Refusal) → FaultyHistory purpose bytes refusal → Outcome call answer → RefusesAlone 7 call answer refusal
-    alone answer refusal wrong (Outcome.made text h) = absurd (not_both histories purpose bytes refusal (made_accepts sources call purpose bytes answer.kept answer.high text f h).1 wrong)
+    alone : (answer : Answer) (refusal : Refusal) → FaultyHistory purpose bytes refusal → Outcome call answer → RefusesAlone (status_of refusal) call answer refusal
+    alone answer refusal wrong (Outcome.made text h) = absurd (not_both sources histories purpose bytes refusal (made_accepts sources call purpose bytes answer.kept answer.high text f h).1 wrong)
     alone answer refusal wrong (Outcome.refused other e s) =
         let same : other ≡ refusal = only refusal wrong other s.stands in
         record {
-          is = e ∙ ap status_of same ∙ fault_status histories purpose bytes refusal wrong;
+          is = e ∙ ap status_of same;
           refused = subst (λ (x : Refusal). IsRefused call answer x) same s;
           only = only refusal wrong;
         }
 
 pub returns : goal.returns
-returns c = λ call answer purpose bytes refusal h f err some short wrong. alone c.law_one_answer.ensures c.law_one_answer-2.ensures call purpose bytes f short answer refusal wrong (outcome call answer h err some)
+returns c = λ call answer purpose bytes refusal h f err some short wrong. (
+  alone c.law_one_answer.ensures c.law_one_answer-2.ensures call purpose bytes f short answer refusal wrong (outcome call answer h err some),
+  fault_status c.law_one_answer.ensures c.law_one_answer-2.ensures purpose bytes refusal wrong,
+)

@@ -23,7 +23,8 @@ module _ (sources : source_laws.HaveOneAnswer) (histories : history_laws.HaveOne
 
   not_later : IsOfHistory TooLong → ⊥
   not_later (inl e) = cc
-  not_later (inr e) = omega (arith, e)
+  not_later (inr (inl e)) = omega (arith, e)
+  not_later (inr (inr e)) = cc
 
   -- what says that it is too long
   is_long : (asked : Plan) (reach : Reach) (bytes : List ℕ) → Cause asked reach bytes TooLong → LONGEST_SOURCE < length bytes
@@ -36,12 +37,12 @@ module _ (sources : source_laws.HaveOneAnswer) (histories : history_laws.HaveOne
   by_outcome call answer asked reach bytes r l (Outcome.made text h) =
       let short = (made_accepts call asked reach bytes answer.kept answer.high text r h).0 in absurd (omega arith)
   by_outcome call answer asked reach bytes r l (Outcome.refused refusal e s) =
-      long call answer asked reach bytes refusal l (stands_cause histories call asked reach bytes refusal r s.stands) s
+      long call answer asked reach bytes refusal l (stands_cause sources histories call asked reach bytes refusal r s.stands) s
 
 pub returns : goal.returns
 returns c = λ call answer asked reach bytes h r err some. (
   λ is.
-      let cause = stands_cause c.law_one_answer-2.ensures call asked reach bytes TooLong r is.stands in
+      let cause = stands_cause c.law_one_answer.ensures c.law_one_answer-2.ensures call asked reach bytes TooLong r is.stands in
       is_long c.law_one_answer.ensures c.law_one_answer-2.ensures asked reach bytes cause,
   λ l. by_outcome c.law_one_answer.ensures c.law_one_answer-2.ensures call answer asked reach bytes r l (outcome call answer h err some),
 )

@@ -22,7 +22,7 @@ module _ (sources : source_laws.HaveOneAnswer) (histories : history_laws.HaveOne
 
     -- what has its cause is what is wrong with the source
     only : (refusal : Refusal) → FaultyTo reach bytes refusal → (other : Refusal) → Stands call.words call.texts other → other ≡ refusal
-    only refusal f other s = by_cause refusal other f (stands_cause histories call asked reach bytes other r s)
+    only refusal f other s = by_cause refusal other f (stands_cause sources histories call asked reach bytes other r s)
 
     alone : (answer : Answer) (refusal : Refusal) → answer.status ≢ 6 → FaultyTo reach bytes refusal → Outcome call answer → RefusesAlone 3 call answer refusal
     alone answer refusal some f (Outcome.made text h) =

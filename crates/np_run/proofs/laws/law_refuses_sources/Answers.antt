@@ -29,11 +29,11 @@ module _ (sources : source_laws.HaveOneAnswer) (histories : history_laws.HaveOne
   by_outcome call answer asked reach bytes refusal r short f (Outcome.made text h) =
       absurd (sources.not_both reach bytes refusal (made_accepts call asked reach bytes answer.kept answer.high text r h).1 f)
   by_outcome call answer asked reach bytes refusal r short f (Outcome.refused other e s) =
-      let wrong : FaultyTo reach bytes other = first asked reach bytes refusal other short f (stands_cause histories call asked reach bytes other r s.stands) in
+      let wrong : FaultyTo reach bytes other = first asked reach bytes refusal other short f (stands_cause sources histories call asked reach bytes other r s.stands) in
       subst (λ (x : Refusal). IsRefused call answer x) (sources.same_fault reach bytes other refusal wrong f) s
 
 pub returns : goal.returns
 returns c = λ call answer asked reach bytes refusal h r err some short. (
   λ f. by_outcome c.law_one_answer.ensures c.law_one_answer-2.ensures call answer asked reach bytes refusal r short f (outcome call answer h err some),
-  λ is. by_cause c.law_one_answer.ensures c.law_one_answer-2.ensures asked reach bytes refusal short (stands_cause c.law_one_answer-2.ensures call asked reach bytes refusal r is.stands),
+  λ is. by_cause c.law_one_answer.ensures c.law_one_answer-2.ensures asked reach bytes refusal short (stands_cause c.law_one_answer.ensures c.law_one_answer-2.ensures call asked reach bytes refusal r is.stands),
 )

@@ -12,12 +12,13 @@ use Rattle.np_verdict.specs.declared.refusal.Refusal.TheVariants.{Usage, TooLong
 use Rattle.np_generate.specs.Generated.{generated}
 use Rattle.np_sources.specs.declared.limits.TheConstants.{LOAD_BUDGET}
 use Rattle.np_modes.specs.Readings.{Reading, IsUnread}
-use Rattle.np_modes.specs.Causes.{IsFaultySource, RefusesHistory, RefusesRun, RefusesPlan, Stands}
+use Rattle.np_modes.specs.Causes.{IsFaultySource, RefusesHistory, RefusesRun, RefusesSaved, RefusesPlan, Stands}
 use Rattle.np_sources.specs.Laws as source_laws
 use Rattle.np_histories.specs.Laws as history_laws
 use Rattle.np_run.specs.Answers.{Call}
 use Rattle.np_run.specs.declared.answer.Answer.{Answer}
 use Rattle.np_run.proofs.Outcomes.{Outcome, outcome}
+use Rattle.np_run.proofs.Sources.{unfit_status}
 use Rattle.np_run.proofs.laws.law_refuses_words.Goals as goal
 
 module _ (sources : source_laws.HaveOneAnswer) (histories : history_laws.HaveOneAnswer) where
@@ -38,6 +39,11 @@ module _ (sources : source_laws.HaveOneAnswer) (histories : history_laws.HaveOne
   of_run texts history low view (inl (inr u)) = let is = u.0 in cc
   of_run texts history low view (inr s) = let is = histories.run_status low view s.bytes Usage s.faulty in omega (arith, is)
 
+  of_saved : (texts : Reading) (saved : List ℕ) (low : LowProgram) (budget : ℕ) → RefusesSaved texts saved low budget Usage → ⊥
+  of_saved texts saved low budget (inl (inl u)) = let is = u.0 in cc
+  of_saved texts saved low budget (inl (inr u)) = let is = u.0 in cc
+  of_saved texts saved low budget (inr s) = elim (unfit_status sources histories budget low s.bytes Usage s.unfit) [ inl many ↦ cc | inr seven ↦ omega (arith, seven) ]
+
   of_history : (texts : Reading) (history : List ℕ) → RefusesHistory texts history Usage → ⊥
   of_history texts history (inl (inl u)) = let is = u.0 in cc
   of_history texts history (inl (inr u)) = let is = u.0 in cc
@@ -47,6 +53,8 @@ module _ (sources : source_laws.HaveOneAnswer) (histories : history_laws.HaveOne
   of_plan texts (plans.Source file task) r = of_source texts file (reach_of task) r.cause
   of_plan texts (plans.Replay source history view) (inl r) = of_source texts source Reach.low r.cause
   of_plan texts (plans.Replay source history view) (inr r) = of_run texts history r.low view r.run
+  of_plan texts (plans.Resume source saved budget history high serial links) (inl r) = of_source texts source Reach.low r.cause
+  of_plan texts (plans.Resume source saved budget history high serial links) (inr r) = of_saved texts saved r.low budget r.run
   of_plan texts (plans.Upgrade history) r = of_history texts history r
   of_plan texts (plans.Generate agents) r = r
   of_plan texts (plans.Load agents serial links) r = sources.not_usage (Reach.sites LOAD_BUDGET) (generated agents) r.faulty

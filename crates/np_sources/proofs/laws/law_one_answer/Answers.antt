@@ -9,4 +9,7 @@ returns c = record {
   not_long = once.not_long;
   not_usage = once.not_usage;
   status = once.faulty_status;
+  goes_on = once.goes_on c.law_prefix_is_ours.ensures;
+  same_stop = once.same_stop;
+  stop_status = once.stop_status;
 }

@@ -1,5 +1,13 @@
-use Rattle.np_sources.proofs.Promises.{read_off}
+use Rattle.np_sources.proofs.Promises.{keeps_run, only_memory, read_off}
 use Rattle.np_sources.proofs.sites.job_of_program.Goals as goal
 
-pub text_of-requires-clause-run : goal.text_of-requires-clause-run
-text_of-requires-clause-run g c = read_off c.law_source_runs.ensures _ _ _ _ c.in_ok-kept.ensures.made
+pub job_of_kept-requires-clause-run : goal.job_of_kept-requires-clause-run
+job_of_kept-requires-clause-run g c = read_off c.law_source_runs.ensures _ _ _ _ c.in_ok-kept.ensures.made
+
+pub returns-clause-made : goal.returns-clause-made
+returns-clause-made g c =
+    let e = c.job_of_kept.ensures in
+    keeps_run c.args.shown c.args.checked.now c.in_ok-kept.kept c.args.course.budget _ c.in_ok-kept.ensures.made c.job_of_kept.result e.kept e.high e.text e.shown
+
+pub returns-clause-refused : goal.returns-clause-refused
+returns-clause-refused g c = only_memory _ c.job_of_kept.result c.job_of_kept.ensures.refused

@@ -5,38 +5,38 @@ use Rattle.site_crew.proofs.Replacing.{all_rest_later, all_rest_trans, but_none,
 use Rattle.site_crew.proofs.Running.{grow_trans}
 use Rattle.site_crew.proofs.bringing.bring_at.Goals as goal
 
-pub send_for-requires-clause-stand : goal.send_for-requires-clause-stand
-send_for-requires-clause-stand g c κs within = but_none c.catch_at.ensures.stand c.args.event.site
+pub take_at-took-requires-clause-stand : goal.take_at-took-requires-clause-stand
+take_at-took-requires-clause-stand g c κs within = but_none c.put_for.ensures.stand c.args.event.site
 
-pub send_for-requires-clause-to : goal.send_for-requires-clause-to
-send_for-requires-clause-to g c κs within = subst (λ m. c.args.event.site < m) c.requires.stand.seats.count c.requires.at
+pub put_for-requires-clause-to : goal.put_for-requires-clause-to
+put_for-requires-clause-to g c κs within = subst (λ m. c.args.event.site < m) c.requires.stand.seats.count c.requires.at
 
 pub take_at-took-requires-clause-at : goal.take_at-took-requires-clause-at
-take_at-took-requires-clause-at g c κs within = subst (λ m. c.args.event.site < m) (sym (c.send_for.ensures.rest.count ∙ c.catch_at.ensures.rest.count)) c.requires.at
+take_at-took-requires-clause-at g c κs within = subst (λ m. c.args.event.site < m) (sym (c.put_for.ensures.rest.count ∙ c.catch_at.ensures.rest.count)) c.requires.at
 
 pub settle_to-requires-clause-linked : goal.settle_to-requires-clause-linked
 settle_to-requires-clause-linked g c κs within = c.take_at-took.ensures.stand.seats.linked
 
 pub settle_to-requires-clause-to : goal.settle_to-requires-clause-to
 settle_to-requires-clause-to g c κs within =
-    subst (λ m. c.args.event.site < m) (sym (c.take_at-took.ensures.count ∙ c.send_for.ensures.rest.count ∙ c.catch_at.ensures.rest.count)) c.requires.at
+    subst (λ m. c.args.event.site < m) (sym (c.take_at-took.ensures.count ∙ c.put_for.ensures.rest.count ∙ c.catch_at.ensures.rest.count)) c.requires.at
 
 pub returns-then-took-clause-stand : goal.returns-then-took-clause-stand
 returns-then-took-clause-stand g c = stand_settled c.take_at-took.ensures.stand c.settle_to.ensures
 
 pub returns-then-took-clause-grow : goal.returns-then-took-clause-grow
 returns-then-took-clause-grow g c =
-    grow_trans (grows_rest c.catch_at.ensures.rest) (grow_trans (grows_rest c.send_for.ensures.rest) (grow_trans c.take_at-took.ensures.grow (grows_rest (rest_of_settled c.settle_to.ensures))))
+    grow_trans (grows_rest c.catch_at.ensures.rest) (grow_trans (grows_rest c.put_for.ensures.rest) (grow_trans c.take_at-took.ensures.grow (grows_rest (rest_of_settled c.settle_to.ensures))))
 
 pub returns-else-took-clause-stand : goal.returns-else-took-clause-stand
 returns-else-took-clause-stand g c = stand_settled c.take_at-took.ensures.stand c.settle_to.ensures
 
 pub returns-else-took-clause-grow : goal.returns-else-took-clause-grow
 returns-else-took-clause-grow g c =
-    grow_trans (grows_rest c.catch_at.ensures.rest) (grow_trans (grows_rest c.send_for.ensures.rest) (grow_trans c.take_at-took.ensures.grow (grows_rest (rest_of_settled c.settle_to.ensures))))
+    grow_trans (grows_rest c.catch_at.ensures.rest) (grow_trans (grows_rest c.put_for.ensures.rest) (grow_trans c.take_at-took.ensures.grow (grows_rest (rest_of_settled c.settle_to.ensures))))
 
 pub returns-then-took-clause-ok : goal.returns-then-took-clause-ok
 returns-then-took-clause-ok g c =
     let late = c.args.stamp - 1 in
-    let before = all_rest_trans c.catch_at.ensures.rest (all_rest_later late c.send_for.ensures.rest) in
+    let before = all_rest_trans c.catch_at.ensures.rest (all_rest_later late c.put_for.ensures.rest) in
     added_before (added_after before (c.take_at-took.ensures.yes c.if-took.true)) (rest_of_settled c.settle_to.ensures)

@@ -1,6 +1,7 @@
-use Rattle.std.proofs.Common.{refl, ap, sym, ◌∙◌}
-use Rattle.site_turn.proofs.Steps.{turned_received}
-use Rattle.site_crew.proofs.Redoing.{has_accepted, port_admitted}
+use Rattle.std.proofs.Common.{◌++◌, refl, ap, sym, ◌∙◌}
+use Rattle.site_state.specs.Lines.{queue_at}
+use Rattle.site_turn.proofs.Steps.{turned_received, turned_refl, turned_still}
+use Rattle.site_crew.proofs.Redoing.{has_accepted, moves_alone, port_admitted}
 use Rattle.site_crew.proofs.bringing.take.Goals as goal
 
 pub returns-in-Some-clause-moves : goal.returns-in-Some-clause-moves
@@ -15,3 +16,23 @@ returns-in-Some-clause-moves g c = λ i.
 
 pub returns-in-Some-clause-yes : goal.returns-in-Some-clause-yes
 returns-in-Some-clause-yes g c = λ e. has_accepted c.args.code.now c.args.seat.now c.admit.new.seat c.in-Some.item (sym c.requires.placed.lines) (c.admit.ensures.yes e).site
+
+pub returns-then-is_some-clause-moves : goal.returns-then-is_some-clause-moves
+returns-then-is_some-clause-moves g c = λ i. moves_alone (turned_refl _) refl refl
+
+pub returns-in-None-clause-moves : goal.returns-in-None-clause-moves
+returns-in-None-clause-moves g c =
+    let h = c.in-None.ensures in λ i. record {
+      turned = turned_still (record {
+        number = refl;
+        holding = refl;
+        clock = refl;
+        history = refl;
+        aside = refl;
+        got = λ k. (h.taken k).0;
+        put = λ t. ap (λ l. l ++ queue_at c.args.seat.now.site.outgoing t) (h.putting t).0;
+      }) h.keeps refl refl (λ f. f);
+      sent = λ k apart. (h.putting k).0;
+      got = λ apart k. absurd (apart refl);
+      waits = λ apart. refl;
+    }

@@ -1,6 +1,6 @@
 use Rattle.std.proofs.Common.{◌∙◌}
 use Rattle.site_crew.proofs.Goings.{all_seated, seats_turned}
-use Rattle.site_crew.proofs.Crewing.{grows_again}
+use Rattle.site_crew.proofs.Crewing.{grows_again, later_again}
 use Rattle.site_crew.proofs.Standing.{stand_again}
 use Rattle.site_crew.proofs.rounds.threads_pass.Goals as goal
 
@@ -18,3 +18,6 @@ returns-clause-count g c = c.settle_all.ensures.still.count ∙ c.threads_turns.
 
 pub returns-clause-grow : goal.returns-clause-grow
 returns-clause-grow g c = grows_again c.threads_turns.ensures c.settle_all.ensures.still
+
+pub returns-clause-later : goal.returns-clause-later
+returns-clause-later g c = later_again c.threads_turns.ensures c.settle_all.ensures.still

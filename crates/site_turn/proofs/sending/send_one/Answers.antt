@@ -1,5 +1,5 @@
 use Rattle.std.proofs.Common.{refl}
-use Rattle.site_turn.proofs.Steps.{address, back_place, back_within, turned_back, turned_sent, turned_stays}
+use Rattle.site_turn.proofs.Steps.{address, back_place, back_within, turned_back, turned_refl, turned_sent, turned_stays}
 use Rattle.site_turn.proofs.sending.send_one.Goals as goal
 
 pub returns-in-None : goal.returns-in-None
@@ -20,3 +20,6 @@ returns-in-Ok g c = turned_sent c.args.to c.in-Some.item c.in-Some.ensures c.in-
 pub returns-in-Err : goal.returns-in-Err
 returns-in-Err g c =
     turned_back c.requires.seated c.in-Some.ensures c.in-Err.item c.in-Err.ensures.err.0 c.give_back.ensures c.in-Err.ensures.keeps c.in-Err.ensures.err.2 c.in-Err.ensures.taking refl refl refl
+
+pub returns-then-has_none_for : goal.returns-then-has_none_for
+returns-then-has_none_for g c = turned_refl _

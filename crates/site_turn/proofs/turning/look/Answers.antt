@@ -1,4 +1,4 @@
-use Rattle.site_turn.proofs.Steps.{seated_after, turned_trans}
+use Rattle.site_turn.proofs.Steps.{seated_after, turned_refl, turned_trans}
 use Rattle.site_turn.proofs.turning.look.Goals as goal
 
 pub loop-preserved : goal.loop-preserved
@@ -12,3 +12,6 @@ returns-then-seat g c = turned_trans c.loop.invariant.turned c.receive.ensures
 
 pub returns-else-is_some : goal.returns-else-is_some
 returns-else-is_some g c = turned_trans c.loop.invariant.turned c.receive.ensures
+
+pub loop-init : goal.loop-init
+loop-init g c = record { turned = turned_refl _; seated = c.requires }

@@ -1,3 +1,6 @@
+use Rattle.std.proofs.Common.{ap}
+use Rattle.stamp_history.specs.Histories.{Recorded}
+use Rattle.site_crew.proofs.Counts.{none_counted}
 use Rattle.site_crew.proofs.Crewing.{none_failed, stand_made}
 use Rattle.site_crew.proofs.CrewRuns.{crew_run}
 use Rattle.site_crew.proofs.crew.Crew.new.Goals as goal
@@ -14,3 +17,6 @@ pub returns-clause-run : goal.returns-clause-run
 returns-clause-run g c =
     crew_run g.P.Port c.args.code c.args.budget c.in_ok-seats.seats.items
     (stand_made c.sites.ensures c.in_ok-ports.ensures.ports c.in_ok-ports.ensures.unused c.in_ok-seats.ensures) c.requires.program
+
+pub returns-clause-none : goal.returns-clause-none
+returns-clause-none g c = none_counted c.in_ok-seats.seats.items (λ i s at. ap (λ (h : Recorded). h.events) (c.in_ok-seats.ensures.each i s at).2.site.history)

@@ -5,7 +5,7 @@ use Rattle.site_turn.specs.declared.seat.Seat.{Seat}
 use Rattle.site_crew.specs.Crews.{HasRun, IsJudged}
 use Rattle.site_crew.specs.Runs.{IsCrewRun}
 use Rattle.site_crew.specs.Seats.{event_count, histories}
-use Rattle.site_crew.proofs.Crewing.{has_run, round_told, slice_whole, told_ok}
+use Rattle.site_crew.proofs.Crewing.{has_run, later_refl, round_told, slice_whole, told_ok}
 use Rattle.site_crew.proofs.CrewRuns.{crew_run}
 use Rattle.site_crew.proofs.crew.Crew.serial_round.Goals as goal
 
@@ -31,3 +31,6 @@ returns-clause-ok g c =
     refl refl (ap histories whole) _ _
     (c.events_of-before.ensures.total ∙ ap (λ xs. event_count (histories xs)) c.as_slice.ensures.value ∙ ap (λ s. event_count s.histories) c.self.view_is)
     (c.serial_round-after.ensures.total ∙ ap (λ xs. event_count (histories xs)) (sym whole)))
+
+pub returns-then-self-clause-later : goal.returns-then-self-clause-later
+returns-then-self-clause-later g c = later_refl _ _

@@ -1,4 +1,7 @@
-use Rattle.site_crew.proofs.Running.{ended_rest, ended_spent, went_less}
+use Rattle.std.proofs.Common.{ap, refl, ◌∙◌}
+use Rattle.site_crew.specs.Crews.{CrewState}
+use Rattle.site_crew.proofs.Crewing.{later_refl}
+use Rattle.site_crew.proofs.Running.{all_later_trans, ended_rest, ended_spent, on_refl, on_trans, went_less}
 use Rattle.site_crew.proofs.crew.Crew.threads_run.Goals as goal
 
 pub loop-smaller : goal.loop-smaller
@@ -9,3 +12,23 @@ returns-in-Rest-clause-ok g c = ended_rest c.loop.self c.round.new.self c.in_ok-
 
 pub returns-in-Spent-clause-ok : goal.returns-in-Spent-clause-ok
 returns-in-Spent-clause-ok g c = ended_spent c.loop.self c.round.new.self c.in_ok-round.field-0 c.in_ok-round.ensures.ok c.in-Spent.is
+
+pub loop-init : goal.loop-init
+loop-init g c = record { on = on_refl _; later = later_refl _ _; failed = λ h. refl }
+
+pub loop-preserved : goal.loop-preserved
+loop-preserved g c =
+    let i = c.loop.invariant in record {
+      on = on_trans i.on c.round.ensures.on;
+      later = all_later_trans i.later c.round.ensures.later;
+      failed = λ h. let same = i.failed h in c.round.ensures.failed (ap (λ (s : CrewState). s.failed) same ∙ h) ∙ same;
+    }
+
+pub returns-in_err-round-clause-later : goal.returns-in_err-round-clause-later
+returns-in_err-round-clause-later g c = all_later_trans c.loop.invariant.later c.round.ensures.later
+
+pub returns-in-Rest-clause-later : goal.returns-in-Rest-clause-later
+returns-in-Rest-clause-later g c = all_later_trans c.loop.invariant.later c.round.ensures.later
+
+pub returns-in-Spent-clause-later : goal.returns-in-Spent-clause-later
+returns-in-Spent-clause-later g c = all_later_trans c.loop.invariant.later c.round.ensures.later

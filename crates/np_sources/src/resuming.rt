@@ -1,0 +1,88 @@
+//! Runs of the low program of a source on its sites that go on from saved events.
+
+ghost use Rattle.std.specs.Prelude.{◌≡◌, ◌≢◌, ◌<◌, ◌≤◌, length, None, IsSome, IfOk, IfErr, OnOk};
+ghost use Rattle.np_syntax.specs.declared.limits.TheConstants.{LARGEST_BUDGET, MOST_SITES};
+ghost use Rattle.np_calculus.specs.Reductions.{run};
+ghost use Rattle.np_calculus.specs.Starts.{start_low};
+ghost use Rattle.run_merge.specs.Merged.{past};
+ghost use Rattle.np_following.specs.Following.{IsResumed};
+ghost use Rattle.np_verdict.specs.Faults.{IsWellTyped};
+ghost use Rattle.np_sources.specs.Makes.{KeepsResumed, RunsOnSites, high_of};
+ghost use Rattle.np_sources.specs.Reaches.{CanGoOn, CannotGoOn, IsCompiled, barred};
+
+use super::job::Job;
+use super::lowering::code_of;
+use super::sites::{Course, Shown, are_many, job_of_kept};
+use np_check::Checked;
+use np_on_sites::{FollowFail, Gate, Record, law_source_runs, resume_on_sites};
+use np_syntax::{Event, LowProgram};
+use np_verdict::Refusal;
+use std::alloc::Global;
+use std::sync::Wait;
+use std::thread::Threads;
+
+/// The run of the low program of a source on its sites goes on from saved events, and the report is made.
+pub fn job_resumed<R: Threads + Wait + Sync, G: Gate>(
+    alloc: Global,
+    rt: &R,
+    gate: &G,
+    course: Course,
+    shown: Shown,
+    _bytes: &[u8],
+    checked: &Checked,
+    low: &LowProgram,
+    events: &[Event],
+) -> Result<Job, Refusal>
+    requires typed { IsWellTyped _bytes.now checked.now }
+    requires compiled { IsCompiled checked.now low.now }
+    requires free { barred (high_of shown) checked.now ≡ None }
+    requires sites { length low.now.sites ≤ MOST_SITES }
+    requires site { low.now.at < length low.now.sites }
+    requires some { 1 ≤ course.budget }
+    requires within { course.budget ≤ LARGEST_BUDGET }
+    requires run { IsSome (run (start_low low.now) events.now) }
+    ensures made { IfOk result (λ job. KeepsResumed course.budget shown _bytes.now events.now job.kept job.high job.text) }
+    ensures refused { IfErr result (λ refusal. refusal ≢ Refusal.Memory → CannotGoOn course.budget low.now events.now refusal) }
+{
+    law_source_runs();
+    let kept = resumed(alloc, rt, gate, course, checked, low, events)?;
+    job_of_kept(alloc, shown, checked, kept)
+}
+
+/// What is kept of the run of a low program that goes on from saved events.
+fn resumed<R: Threads + Wait + Sync, G: Gate>(
+    alloc: Global,
+    rt: &R,
+    gate: &G,
+    course: Course,
+    _checked: &Checked,
+    low: &LowProgram,
+    events: &[Event],
+) -> Result<Record, Refusal>
+    requires compiled { IsCompiled _checked.now low.now }
+    requires sites { length low.now.sites ≤ MOST_SITES }
+    requires site { low.now.at < length low.now.sites }
+    requires some { 1 ≤ course.budget }
+    requires within { course.budget ≤ LARGEST_BUDGET }
+    requires run { IsSome (run (start_low low.now) events.now) }
+    ensures made { IfOk result (λ kept. RunsOnSites course.budget _checked.now low.now kept) }
+    ensures resumed { IfOk result (λ kept. IsResumed events.now (past kept.histories)) }
+    ensures can { OnOk result (CanGoOn course.budget low.now events.now) }
+    ensures refused { IfErr result (λ refusal. refusal ≢ Refusal.Memory → CannotGoOn course.budget low.now events.now refusal) }
+{
+    let Course {
+        budget,
+        serial,
+        links,
+    } = course;
+    if are_many(low.sites.len(), budget) {
+        return Err(Refusal::TooManyEvents);
+    }
+    let code = code_of(alloc, low)?;
+    match resume_on_sites(alloc, rt, gate, low, code, events, budget, serial, links) {
+        Ok(kept) => Ok(kept),
+        Err(FollowFail::BudgetPast(site)) => Err(Refusal::BudgetPast(site)),
+        Err(FollowFail::NotOurs(index)) => Err(Refusal::NotOurs(index)),
+        Err(FollowFail::Memory) => Err(Refusal::Memory),
+    }
+}
