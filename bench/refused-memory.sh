@@ -77,7 +77,7 @@ row() {
 printf 'sites home ; main at home = print 7\n' >"$folder/print.np"
 printf 'sites home ; main at home = new c : ^Int in (<main@?>c!9 | c?x -> print x)\n' >"$folder/own.np"
 printf '%-34s %12s %12s %12s %12s\n' run allocations 'status 6' 'as ever' others
-for links in rings tray; do
+for links in rings tray inbox; do
     row "a print, $links" run "$folder/print.np" --serial --links "$links"
     row "a letter, $links" run examples/letter.np --serial --links "$links"
     row "a message to itself, $links" run "$folder/own.np" --serial --links "$links"

@@ -1,5 +1,6 @@
 #!/usr/bin/env bash
-# Prints the time that runs on sites take: on threads over rings, on threads over trays, and one site after another.
+# Prints the time that runs on sites take: on threads over rings, over trays and over inboxes, and one site after another over rings and over
+# inboxes.
 #
 #   bench/site-threads.sh [PROGRAM] [ROUNDS]
 #
@@ -24,7 +25,9 @@ rows() {
     shift
     printf '%-22s %-16s %s\n' "$name" 'threads, rings' "$(times "$@")"
     printf '%-22s %-16s %s\n' "$name" 'threads, tray' "$(times "$@" --links tray)"
-    printf '%-22s %-16s %s\n' "$name" 'serial' "$(times "$@" --serial)"
+    printf '%-22s %-16s %s\n' "$name" 'threads, inbox' "$(times "$@" --links inbox)"
+    printf '%-22s %-16s %s\n' "$name" 'serial, rings' "$(times "$@" --serial)"
+    printf '%-22s %-16s %s\n' "$name" 'serial, inbox' "$(times "$@" --serial --links inbox)"
 }
 
 # two agents count at two sites, and neither hears of the other

@@ -18,6 +18,8 @@ pub enum Change {
     Early,
     /// Not at all, but the past of the line at the place, counted from 1, is asked for, and replayed.
     Past,
+    /// Not at all, but a run on sites which a budget of that number cuts off is resumed.
+    Resumed,
 }
 
 /// The events from one place to another.

@@ -14,6 +14,7 @@ mod pieces;
 mod reader;
 mod replays;
 mod report;
+mod resumes;
 mod tally;
 mod trial;
 mod verdict;

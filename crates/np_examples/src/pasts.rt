@@ -84,7 +84,7 @@ fn is_past<R: Threads + Wait + Sync>(
 }
 
 /// What comes of a call with the source and a history.
-fn called<R: Threads + Wait + Sync>(
+pub(crate) fn called<R: Threads + Wait + Sync>(
     rt: &R,
     alloc: Global,
     run: &LowRun<'_>,

@@ -55,6 +55,7 @@ fn read_line<R: Files + Alloc>(
         "words" | "main" | "source" | "text" => read_call(alloc, example, key, rest),
         "low" => read_low(example, rest, number),
         "replays" => read_replay(example, rest, number),
+        "resumes" => read_resumed(example, rest, number),
         "fail" | "piece" => read_device(example, key, rest, number),
         _ => read_wanted(alloc, example, key, rest, number),
     }
@@ -109,6 +110,15 @@ fn read_replay(example: &mut Example, rest: &str, number: u32) -> Result<(), Exa
         _ => return Err(ExampleFail::Line(number)),
     };
     example.replays.push(change)?;
+    Ok(())
+}
+
+/// That a run on sites is cut off by one budget after another, and resumed.
+fn read_resumed(example: &mut Example, rest: &str, number: u32) -> Result<(), ExampleFail> {
+    if !rest.is_empty() {
+        return Err(ExampleFail::Line(number));
+    }
+    example.replays.push(Change::Resumed)?;
     Ok(())
 }
 

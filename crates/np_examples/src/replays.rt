@@ -6,6 +6,7 @@ use super::fail::ExampleFail;
 use super::low_run::{LowEvents, events_of_low};
 use super::pasts::has_past;
 use super::report::tell_replay;
+use super::resumes::is_resumed;
 use super::tally::Tally;
 use super::trial::{Call, Came, came_of};
 use history_text::write_history;
@@ -125,6 +126,7 @@ fn is_answered<R: Threads + Wait + Sync>(
         Change::Swapped => stops_at_swap(rt, alloc, run, place),
         Change::Early => stops_at_arrival(rt, alloc, run, place),
         Change::Past => has_past(rt, alloc, run, place),
+        Change::Resumed => is_resumed(rt, alloc, run, place),
     }
 }
 

@@ -43,17 +43,19 @@ pub(crate) fn tell_replay(
 ) -> io::Result<()> {
     let (line, title) = (example.line, example.title.as_str());
     println!(rt; "FAILED {file}:{line} {title}")?;
-    println!(rt; "  replays {}: wrong at {place}", word_of(change))
+    println!(rt; "  {}: wrong at {place}", line_of(change))
 }
 
-fn word_of(change: Change) -> &'static str {
+/// The line by which an example asks for a change.
+fn line_of(change: Change) -> &'static str {
     match change {
-        Change::Whole => "whole",
-        Change::Cut => "cut",
-        Change::Without => "without one",
-        Change::Swapped => "swapped",
-        Change::Early => "early",
-        Change::Past => "pasts",
+        Change::Whole => "replays whole",
+        Change::Cut => "replays cut",
+        Change::Without => "replays without one",
+        Change::Swapped => "replays swapped",
+        Change::Early => "replays early",
+        Change::Past => "replays pasts",
+        Change::Resumed => "resumes",
     }
 }
 

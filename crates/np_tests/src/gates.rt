@@ -6,7 +6,6 @@ use np_syntax::{List, Memory};
 use std::alloc::Global;
 use std::sync::Wait;
 use std::sync::atomic::{AtomicBool, AtomicU32, Ordering};
-use std::test::Fail;
 use std::thread::Threads;
 
 /// How often a thread looks for what the other does before it gives up.
@@ -56,10 +55,11 @@ fn source(alloc: Global) -> Result<MemTexts, Memory> {
     Ok(texts)
 }
 
-fn words(alloc: Global) -> Result<List<Word>, Memory> {
+fn words(alloc: Global, line: &str) -> Result<List<Word>, Memory> {
     let mut words = List::new(alloc);
-    words.add(Word::new(alloc, "run")?)?;
-    words.add(Word::new(alloc, "a")?)?;
+    for word in line.split_whitespace() {
+        words.add(Word::new(alloc, word)?)?;
+    }
     Ok(words)
 }
 
@@ -69,13 +69,14 @@ fn sink(alloc: Global) -> Result<MemSink, Memory> {
     Ok(sink)
 }
 
-/// The exit status of the run, and what it wrote.
+/// The exit status of the run by these words, and what it wrote.
 fn run<R: Threads + Wait + Sync, G: Gate>(
     rt: &R,
     alloc: Global,
+    line: &str,
     gate: &G,
 ) -> Result<(u8, MemSink), Memory> {
-    let words = words(alloc)?;
+    let words = words(alloc, line)?;
     let mut texts = source(alloc)?;
     let mut out = sink(alloc)?;
     let mut err = sink(alloc)?;
@@ -92,16 +93,34 @@ fn run<R: Threads + Wait + Sync, G: Gate>(
     Ok((told.status, out))
 }
 
-#[test]
-fn two_sites_make_their_events_beside_each_other(rt: HostRuntime) -> Result<(), Fail> {
+/// Whether the run comes to rest, and no site was held in vain.
+fn goes_in_step<R: Threads + Wait + Sync>(
+    rt: &R,
+    alloc: Global,
+    line: &str,
+) -> Result<bool, Memory> {
     let gate = InStep {
         home: AtomicU32::new(0),
         far: AtomicU32::new(0),
         late: AtomicBool::new(false),
     };
-    let (status, out) = run(&rt, rt.alloc(), &gate)?;
-    assert_eq!(rt; status, DONE);
-    assert_eq!(rt; out.bytes(), b"at rest\n".as_slice());
-    assert!(rt; !gate.late.load(Ordering::SeqCst));
-    Ok(())
+    let (status, out) = run(rt, alloc, line, &gate)?;
+    let late = gate.late.load(Ordering::SeqCst);
+    Ok(status == DONE && out.bytes() == b"at rest\n".as_slice() && !late)
+}
+
+#[test]
+fn two_sites_make_their_events_beside_each_other(rt: HostRuntime) {
+    assert_eq!(rt;
+        goes_in_step(&rt, rt.alloc(), "run a --links tray"),
+        Ok(true)
+    );
+    assert_eq!(rt;
+        goes_in_step(&rt, rt.alloc(), "run a --links rings"),
+        Ok(true)
+    );
+    assert_eq!(rt;
+        goes_in_step(&rt, rt.alloc(), "run a --links inbox"),
+        Ok(true)
+    );
 }

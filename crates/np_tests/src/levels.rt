@@ -17,6 +17,7 @@ use np_words::Links;
 use run_merge::{lift, merge};
 use simulate_laws::{law_lift, law_rest};
 use std::alloc::Global;
+use std::sync::Wait;
 use std::test::Fail;
 use std::thread::Threads;
 
@@ -71,7 +72,7 @@ fn checked(alloc: Global, source: &str) -> Result<Checked, Memory> {
 }
 
 /// What is kept of the run of a low program, whose sites take turns one after another.
-fn run_low<R: Threads + Sync>(
+fn run_low<R: Threads + Wait + Sync>(
     rt: &R,
     alloc: Global,
     low: &LowProgram,
@@ -89,7 +90,7 @@ fn run_low<R: Threads + Sync>(
 }
 
 /// What is kept of the run of a program.
-fn run<R: Threads + Sync>(
+fn run<R: Threads + Wait + Sync>(
     rt: &R,
     alloc: Global,
     program: &Checked,
@@ -123,7 +124,7 @@ fn high_end(
 }
 
 /// What is seen of the run of a program.
-fn watched_of<R: Threads + Sync>(
+fn watched_of<R: Threads + Wait + Sync>(
     rt: &R,
     alloc: Global,
     program: &Checked,
@@ -144,7 +145,7 @@ fn watched_of<R: Threads + Sync>(
 }
 
 /// What is seen of the run of a source.
-fn watched<R: Threads + Sync>(
+fn watched<R: Threads + Wait + Sync>(
     rt: &R,
     alloc: Global,
     source: &str,

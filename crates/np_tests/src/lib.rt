@@ -9,6 +9,8 @@ mod copies;
 #[cfg(test)]
 mod gates;
 #[cfg(test)]
+mod inboxes;
+#[cfg(test)]
 mod levels;
 #[cfg(test)]
 mod links;

@@ -9,7 +9,7 @@ use std::sync::atomic::{AtomicBool, Ordering};
 use std::thread::{Threads, join_mut};
 
 /// How often a thread looks for what the other does before it gives up.
-const LOOKS: u32 = 100_000_000;
+pub(crate) const LOOKS: u32 = 100_000_000;
 
 /// A number on its way.
 #[derive(Drop)]
@@ -33,7 +33,7 @@ impl Addressed for Parcel {
     }
 }
 
-fn is_seen(flag: &AtomicBool) -> bool {
+pub(crate) fn is_seen(flag: &AtomicBool) -> bool {
     for _ in 0..LOOKS {
         if flag.load(Ordering::SeqCst) {
             return true;

@@ -1,0 +1,108 @@
+//! Inboxes: an item that is put in a round is taken in that round.
+
+ghost use Rattle.std.specs.Prelude.{◌≡◌, ◌<◌};
+
+use super::links::{LOOKS, is_seen};
+use agent_move::{Item, pack_packet};
+use crew_inboxes::Inboxes;
+use np_calculus::Packet;
+use np_syntax::{Memory, Name, Role, Tag, Value};
+use site_links::Port;
+use std::alloc::Global;
+use std::sync::atomic::{AtomicBool, Ordering};
+use std::thread::{Threads, join_mut};
+
+/// A packet on its way, which has its number as its stamp.
+fn parcel(from: u32, to: u32, number: u32) -> Item
+    ensures { (result.from ≡ from) × (result.to ≡ to) }
+{
+    let name = Name {
+        site: from,
+        n: number,
+    };
+    let tag = Tag {
+        node: 0,
+        role: Role::Plain,
+    };
+    let packet = Packet {
+        to,
+        agent: name,
+        chan: name,
+        value: Value::Truth(true),
+        tag,
+    };
+    pack_packet(name, packet, number as u64, from)
+}
+
+/// Puts one item, and a second once the first was taken.
+fn send_both<R, P: Port<R, Item>>(
+    rt: &R,
+    port: &mut P,
+    from: u32,
+    to: u32,
+    taken: &AtomicBool,
+) -> bool
+    requires { (to < P.among port.old) × (from ≡ P.site port.old) }
+{
+    let first = parcel(from, to, 1);
+    if port.put(rt, to, first).is_err() || !is_seen(taken) {
+        return false;
+    }
+    let second = parcel(from, to, 2);
+    port.put(rt, to, second).is_ok()
+}
+
+fn take_within<R, P: Port<R, Item>>(rt: &R, port: &mut P) -> Option<u64> {
+    for _ in 0..LOOKS {
+        if let Some(item) = port.take(rt) {
+            return Some(item.stamp());
+        }
+    }
+    None
+}
+
+/// Takes both items, and tells when it has the first.
+fn take_both<R, P: Port<R, Item>>(rt: &R, port: &mut P, taken: &AtomicBool) -> bool {
+    let first = take_within(rt, port);
+    taken.store(true, Ordering::SeqCst);
+    let second = take_within(rt, port);
+    first == Some(1) && second == Some(2)
+}
+
+fn on_two_threads<R: Threads + Sync, P: Port<R, Item>>(
+    rt: &R,
+    sender: &mut P,
+    receiver: &mut P,
+    from: u32,
+    to: u32,
+) -> bool
+    requires { (to < P.among sender.old) × (from ≡ P.site sender.old) }
+{
+    let taken = AtomicBool::new(false);
+    let (sent, got) = join_mut(
+        rt,
+        &mut || -> bool
+            requires { (to < P.among sender.now) × (from ≡ P.site sender.now) }
+        { send_both(rt, sender, from, to, &taken) },
+        &mut || take_both(rt, receiver, &taken),
+    );
+    sent && got
+}
+
+/// Whether two items go from the first of two sites to the second within one round.
+fn goes_within_a_round<R: Threads + Sync, P: Port<R, Item>>(
+    rt: &R,
+    alloc: Global,
+) -> Result<bool, Memory> {
+    let mut ports = P::make(alloc, 2)?;
+    let (left, right) = ports.as_mut_slice().split_at_mut(1);
+    Ok(on_two_threads(rt, &mut left[0], &mut right[0], 0, 1))
+}
+
+#[test]
+fn inboxes_carry_items_within_a_round(rt: HostRuntime) {
+    assert_eq!(rt;
+        goes_within_a_round::<HostRuntime, Inboxes>(&rt, rt.alloc()),
+        Ok(true)
+    );
+}
