@@ -1,9 +1,8 @@
 //! The low program of a source, run one event after another.
 
-use super::example::Example;
-use super::fail::ExampleFail;
 use super::trial::{Came, sink_of};
 use history_text::write_history;
+use np_example_files::{Example, ExampleFail};
 use np_io::write_all;
 use np_run::{BUDGET_SPENT, DONE, Refusal, line, run_low, status};
 use np_serial::SerialRun;

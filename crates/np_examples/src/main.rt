@@ -3,15 +3,9 @@
 //! source it prints the history of the run of the source's low program instead.
 #![tactic(auto)]
 
-mod change;
-mod example;
-mod fail;
 mod high_run;
 mod low_run;
-mod number;
 mod pasts;
-mod pieces;
-mod reader;
 mod replays;
 mod report;
 mod resumes;
@@ -19,10 +13,8 @@ mod tally;
 mod trial;
 mod verdict;
 
-use example::Example;
-use fail::ExampleFail;
 use low_run::{came_of_low, print_history};
-use reader::examples_of;
+use np_example_files::{Example, ExampleFail, examples_of};
 use replays::{replays_itself, try_replays};
 use report::tell_failure;
 use std::alloc::Global;

@@ -1,9 +1,9 @@
 //! The past of each line that the run of a low program prints.
 
-use super::fail::ExampleFail;
 use super::replays::LowRun;
 use super::trial::{Call, Came, came_of};
 use history_text::write_history;
+use np_example_files::ExampleFail;
 use np_run::{BAD_HISTORY, DONE};
 use np_syntax::{Event, Kind};
 use std::alloc::{AllocError, Global};

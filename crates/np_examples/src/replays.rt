@@ -1,8 +1,5 @@
 //! Histories of low runs, replayed as they are and changed.
 
-use super::change::{Change, between, early_place, exchanged, moved, next_unlike, without};
-use super::example::Example;
-use super::fail::ExampleFail;
 use super::low_run::{LowEvents, events_of_low};
 use super::pasts::has_past;
 use super::report::tell_replay;
@@ -10,6 +7,9 @@ use super::resumes::is_resumed;
 use super::tally::Tally;
 use super::trial::{Call, Came, came_of};
 use history_text::write_history;
+use np_example_files::{
+    Change, Example, ExampleFail, between, early_place, exchanged, moved, next_unlike, without,
+};
 use np_run::{BAD_HISTORY, DONE};
 use np_syntax::{Event, Kind};
 use std::alloc::{AllocError, Global};

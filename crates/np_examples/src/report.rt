@@ -1,8 +1,7 @@
 //! What is printed of a call that did not do what was wanted.
 
-use super::change::Change;
-use super::example::{Example, Outcome};
 use super::trial::{Call, Came};
+use np_example_files::{Change, Example, Outcome};
 use std::io;
 
 /// The most bytes of a text that are printed.

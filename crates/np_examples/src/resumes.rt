@@ -1,10 +1,10 @@
 //! Runs on sites that a budget cuts off, resumed from the histories that they wrote.
 
-use super::fail::ExampleFail;
 use super::pasts::called;
 use super::replays::LowRun;
 use super::trial::Came;
 use super::verdict::same_lines;
+use np_example_files::ExampleFail;
 use np_run::{BUDGET_SPENT, DONE};
 use std::alloc::{AllocError, Global};
 use std::sync::Wait;

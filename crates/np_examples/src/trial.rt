@@ -1,8 +1,7 @@
 //! A call of np over texts and sinks in memory.
 
-use super::example::Example;
-use super::fail::ExampleFail;
 use super::high_run::{Reading, reading_of};
+use np_example_files::{Example, ExampleFail};
 use np_io::{MemSink, MemTexts, Word};
 use np_run::{Record, Told, np};
 use np_syntax::{List, Memory};

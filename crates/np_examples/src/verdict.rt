@@ -1,7 +1,7 @@
 //! Whether what came is what was wanted.
 
-use super::example::{Example, Outcome};
 use super::trial::Came;
+use np_example_files::{Example, Outcome};
 use std::alloc::{AllocError, Global};
 
 /// Whether the call did what the example wants.

@@ -23,7 +23,7 @@ pub enum Change {
 }
 
 /// The events from one place to another.
-pub(crate) fn between(events: &[Event], from: usize, to: usize) -> &[Event] {
+pub fn between(events: &[Event], from: usize, to: usize) -> &[Event] {
     events.get(from..to).unwrap_or(&[])
 }
 
@@ -38,18 +38,14 @@ fn at_place(events: &[Event], place: usize) -> &[Event] {
 }
 
 /// The events but the one at a place.
-pub(crate) fn without(
-    alloc: Global,
-    events: &[Event],
-    place: usize,
-) -> Result<List<Event>, Memory> {
+pub fn without(alloc: Global, events: &[Event], place: usize) -> Result<List<Event>, Memory> {
     let mut others = List::from_slice(alloc, between(events, 0, place))?;
     others.append(from_place(events, place.saturating_add(1)))?;
     Ok(others)
 }
 
 /// The events with the one at the later place moved to the earlier.
-pub(crate) fn moved(
+pub fn moved(
     alloc: Global,
     events: &[Event],
     earlier: usize,
@@ -63,7 +59,7 @@ pub(crate) fn moved(
 }
 
 /// The events with those at the two places exchanged.
-pub(crate) fn exchanged(
+pub fn exchanged(
     alloc: Global,
     events: &[Event],
     earlier: usize,
@@ -91,7 +87,7 @@ fn are_alike(one: &Event, other: &Event) -> bool {
 }
 
 /// The place of the next event of the same actor, where it has another kind or another tag.
-pub(crate) fn next_unlike(events: &[Event], place: usize) -> Option<usize> {
+pub fn next_unlike(events: &[Event], place: usize) -> Option<usize> {
     let later = next_of_actor(events, place)?;
     if are_alike(events.get(place)?, events.get(later)?) {
         None
@@ -102,7 +98,7 @@ pub(crate) fn next_unlike(events: &[Event], place: usize) -> Option<usize> {
 
 /// Where the event at the place is an Arrive: the place of the first Depart behind the last Arrive of the same agent before it.
 /// There the agent is not under way.
-pub(crate) fn early_place(events: &[Event], place: usize) -> Option<usize> {
+pub fn early_place(events: &[Event], place: usize) -> Option<usize> {
     let arrival = events.get(place)?;
     if arrival.kind != Kind::Arrive {
         return None;

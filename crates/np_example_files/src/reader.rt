@@ -13,7 +13,7 @@ use std::rt::Files;
 const HEAD: &str = "sites home ; main at home = ";
 
 /// The examples of a text, in order. The files that they name stand in a folder, whose path ends with its stroke.
-pub(crate) fn examples_of<R: Files + Alloc>(
+pub fn examples_of<R: Files + Alloc>(
     rt: &R,
     alloc: Global,
     folder: &str,

@@ -14,7 +14,7 @@ fn quoted(text: &str, line: u32) -> Result<&str, ExampleFail> {
 }
 
 /// Whether the line is a piece of a text.
-pub(crate) fn is_piece(line: &str) -> bool {
+pub fn is_piece(line: &str) -> bool {
     match line.as_bytes().first() {
         Some(byte) => {
             matches!(*byte, b'|' | b'"')
@@ -29,7 +29,7 @@ pub(crate) fn is_piece(line: &str) -> bool {
 }
 
 /// Adds the piece of a line to the bytes of a text. A file is one of the folder.
-pub(crate) fn add_piece<R: Files + Alloc>(
+pub fn add_piece<R: Files + Alloc>(
     rt: &R,
     alloc: Global,
     folder: &str,

@@ -16,7 +16,7 @@ pub struct Outcome {
 }
 
 impl Outcome {
-    pub(crate) fn new(alloc: Global) -> Outcome {
+    pub fn new(alloc: Global) -> Outcome {
         Outcome {
             unordered: Vec::new(alloc),
             ordered: String::new(alloc),
@@ -67,7 +67,7 @@ pub struct Example {
 const WHOLE: usize = 16_777_216;
 
 impl Example {
-    pub(crate) fn new(alloc: Global, title: &str, line: u32) -> Result<Example, AllocError> {
+    pub fn new(alloc: Global, title: &str, line: u32) -> Result<Example, AllocError> {
         Ok(Example {
             title: String::from_str(alloc, title)?,
             line,
@@ -95,7 +95,7 @@ impl Example {
     }
 
     /// The bytes of the text of that name.
-    pub(crate) fn text(&self, name: &str) -> Option<&[u8]> {
+    pub fn text(&self, name: &str) -> Option<&[u8]> {
         for text in self.texts.iter() {
             if text.name.as_str() == name {
                 return Some(text.bytes.as_slice());
