@@ -1,5 +1,5 @@
 #!/usr/bin/env bash
-# Prints how long it takes to resume a run that was stopped at half its events, beside the time of the whole run.
+# Prints how long it takes to stop a run at half its events and to resume it, beside the time of the whole run.
 #
 #   bench/resume.sh [PROGRAM] [ROUNDS]
 #
@@ -8,8 +8,8 @@
 # with which the run has half of them or more, and keeps the history of that run.
 #
 # `resume` reads this history, follows it, has the sites do its events again, and then does the rest of the run. The whole run does all
-# events once and reads no history. The last column says how many times as long it takes to resume. The rows are one site after another,
-# and on threads over each kind of links.
+# events once and reads and writes no history. The last column says how many times as long it takes to stop and to resume. The rows are one
+# site after another, and on threads over each kind of links.
 set -euo pipefail
 cd "$(dirname "$0")/.."
 source bench/parts.sh
@@ -41,12 +41,13 @@ done
 saved=$(stopped "$low")
 
 printf 'the whole run has %d events, and the run that a budget of %d stops has %d\n' "$events" "$low" "$saved"
-printf '%-16s %12s %12s %8s\n' how 'whole ms' 'resumed ms' ratio
+printf '%-16s %12s %12s %12s %8s\n' how 'whole ms' 'stopped ms' 'resumed ms' ratio
 for how in '--serial' '--links rings' '--links tray' '--links inbox'; do
     read -ra options <<<"$how"
     whole=$(rested run "$folder/ring.np" --budget "$most" "${options[@]}")
+    halt=$(took run "$folder/ring.np" --budget "$low" --history "${options[@]}")
     resumed=$(rested resume "$folder/ring.np" "$folder/stopped" --budget "$most" "${options[@]}")
-    awk -v how="$how" -v whole="$whole" -v resumed="$resumed" -v rounds="$rounds" 'BEGIN {
-        printf "%-16s %12.2f %12.2f %8.2f\n", how, whole / rounds / 1e6, resumed / rounds / 1e6, resumed / (whole < 1 ? 1 : whole)
+    awk -v how="$how" -v whole="$whole" -v halted="$halt" -v resumed="$resumed" -v rounds="$rounds" 'BEGIN {
+        printf "%-16s %12.2f %12.2f %12.2f %8.2f\n", how, whole / rounds / 1e6, halted / rounds / 1e6, resumed / rounds / 1e6, (halted + resumed) / (whole < 1 ? 1 : whole)
     }'
 done
