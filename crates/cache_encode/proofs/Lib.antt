@@ -4,4 +4,6 @@ pub mod DaemonTyped
 pub mod TextsTyped
 pub mod ProcessesTyped
 pub mod ProgramsTyped
+pub mod CachedSounds
+pub mod CachedRuns
 pub mod ExampleTexts

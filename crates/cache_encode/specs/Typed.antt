@@ -5,6 +5,7 @@ use Rattle.np_syntax.specs.declared.program.Program.{Program}
 use Rattle.np_syntax.specs.declared.event.Event.{Event}
 use Rattle.np_calculus.specs.Config.{Config}
 use Rattle.np_calculus.specs.Reductions.{run}
+use Rattle.np_calculus.specs.Runs.{RunsWell}
 use Rattle.np_calculus.specs.Starts.{start_low}
 use Rattle.np_calculus.specs.Well.{WellAlong}
 use Rattle.np_check.specs.Faults.{IsAccepted}
@@ -20,3 +21,7 @@ CachedFaultless = (p : Program) → IsAccepted p → IsFaultless (encoded_cached
 abbrev pub CachedWellTyped : Type 0
 CachedWellTyped = (p : Program) → IsAccepted p → (events : List Event) (d : Config) → run (start_low (encoded_cached p)) events ≡ Some d
     → TypedAlong (start_low (encoded_cached p)) (infrastructure (length p.sites)) events × WellAlong (start_low (encoded_cached p)) events
+
+-- its low start can run: it meets the condition of the serial run
+abbrev pub CachedRunsWell : Type 0
+CachedRunsWell = (p : Program) → IsAccepted p → RunsWell (start_low (encoded_cached p)) (encoded_cached p).at

@@ -1,11 +1,17 @@
 ghost use Rattle.cache_encode.specs.Examples.{LowTextOfSeven, TextOfCreation, TextOfPost};
-ghost use Rattle.cache_encode.specs.Typed.{CachedFaultless, CachedWellTyped};
+ghost use Rattle.cache_encode.specs.Typed.{CachedFaultless, CachedRunsWell, CachedWellTyped};
 
 /// The low program of an accepted program, whose agents have caches, has no fault under the types of the infrastructure's
 /// channels. So it is typed after each prefix of each of its runs, and no value of a wrong type is ever met.
 pub fn law_cached_typed()
     ensures faultless { CachedFaultless }
     ensures along { CachedWellTyped }
+{}
+
+/// The low program of an accepted program, whose agents have caches, runs well: its low start meets the condition of the
+/// serial run.
+pub fn law_cached_runs_well()
+    ensures { CachedRunsWell }
 {}
 
 /// What the definitions say of a small program, of a post and of a creation.

@@ -1,5 +1,5 @@
 -- The low program of a resolved program names no agents but main and the daemon, and its start can run.
-use Rattle.std.proofs.Common.{◌≡◌, ℕ, inl, inr, List, length, map, refl}
+use Rattle.std.proofs.Common.{◌≤◌, ℕ, inl, inr, List, length, map, refl}
 use Rattle.np_syntax.specs.declared.value.Name.{Name}
 use Rattle.np_syntax.specs.declared.value.Value.{Value}
 use Rattle.np_syntax.specs.declared.value.Value.TheVariants as values
@@ -7,17 +7,19 @@ use Rattle.np_syntax.specs.declared.expression.Expr.{Expr}
 use Rattle.np_syntax.specs.declared.expression.ExprForm.TheVariants as exprs
 use Rattle.np_syntax.specs.declared.process.Proc.{Proc}
 use Rattle.np_syntax.specs.declared.process.ProcForm.TheVariants as forms
-use Rattle.np_syntax.specs.declared.program.Program.{Program}
+use Rattle.np_syntax.specs.declared.program.LowProgram.{LowProgram}
+use Rattle.np_syntax.specs.declared.limits.TheConstants.{MOST_SITES}
 use Rattle.np_scope.specs.Written.{IsLiteral}
-use Rattle.np_calculus.specs.Agents.{Each, expr_agents, joined, proc_agents, value_agents}
+use Rattle.np_calculus.specs.Agents.{Each, expr_agents, joined}
+use Rattle.np_calculus.specs.Runs.{RunsWell}
 use Rattle.np_calculus.specs.Starts.{start_low, main_agent, daemon_agent, own}
 use Rattle.np_calculus.proofs.AgentForms.{OfExpr, OfProc, nobody, both-parts, of-proc}
 use Rattle.np_calculus.proofs.AgentValues.{OfValue, agent-fits, chan-fits, of-value, of-expr, expr_value}
 use Rattle.np_calculus.proofs.Housed.{IsOwn, low-housed, stays-lodged}
-use Rattle.np_check.specs.Faults.{IsAccepted}
+use Rattle.np_safety.specs.Low.{IsFaultless}
 use Rattle.np_safety.proofs.Lows.{low-well-typed}
 use Rattle.daemon_encode.specs.Encoded.{encoded}
-use Rattle.daemon_encode.specs.LowSound.{IsLowValue, IsLowExpr, AreLowExprs, IsLowProc}
+use Rattle.daemon_encode.specs.LowSound.{IsLowValue, IsLowExpr, AreLowExprs, IsLowProc, IsLowSound}
 use Rattle.daemon_encode.specs.Typed.{EncodesRunsWell}
 use Rattle.daemon_encode.proofs.LowSounds.{encodes-sound}
 use Rattle.daemon_encode.proofs.ProgramsTyped.{encodes-faultless}
@@ -38,6 +40,7 @@ module _ (n : ℕ) where
   low-value IsLowValue.daemon = agent-fits P (daemon_agent n) (inr refl)
   low-value (IsLowValue.channel {i = i} listed) = chan-fits P (own n i)
   low-value IsLowValue.places = of-value P _ _ (values.outs-Places _) (nobody P)
+  low-value IsLowValue.no_places = of-value P _ _ (values.outs-Places _) (nobody P)
 
   mutual
     low-expr : {scope : List ℕ} {e : Expr} → IsLowExpr n scope e → OfExpr P e
@@ -96,14 +99,15 @@ module _ (n : ℕ) where
       let sq = low-proc h in
       of-proc P _ _ (forms.outs-Lookup a m x p q) (both-parts P _ _ (both-parts P _ _ (both-parts P _ _ (low-expr ha) (low-expr hm)) sp) sq)
 
-pub encodes-runs-well : EncodesRunsWell
+-- whatever translation makes it
+pub low-runs-well : (q : LowProgram) → length q.sites ≤ MOST_SITES → IsLowSound q → IsFaultless q → RunsWell (start_low q) q.at
 unfolding start_low
-encodes-runs-well p a =
-    let n : ℕ = length p.sites in
-    let s = encodes-sound p a.sound in
-    record {
-      sites = a.sound.sites;
-      site = a.sound.at;
-      lodged = stays-lodged (start_low (encoded p)) (low-housed (encoded p) (low-proc n s.main) (low-proc n s.daemon));
-      well = λ events d h. (low-well-typed (encoded p) (encodes-faultless p a) events d h).1;
-    }
+low-runs-well q few s f = record {
+  sites = few;
+  site = s.at;
+  lodged = stays-lodged (start_low q) (low-housed q (low-proc (length q.sites) s.main) (low-proc (length q.sites) s.daemon));
+  well = λ events d h. (low-well-typed q f events d h).1;
+}
+
+pub encodes-runs-well : EncodesRunsWell
+encodes-runs-well p a = low-runs-well (encoded p) a.sound.sites (encodes-sound p a.sound) (encodes-faultless p a)

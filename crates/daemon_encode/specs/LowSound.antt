@@ -33,6 +33,8 @@ pub data IsLowValue (n : ℕ) : Value → Type 0 where
   daemon : IsLowValue n (value.Agent (own n 1))
   channel : {i : ℕ} → is_listed i carried ≡ true → IsLowValue n (value.Chan (own n i))
   places : IsLowValue n (value.Places ((own n 0, own n 13) ∷ []))
+  -- a cache at its start
+  no_places : IsLowValue n (value.Places [])
 
 mutual
   -- with these binders in scope
