@@ -1,6 +1,5 @@
 #!/usr/bin/env bash
-# Prints the time that runs on sites take: on threads over rings, over trays and over inboxes, and one site after another over rings and over
-# inboxes.
+# Prints the time that runs on sites take, over each kind of links: on threads, and one site after another.
 #
 #   bench/site-threads.sh [PROGRAM] [ROUNDS]
 #
@@ -27,6 +26,7 @@ rows() {
     printf '%-22s %-16s %s\n' "$name" 'threads, tray' "$(times "$@" --links tray)"
     printf '%-22s %-16s %s\n' "$name" 'threads, inbox' "$(times "$@" --links inbox)"
     printf '%-22s %-16s %s\n' "$name" 'serial, rings' "$(times "$@" --serial)"
+    printf '%-22s %-16s %s\n' "$name" 'serial, tray' "$(times "$@" --serial --links tray)"
     printf '%-22s %-16s %s\n' "$name" 'serial, inbox' "$(times "$@" --serial --links inbox)"
 }
 
