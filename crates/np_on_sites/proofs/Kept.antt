@@ -1,5 +1,5 @@
 -- What is kept of a crew whose run has ended is a run of the low program on its sites.
-use Rattle.std.proofs.Common.{◌≡◌, ◌<◌, ◌++◌, ℕ, List, length, get_or, Result, Ok, Err, IfOk, ap, subst, subst₂, ◌∙◌}
+use Rattle.std.proofs.Common.{◌≡◌, ◌<◌, ◌++◌, ℕ, List, length, get_or, Option, None, Some, IfSome, Result, Ok, Err, IfOk, ap, subst, subst₂, ◌∙◌}
 use Rattle.std.specs.List.{AllByRecursion}
 use Rattle.std.proofs.lemmas.Option.{slice_get_within, get_or_from_slice_get}
 use Rattle.np_syntax.specs.declared.event.End.{End}
@@ -32,6 +32,13 @@ pub kept_run : {E : Type 0} (low : LowProgram) (budget : ℕ) (hs : List Recorde
     → IfOk r (λ k. k.end ≡ e) → IfOk r (λ k. IsSitesRun low budget (past k.histories) k.end)
 kept_run low budget hs e (Ok k) ran h s = rw (h, s) ran
 kept_run low budget hs e (Err m) ran h s = tt
+
+pub kept_again_run : {E : Type 0} (low : LowProgram) (budget : ℕ) (hs : List Recorded) (e : End) (r : Result (Option Record) E) → IsSitesRun low budget hs e
+    → IfOk r (λ made. IfSome made (λ k. past k.histories ≡ hs)) → IfOk r (λ made. IfSome made (λ k. k.end ≡ e))
+    → IfOk r (λ made. IfSome made (λ k. IsSitesRun low budget (past k.histories) k.end))
+kept_again_run low budget hs e (Ok (Some k)) ran h s = rw (h, s) ran
+kept_again_run low budget hs e (Ok None) ran h s = tt
+kept_again_run low budget hs e (Err m) ran h s = tt
 
 -- ---- a crew that goes on behind events that were done again
 

@@ -8,6 +8,6 @@ mod running;
 
 pub use laws::law_source_runs;
 pub use record::Record;
-pub use running::{resume_on_sites, run_on_sites};
+pub use running::{redo_on_sites, resume_on_sites, run_on_sites};
 pub use site_crew::FollowFail;
 pub use site_turn::{Free, Gate};

@@ -1,6 +1,6 @@
 //! The run of a low program on its sites, from its start or from events that are done again.
 
-ghost use Rattle.std.specs.Prelude.{◌≡◌, ◌<◌, ◌≤◌, false, length, IfErr, IfOk, IsSome, OnOk};
+ghost use Rattle.std.specs.Prelude.{◌≡◌, ◌<◌, ◌≤◌, false, length, IfErr, IfOk, IfSome, IsSome, OnOk};
 ghost use Rattle.np_syntax.specs.declared.limits.TheConstants.{LARGEST_BUDGET, MOST_SITES};
 ghost use Rattle.np_code.specs.Programs.{program};
 ghost use Rattle.np_calculus.specs.Reductions.{run};
@@ -11,7 +11,7 @@ ghost use Rattle.site_crew.specs.Crews.{HasEnded};
 ghost use Rattle.run_save.specs.Ours.{IsOurs};
 ghost use Rattle.site_crew.specs.Lists.{AreWithin, IsRefused};
 ghost use Rattle.site_crew.specs.Seats.{event_count};
-ghost use Rattle.np_on_sites.specs.SitesRuns.{IsSitesRun};
+ghost use Rattle.np_on_sites.specs.SitesRuns.{IsSitesRun, IsToGoOn};
 
 use super::record::Record;
 use agent_move::Item;
@@ -75,6 +75,109 @@ fn run_over<R: Threads + Sync, P: Port<R, Item>, G: Gate>(
     let mut crew: Crew<R, P> = Crew::new(alloc, low, code, budget)?;
     match crew.run(rt, gate, serial) {
         Ok(end) => kept(crew, end),
+        Err(memory) => Err(memory),
+    }
+}
+
+/// Goes on with a list of events, whatever it is, if the sites of a low program can do them all again, in their order: so they are a run of
+/// it, within the budget, which the sites make by themselves. Then they run as in `run_on_sites`, and these events count for the
+/// budget too. None where the sites cannot do them all; `resume_on_sites` tells why.
+pub fn redo_on_sites<R: Threads + Wait + Sync, G: Gate>(
+    alloc: Global,
+    rt: &R,
+    gate: &G,
+    low: &LowProgram,
+    code: Code,
+    events: &[Event],
+    budget: u32,
+    serial: bool,
+    links: Links,
+) -> Result<Option<Record>, Memory>
+    requires code { program code ≡ low.now }
+    requires sites { length low.now.sites ≤ MOST_SITES }
+    requires site { low.now.at < length low.now.sites }
+    requires some { 1 ≤ budget }
+    requires within { budget ≤ LARGEST_BUDGET }
+    ensures run { IfOk result (λ made. IfSome made (λ kept. IsSitesRun low.now budget (past kept.histories) kept.end)) }
+    ensures resumed { IfOk result (λ made. IfSome made (λ kept. IsResumed events.now (past kept.histories))) }
+    ensures followed { IfOk result (λ made. IfSome made (λ _. IsToGoOn low.now budget events.now)) }
+{
+    match links {
+        Links::Tray => redo_over::<R, Tray<Item>, G>(
+            alloc, rt, gate, low, code, events, budget, serial,
+        ),
+        Links::Rings => redo_over::<R, Rings<Item>, G>(
+            alloc, rt, gate, low, code, events, budget, serial,
+        ),
+        Links::Inbox => redo_over::<R, Inboxes, G>(
+            alloc, rt, gate, low, code, events, budget, serial,
+        ),
+    }
+}
+
+/// So over one kind of links.
+fn redo_over<R: Threads + Sync, P: Port<R, Item>, G: Gate>(
+    alloc: Global,
+    rt: &R,
+    gate: &G,
+    low: &LowProgram,
+    code: Code,
+    events: &[Event],
+    budget: u32,
+    serial: bool,
+) -> Result<Option<Record>, Memory>
+    requires code { program code ≡ low.now }
+    requires sites { length low.now.sites ≤ MOST_SITES }
+    requires site { low.now.at < length low.now.sites }
+    requires some { 1 ≤ budget }
+    requires within { budget ≤ LARGEST_BUDGET }
+    ensures run { IfOk result (λ made. IfSome made (λ kept. IsSitesRun low.now budget (past kept.histories) kept.end)) }
+    ensures resumed { IfOk result (λ made. IfSome made (λ kept. IsResumed events.now (past kept.histories))) }
+    ensures followed { IfOk result (λ made. IfSome made (λ _. IsToGoOn low.now budget events.now)) }
+{
+    let mut crew: Crew<R, P> = Crew::new(alloc, low, code, budget)?;
+    match redone(&mut crew, rt, gate, low, events, serial) {
+        Ok(Some(end)) => kept_again(crew, end),
+        Ok(None) => Ok(None),
+        Err(memory) => Err(memory),
+    }
+}
+
+/// A crew that has made no event does these, if it can, and runs on.
+fn redone<R: Threads + Sync, P: Port<R, Item>, G: Gate>(
+    crew: &mut Crew<R, P>,
+    rt: &R,
+    gate: &G,
+    _low: &LowProgram,
+    events: &[Event],
+    serial: bool,
+) -> Result<Option<End>, Memory>
+    requires code { program crew.old.code ≡ _low.now }
+    requires none { event_count crew.old.histories ≡ 0 }
+    requires sound { crew.old.failed ≡ false }
+    ensures code { crew.new.code ≡ crew.old.code }
+    ensures budget { crew.new.budget ≡ crew.old.budget }
+    ensures ended { IfOk result (λ made. IfSome made (HasEnded crew.new)) }
+    ensures resumed { IfOk result (λ made. IfSome made (λ _. IsResumed events.now crew.new.histories)) }
+    ensures followed { IfOk result (λ made. IfSome made (λ _. IsToGoOn _low.now crew.old.budget events.now)) }
+{
+    law_resumes();
+    if !crew.redo(rt, events)? {
+        return Ok(None);
+    }
+    match crew.run(rt, gate, serial) {
+        Ok(end) => Ok(Some(end)),
+        Err(memory) => Err(memory),
+    }
+}
+
+/// The record of a crew that did events again, and whose run has ended.
+fn kept_again<R, P: Port<R, Item>>(crew: Crew<R, P>, end: End) -> Result<Option<Record>, Memory>
+    ensures histories { IfOk result (λ made. IfSome made (λ kept. past kept.histories ≡ crew.histories)) }
+    ensures end { IfOk result (λ made. IfSome made (λ kept. kept.end ≡ end)) }
+{
+    match kept(crew, end) {
+        Ok(record) => Ok(Some(record)),
         Err(memory) => Err(memory),
     }
 }

@@ -1,5 +1,5 @@
 -- The events of a list are done one after another.
-use Rattle.std.proofs.Common.{◌≡◌, ◌<◌, ◌≤◌, ◌+◌, inl, inr, ℕ, zero, suc, max, Bool, false, Result, Ok, Err, OnOk, List, [], ◌∷◌, ◌++◌, length, get_or, Option, None, Some, option_map, refl, sym, ap, subst, ◌∙◌, arith, length-append}
+use Rattle.std.proofs.Common.{◌≡◌, ◌<◌, ◌≤◌, ◌+◌, inl, inr, ℕ, zero, suc, max, Bool, true, false, Result, Ok, Err, IfOk, OnOk, List, [], ◌∷◌, ◌++◌, length, get_or, Option, None, Some, option_map, refl, sym, ap, subst, ◌∙◌, arith, length-append}
 use Rattle.std.specs.Prelude.{slice_get}
 use Rattle.std.proofs.lemmas.Bool.Decides.{eqb_tells}
 use Rattle.std.proofs.lemmas.Option.{slice_get-map}
@@ -15,7 +15,7 @@ use Rattle.np_following.proofs.Following.{none_follow, one_more_follows}
 use Rattle.agent_move.specs.declared.item.Item.{Item}
 use Rattle.site_turn.specs.declared.seat.Seat.{Seat}
 use Rattle.site_crew.specs.Crews.{CrewState, NoneFailed}
-use Rattle.site_crew.specs.Lists.{HasFollowed, IsToFollow}
+use Rattle.site_crew.specs.Lists.{AreWithin, HasFollowed, HasRedone, IsToFollow}
 use Rattle.site_crew.specs.Following.{AllRest, AreAt, AreLate, HaveAdded, HaveDone, IsNotEarly}
 use Rattle.site_crew.specs.Seats.{Stand, clocks, event_count, histories}
 use Rattle.site_crew.proofs.Pairs.{some_is}
@@ -193,6 +193,22 @@ has_followed low events c xs same times sound list done at = record {
       ap (λ cs. get_or cs s 0) times ∙ clocks_at (length events) xs at s low;
   sound = sound;
 }
+
+pub has_redone : {P R : Type 0} {g : Port.Ghosts P R Item} {code : ProgramTable} {budget : ℕ} (events : List Event) (c : CrewState) (xs : List (Seat P)) → c.histories ≡ histories xs
+    → c.clocks ≡ clocks xs → c.failed ≡ false → AreWithin (length c.code.sites) c.budget events → HaveDone g code budget events xs → AreAt (length events) xs → HasRedone events c
+has_redone events c xs same times sound within done at = record {
+  within = within;
+  of = subst (AreOf events) (sym same) done.of;
+  clocks = λ s less.
+      let low : s < length xs = subst (λ (m : ℕ). s < m) (ap length same ∙ long-histories xs) less in
+      ap (λ cs. get_or cs s 0) times ∙ clocks_at (length events) xs at s low;
+  sound = sound;
+}
+
+pub on_redone : {A B : Type 0} (r : Result Bool Memory) (flag : Bool) (C : Type 0) → (A → B → flag ≡ true → C) → IfOk r (λ all. all ≡ true → A) → IfOk r (λ all. all ≡ true → B)
+    → IfOk r (λ all. flag ≡ all) → IfOk r (λ all. all ≡ true → C)
+on_redone (Ok all) flag C f a b is = λ yes. f (a yes) (b yes) (is ∙ yes)
+on_redone (Err m) flag C f a b is = tt
 
 pub on_followed : {A B : Type 0} (r : Result (Unit {0}) Memory) (failed : Bool) (C : Type 0) → (A → B → failed ≡ false → C) → OnOk r A → OnOk r B → OnOk r (failed ≡ false) → OnOk r C
 on_followed (Ok u) failed C f a b sound = f a b sound

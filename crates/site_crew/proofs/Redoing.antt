@@ -1,5 +1,5 @@
 -- What one seat does where an event of a list is done again.
-use Rattle.std.proofs.Common.{◌≡◌, ◌<◌, ◌≤◌, ◌+◌, ◌-◌, ℕ, Bool, true, false, inl, inr, List, [], ◌∷◌, ◌++◌, length, set, get_or, Option, None, Some, Result, Ok, Err, OnOk, OnErr, refl, sym, ap, subst, ◌∙◌, arith, length-append, length-set}
+use Rattle.std.proofs.Common.{◌≡◌, ◌<◌, ◌≤◌, ◌+◌, ◌-◌, ℕ, Bool, true, false, inl, inr, List, [], ◌∷◌, ◌++◌, length, set, get_or, Option, None, Some, Result, Ok, Err, IfOk, OnOk, OnErr, refl, sym, ap, subst, ◌∙◌, arith, length-append, length-set}
 use Rattle.std.specs.Prelude.{slice_get}
 use Rattle.std.proofs.lemmas.Bool.{eqb-true}
 use Rattle.std.proofs.lemmas.Option.{slice_get_within, slice_get-get_or}
@@ -23,7 +23,7 @@ use Rattle.site_links.specs.declared.port.Port as Port
 use Rattle.site_links.proofs.Rows.{get-push_at, get-set_same}
 use Rattle.np_code.specs.Programs.{ProgramTable}
 use Rattle.agent_move.specs.declared.item.Item.{Item}
-use Rattle.site_state.specs.Doing.{HasDoneEvent, HasTaken}
+use Rattle.site_state.specs.Doing.{HasDone, HasDoneEvent, HasTaken, IsRedone}
 use Rattle.site_state.specs.Standings.{Standing, Stays, with_clock}
 use Rattle.site_turn.specs.declared.seat.Seat.{Seat}
 use Rattle.site_turn.specs.Turns.{Accepts, SetsAside, Turned}
@@ -40,6 +40,10 @@ use Rattle.site_crew.proofs.Replacing.{at_clock, but_none, kept_later, none_but,
 pub on_ok : {A : Type 0} {X Y : Type 0} (r : Result A Memory) → (X → Y) → OnOk r X → OnOk r Y
 on_ok (Ok a) f h = f h
 on_ok (Err m) f h = tt
+
+pub on_yes : {X Y : Type 0} (r : Result Bool Memory) → (X → Y) → IfOk r (λ is. is ≡ true → X) → IfOk r (λ is. is ≡ true → Y)
+on_yes (Ok is) f h = λ yes. f (h yes)
+on_yes (Err m) f h = tt
 
 -- ---- events are compared
 
@@ -209,3 +213,26 @@ module _ {P : Type 0} where
           failed = w.still.failed_same;
         });
   }
+
+-- ---- an event that is tried again
+
+module _ {P R : Type 0} {g : Port.Ghosts P R Item} {code : ProgramTable} where
+  pub turned_redone : (a b : Seat P) (stamp : ℕ) (r : Result Bool Memory) → a.site.clock < stamp → IfOk r (IsRedone code stamp a.site b.site) → OnErr r (Stays code a.site b.site)
+      → length a.site.outgoing ≡ length code.sites → b.port ≡ a.port → b.aside ≡ a.aside → b.budget ≡ a.budget → b.failed ≡ a.failed → Turned g code a b
+  turned_redone a b stamp (Ok true) above done stays lines port aside budget failed =
+      turned_late a b (stamp - 1) done.0.event (omega arith) (record { out = done.0.out; did = done.0.did }) lines port aside budget failed
+  turned_redone a b stamp (Ok false) above done stays lines port aside budget failed = turned_stays done.same port aside budget (λ h. sym failed ∙ h)
+  turned_redone a b stamp (Err m) above done stays lines port aside budget failed = turned_stays stays.same port aside budget (λ h. sym failed ∙ h)
+
+-- what was done is the event, where that is the last
+pub adds_redone : {P : Type 0} (code : ProgramTable) (e : Event) (stamp : ℕ) (a b : Seat P) → HasDone code (with_clock a.site (stamp - 1)) b.site → b.failed ≡ a.failed
+    → IsLast b.site.history.events (record { stamp = stamp; event = e }) → Adds e stamp a b
+adds_redone code e stamp a b done failed last =
+    let events = ap (λ (h : Recorded). h.events) done.did.history ∙ recorded_events a.site.history (record { stamp = b.site.clock; event = done.event }) done.did.value in
+    let same : record { stamp = stamp; event = e } ≡ record { stamp = b.site.clock; event = done.event } =
+    last-is a.site.history.events b.site.history.events (record { stamp = stamp; event = e }) (record { stamp = b.site.clock; event = done.event }) events last in
+    record {
+      events = events ∙ ap (λ (x : Stamped). a.site.history.events ++ x ∷ []) (sym same);
+      clock = ap (λ (x : Stamped). x.stamp) (sym same);
+      sound = λ ok. failed ∙ ok;
+    }

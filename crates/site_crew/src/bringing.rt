@@ -99,7 +99,7 @@ fn take<R, P: Port<R, Item>>(rt: &R, code: &Code, seat: &mut Seat<P>) -> bool
 }
 
 /// Whether the last event of a site is this one, with this stamp.
-fn is_last<P>(seat: &Seat<P>, event: Event, stamp: u64) -> bool
+pub fn is_last<P>(seat: &Seat<P>, event: Event, stamp: u64) -> bool
     ensures { result ≡ true → IsLast seat.now.site.history.events (record { stamp = stamp; event = event }) }
 {
     let events = seat.site.history().events();
@@ -172,7 +172,32 @@ pub fn catch_at<R, P: Port<R, Item>>(
 }
 
 /// The item whose coming is the event goes on its link, and the site of the event takes it, and records the event with this
-/// stamp. Where another item came, or none, it is answered that memory is wanting.
+/// stamp. False where another item came, or none.
+pub fn bring<R, P: Port<R, Item>>(
+    rt: &R,
+    code: &Code,
+    budget: u32,
+    seats: &mut [Seat<P>],
+    event: Event,
+    stamp: u64,
+) -> bool
+    requires stand { Stand P.Port code.now budget seats.old }
+    requires at { event.site < length seats.old }
+    requires stamp { (1 ≤ stamp) × (stamp ≤ 2 ^ 40) }
+    requires early { IsNotEarly (stamp - 1) seats.old }
+    ensures stand { Stand P.Port code.now budget seats.new }
+    ensures grow { AllGrow (histories seats.old) (histories seats.new) }
+    ensures yes { result ≡ true → HaveAdded event stamp (stamp - 1) seats.old seats.new }
+{
+    let at = event.site as usize;
+    catch_at(rt, code, budget, seats, at, stamp - 1);
+    put_for(rt, code, budget, seats, event);
+    let took = take_at(rt, code, budget, seats, event, stamp);
+    settle_to(rt, seats, at);
+    took
+}
+
+/// So it does, and where it does not, it is answered that memory is wanting.
 pub fn bring_at<R, P: Port<R, Item>>(
     rt: &R,
     code: &Code,
@@ -189,10 +214,9 @@ pub fn bring_at<R, P: Port<R, Item>>(
     ensures grow { AllGrow (histories seats.old) (histories seats.new) }
     ensures ok { OnOk result (HaveAdded event stamp (stamp - 1) seats.old seats.new) }
 {
-    let at = event.site as usize;
-    catch_at(rt, code, budget, seats, at, stamp - 1);
-    put_for(rt, code, budget, seats, event);
-    let took = take_at(rt, code, budget, seats, event, stamp);
-    settle_to(rt, seats, at);
-    if took { Ok(()) } else { Err(Memory) }
+    if bring(rt, code, budget, seats, event, stamp) {
+        Ok(())
+    } else {
+        Err(Memory)
+    }
 }

@@ -4,14 +4,15 @@ ghost use Rattle.np_code.specs.Programs.{program};
 ghost use Rattle.np_calculus.specs.Reductions.{run};
 ghost use Rattle.np_calculus.specs.Starts.{start_low};
 ghost use Rattle.site_crew.specs.Crews.{AddsLater, GoesOn, HasEnded, HasRun, IsJudged, IsRoundOf, NoneFailed};
-ghost use Rattle.site_crew.specs.Lists.{HasFailed, HasFollowed, IsToFollow};
+ghost use Rattle.site_crew.specs.Lists.{HasFailed, HasFollowed, HasRedone, IsToFollow};
 ghost use Rattle.site_crew.specs.Runs.{IsProgram};
 ghost use Rattle.site_crew.specs.Seats.{event_count, histories};
 
+use crate::again::redo_all;
 use crate::counting::events_of;
 use crate::follow_fail::FollowFail;
 use crate::following::follow_all;
-use crate::past::refused;
+use crate::past::{are_within, refused};
 use crate::quiet::{all_quiet, are_over};
 use crate::round::Round;
 use crate::rounds::{serial_round, threads_round};
@@ -170,6 +171,36 @@ impl<R, P: Port<R, Item>> Crew<R, P> {
         done
     }
 
+    /// Does the events of a list, whatever it is, in their order, under the stamps 1, 2, 3 and so on, as far as the sites can, and tells
+    /// whether they could do them all: so the list is a run of the program that they make by themselves, within the budget. Where it
+    /// is not so, or where memory runs out, the crew has failed: its histories are those of some events, and it is of no further use.
+    pub fn redo(&mut self, rt: &R, events: &[Event]) -> Result<bool, Memory>
+        requires none { event_count self.old.histories ≡ 0 }
+        requires sound { self.old.failed ≡ false }
+        ensures on { GoesOn self.old self.new }
+        ensures run { HasRun self.new }
+        ensures ok { IfOk result (λ all. all ≡ true → HasRedone events.now self.new) }
+    {
+        let alloc = self.alloc;
+        let sites = self.code.sites();
+        if events.len() > u32::MAX as usize {
+            return Ok(false);
+        }
+        if !are_within(events, sites, self.budget) {
+            return Ok(false);
+        }
+        let done = redo_all(
+            rt,
+            alloc,
+            &self.code,
+            self.budget,
+            self.seats.as_mut_slice(),
+            events,
+        );
+        self.failed = !all_done(&done);
+        done
+    }
+
     /// The histories of the sites, in the order of their numbers.
     pub fn into_histories(self) -> Result<List<History>, Memory>
         ensures { IfOk result (λ out. map (λ h. h.history) out ≡ self.histories) }
@@ -251,6 +282,17 @@ impl<R: Threads + Sync, P: Port<R, Item>> Crew<R, P> {
         } else {
             self.threads_run(rt, gate)
         }
+    }
+}
+
+/// Whether all was done.
+fn all_done(done: &Result<bool, Memory>) -> bool
+    ensures ok { IfOk done.now (λ all. result ≡ all) }
+    ensures err { OnErr done.now (result ≡ false) }
+{
+    match done {
+        Ok(all) => *all,
+        Err(_) => false,
     }
 }
 

@@ -18,7 +18,7 @@ use site_turn::Seat;
 use std::alloc::Global;
 
 /// Whether an event of this kind is the coming of an item.
-fn comes(kind: Kind) -> bool
+pub fn comes(kind: Kind) -> bool
     ensures { result ≡ not (by_atom kind) }
 {
     match kind {
@@ -57,7 +57,7 @@ fn follow_one<R, P: Port<R, Item>>(
 }
 
 /// Each clock is at this stamp then, which none is above.
-fn catch_all<R, P: Port<R, Item>>(
+pub fn catch_all<R, P: Port<R, Item>>(
     rt: &R,
     code: &Code,
     budget: u32,

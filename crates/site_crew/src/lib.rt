@@ -1,6 +1,7 @@
 //! All sites of a program, each on a thread of its own, by rounds.
 #![tactic(auto)]
 
+mod again;
 mod bringing;
 mod counting;
 mod crew;

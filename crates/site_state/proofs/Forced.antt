@@ -1,11 +1,10 @@
 -- Events that are given to a site.
 use Rattle.std.proofs.Common.{◌≡◌, ◌<◌, ◌≤◌, ◌+◌, ◌-◌, ◌^◌, ℕ, max, length, refl, sym, ap, subst, ◌∙◌, arith}
-use Rattle.np_syntax.specs.declared.event.Event.{Event}
 use Rattle.np_syntax.specs.declared.value.Name.{Name}
 use Rattle.stamp_history.specs.Histories.{IsAboveLast}
 use Rattle.np_code.specs.Programs.{ProgramTable}
-use Rattle.site_state.specs.Doing.{HasDoneEvent, IsPossible, event_at, ready_of}
-use Rattle.site_agents.specs.Standings.{CanDo}
+use Rattle.agent_pool.specs.declared.ready.Ready.{Ready}
+use Rattle.site_state.specs.Doing.{HasDoneEvent, event_at}
 use Rattle.site_state.specs.Standings.{IsStanding, Standing, Stays, with_clock}
 use Rattle.site_state.proofs.Noted.{above_more}
 
@@ -22,11 +21,8 @@ raised_to old mid stamp above raised = raised ∙ ap (with_clock old) (omega ari
 
 module _ (code : ProgramTable) (old mid new : Standing) (stamp : ℕ) (raised : mid ≡ with_clock old stamp) where
   -- an event that was done at a later clock
-  pub forced : (event : Event) (name : Name) → IsPossible code old event → CanDo code old.agents name (ready_of event) → HasDoneEvent code mid new (event_at code mid name (ready_of event))
-      → HasDoneEvent code (with_clock old stamp) new event
-  forced event name possible can done =
-      subst (λ (e : Event). HasDoneEvent code (with_clock old stamp) new e) (sym (possible.is name can))
-      (subst (λ (s : Standing). HasDoneEvent code s new (event_at code s name (ready_of event))) raised done)
+  pub done_later : (name : Name) (r : Ready) → HasDoneEvent code mid new (event_at code mid name r) → HasDoneEvent code (with_clock old stamp) new (event_at code old name r)
+  done_later name r done = subst (λ (s : Standing). HasDoneEvent code s new (event_at code s name r)) raised done
 
   -- and one that was tried there
   pub stays_raised : Stays code mid new → Stays code (with_clock old stamp) new

@@ -1,5 +1,5 @@
 -- What an event does to a site (docs/LANGUAGE.md, "History text").
-use Rattle.std.specs.Prelude.{◌≡◌, ◌<◌, ◌+◌, Bool, is_some, List, length, option_map, Option, None, Some, IfSome}
+use Rattle.std.specs.Prelude.{◌≡◌, ◌<◌, ◌+◌, ◌-◌, ℕ, Bool, true, false, is_some, List, length, option_map, Option, None, Some, IfSome}
 use Rattle.std.specs.FinMap as map
 use Rattle.np_syntax.specs.declared.event.Event.{Event}
 use Rattle.np_syntax.specs.declared.value.Name.{Name}
@@ -22,7 +22,7 @@ use Rattle.site_state.specs.declared.stepping.Stepped.{Stepped}
 use Rattle.site_state.specs.declared.stepping.Stepped.TheVariants as stepped
 use Rattle.site_state.specs.Lines.{Waiting, IsPut, SameLines}
 use Rattle.site_agents.specs.Standings.{CanDo, NoneCan}
-use Rattle.site_state.specs.Standings.{IsQuiet, KeepsQuiet, Standing, Stays, holding_of}
+use Rattle.site_state.specs.Standings.{IsQuiet, KeepsQuiet, Standing, Stays, holding_of, with_clock}
 
 -- an event with the item that it takes and the one that it puts out
 abbrev pub deed_of : ProgramTable → Stamped → Option Item → Option Item → Deed
@@ -101,6 +101,11 @@ abbrev pub IsTried : ProgramTable → Standing → Standing → Stepped → Type
 IsTried code old new stepped.Did = HasRoom old × HasDone code old new
 IsTried code old new stepped.Quiet = HasRoom old × Stays code old new
 IsTried code old new stepped.Spent = (length old.history.events ≡ old.history.budget) × Stays code old new
+
+-- at this stamp an event was done by given marks, or nothing was
+abbrev pub IsRedone : ProgramTable → ℕ → Standing → Standing → Bool → Type 0
+IsRedone code stamp old new true = HasDone code (with_clock old (stamp - 1)) new × (new.clock ≡ stamp)
+IsRedone code stamp old new false = Stays code old new
 
 -- an item was taken, whatever the code of as many sites
 pub record HasTaken (old new : Standing) (x : Item) : Type 0 where

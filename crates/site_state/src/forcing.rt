@@ -1,8 +1,8 @@
 //! Events that are given: what a site does again, and when.
 
-ghost use Rattle.std.specs.Prelude.{◌≡◌, ◌<◌, ◌≤◌, ◌+◌, ◌-◌, ◌^◌, length, max, OnOk, OnErr};
+ghost use Rattle.std.specs.Prelude.{◌≡◌, ◌<◌, ◌≤◌, ◌+◌, ◌-◌, ◌^◌, length, max, IfOk, OnOk, OnErr};
 ghost use Rattle.stamp_history.specs.Histories.{IsAboveLast};
-ghost use Rattle.site_state.specs.Doing.{HasDoneEvent, HasRoom, IsPossible, ready_of};
+ghost use Rattle.site_state.specs.Doing.{HasDoneEvent, HasRoom, IsPossible, IsRedone, event_at, ready_of};
 ghost use Rattle.site_agents.specs.Standings.{CanDo};
 ghost use Rattle.site_state.specs.Standings.{IsStanding, Stays, with_clock};
 
@@ -53,9 +53,75 @@ impl Site {
         ensures err { OnErr result (Stays code.now self.old self.new) }
     {
         let name = self.who_can(code, event);
+        self.do_late(alloc, code, name, ready_of(event), stamp)
+    }
+
+    /// Does what this event does by the same marks, if an agent that stands here can, and records it with this stamp; false where
+    /// none can. Which event it is then, with the names that it makes, the site's history tells. It walks over the agents.
+    pub fn redo(
+        &mut self,
+        alloc: Global,
+        code: &Code,
+        event: Event,
+        stamp: u64,
+    ) -> Result<bool, Memory>
+        requires sites { length code.now.sites ≡ length self.old.outgoing }
+        requires room { HasRoom self.old }
+        requires above { self.old.clock < stamp }
+        requires stamp { stamp ≤ 2 ^ 40 }
+        ensures ok { IfOk result (IsRedone code.now stamp self.old self.new) }
+        ensures err { OnErr result (Stays code.now self.old self.new) }
+    {
+        match self.agents.who_can(code, ready_of(event)) {
+            Some(name) => self.redo_by(alloc, code, name, ready_of(event), stamp),
+            None => Ok(false),
+        }
+    }
+
+    /// So by this agent.
+    fn redo_by(
+        &mut self,
+        alloc: Global,
+        code: &Code,
+        name: Name,
+        r: Ready,
+        stamp: u64,
+    ) -> Result<bool, Memory>
+        requires sites { length code.now.sites ≡ length self.old.outgoing }
+        requires room { HasRoom self.old }
+        requires can { CanDo code.now self.old.agents name r }
+        requires above { self.old.clock < stamp }
+        requires stamp { stamp ≤ 2 ^ 40 }
+        ensures ok { IfOk result (IsRedone code.now stamp self.old self.new) }
+        ensures err { OnErr result (Stays code.now self.old self.new) }
+    {
+        match self.do_late(alloc, code, name, r, stamp) {
+            Ok(()) => Ok(true),
+            Err(memory) => Err(memory),
+        }
+    }
+
+    /// The agent does what it can, and the site records it with this stamp.
+    fn do_late(
+        &mut self,
+        alloc: Global,
+        code: &Code,
+        name: Name,
+        r: Ready,
+        stamp: u64,
+    ) -> Result<(), Memory>
+        requires sites { length code.now.sites ≡ length self.old.outgoing }
+        requires room { HasRoom self.old }
+        requires can { CanDo code.now self.old.agents name r }
+        requires above { self.old.clock < stamp }
+        requires stamp { stamp ≤ 2 ^ 40 }
+        ensures ok { OnOk result (HasDoneEvent code.now (with_clock self.old (stamp - 1)) self.new (event_at code.now self.old name r)) }
+        ensures clock { OnOk result (self.new.clock ≡ stamp) }
+        ensures err { OnErr result (Stays code.now self.old self.new) }
+    {
         let earlier = self.stamp();
         self.catch_up(stamp - 1);
-        match self.do_event(alloc, code, name, ready_of(event)) {
+        match self.do_event(alloc, code, name, r) {
             Ok(()) => Ok(()),
             Err(memory) => {
                 self.set_back(earlier);

@@ -1,51 +1,21 @@
-use Rattle.std.proofs.Common.{◌+◌, ℕ, length, sym, ap, subst, subst₂, ◌∙◌, arith}
-use Rattle.stamp_history.specs.Histories.{IsAboveLast, Recorded}
+use Rattle.std.proofs.Common.{◌-◌, sym, subst, Result, Ok, Err, OnOk}
+use Rattle.np_syntax.specs.declared.event.Event.{Event}
 use Rattle.agent_pool.specs.declared.ready.Ready.{Ready}
-use Rattle.site_state.specs.Doing.{HasDoneEvent, HasRoom, event_at}
+use Rattle.site_state.specs.Doing.{HasDoneEvent, event_at}
 use Rattle.site_agents.specs.Standings.{CanDo}
-use Rattle.site_state.specs.Standings.{Standing, with_clock}
-use Rattle.site_state.proofs.Forced.{forced, raised_to, stays_back, stays_raised}
+use Rattle.site_state.specs.Standings.{with_clock}
 use Rattle.site_state.proofs.site.Site.force.Goals as goal
 
-pub do_event-requires-clause-sites : goal.do_event-requires-clause-sites
-do_event-requires-clause-sites c = c.requires.sites ∙ ap (λ (s : Standing). length s.outgoing) (sym c.catch_up.ensures)
+pub do_late-requires-clause-can : goal.do_late-requires-clause-can
+do_late-requires-clause-can c = subst (λ (r : Ready). CanDo c.args.code.now c.args.self.now.agents c.who_can-name.result r) (sym c.ready_of.ensures) c.who_can-name.ensures
 
-pub do_event-requires-clause-room : goal.do_event-requires-clause-room
-do_event-requires-clause-room c = subst HasRoom (sym c.catch_up.ensures) c.requires.room
+-- the event that is done is the one that is given
+given : {A E : Type 0} (r : Result A E) (X Y : Type 0) → (X → Y) → OnOk r X → OnOk r Y
+given (Ok x) X Y f h = f h
+given (Err e) X Y f h = tt
 
-pub do_event-requires-clause-can : goal.do_event-requires-clause-can
-do_event-requires-clause-can c =
-    subst₂ (λ (s : Standing) (r : Ready). CanDo c.args.code.now s.agents c.who_can-name.result r) (sym c.catch_up.ensures) (sym c.ready_of.ensures) c.who_can-name.ensures
-
-pub returns-in-Ok-clause-ok : goal.returns-in-Ok-clause-ok
-returns-in-Ok-clause-ok c =
-    let code = c.args.code.now in
-    let mid = c.catch_up.new.self in
-    let name = c.who_can-name.result in
-    forced code c.args.self.now mid _ _ (raised_to _ _ _ c.requires.above c.catch_up.ensures) c.args.event name c.requires.possible c.who_can-name.ensures
-    (subst (λ (r : Ready). HasDoneEvent code mid c.do_event.new.self (event_at code mid name r)) c.ready_of.ensures c.in-Ok.ensures.ok)
-
-pub returns-in-Ok-clause-clock : goal.returns-in-Ok-clause-clock
-returns-in-Ok-clause-clock c =
-    let above = c.requires.above in
-    let raised = ap (λ (s : Standing). s.clock) (raised_to _ _ _ above c.catch_up.ensures) in
-    let ticked = c.in-Ok.ensures.ok.did.clock in
-    omega arith
-
-pub set_back-requires-clause-earlier : goal.set_back-requires-clause-earlier
-set_back-requires-clause-earlier c =
-    let above = c.requires.above in
-    let raised = ap (λ (s : Standing). s.clock) (raised_to _ _ _ above c.catch_up.ensures) in
-    let same = c.in-Err.ensures.err.same.clock in
-    let was = c.stamp-earlier.ensures.stamp in
-    omega arith
-
-pub set_back-requires-clause-last : goal.set_back-requires-clause-last
-set_back-requires-clause-last c =
-    let same = c.in-Err.ensures.err.same.history ∙ ap (λ (s : Standing). s.history) c.catch_up.ensures in
-    subst₂ (λ (h : Recorded) (n : ℕ). IsAboveLast h.events (n + 1)) (sym same) (sym c.stamp-earlier.ensures.stamp) c.stamp-earlier.ensures.standing.last
-
-pub returns-in-Err-clause-err : goal.returns-in-Err-clause-err
-returns-in-Err-clause-err c =
-    stays_back c.args.code.now c.args.self.now c.do_event.new.self _ _ (stays_raised c.args.code.now c.args.self.now c.catch_up.new.self _ _ c.catch_up.ensures c.in-Err.ensures.err)
-    (c.set_back.ensures ∙ ap (with_clock c.do_event.new.self) c.stamp-earlier.ensures.stamp)
+pub returns-clause-ok : goal.returns-clause-ok
+returns-clause-ok c =
+    let code = c.args.code.now in let old = c.args.self.now in let name = c.who_can-name.result in
+    given c.do_late.result _ _ (λ done. subst (λ (e : Event). HasDoneEvent code (with_clock old (c.args.stamp - 1)) c.do_late.new.self e) (sym (c.requires.possible.is name c.who_can-name.ensures))
+    (subst (λ (r : Ready). HasDoneEvent code (with_clock old (c.args.stamp - 1)) c.do_late.new.self (event_at code old name r)) c.ready_of.ensures done)) c.do_late.ensures.ok

@@ -3,7 +3,7 @@ use Rattle.site_crew.proofs.Doing.{added_after, added_before}
 use Rattle.site_crew.proofs.Redoing.{rest_of_settled}
 use Rattle.site_crew.proofs.Replacing.{all_rest_later, all_rest_trans, but_none, grows_rest, stand_settled}
 use Rattle.site_crew.proofs.Running.{grow_trans}
-use Rattle.site_crew.proofs.bringing.bring_at.Goals as goal
+use Rattle.site_crew.proofs.bringing.bring.Goals as goal
 
 pub take_at-took-requires-clause-stand : goal.take_at-took-requires-clause-stand
 take_at-took-requires-clause-stand g c κs within = but_none c.put_for.ensures.stand c.args.event.site
@@ -21,22 +21,15 @@ pub settle_to-requires-clause-to : goal.settle_to-requires-clause-to
 settle_to-requires-clause-to g c κs within =
     subst (λ m. c.args.event.site < m) (sym (c.take_at-took.ensures.count ∙ c.put_for.ensures.rest.count ∙ c.catch_at.ensures.rest.count)) c.requires.at
 
-pub returns-then-took-clause-stand : goal.returns-then-took-clause-stand
-returns-then-took-clause-stand g c = stand_settled c.take_at-took.ensures.stand c.settle_to.ensures
+pub returns-clause-stand : goal.returns-clause-stand
+returns-clause-stand g c = stand_settled c.take_at-took.ensures.stand c.settle_to.ensures
 
-pub returns-then-took-clause-grow : goal.returns-then-took-clause-grow
-returns-then-took-clause-grow g c =
+pub returns-clause-grow : goal.returns-clause-grow
+returns-clause-grow g c =
     grow_trans (grows_rest c.catch_at.ensures.rest) (grow_trans (grows_rest c.put_for.ensures.rest) (grow_trans c.take_at-took.ensures.grow (grows_rest (rest_of_settled c.settle_to.ensures))))
 
-pub returns-else-took-clause-stand : goal.returns-else-took-clause-stand
-returns-else-took-clause-stand g c = stand_settled c.take_at-took.ensures.stand c.settle_to.ensures
-
-pub returns-else-took-clause-grow : goal.returns-else-took-clause-grow
-returns-else-took-clause-grow g c =
-    grow_trans (grows_rest c.catch_at.ensures.rest) (grow_trans (grows_rest c.put_for.ensures.rest) (grow_trans c.take_at-took.ensures.grow (grows_rest (rest_of_settled c.settle_to.ensures))))
-
-pub returns-then-took-clause-ok : goal.returns-then-took-clause-ok
-returns-then-took-clause-ok g c =
+pub returns-clause-yes : goal.returns-clause-yes
+returns-clause-yes g c = λ yes.
     let late = c.args.stamp - 1 in
     let before = all_rest_trans c.catch_at.ensures.rest (all_rest_later late c.put_for.ensures.rest) in
-    added_before (added_after before (c.take_at-took.ensures.yes c.if-took.true)) (rest_of_settled c.settle_to.ensures)
+    added_before (added_after before (c.take_at-took.ensures.yes yes)) (rest_of_settled c.settle_to.ensures)

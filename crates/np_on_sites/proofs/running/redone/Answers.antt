@@ -1,0 +1,10 @@
+use Rattle.np_on_sites.proofs.Kept.{have_later, in_place}
+use Rattle.np_on_sites.proofs.running.redone.Goals as goal
+
+pub returns-in-Ok-clause-resumed : goal.returns-in-Ok-clause-resumed
+returns-in-Ok-clause-resumed g c =
+    let before = c.redo.new.self in
+    let after = c.run.new.self in
+    let again = c.in_ok-redo.ensures.ok c.if-not-branch.false in
+    c.law_resumes.ensures c.args.events.now before.histories after.histories (in_place _ _ before.histories c.redo.ensures.run.1.sites)
+    (in_place _ _ after.histories c.run.ensures.run.1.sites) again.of (have_later _ before after again.clocks c.run.ensures.later)

@@ -1,0 +1,41 @@
+use Rattle.std.proofs.Common.{◌≡◌, Some, get_or, subst}
+use Rattle.std.specs.Prelude.{slice_get}
+use Rattle.std.proofs.lemmas.List.{get_or-set_same}
+use Rattle.std.proofs.lemmas.Option.{slice_get-get_or}
+use Rattle.stamp_history.specs.Histories.{IsHistory}
+use Rattle.site_turn.specs.declared.seat.Seat.{Seat}
+use Rattle.site_crew.proofs.Goings.{seat_seated}
+use Rattle.site_crew.proofs.Redoing.{added_one, on_yes, stand_alone}
+use Rattle.site_crew.proofs.Replacing.{grows_moved}
+use Rattle.site_crew.proofs.again.redo_at.Goals as goal
+
+pub redo-done-requires-clause-seated : goal.redo-done-requires-clause-seated
+redo-done-requires-clause-seated g c κs within =
+    let xs = c.args.seats.now in let i = c.args.event.site in let x = c.index-seats-at.result in
+    seat_seated (c.requires.stand.seats.each i (get_or xs i x) (slice_get-get_or xs i x c.requires.at))
+
+pub redo-done-requires-clause-above : goal.redo-done-requires-clause-above
+redo-done-requires-clause-above g c κs within =
+    let xs = c.args.seats.now in let i = c.args.event.site in let x = c.index-seats-at.result in
+    c.requires.above (get_or xs i x) (slice_get-get_or xs i x c.requires.at)
+
+pub returns-clause-stand : goal.returns-clause-stand
+returns-clause-stand g c =
+    let xs = c.args.seats.now in let i = c.args.event.site in let a = get_or xs i c.index-seats-at.result in
+    let at : slice_get xs i ≡ Some a = slice_get-get_or xs i c.index-seats-at.result c.requires.at in
+    let new = c.redo-done.new.seat in
+    let history : IsHistory new.site.history =
+    subst (λ (s : Seat _). IsHistory s.site.history) (get_or-set_same xs i new c.index-seats-at-2.result c.requires.at) c.count.ensures.history in
+    stand_alone i c.requires.stand at c.redo-done.ensures.turned c.redo-done.ensures.port.0 c.redo-done.ensures.port.1 history
+
+pub returns-clause-grow : goal.returns-clause-grow
+returns-clause-grow g c =
+    let xs = c.args.seats.now in let i = c.args.event.site in let a = get_or xs i c.index-seats-at.result in
+    let at : slice_get xs i ≡ Some a = slice_get-get_or xs i c.index-seats-at.result c.requires.at in
+    grows_moved xs i a c.redo-done.new.seat at c.redo-done.ensures.turned
+
+pub returns-clause-ok : goal.returns-clause-ok
+returns-clause-ok g c =
+    let xs = c.args.seats.now in let i = c.args.event.site in let a = get_or xs i c.index-seats-at.result in
+    let at : slice_get xs i ≡ Some a = slice_get-get_or xs i c.index-seats-at.result c.requires.at in
+    on_yes c.redo-done.result (added_one c.args.event c.args.stamp xs a c.redo-done.new.seat at) c.redo-done.ensures.ok

@@ -1,0 +1,32 @@
+use Rattle.std.proofs.Common.{◌≡◌, ◌+◌, ◌-◌, ◌≤◌, Some, get_or, take, length, arith}
+use Rattle.std.specs.Prelude.{slice_get}
+use Rattle.std.proofs.lemmas.Option.{slice_get-get_or}
+use Rattle.site_crew.proofs.Doing.{not_early}
+use Rattle.site_crew.proofs.Enabled.{followed_one, no_event, take-length}
+use Rattle.site_crew.proofs.Redoing.{on_yes}
+use Rattle.site_crew.proofs.again.redo_one.Goals as goal
+
+pub bring-requires-clause-early : goal.bring-requires-clause-early
+bring-requires-clause-early g c κs within =
+    let few : length (take c.args.k c.args.events.now) ≡ c.args.k = take-length c.args.events.now c.args.k (omega arith) in
+    not_early c.requires.done (c.args.k + 1 - 1) (omega arith)
+
+pub redo_at-requires-clause-above : goal.redo_at-requires-clause-above
+redo_at-requires-clause-above g c κs within = λ s at.
+    let few : length (take c.args.k c.args.events.now) ≡ c.args.k = take-length c.args.events.now c.args.k (omega arith) in
+    let low : s.site.clock ≤ length (take c.args.k c.args.events.now) = c.requires.done.clocks _ s at in
+    omega arith
+
+pub returns-then-comes-clause-ok : goal.returns-then-comes-clause-ok
+returns-then-comes-clause-ok g c =
+    let es = c.args.events.now in let k = c.args.k in let e = get_or es k no_event in
+    let at : slice_get es k ≡ Some e = slice_get-get_or es k no_event c.requires.at in
+    let low : k + 1 - 1 ≤ k = omega arith in
+    λ yes. followed_one g.P.Port c.args.code.now es k e (k + 1 - 1) c.requires.done at c.bring.ensures.stand low (c.bring.ensures.yes yes)
+
+pub returns-else-comes-clause-ok : goal.returns-else-comes-clause-ok
+returns-else-comes-clause-ok g c =
+    let es = c.args.events.now in let k = c.args.k in let e = get_or es k no_event in
+    let at : slice_get es k ≡ Some e = slice_get-get_or es k no_event c.requires.at in
+    let low : 0 ≤ k = omega arith in
+    on_yes c.redo_at.result (followed_one g.P.Port c.args.code.now es k e 0 c.requires.done at c.redo_at.ensures.stand low) c.redo_at.ensures.ok

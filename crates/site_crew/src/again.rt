@@ -1,0 +1,123 @@
+//! The seats of a crew do the events of a list again, as far as they can.
+ghost use Rattle.std.specs.Prelude.{◌≡◌, ◌<◌, ◌≤◌, ◌+◌, ◌^◌, true, length, take, Some, slice_get, IfOk};
+ghost use Rattle.site_crew.specs.Crews.{NoneFailed};
+ghost use Rattle.site_crew.specs.Following.{Adds, AreAt, HaveAdded, HaveDone};
+ghost use Rattle.site_crew.specs.Seats.{AllGrow, Stand, event_count, histories};
+ghost use Rattle.site_turn.specs.declared.seat.Seat.{Seat as OneSeat};
+ghost use Rattle.site_turn.specs.Turns.{Seated, Turned};
+
+use crate::bringing::{bring, is_last};
+use crate::counting::count;
+use crate::following::{catch_all, comes};
+use agent_move::Item;
+use np_code::Code;
+use np_syntax::{Event, Memory};
+use site_links::Port;
+use site_turn::{Seat, has_room};
+use std::alloc::Global;
+
+/// The site does what the event does by the same marks, if it can, and tells whether it was this event, recorded with this stamp.
+fn redo<R, P: Port<R, Item>>(
+    _rt: &R,
+    alloc: Global,
+    code: &Code,
+    seat: &mut Seat<P>,
+    event: Event,
+    stamp: u64,
+) -> Result<bool, Memory>
+    requires seated { Seated P.Port code.now seat.old }
+    requires above { seat.old.site.clock < stamp }
+    requires stamp { stamp ≤ 2 ^ 40 }
+    ensures turned { Turned P.Port code.now seat.old seat.new }
+    ensures port { (seat.new.port ≡ seat.old.port) × (seat.new.waits ≡ seat.old.waits) }
+    ensures ok { IfOk result (λ is. is ≡ true → Adds event stamp seat.old seat.new) }
+{
+    if !has_room::<R, P>(code, seat) {
+        return Ok(false);
+    }
+    match seat.site.redo(alloc, code, event, stamp) {
+        Ok(did) => Ok(did && is_last(seat, event, stamp)),
+        Err(memory) => Err(memory),
+    }
+}
+
+/// So does the site of the event.
+fn redo_at<R, P: Port<R, Item>>(
+    rt: &R,
+    alloc: Global,
+    code: &Code,
+    _budget: u32,
+    seats: &mut [Seat<P>],
+    event: Event,
+    stamp: u64,
+) -> Result<bool, Memory>
+    requires stand { Stand P.Port code.now _budget seats.old }
+    requires at { event.site < length seats.old }
+    requires above { (s : OneSeat P) → slice_get seats.old event.site ≡ Some s → s.site.clock < stamp }
+    requires stamp { stamp ≤ 2 ^ 40 }
+    ensures stand { Stand P.Port code.now _budget seats.new }
+    ensures grow { AllGrow (histories seats.old) (histories seats.new) }
+    ensures ok { IfOk result (λ is. is ≡ true → HaveAdded event stamp 0 seats.old seats.new) }
+{
+    let at = event.site as usize;
+    let done = redo(rt, alloc, code, &mut seats[at], event, stamp);
+    let _ = count(&seats[at]);
+    done
+}
+
+/// Does one event of a list after those before it, if the sites can.
+fn redo_one<R, P: Port<R, Item>>(
+    rt: &R,
+    alloc: Global,
+    code: &Code,
+    budget: u32,
+    seats: &mut [Seat<P>],
+    events: &[Event],
+    k: usize,
+) -> Result<bool, Memory>
+    requires done { HaveDone P.Port code.now budget (take k events.now) seats.old }
+    requires at { k < length events.now }
+    requires few { length events.now < 2 ^ 32 }
+    ensures stand { Stand P.Port code.now budget seats.new }
+    ensures grow { AllGrow (histories seats.old) (histories seats.new) }
+    ensures ok { IfOk result (λ is. is ≡ true → HaveDone P.Port code.now budget (take (k + 1) events.now) seats.new) }
+{
+    let event = events[k];
+    let stamp = k as u64 + 1;
+    if event.site as usize >= seats.len() {
+        return Ok(false);
+    }
+    if comes(event.kind) {
+        Ok(bring(rt, code, budget, seats, event, stamp))
+    } else {
+        redo_at(rt, alloc, code, budget, seats, event, stamp)
+    }
+}
+
+/// Does the events of a list, the first of all, and tells whether the sites could do them all. Each clock is at the number of the
+/// events then.
+pub fn redo_all<R, P: Port<R, Item>>(
+    rt: &R,
+    alloc: Global,
+    code: &Code,
+    budget: u32,
+    seats: &mut [Seat<P>],
+    events: &[Event],
+) -> Result<bool, Memory>
+    requires stand { Stand P.Port code.now budget seats.old }
+    requires none { event_count (histories seats.old) ≡ 0 }
+    requires sound { NoneFailed seats.old }
+    requires few { length events.now < 2 ^ 32 }
+    ensures stand { Stand P.Port code.now budget seats.new }
+    ensures grow { AllGrow (histories seats.old) (histories seats.new) }
+    ensures done { IfOk result (λ all. all ≡ true → HaveDone P.Port code.now budget events.now seats.new) }
+    ensures clocks { IfOk result (λ all. all ≡ true → AreAt (length events.now) seats.new) }
+{
+    for k in 0..events.len() {
+        if !redo_one(rt, alloc, code, budget, seats, events, k)? {
+            return Ok(false);
+        }
+    }
+    catch_all(rt, code, budget, seats, events.len() as u64);
+    Ok(true)
+}
