@@ -1,25 +1,22 @@
 -- What stands in the low program of a resolved program where agents have caches.
-use Rattle.std.proofs.Common.{◌≡◌, ◌<◌, ℕ, ◌+◌, inl, inr, List, [], ◌∷◌, length, refl, ap, ◌∙◌, arith}
+use Rattle.std.proofs.Common.{◌<◌, ℕ, ◌+◌, inl, inr, List, [], ◌∷◌, length, refl, ◌∙◌, arith}
 use Rattle.np_syntax.specs.declared.expression.Expr.{Expr}
-use Rattle.np_syntax.specs.declared.process.Tag.{Tag}
 use Rattle.np_syntax.specs.declared.process.Role.TheVariants as role
 use Rattle.np_syntax.specs.declared.process.Proc.{Proc}
-use Rattle.np_syntax.specs.declared.process.ProcForm.{ProcForm-F}
 use Rattle.np_syntax.specs.declared.process.ProcForm as form
 use Rattle.np_syntax.specs.declared.program.Program.{Program}
-use Rattle.np_eval.specs.Forms.{Layer}
 use Rattle.np_scope.specs.Sound.{Among, IsSound}
 use Rattle.np_scope.specs.Written.{IsSourceType, IsChannelType}
 use Rattle.daemon_encode.specs.Pieces.{variable, pair, two_names, main}
-use Rattle.daemon_encode.specs.Encoded.{translate_step}
 use Rattle.daemon_encode.specs.LowSound.{IsLowValue, IsLowExpr, Enters, IsLowProc, IsLowSound}
 use Rattle.daemon_encode.specs.Translates.{source}
 use Rattle.daemon_encode.proofs.LowSounds.{Within, wider-expr, its, two, one-name, both-names, told, mailed, low-server, begun, registered, low-creation, low-main}
-use Rattle.daemon_encode.proofs.LowSounds.{held, freed, noted, found_in, low-daemon, IsShared, steps, written, IsTranslation, low-proc}
-use Rattle.cache_encode.specs.Texts.{keeps, empty_cache, found_server, with_cache, asks, hands_back, goes_by_hint, goes_by_daemon, post_text, agent_text, main_text}
-use Rattle.cache_encode.specs.Daemon.{where_server, cached_daemon}
-use Rattle.cache_encode.specs.Encoded.{cached_step, cached, cached_form, encoded_cached}
-use Rattle.cache_encode.proofs.Forms.{cached-form, cached-layer, stepped, form-agent, form-post}
+use Rattle.daemon_encode.proofs.LowSounds.{held, freed, noted, found_in, low-daemon, written, IsTranslation, low-proc}
+use Rattle.daemon_encode.specs.CacheTexts.{keeps, empty_cache, found_server, with_cache, asks, hands_back, goes_by_hint, goes_by_daemon, post_text, agent_text, main_text}
+use Rattle.daemon_encode.specs.CacheDaemon.{where_server, cached_daemon}
+use Rattle.cache_encode.specs.Encoded.{cached, encoded_cached}
+use Rattle.cache_encode.proofs.Forms.{cached-form, form-agent, form-post}
+use Rattle.cache_encode.proofs.KeptForms.{cached-keeps}
 
 module _ (n : ℕ) (some : 0 < n) where
   -- ---- the cache
@@ -86,16 +83,16 @@ module _ (n : ℕ) (some : 0 < n) where
 
   -- ---- a creation, and main's bracket
 
-  low-agent : (scope : List ℕ) (k : ℕ) (a : Expr) (b s l : ℕ) (p q : Proc) → IsLowExpr n (b ∷ s ∷ scope) a → IsLowProc n (b ∷ s ∷ scope) p → IsLowProc n (b ∷ s ∷ scope) q
-      → IsLowProc n scope (agent_text n k a b s l p q)
-  low-agent scope k a b s l p q xa gp gq =
-      low-creation n some k b s _ q (IsLowProc.parallel (low-cache k (l + 2) _ (IsLowProc.parallel
+  low-agent : (scope : List ℕ) (k : ℕ) (a : Expr) (b s l t c : ℕ) (p q : Proc) → IsLowExpr n (b ∷ s ∷ scope) a → IsLowProc n (b ∷ s ∷ scope) p → IsLowProc n (b ∷ s ∷ scope) q
+      → IsLowProc n scope (agent_text n k a b s l t c p q)
+  low-agent scope k a b s l t c p q xa gp gq =
+      low-creation n some k b s _ q (IsLowProc.parallel (low-cache k c _ (IsLowProc.parallel
       (begun n some k a s p xa (inr (inl refl)) gp)
-      (low-server n some k (variable b) l (l + 1) (IsLowExpr.variable (inl refl)))))
+      (low-server n some k (variable b) l t (IsLowExpr.variable (inl refl)))))
       (registered n some k b s (inl refl) (inr (inl refl)))) gq
 
-  low-cached_main : (s l : ℕ) (p : Proc) → s < n → IsLowProc n [] p → IsLowProc n [] (main_text n s l p)
-  low-cached_main s l p within g = low-cache 0 (l + 2) _ (low-main n some s l (l + 1) p within g)
+  low-cached_main : (s l t c : ℕ) (p : Proc) → s < n → IsLowProc n [] p → IsLowProc n [] (main_text n s l t c p)
+  low-cached_main s l t c p within g = low-cache 0 c _ (low-main n some s l t p within g)
 
   -- ---- the daemon
 
@@ -117,20 +114,13 @@ module _ (n : ℕ) (some : 0 < n) where
 
   -- ---- processes
 
-  falls_back : (y : Layer) → IsShared y → (tag : Tag) (at : ℕ) (a : Expr) (k : ℕ)
-      → cached_step n (steps (cached_form n) (cached n) y) tag at a k ≡ translate_step n (steps (cached_form n) (cached n) y) tag at a k
-  falls_back (ProcForm-F.Agent b p q) same tag at a k = absurd same
-  falls_back (ProcForm-F.Post b c e) same tag at a k = absurd same
-  falls_back y same tag at a k = refl
-
   is-cached : IsTranslation n some (cached n)
   is-cached = record {
-    forms = cached_form n;
-    shared = λ p y is same a k. cached-form n p a k ∙ cached-layer n p.form p.tag p.at a k ∙ ap (stepped n p.tag p.at a k) is ∙ falls_back y same p.tag p.at a k;
+    keeps = cached-keeps n;
     creation = λ scope tag at a k b p q xa gp gq.
         let l = (cached n p (variable b) (k + 1)).next in
         written _ _ (cached-form n (source tag at (form.Agent b p q)) a k ∙ form-agent n tag at a k b p q)
-        (low-agent scope tag.node a b k l _ _ xa (gp (k + 1)) (gq (l + 7)));
+        (low-agent scope tag.node a b k l (l + 1) (l + 2) _ _ xa (gp (k + 1)) (gq (l + 7)));
     post = λ scope tag at a k b c e xa xb xc xe.
         written _ _ (cached-form n (source tag at (form.Post b c e)) a k ∙ form-post n tag at a k b c e)
         (low-post scope tag.node a b c e k (record { from = xa; to = xb; on = xc; value = xe }));
@@ -142,4 +132,4 @@ cached-sound p s =
     let at : p.at < n = s.at in
     let some : 0 < n = omega (arith, at) in
     let body = low-proc n some (cached n) (is-cached n some) (λ x m. m) s.main (main n) (IsLowExpr.constant IsLowValue.main) p.binders in
-    record { at = s.at; main = low-cached_main n some p.at _ _ s.at body; daemon = low-cached_daemon n some p.at _ s.at }
+    record { at = s.at; main = low-cached_main n some p.at _ _ _ _ s.at body; daemon = low-cached_daemon n some p.at _ s.at }

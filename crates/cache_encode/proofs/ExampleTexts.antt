@@ -18,9 +18,9 @@ use Rattle.daemon_encode.specs.Daemon.{first_places, register_server, migrating_
 use Rattle.daemon_encode.specs.declared.translated.Translated.{Translated}
 use Rattle.daemon_encode.specs.Encoded.{kept}
 use Rattle.daemon_encode.specs.Examples.{prints_seven}
-use Rattle.cache_encode.specs.Daemon.{where_server, cached_daemon}
+use Rattle.daemon_encode.specs.CacheDaemon.{where_server, cached_daemon}
 use Rattle.cache_encode.specs.Encoded.{cached, encoded_cached}
-use Rattle.cache_encode.specs.Texts.{main_text}
+use Rattle.daemon_encode.specs.CacheTexts.{main_text}
 use Rattle.cache_encode.specs.Examples.{main_line, daemon_line, LowTextOfSeven, TextOfPost, TextOfCreation}
 use Rattle.cache_encode.proofs.Forms.{cached-form, form-print}
 use Rattle.np_syntax.proofs.Texts.{text-int, text-site}
@@ -39,12 +39,12 @@ seven = kept (record { node = 1; role = role.Plain }) 28 (form.Print (record { a
 seven_is : cached 1 prints_seven.main (main 1) 0 ≡ seven
 seven_is = cached-form 1 prints_seven.main (main 1) 0 ∙ form-print 1 (record { node = 1; role = role.Plain }) 28 (main 1) 0 (record { at = 34; form = expr.Val (value.Int (pos 7)) })
 
-main_written : line_text home (codes "main") 0 (main_text 1 0 0 seven.proc) ≡ main_line
+main_written : line_text home (codes "main") 0 (main_text 1 0 0 1 2 seven.proc) ≡ main_line
 unfolding value_text digits block.hidden-the_row-Proc-0 expr_block.hidden-the_row-Expr-0 expr_block.hidden-the_row-Expr-1 pat_block.hidden-the_row-Pat-0 ty_block.hidden-the_row-Ty-0 carrier.hidden
 main_written = rw (text-int home (pos 7), text-site home 0) refl
 
 main_is : line_text home (codes "main") 0 (encoded_cached prints_seven).main ≡ main_line
-main_is = ap (λ (t : Translated). line_text home (codes "main") 0 (main_text 1 0 t.next t.proc)) seven_is ∙ main_written
+main_is = ap (λ (t : Translated). line_text home (codes "main") 0 (main_text 1 0 t.next (t.next + 1) (t.next + 2) t.proc)) seven_is ∙ main_written
 
 first_is : text (first_places 1) ≡ codes "lock!{main here}"
 unfolding value_text digits block.hidden-the_row-Proc-0 expr_block.hidden-the_row-Expr-0 expr_block.hidden-the_row-Expr-1 pat_block.hidden-the_row-Pat-0 carrier.hidden

@@ -1,4 +1,5 @@
 pub mod Forms
+pub mod KeptForms
 pub mod Answered
 pub mod DaemonTyped
 pub mod TextsTyped
@@ -6,4 +7,5 @@ pub mod ProcessesTyped
 pub mod ProgramsTyped
 pub mod CachedSounds
 pub mod CachedRuns
+pub mod CachedRelated
 pub mod ExampleTexts

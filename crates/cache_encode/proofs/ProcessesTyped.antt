@@ -108,7 +108,7 @@ module _ (n : ℕ) (some : nat_lt 0 n ≡ true) where
       (weaker w w (same_world w) q.0 inner (table.insert types x ty.Agent) less g.1) in
       let on : j + 7 ≤ (cached n q.0 a (j + 7)).next = u.next in
       record {
-        good = good-agent n some types t.node a x k j _ _ (λ e. omega (arith, e, below)) (omega (arith, below, up)) theirs r.good u.good;
+        good = good-agent n some types t.node a x k j (j + 1) (j + 2) _ _ (λ e. omega (arith, e, below)) (λ e. omega (arith, e, below, up)) (λ e. omega (arith, e, below, up)) (λ e. omega (arith, e)) theirs r.good u.good;
         next = omega (arith, up, on);
       }
   keep_layer (ProcForm-F.Migrate e p) t o types free a k pl c g =

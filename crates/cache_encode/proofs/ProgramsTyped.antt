@@ -17,4 +17,4 @@ cached-faultless p a =
     let within : nat_lt p.at n ≡ true = below-is p.at n site in
     let some : nat_lt 0 n ≡ true = below-is 0 n (omega (arith, site)) in
     let done = cached-good n some p.main table.empty (own_binders p) (main n) p.binders (at_first p some) (clean-main p a) (accepted p (infrastructure n) a) in
-    record { main = good-main n some table.empty p.at _ _ within done.good; daemon = good-cached_daemon n table.empty p.at _ within }
+    record { main = good-main n some table.empty p.at _ _ _ _ within (λ e. omega (arith, e)) done.good; daemon = good-cached_daemon n table.empty p.at _ within }

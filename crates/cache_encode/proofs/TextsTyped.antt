@@ -29,7 +29,7 @@ use Rattle.daemon_encode.proofs.Making.{cover-nothing, cover-name, cover-two}
 use Rattle.daemon_encode.proofs.DaemonTyped.{low, its-channel, two, given}
 use Rattle.daemon_encode.proofs.TextsTyped.{agent_sub, agent_nodes, sub_pair, told, least-letter, settled, good-server, created}
 use Rattle.daemon_encode.proofs.TextsTyped as plain
-use Rattle.cache_encode.specs.Texts.{keeps, empty_cache, replaces, adds, found_server, with_cache, asks, hands_back, messenger_text, goes_by_hint, goes_by_daemon, post_text, agent_text, main_text}
+use Rattle.daemon_encode.specs.CacheTexts.{keeps, empty_cache, replaces, adds, found_server, with_cache, asks, hands_back, messenger_text, goes_by_hint, goes_by_daemon, post_text, agent_text, main_text}
 
 -- the types of binders where m, where l too, where s too, and where t too is bound
 abbrev pub with_map : Types → ℕ → Types
@@ -177,32 +177,31 @@ module _ (n : ℕ) (some : nat_lt 0 n ≡ true) where
 
   -- ---- a creation, and main's bracket
 
-  pub good-agent : (types : Types) (k : ℕ) (a : Expr) (b s l : ℕ) (p q : Proc) → (s ≡ b → ⊥) → b < l
-      → Tested w (created n some types s b) is_agent a → Good w (created n some types s b) p → Good w (created n some types s b) q → Good w types (agent_text n k a b s l p q)
-  good-agent types k a b s l p q sb bl ta gp gq =
+  pub good-agent : (types : Types) (k : ℕ) (a : Expr) (b s l t c : ℕ) (p q : Proc) → (s ≡ b → ⊥) → (b ≡ l → ⊥) → (b ≡ t → ⊥) → (l ≡ t → ⊥)
+      → Tested w (created n some types s b) is_agent a → Good w (created n some types s b) p → Good w (created n some types s b) q → Good w types (agent_text n k a b s l t c p q)
+  good-agent types k a b s l t c p q sb bl bt lt ta gp gq =
       let one = table.insert types s ty.Site in
       let inner = created n some types s b in
       let lettered = table.insert inner l ty.Letter in
       let at_s : table.get inner s ≡ Some ty.Site = slot_past one b ty.Agent s sb ∙ slot_here types s ty.Site in
       let at_b : table.get inner b ≡ Some ty.Agent = slot_here one b ty.Agent in
-      let server_b : table.get (table.insert lettered (l + 1) ty.Site) b ≡ Some ty.Agent =
-      slot_past lettered (l + 1) ty.Site b (λ e. omega (arith, e, bl)) ∙ slot_past inner l ty.Letter b (λ e. omega (arith, e, bl)) ∙ at_b in
+      let server_b : table.get (table.insert lettered t ty.Site) b ≡ Some ty.Agent = slot_past lettered t ty.Site b bt ∙ slot_past inner l ty.Letter b bl ∙ at_b in
       let its_site = a_site w inner s at_s in
       good-made w types _ _ (outs-Inp _ _ _) (takes-from w types _ _ ty.Site one _ (its-channel n types 9 ty.Site refl) (cover-name types s ty.Site)
       (good-made w one _ _ (outs-Creation _ _ _) (
-        two n inner k _ _ (good-cache inner k (l + 2) _ (two n inner k _ _
+        two n inner k _ _ (good-cache inner k c _ (two n inner k _ _
             (settled n some inner k (variable s) _ its_site (two n inner k _ _ gp
             (good-made w inner _ _ (outs-Send _ _ _ _) (
               ta,
               its_site,
               sends-on w inner _ _ (ty.Tuple []) (ty.Tuple []) (its-channel n inner 7 (ty.Tuple []) refl) (least-unit w inner) (sub-itself (ty.Tuple [])),
             ))))
-            (good-server n some inner k (variable b) l (l + 1) (λ e. omega (arith, e)) (an_agent w (table.insert lettered (l + 1) ty.Site) b server_b))))
+            (good-server n some inner k (variable b) l t lt (an_agent w (table.insert lettered t ty.Site) b server_b))))
             (told n some inner k 2 _ (pair_type ty.Agent ty.Site) (pair_type ty.Agent ty.Site) refl
             (least-pair w inner (variable b) (variable s) ty.Agent ty.Site (least-variable w inner b ty.Agent at_b) (least-variable w inner s ty.Site at_s) nodes-agent nodes-site)
             (sub-itself (pair_type ty.Agent ty.Site))),
         settled n some inner k (variable s) q its_site gq,
       )))
 
-  pub good-main : (types : Types) (s l : ℕ) (p : Proc) → nat_lt s n ≡ true → Good w types p → Good w types (main_text n s l p)
-  good-main types s l p within g = good-cache types 0 (l + 2) _ (plain.good-main n some types s l (l + 1) p within (λ e. omega (arith, e)) g)
+  pub good-main : (types : Types) (s l t c : ℕ) (p : Proc) → nat_lt s n ≡ true → (l ≡ t → ⊥) → Good w types p → Good w types (main_text n s l t c p)
+  good-main types s l t c p within apart g = good-cache types 0 c _ (plain.good-main n some types s l t p within apart g)

@@ -10,8 +10,8 @@ use Rattle.np_syntax.specs.declared.program.Program.{Program}
 use Rattle.np_syntax.specs.declared.program.LowProgram.{LowProgram}
 use Rattle.daemon_encode.specs.Pieces.{variable, main}
 use Rattle.daemon_encode.specs.Encoded.{Translation, becomes, translate_step}
-use Rattle.cache_encode.specs.Texts.{post_text, agent_text, main_text}
-use Rattle.cache_encode.specs.Daemon.{cached_daemon}
+use Rattle.daemon_encode.specs.CacheTexts.{post_text, agent_text, main_text}
+use Rattle.daemon_encode.specs.CacheDaemon.{cached_daemon}
 
 -- m, l, s and t
 abbrev pub posting : ℕ → ℕ → Expr → Expr → Expr → Translation
@@ -22,7 +22,7 @@ abbrev pub creation : ℕ → ℕ → ℕ → Translation → Translation → Tr
 creation n k b p q a next =
     let body = p (variable b) (next + 1) in
     let rest = q a (body.next + 7) in
-    becomes (agent_text n k a b next body.next body.proc rest.proc) rest.next
+    becomes (agent_text n k a b next body.next (body.next + 1) (body.next + 2) body.proc rest.proc) rest.next
 
 -- by the tag and the offset of the process
 abbrev pub cached_step : ℕ → ProcForm-F (Tag → ℕ → Translation) Translation → Tag → ℕ → Translation
@@ -41,7 +41,7 @@ cached_form n = fold-ProcForm (Tag → ℕ → Translation) Translation (cached_
 abbrev pub main_of : ℕ → Program → Proc × ℕ
 main_of n p =
     let body = cached n p.main (main n) p.binders in
-    (main_text n p.at body.next body.proc, body.next + 7)
+    (main_text n p.at body.next (body.next + 1) (body.next + 2) body.proc, body.next + 7)
 
 -- the low program of a program
 abbrev pub encoded_cached : Program → LowProgram

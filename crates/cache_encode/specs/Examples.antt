@@ -8,7 +8,7 @@ use Rattle.np_low_text.specs.LowText.{low_text, proc_text}
 use Rattle.daemon_encode.specs.Examples.{prints_seven}
 use Rattle.daemon_encode.specs.Pieces.{expression, variable, main, stop}
 use Rattle.cache_encode.specs.Encoded.{encoded_cached}
-use Rattle.cache_encode.specs.Texts.{post_text, agent_text}
+use Rattle.daemon_encode.specs.CacheTexts.{post_text, agent_text}
 
 abbrev pub main_line : List ℕ
 main_line =
@@ -43,7 +43,7 @@ TextOfPost =
 
 -- `agent x0 = 0 in 0` in main, at node 5, whose binders are numbered from 1
 abbrev pub makes_idle : Proc
-makes_idle = agent_text 1 5 (main 1) 0 1 2 (stop 5) (stop 5)
+makes_idle = agent_text 1 5 (main 1) 0 1 2 3 4 (stop 5) (stop 5)
 
 abbrev pub TextOfCreation : Type 0
 TextOfCreation =

@@ -1,5 +1,4 @@
-pub mod Texts
-pub mod Daemon
 pub mod Encoded
+pub mod Related
 pub mod Typed
 pub mod Examples

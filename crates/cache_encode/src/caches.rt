@@ -1,7 +1,7 @@
 //! What keeps the cache of an agent.
 
 ghost use Rattle.std.specs.Prelude.{◌≡◌, ◌+◌, ◌≤◌, IfOk};
-ghost use Rattle.cache_encode.specs.Texts as spec;
+ghost use Rattle.daemon_encode.specs.CacheTexts as spec;
 
 use super::own_names::{CACHE, FOUND};
 use daemon_encode::{Writer, expression, lock_type, name, nothing, two_names, variable};

@@ -1,7 +1,7 @@
 //! Agents with caches: a creation, and main's bracket.
 
 ghost use Rattle.std.specs.Prelude.{◌≡◌, ◌+◌, ◌≤◌, IfOk};
-ghost use Rattle.cache_encode.specs.Texts as spec;
+ghost use Rattle.daemon_encode.specs.CacheTexts as spec;
 
 use super::caches::with_cache;
 use daemon_encode::{CURRENTLOC, REGISTER, Writer, name, pair, variable};
@@ -25,7 +25,7 @@ fn child_text(
     body: Boxed<Proc>,
 ) -> Result<Boxed<Proc>, Memory>
     requires { first + 6 ≤ u32.MAX }
-    ensures { IfOk result (λ p. p ≡ spec.child_text writer.sites writer.node parent.now agent at first body) }
+    ensures { IfOk result (λ p. p ≡ spec.child_text writer.sites writer.node parent.now agent at first (first + 1) (first + 2) body) }
 {
     let begins = writer.begins(parent, at, body)?;
     let server = writer.server_text(variable(agent), first, first + 1)?;
@@ -46,7 +46,7 @@ pub fn agent_text(
     rest: Boxed<Proc>,
 ) -> Result<Boxed<Proc>, Memory>
     requires { first + 6 ≤ u32.MAX }
-    ensures { IfOk result (λ p. p ≡ spec.agent_text writer.sites writer.node parent.now agent at first body rest) }
+    ensures { IfOk result (λ p. p ≡ spec.agent_text writer.sites writer.node parent.now agent at first (first + 1) (first + 2) body rest) }
 {
     let child = child_text(writer, parent, agent, at, first, body)?;
     let rest = writer.settles(variable(at), rest)?;
@@ -63,7 +63,7 @@ pub fn main_text(
 ) -> Result<Boxed<Proc>, Memory>
     requires zero { writer.node ≡ 0 }
     requires numbers { first + 6 ≤ u32.MAX }
-    ensures { IfOk result (λ p. p ≡ spec.main_text writer.sites at first body) }
+    ensures { IfOk result (λ p. p ≡ spec.main_text writer.sites at first (first + 1) (first + 2) body) }
 {
     let main = writer.main_text(at, first, first + 1, body)?;
     with_cache(writer, first + 2, main)

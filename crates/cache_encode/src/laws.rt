@@ -1,5 +1,12 @@
 ghost use Rattle.cache_encode.specs.Examples.{LowTextOfSeven, TextOfCreation, TextOfPost};
+ghost use Rattle.cache_encode.specs.Related.{CachedEncodesItself, CachedTranslatesItself};
 ghost use Rattle.cache_encode.specs.Typed.{CachedFaultless, CachedRunsWell, CachedWellTyped};
+
+/// What the translation makes is a low process of what it is made from, and so is a low program, where agents have caches.
+pub fn law_cached_translates()
+    ensures process { CachedTranslatesItself }
+    ensures program { CachedEncodesItself }
+{}
 
 /// The low program of an accepted program, whose agents have caches, has no fault under the types of the infrastructure's
 /// channels. So it is typed after each prefix of each of its runs, and no value of a wrong type is ever met.

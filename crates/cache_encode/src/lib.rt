@@ -10,5 +10,7 @@ mod programs;
 mod servers;
 mod translator;
 
-pub use laws::{law_cached_examples, law_cached_runs_well, law_cached_typed};
+pub use laws::{
+    law_cached_examples, law_cached_runs_well, law_cached_translates, law_cached_typed,
+};
 pub use programs::encode_cached;

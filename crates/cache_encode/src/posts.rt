@@ -4,7 +4,7 @@ ghost use Rattle.std.specs.Prelude.{◌≡◌, ◌+◌, ◌≤◌, IfOk};
 ghost use Rattle.np_syntax.specs.declared.process.ProcForm as shape;
 ghost use Rattle.daemon_encode.specs.Pieces as piece;
 ghost use Rattle.daemon_encode.specs.Texts as central;
-ghost use Rattle.cache_encode.specs.Texts as spec;
+ghost use Rattle.daemon_encode.specs.CacheTexts as spec;
 
 use super::caches::{keeps, looks};
 use super::own_names::{CACHE, WHERE};

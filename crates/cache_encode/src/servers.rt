@@ -1,7 +1,7 @@
 //! The daemon's process.
 
 ghost use Rattle.std.specs.Prelude.{◌≡◌, ◌+◌, ◌≤◌, IfOk};
-ghost use Rattle.cache_encode.specs.Daemon as spec;
+ghost use Rattle.daemon_encode.specs.CacheDaemon as spec;
 
 use super::own_names::{FOUND, WHERE};
 use daemon_encode::{Writer, daemon, name, pair, two_names, variable};

@@ -4,7 +4,7 @@ ghost use Rattle.std.specs.Prelude.{◌≡◌, ◌+◌, IfOk};
 ghost use Rattle.daemon_encode.specs.Encoded as central;
 ghost use Rattle.daemon_encode.specs.Pieces as piece;
 ghost use Rattle.cache_encode.specs.Encoded as spec;
-ghost use Rattle.cache_encode.specs.Texts as text;
+ghost use Rattle.daemon_encode.specs.CacheTexts as text;
 
 use super::creations::agent_text;
 use super::posts::post_text;
@@ -130,7 +130,7 @@ fn creation(
     body: Translated,
     rest: Translated,
 ) -> Result<Translated, Memory>
-    ensures { IfOk result (λ t. t ≡ central.becomes (text.agent_text forms.sites tag.node agent.now child at body.next body.proc rest.proc) rest.next) }
+    ensures { IfOk result (λ t. t ≡ central.becomes (text.agent_text forms.sites tag.node agent.now child at body.next (body.next + 1) (body.next + 2) body.proc rest.proc) rest.next) }
 {
     let next = rest.next;
     let first = body.next;

@@ -1,4 +1,5 @@
 pub mod Forms
+pub mod KeptForms
 pub mod Related
 pub mod Making
 pub mod DaemonTyped

@@ -1,13 +1,12 @@
 -- What stands in the low program of a resolved program. The walk over processes, the pieces and the daemon's servers also serve
 -- translations that write out a creation and a post in ways of their own.
-use Rattle.std.proofs.Common.{◌≡◌, ◌<◌, ℕ, ◌+◌, true, inl, inr, List, [], ◌∷◌, length, refl, subst, sym, ap, ◌∙◌, arith}
+use Rattle.std.proofs.Common.{◌≡◌, ◌<◌, ℕ, ◌+◌, true, inl, inr, List, [], ◌∷◌, length, refl, subst, sym, ◌∙◌, arith}
 use Rattle.np_syntax.specs.declared.expression.Expr.{Expr}
 use Rattle.np_syntax.specs.declared.pattern.Pat.{Pat}
 use Rattle.np_syntax.specs.declared.process.Tag.{Tag}
 use Rattle.np_syntax.specs.declared.process.Role.{Role}
 use Rattle.np_syntax.specs.declared.process.Role.TheVariants as role
 use Rattle.np_syntax.specs.declared.process.Proc.{Proc}
-use Rattle.np_syntax.specs.declared.process.ProcForm.{ProcForm, ProcForm-F, map-ProcForm}
 use Rattle.np_syntax.specs.declared.process.ProcForm as form
 use Rattle.np_syntax.specs.declared.process.ProcForm.TheVariants as layers
 use Rattle.np_syntax.specs.declared.program.Program.{Program}
@@ -19,10 +18,11 @@ use Rattle.daemon_encode.specs.declared.translated.Translated.{Translated}
 use Rattle.daemon_encode.specs.Pieces.{variable, name, pair, two_names, site, channel, main, daemon, register, message, currentloc, process, gives, takes, tells, finds}
 use Rattle.daemon_encode.specs.Texts.{letter, settles, migrate_text, server_text, begins, agent_text, main_text}
 use Rattle.daemon_encode.specs.Daemon.{acks, frees, notes, looks_up, daemon_text}
-use Rattle.daemon_encode.specs.Encoded.{Translation, translate_step, translated, translated_form, encoded}
+use Rattle.daemon_encode.specs.Encoded.{Translation, translate_step, translated, encoded}
 use Rattle.daemon_encode.specs.LowSound.{is_listed, IsLowValue, IsLowExpr, AreLowExprs, Enters, EnterAll, IsLowProc, IsLowSound}
 use Rattle.daemon_encode.specs.Translates.{source}
-use Rattle.daemon_encode.proofs.Forms.{translated-form, translated-layer, stepped, form-agent, form-post}
+use Rattle.daemon_encode.proofs.Forms.{translated-form, form-agent, form-post}
+use Rattle.daemon_encode.proofs.KeptForms.{IsShared, steps, KeepsForms, translated-keeps}
 
 -- ---- more binders in scope
 
@@ -208,19 +208,6 @@ module _ (n : ℕ) (some : 0 < n) where
 
 -- ---- processes
 
--- all forms but a creation and a post, which a translation may write out in a way of its own
-abbrev pub IsShared : Layer → Type 0
-IsShared (ProcForm-F.Agent b p q) = ⊥
-IsShared (ProcForm-F.Post b c e) = ⊥
-IsShared y = Unit {0}
-
-abbrev pub Steps : Type 0
-Steps = Tag → ℕ → Translation
-
--- the translations of what stands in a form
-abbrev pub steps : (ProcForm → Steps) → (Proc → Translation) → Layer → ProcForm-F Steps Translation
-steps forms f y = map-ProcForm ProcForm Proc Steps Translation forms f y
-
 -- by an equation of a translation
 pub written : {n : ℕ} {scope : List ℕ} (t u : Translated) → t ≡ u → IsLowProc n scope u.proc → IsLowProc n scope t.proc
 written {n = n} {scope = scope} t u e g = subst (λ (r : Translated). IsLowProc n scope r.proc) (sym e) g
@@ -228,8 +215,7 @@ written {n = n} {scope = scope} t u e g = subst (λ (r : Translated). IsLowProc 
 module _ (n : ℕ) (some : 0 < n) where
   -- a translation whose creations and posts stand in a low program too
   pub record IsTranslation (f : Proc → Translation) : Type 0 where
-    pub forms : ProcForm → Steps
-    pub shared : (p : Proc) (y : Layer) → layer p ≡ y → IsShared y → (a : Expr) (k : ℕ) → f p a k ≡ translate_step n (steps forms f y) p.tag p.at a k
+    pub keeps : KeepsForms n f
     -- wherever the numbers of the binders begin in the two parts
     pub creation : (scope : List ℕ) (tag : Tag) (at : ℕ) (a : Expr) (k b : ℕ) (p q : Proc) → IsLowExpr n (b ∷ k ∷ scope) a
         → ((j : ℕ) → IsLowProc n (b ∷ k ∷ scope) (f p (variable b) j).proc) → ((j : ℕ) → IsLowProc n (b ∷ k ∷ scope) (f q a j).proc)
@@ -238,9 +224,9 @@ module _ (n : ℕ) (some : 0 < n) where
         → IsLowProc n scope (f (source tag at (form.Post b c e)) a k).proc
 
   module _ (f : Proc → Translation) (t : IsTranslation f) where
-    becomes : {scope : List ℕ} (p : Proc) (y : Layer) (a : Expr) (k : ℕ) → layer p ≡ y → IsShared y → IsLowProc n scope (translate_step n (steps t.forms f y) p.tag p.at a k).proc
+    becomes : {scope : List ℕ} (p : Proc) (y : Layer) (a : Expr) (k : ℕ) → layer p ≡ y → IsShared y → IsLowProc n scope (translate_step n (steps t.keeps.forms f y) p.tag p.at a k).proc
         → IsLowProc n scope (f p a k).proc
-    becomes p y a k is same g = written _ _ (t.shared p y is same a k) g
+    becomes p y a k is same g = written _ _ (t.keeps.shared p y is same a k) g
 
     pub low-proc : {scope wider bound : List ℕ} {node after : ℕ} {p : Proc} → Within scope wider → IsSoundProc n scope node p after bound → (a : Expr) → IsLowExpr n wider a → (k : ℕ)
         → IsLowProc n wider (f p a k).proc
@@ -287,8 +273,7 @@ module _ (n : ℕ) (some : 0 < n) where
 
   is-translated : IsTranslation (translated n)
   is-translated = record {
-    forms = translated_form n;
-    shared = λ p y is same a k. translated-form n p a k ∙ translated-layer n p.form p.tag p.at a k ∙ ap (stepped n p.tag p.at a k) is;
+    keeps = translated-keeps n;
     creation = λ scope tag at a k b p q xa gp gq.
         let l = (translated n p (variable b) (k + 1)).next in
         written _ _ (translated-form n (source tag at (form.Agent b p q)) a k ∙ form-agent n tag at a k b p q)

@@ -14,20 +14,21 @@ use Rattle.np_syntax.specs.declared.event.Kind.TheVariants as kind
 use Rattle.np_syntax.specs.Options.{◌>>=◌}
 use Rattle.np_syntax.proofs.Options.{then, done}
 use Rattle.np_tables.specs.Names.{same_name}
-use Rattle.np_tables.proofs.Tables.{same_name-is}
 use Rattle.np_calculus.specs.declared.config.Atom.{Atom}
 use Rattle.np_calculus.specs.Begins.{begun_by}
 use Rattle.np_calculus.specs.Config.{Config}
+use Rattle.np_calculus.specs.Parts.{IsLodged}
+use Rattle.np_calculus.specs.Sight.{inside}
 use Rattle.np_calculus.specs.Reductions.{same_tag}
 use Rattle.np_calculus.proofs.Steps.{Acts}
 use Rattle.np_calculus.specs.Starts.{daemon_agent}
+use Rattle.cache_lift.specs.Lift.{stands_for}
 use Rattle.np_eval.specs.Eval.{agent_of, as_agent, chan_of, eval}
 use Rattle.np_eval.specs.Forms.{Layer, layer}
-use Rattle.np_protocol.specs.Phases.{Phase, is_present, is_registered}
-use Rattle.np_protocol.specs.Scenes.{is_there}
 use Rattle.np_scope.specs.Sound.{IsSoundExpr}
 use Rattle.np_scope.specs.Written.{IsLiteral}
 use Rattle.np_scope.proofs.SoundParts.{ProcParts, proc-parts}
+use Rattle.daemon_encode.specs.Infrastructures.{Infrastructure}
 use Rattle.np_source_values.specs.Known.{IsKnown, Knows}
 use Rattle.np_source_values.proofs.Known.{value-is-known}
 use Rattle.np_source_values.proofs.Values.{same-value}
@@ -35,21 +36,22 @@ use Rattle.np_things.specs.Acting.{begins}
 use Rattle.np_things.specs.Shapes.{Is, IsOfSource}
 use Rattle.np_things.specs.Things.{Stage, Thing, first_atom_of}
 use Rattle.np_things.proofs.Acting.{source-plain}
-use Rattle.np_levels.specs.Coupled.{Coupled, KnowsOnly, View, chips, is_channel, may_know, whereabouts}
+use Rattle.np_levels.specs.Coupled.{Coupled, KnowsOnly, View, chips, is_channel, may_know}
 use Rattle.np_levels.specs.Laws.{event_of}
+use Rattle.np_levels.proofs.Places.{known_there, not_daemon, same_place}
 use Rattle.np_levels.proofs.Forms.{IsFormOf, source_form}
 use Rattle.np_levels.proofs.Outputs.{chan-known}
 use Rattle.np_levels.proofs.Shapes.{of_actor, same_role}
 
 -- what begins an event of the role Plain, but for an Agent and a Depart, is the translation of an atom
-plain_source : {R : Type 0} (n from first : ℕ) (t : Thing) (k : Kind) (a : Atom) → Is n from first t a → begins t role.Plain k ≡ true → (k ≡ kind.Agent → ⊥)
+plain_source : {R : Type 0} (i : Infrastructure) (n from first : ℕ) (t : Thing) (k : Kind) (a : Atom) → Is i n from first t a → begins t role.Plain k ≡ true → (k ≡ kind.Agent → ⊥)
     → (k ≡ kind.Depart → ⊥)
-    → ((x : Expr) (h : Atom) → t ≡ Thing.source x h → IsOfSource n from x h a → R) → R
-plain_source n from first (Thing.source x h) k a i b no_agent no_depart r = r x h refl i
-plain_source n from first (Thing.leaving x h) kind.Depart a i b no_agent no_depart r = absurd (no_depart refl)
-plain_source n from first (Thing.making x h s) kind.Agent a i b no_agent no_depart r = absurd (no_agent refl)
-plain_source n from first (Thing.mail m (Stage.in_agent x)) k a i b no_agent no_depart r = absurd cc
-plain_source n from first _ k a i b no_agent no_depart r = absurd cc
+    → ((x : Expr) (h : Atom) → t ≡ Thing.source x h → IsOfSource i n from x h a → R) → R
+plain_source _ n from first (Thing.source x h) k a i b no_agent no_depart r = r x h refl i
+plain_source _ n from first (Thing.leaving x h) kind.Depart a i b no_agent no_depart r = absurd (no_depart refl)
+plain_source _ n from first (Thing.making x h s) kind.Agent a i b no_agent no_depart r = absurd (no_agent refl)
+plain_source _ n from first (Thing.mail m (Stage.in_agent x)) k a i b no_agent no_depart r = absurd cc
+plain_source _ n from first _ k a i b no_agent no_depart r = absurd cc
 
 -- an agent that is known
 pub agent_known : (agents chans : Name → Bool) (v : Value) → IsKnown agents chans v → (a : Name) → as_agent (out-Value v) ≡ Some a → agents a ≡ true
@@ -61,25 +63,12 @@ agent_known agents chans v (IsKnown.site {s = s}) c h = absurd (let e = ap as_ag
 agent_known agents chans v (IsKnown.channel {c = d} k) c h = absurd (let e = ap as_agent (outs.outs-Chan d) in cc)
 agent_known agents chans v (IsKnown.tuple {vs = vs} k) c h = absurd (let e = ap as_agent (outs.outs-Tuple vs) in cc)
 
-registered_there : (p : Phase) → is_registered p ≡ true → is_present p ≡ true
-registered_there Phase.absent h = absurd cc
-registered_there Phase.registering h = refl
-registered_there _ h = refl
-
 -- an agent that is in the map is not the daemon
-pub known_apart : {n from first : ℕ} {low high : Config} {v : View} → Coupled n from first low high v → (b : Name) → is_some (v.lock b) ≡ true
+pub known_apart : {i : Infrastructure} {n from first : ℕ} {low high : Config} {v : View} → Coupled i n from first low high v → (b : Name) → is_some (v.lock b) ≡ true
     → same_name b (daemon_agent n) ≡ false
-known_apart {n} {high = high} {v = v} c b h = go (same_name b (daemon_agent n)) refl
-  where
-    go : (t : Bool) → same_name b (daemon_agent n) ≡ t → t ≡ false
-    go false e = refl
-    go true e =
-        let there : is_there (whereabouts (map.get high.places b)) ≡ true =
-        c.protocol.placed b ∙ registered_there (v.phase b) (sym (c.protocol.registered b) ∙ h) in
-        let none : map.get high.places b ≡ None = ap (map.get high.places) (same_name-is b (daemon_agent n) e) ∙ c.no_daemon in
-        absurd (let bad : false ≡ true = sym (ap (λ p. is_there (whereabouts p)) none) ∙ there in cc)
+known_apart c b h = not_daemon c b (known_there c b h)
 
-module _ {n from first : ℕ} {low high : Config} {v : View} (c : Coupled n from first low high v) (e : Event) where
+module _ {i : Infrastructure} {n from first : ℕ} {low high : Config} {v : View} (c : Coupled i n from first low high v) (e : Event) where
   -- the agents that the source knows
   abbrev pub agents : Name → Bool
   agents b = is_some (v.lock b)
@@ -90,21 +79,21 @@ module _ {n from first : ℕ} {low high : Config} {v : View} (c : Coupled n from
     pub atom : Atom
     pub no_packet : map.get low.packets e.actor ≡ None
     pub there : map.get v.things e.actor ≡ Some (Thing.source named atom ∷ [])
-    pub is : IsOfSource n from named atom a
-    pub high_there : map.get high.atoms (v.stands_for e.actor) ≡ Some atom
+    pub is : IsOfSource i n from named atom a
+    pub high_there : map.get high.atoms (stands_for v.standing e.actor) ≡ Some atom
     pub acts : Acts high (event_of v e) atom
     pub tag : atom.proc.tag ≡ a.proc.tag
-    pub form : IsFormOf n from named (layer a.proc) (layer atom.proc)
+    pub form : IsFormOf i n from named (layer a.proc) (layer atom.proc)
     pub knows : Knows agents (is_channel n high.born) from atom.env
 
-  pub actor : (a : Atom) (k : Kind) → Acts low e a → e.tag.role ≡ role.Plain → begun_by (layer a.proc) ≡ Some k → (k ≡ kind.Agent → ⊥) → (k ≡ kind.Depart → ⊥)
+  pub actor : IsLodged (inside high) → (a : Atom) (k : Kind) → Acts low e a → e.tag.role ≡ role.Plain → begun_by (layer a.proc) ≡ Some k → (k ≡ kind.Agent → ⊥) → (k ≡ kind.Depart → ⊥)
       → Actor a
-  actor a k acts plain begun no_agent no_depart =
+  actor lodged a k acts plain begun no_agent no_depart =
       let plain_atom = same_role a.proc.tag e.tag acts.tag ∙ plain in
       let o = of_actor c e.actor a k role.Plain acts.there begun plain_atom (λ f r. absurd cc) in
-      plain_source n from first o.thing k a o.is o.its_kind no_agent no_depart λ x h thing i.
+      plain_source _ n from first o.thing k a o.is o.its_kind no_agent no_depart λ x h thing i.
       let there : map.get v.things e.actor ≡ Some (Thing.source x h ∷ []) = o.there ∙ ap (λ t. Some (t ∷ [])) thing in
-      let high_there : map.get high.atoms (v.stands_for e.actor) ≡ Some h = c.mirrored.up e.actor h (ap (λ o. o >>= first_atom_of) there) in
+      let high_there : map.get high.atoms (stands_for v.standing e.actor) ≡ Some h = c.mirrored.up e.actor h (ap (λ o. o >>= first_atom_of) there) in
       let forms = source_form n from x h.proc a.proc i.translates (source-plain i.stands.source.sound) plain_atom in
       record {
         named = x;
@@ -115,7 +104,7 @@ module _ {n from first : ℕ} {low high : Config} {v : View} (c : Coupled n from
         high_there = high_there;
         acts = record {
           there = high_there;
-          stands = sym (c.places h.agent i.stands.apart) ∙ ap (map.get low.places) (sym i.stands.agent) ∙ acts.stands;
+          stands = sym (same_place c h.agent (lodged.each (stands_for v.standing e.actor) h high_there)) ∙ ap (map.get low.places) (sym i.stands.agent) ∙ acts.stands;
           tag = ap (λ (t : Tag). same_tag t e.tag) forms.0 ∙ acts.tag;
         };
         tag = forms.0;

@@ -3,6 +3,7 @@ use Rattle.std.proofs.Common.{◌≡◌, inl, ℕ, true, false, cond, nat_eq, No
 use Rattle.std.proofs.lemmas.Bool.{eqb-true}
 use Rattle.std.proofs.lemmas.List.Sorted.{IsPermutation-refl}
 use Rattle.std.specs.FinMap as map
+use Rattle.std.specs.FinSet as set
 use Rattle.np_syntax.specs.declared.value.Name.{Name}
 use Rattle.np_syntax.specs.declared.process.Role.TheVariants as role
 use Rattle.np_syntax.specs.declared.event.Event.{Event}
@@ -25,8 +26,10 @@ use Rattle.np_protocol.specs.Protocol.{Protocol}
 use Rattle.np_protocol.specs.Rules.{Rule}
 use Rattle.np_protocol.specs.Scenes.{Whereabouts, with_place}
 use Rattle.np_protocol.proofs.Keeps.{keeps-protocol}
+use Rattle.daemon_encode.specs.Infrastructures.{Infrastructure}
 use Rattle.np_levels.specs.Coupled.{Coupled, View, chips, scene, whereabouts}
 use Rattle.np_levels.specs.Laws.{ArrivalsAreEvents}
+use Rattle.np_levels.proofs.Places.{put_another}
 use Rattle.np_levels.proofs.Keeping.{known_on}
 use Rattle.np_levels.proofs.Marks.{reshape}
 use Rattle.np_levels.proofs.Plains.{none-other}
@@ -68,15 +71,15 @@ arrives_so : (c : Config) (e : Event) → map.get c.places e.actor ≡ Some (pla
 unfolding arrive_row
 arrives_so c e there tag none other = rw (there, same_site e.site, tag, none, other) refl
 
-module _ {n from first : ℕ} {low high : Config} {v : View} (c : Coupled n from first low high v) (e : Event) (next : Config) (is_arrive : e.kind ≡ kind.Arrive)
-    (h : apply low e ≡ Some next) (s : IsArriving low e next) where
+module _ {i : Infrastructure} {n from first : ℕ} {low high : Config} {v : View} (c : Coupled i n from first low high v) (e : Event) (next : Config) (is_arrive : e.kind ≡ kind.Arrive)
+    (others : set.contains v.standing.messengers e.actor ≡ false) (h : apply low e ≡ Some next) (s : IsArriving low e next) where
   -- the daemon does not move
   apart : same_name e.actor (daemon_agent n) ≡ false
   apart = not_true _ (λ t. let bad : place.At 0 ≡ place.Way e.site = done
       (sym s.there ∙ ap (map.get low.places) (same_name-is e.actor (daemon_agent n) t) ∙ c.daemon) in cc)
 
   high_there : map.get high.places e.actor ≡ Some (place.Way e.site)
-  high_there = sym (c.places e.actor apart) ∙ s.there
+  high_there = sym (c.places e.actor apart others) ∙ s.there
 
   abbrev then_high : Config
   then_high = effect high e (record still { places = put e.actor (place.At e.site) ∷ [] })
@@ -94,7 +97,7 @@ module _ {n from first : ℕ} {low high : Config} {v : View} (c : Coupled n from
   low_places : next.places ≡ map.insert low.places e.actor (place.At e.site)
   low_places = ap (λ (d : Config). d.places) s.is
 
-  coupled : Coupled n from first next then_high (record v { phase = protocol.0 })
+  coupled : Coupled i n from first next then_high (record v { phase = protocol.0 })
   coupled = together c next then_high e v.things protocol.0 (record {
     applies = h;
     sites = ap (λ (d : Config). d.sites) s.is;
@@ -103,9 +106,10 @@ module _ {n from first : ℕ} {low high : Config} {v : View} (c : Coupled n from
         ∙ ap (λ z. cond z (Some (place.At e.site)) (map.get low.places (daemon_agent n))) (same_name-swap (daemon_agent n) e.actor ∙ apart);
     no_daemon = get-put high.places e.actor (place.At e.site) (daemon_agent n)
         ∙ ap (λ z. cond z (Some (place.At e.site)) (map.get high.places (daemon_agent n))) (same_name-swap (daemon_agent n) e.actor ∙ apart);
-    places = λ q f. ap (λ (p : NameMap Place). map.get p q) low_places ∙ get-put low.places e.actor (place.At e.site) q
-        ∙ ap (cond (same_name q e.actor) (Some (place.At e.site))) (c.places q f)
+    places = λ q f g. ap (λ (p : NameMap Place). map.get p q) low_places ∙ get-put low.places e.actor (place.At e.site) q
+        ∙ ap (cond (same_name q e.actor) (Some (place.At e.site))) (c.places q f g)
         ∙ sym (get-put high.places e.actor (place.At e.site) q);
+    messengers = λ q is. put_another c q e.actor (place.At e.site) is others;
     said = ap (λ (d : Config). d.said) s.is ∙ c.said;
     born = ap (λ (d : Config). d.born) s.is;
     high_born = refl;
@@ -117,9 +121,9 @@ module _ {n from first : ℕ} {low high : Config} {v : View} (c : Coupled n from
     known = λ q ts j. known_on v.lock (chips v.things) (chips v.things) n from high.born e.made (λ a b any. any) ts (c.known q ts j);
   })
 
-  arrived : (then : Config) × (apply high e ≡ Some then) × (w : View) × (w.stands_for ≡ v.stands_for) × Coupled n from first next then w × SameLetters v w
+  arrived : (then : Config) × (apply high e ≡ Some then) × (w : View) × (w.standing ≡ v.standing) × Coupled i n from first next then w × SameLetters v w
   arrived = (then_high, applies, record v { phase = protocol.0 }, refl, coupled, λ q. refl)
 
-pub arrivals-are-events : ArrivalsAreEvents
-arrivals-are-events n from first low high v c well e next is_arrive plain h = arrived c e next is_arrive h
+pub arrivals-are-events : {i : Infrastructure} → ArrivalsAreEvents i
+arrivals-are-events n from first low high v c well e next is_arrive plain others h = arrived c e next is_arrive others h
     (arriving low e next (ap (λ k. row k low e) (sym is_arrive) ∙ h))

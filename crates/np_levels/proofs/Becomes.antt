@@ -35,6 +35,7 @@ use Rattle.np_protocol.specs.Protocol.{Protocol}
 use Rattle.np_protocol.specs.Rules.{IsKnowledge, IsLearnt, Rule}
 use Rattle.np_protocol.specs.Steps.{Step}
 use Rattle.np_protocol.proofs.Keeps.{keeps-protocol}
+use Rattle.daemon_encode.specs.Infrastructures.{Infrastructure}
 use Rattle.np_things.specs.Acting.{begins}
 use Rattle.np_things.specs.Mail.{Posted}
 use Rattle.np_things.specs.Shapes.{Are, Is, IsAgents, Opens}
@@ -54,7 +55,7 @@ cancel {A} {before} {after} {take} {give} took gave both step t g = record {
   given = subst (IsPermutation after) (append_assoc gave both step.rest) (IsPermutation-trans after (give ++ step.rest) ((gave ++ both) ++ step.rest) step.given (IsPermutation-append_left step.rest give (gave ++ both) g));
 }
 
-module _ {n from first : ℕ} {low high : Config} {v : View} (c : Coupled n from first low high v) where
+module _ {i : Infrastructure} {n from first : ℕ} {low high : Config} {v : View} (c : Coupled i n from first low high v) where
   -- another atom stands under a mark, with other things, for which the high level has the same
   pub record Becomes (next : Config) (e : Event) (m : Name) (x : Atom) (ts us : List Thing) : Type 0 where
     pub applies : apply low e ≡ Some next
@@ -62,7 +63,7 @@ module _ {n from first : ℕ} {low high : Config} {v : View} (c : Coupled n from
     pub no_packet : map.get low.packets m ≡ None
     pub there : map.get v.things m ≡ Some ts
     pub headed : IsHeaded us
-    pub are : Are n from first x us
+    pub are : Are i n from first x us
     pub atoms : first_atom_of us ≡ first_atom_of ts
     pub packets : first_packet_of us ≡ first_packet_of ts
     pub protocol : Step (chips v.things) (chips (map.insert v.things m us)) (show_all ts) (show_all us) → (then : Name → Phase) × Protocol (scene v high) then (chips (map.insert v.things m us))
@@ -71,7 +72,7 @@ module _ {n from first : ℕ} {low high : Config} {v : View} (c : Coupled n from
         → AllByRecursion (λ t. KnowsOnly (may_know v.lock (chips (map.insert v.things m us)) t) (is_channel n high.born) from t) us
 
   pub becomes_other : (next : Config) (e : Event) (m : Name) (x : Atom) (ts us : List Thing) → Becomes next e m x ts us
-      → (w : View) × (w.stands_for ≡ v.stands_for) × Coupled n from first next high w × OtherLetter v w m (first_letter_of us)
+      → (w : View) × (w.standing ≡ v.standing) × Coupled i n from first next high w × OtherLetter v w m (first_letter_of us)
   becomes_other next e m x ts us b =
       let things : NameMap (List Thing) = map.insert v.things m us in
       let step = step_at v.things m ts us b.there in
@@ -99,7 +100,7 @@ module _ {n from first : ℕ} {low high : Config} {v : View} (c : Coupled n from
 
   -- the new things carry the letter that was there
   pub becomes : (next : Config) (e : Event) (m : Name) (x : Atom) (ts us : List Thing) → first_letter_of us ≡ first_letter_of ts → Becomes next e m x ts us
-      → (w : View) × (w.stands_for ≡ v.stands_for) × Coupled n from first next high w × SameLetters v w
+      → (w : View) × (w.standing ≡ v.standing) × Coupled i n from first next high w × SameLetters v w
   becomes next e m x ts us same b =
       let w = becomes_other next e m x ts us b in (w.0, w.1, w.2, λ q. w.3 q ∙ sym (letter-put v.things m us q) ∙ same-letters v.things m us ts b.there same q)
 
@@ -122,18 +123,18 @@ opening low e next h =
     then (letter_of x a.env) _ h λ l its h. then (none_made e.made) _ h λ u none h. then (no_other e.other) _ h λ w other h.
     record { atom = a; acts = acting-step low e a acts; letter = x; form = form; held = l; its_letter = its; is = r.is ∙ ap (effect low e) (done h) }
 
-opens_letter : {R : Type 0} (n from first : ℕ) (t : Thing) (a : Atom) → Is n from first t a → begins t role.Infra kind.Open ≡ true → ((p : Posted) → t ≡ Thing.opening p → Opens p a → IsAgents n p.agent → R) → R
-opens_letter n from first (Thing.opening p) a i h f = f p refl i.0 i.1
-opens_letter n from first (Thing.mail m (Stage.in_agent x)) a i h f = absurd cc
-opens_letter n from first _ a i h f = absurd cc
+opens_letter : {R : Type 0} (i : Infrastructure) (n from first : ℕ) (t : Thing) (a : Atom) → Is i n from first t a → begins t role.Infra kind.Open ≡ true → ((p : Posted) → t ≡ Thing.opening p → Opens p a → IsAgents n p.agent → R) → R
+opens_letter _ n from first (Thing.opening p) a i h f = f p refl i.0 i.1
+opens_letter _ n from first (Thing.mail m (Stage.in_agent x)) a i h f = absurd cc
+opens_letter _ n from first _ a i h f = absurd cc
 
-module _ {n from first : ℕ} {low high : Config} {v : View} (c : Coupled n from first low high v) where
+module _ {i : Infrastructure} {n from first : ℕ} {low high : Config} {v : View} (c : Coupled i n from first low high v) where
   pub opens : (e : Event) (next : Config) → e.kind ≡ kind.Open → e.tag.role ≡ role.Infra → apply low e ≡ Some next
-      → (w : View) × (w.stands_for ≡ v.stands_for) × Coupled n from first next high w × IsHanding next e v w
+      → (w : View) × (w.standing ≡ v.standing) × Coupled i n from first next high w × IsHanding next e v w
   opens e next is_open infra h =
       let s = opening low e next (ap (λ k. row k low e) (sym is_open) ∙ h) in
       let o = of_actor c e.actor s.atom kind.Open role.Infra s.acts.there (ap begun_by s.form) (same_role s.atom.proc.tag e.tag s.acts.tag ∙ infra) (λ k r. cc) in
-      opens_letter n from first o.thing s.atom o.is o.its_kind λ p thing i apart.
+      opens_letter _ n from first o.thing s.atom o.is o.its_kind λ p thing i apart.
       let letters : s.letter ≡ i.letter = (let same = sym s.form ∙ i.is in cc) in
       let held : s.held ≡ (p.chan, p.value) = some_is (sym s.its_letter ∙ ap (λ (y : Expr). letter_of y s.atom.env) letters ∙ i.holds) in
       let there : map.get v.things e.actor ≡ Some (Thing.opening p ∷ []) = o.there ∙ ap (λ t. Some (t ∷ [])) thing in

@@ -43,8 +43,10 @@ use Rattle.np_protocol.proofs.Tallies.{only}
 use Rattle.np_protocol.proofs.Steps.{all_taken}
 use Rattle.np_syntax.specs.declared.expression.ExprForm as expr
 use Rattle.daemon_encode.specs.Pieces.{ack, beside, currentloc, daemon, deliver, expression, gives, lock, migrating, name, nothing, pair, process, sends as sends_text, site, takes, tells, unit, variable}
-use Rattle.daemon_encode.specs.Texts.{agent_text, child_text, migrate_text, move_text, settles}
+use Rattle.daemon_encode.specs.Texts.{migrate_text, move_text, settles}
 use Rattle.daemon_encode.specs.Daemon.{acks}
+use Rattle.daemon_encode.specs.Infrastructures.{Infrastructure}
+use Rattle.daemon_encode.specs.InfrastructureTexts.{agent_text_of, child_of, post_of}
 use Rattle.daemon_encode.specs.Translates.{Translates, source}
 use Rattle.np_source_values.specs.Sources.{Names}
 use Rattle.np_things.specs.Acting.{begins}
@@ -94,9 +96,9 @@ no_owed a b (ch ∷ cs) none h =
         omega arith
     counts _ i = absurd cc
 
-module _ {n from first : ℕ} {low high : Config} {v : View} (c : Coupled n from first low high v) (e : Event) (next : Config) (s : IsMeeting low e next) (no_packet : map.get low.packets e.actor ≡ None) (h : apply low e ≡ Some next) where
+module _ {i : Infrastructure} {n from first : ℕ} {low high : Config} {v : View} (c : Coupled i n from first low high v) (e : Event) (next : Config) (s : IsMeeting low e next) (no_packet : map.get low.packets e.actor ≡ None) (h : apply low e ≡ Some next) where
   abbrev Done : Type 0
-  Done = (w : View) × (w.stands_for ≡ v.stands_for) × Coupled n from first next high w × SameLetters v w
+  Done = (w : View) × (w.standing ≡ v.standing) × Coupled i n from first next high w × SameLetters v w
 
   -- what the text of the input says
   record Reads (a : Expr) (x : Pat) (p : Proc) : Type 0 where
@@ -164,19 +166,19 @@ module _ {n from first : ℕ} {low high : Config} {v : View} (c : Coupled n from
       done (sym (ap (λ y. chan_of y s.atom.env) on ∙ is) ∙ s.its_chan)
 
   takes_lock : (m : Mail) (l : Name) → IsWanting n first m l s.atom → map.get v.things e.actor ≡ Some (Thing.wanting m l ∷ []) → Done
-  takes_lock m l i there = go m i.waits there
+  takes_lock m l waits there = go m waits.waits there
     where
       o : OfAtom c s.other s.offers.mate
       o = of_atom c s.other s.offers.mate s.offers.waits
 
-      g : IsGiven n from first s.offers.mate s.offers.sent.0 s.offers.sent.1 o.things
+      g : IsGiven i n from first s.offers.mate s.offers.sent.0 s.offers.sent.1 o.things
       g = given_by c s.other s.offers.mate s.offers.sent s.offers.waits s.offers.sends_it o.things o.there o.are
 
       other : map.get v.things s.other ≡ Some (g.thing ∷ [])
       other = o.there ∙ ap Some g.alone
 
       here : s.offers.mate.agent ≡ daemon_agent n
-      here = sym together ∙ i.agent
+      here = sym together ∙ waits.agent
 
       go : (m : Mail) → WaitsFor n first m l s.atom → map.get v.things e.actor ≡ Some (Thing.wanting m l ∷ []) → Done
       go (Mail.migrating a) w there =
@@ -297,7 +299,7 @@ module _ {n from first : ℕ} {low high : Config} {v : View} (c : Coupled n from
   stands_on : {named : Expr} {hi : Atom} (p : Proc) → s.env ≡ s.atom.env → StandsFor n from named hi s.atom → StandsFor n from named hi (record { agent = s.atom.agent; proc = p; env = s.env })
   stands_on p env i = record { agent = i.agent; apart = i.apart; source = i.source; agrees = record { same = λ x b. ap (λ (e : Env). map.get e x) env ∙ i.agrees.same x b }; called = i.called }
 
-  is_granted : (a : Expr) (hi : Atom) → IsAsking n from a hi s.atom → map.get v.things e.actor ≡ Some (Thing.asking a hi ∷ []) → Done
+  is_granted : (a : Expr) (hi : Atom) → IsAsking i n from a hi s.atom → map.get v.things e.actor ≡ Some (Thing.asking a hi ∷ []) → Done
   is_granted a hi i there =
       let r = reads i.migrates.tag.node (ack n) nothing (move_text n i.migrates.tag.node a i.migrates.to i.migrates.low) i.is in
       let k = takes_ack r.on in
@@ -326,7 +328,7 @@ module _ {n from first : ℕ} {low high : Config} {v : View} (c : Coupled n from
   token_given : (k : ℕ) (at : Expr) (t : ℕ) → eval at s.env ≡ Some (value.Site t) → sends (record { agent = s.atom.agent; proc = gives k (currentloc n) at; env = s.env }) ≡ Some (own n 9, value.Site t)
   token_given k at t tells = rw (forms.outs-Out (currentloc n) at, channel-is (own n 9) s.env, tells) refl
 
-  finishes : (a : Expr) (hi : Atom) (t : ℕ) → IsSettling n from a hi t s.atom → map.get v.things e.actor ≡ Some (Thing.settling a hi t ∷ []) → Done
+  finishes : (a : Expr) (hi : Atom) (t : ℕ) → IsSettling i n from a hi t s.atom → map.get v.things e.actor ≡ Some (Thing.settling a hi t ∷ []) → Done
   finishes a hi t i there =
       let r = reads i.node (ack n) nothing (beside i.node i.body (gives i.node (currentloc n) i.at)) i.is in
       let k = takes_ack r.on in
@@ -362,7 +364,7 @@ module _ {n from first : ℕ} {low high : Config} {v : View} (c : Coupled n from
       forgets step b (inl known) = known
       forgets {after} step b (inr child) = absurd (no_owed hi.agent b (chips v.things) ((acknowledged (scene v high)).finishes v.phase (chips v.things) after (Chip.token hi.agent t ∷ []) hi.agent t (alone step) c.protocol) child)
 
-  starts : (a : Expr) (hi : Atom) (p : Name) (t : ℕ) → IsBeginning n from a hi p t s.atom → map.get v.things e.actor ≡ Some (Thing.beginning a hi p t ∷ []) → Done
+  starts : (a : Expr) (hi : Atom) (p : Name) (t : ℕ) → IsBeginning i n from a hi p t s.atom → map.get v.things e.actor ≡ Some (Thing.beginning a hi p t ∷ []) → Done
   starts a hi p t i there =
       let tell : Proc = sends_text i.node i.maker (variable i.binder) (ack n) unit in
       let r = reads i.node (ack n) nothing (beside i.node (beside i.node i.body tell) (gives i.node (currentloc n) (variable i.binder))) i.is in
@@ -459,8 +461,8 @@ module _ {n from first : ℕ} {low high : Config} {v : View} (c : Coupled n from
       go a Names.as_main called = constant-is (value.Agent (own n 0)) lo.env ∙ sym (constant-is (value.Agent (own n 0)) hi.env) ∙ called
       go a (Names.as_binder {y = y} below apart) called = variable-is y lo.env ∙ i.agrees.same y below ∙ sym (variable-is y hi.env) ∙ called
 
-  begins_move : (a : Expr) (hi : Atom) (tag : Tag) (at : ℕ) (to : Expr) (body below : Proc) → IsOfSource n from a hi s.atom → hi.proc ≡ source tag at (form.Migrate to body) → s.atom.proc ≡ migrate_text n tag.node a to below
-      → Translates n from a body below → map.get v.things e.actor ≡ Some (Thing.source a hi ∷ []) → Done
+  begins_move : (a : Expr) (hi : Atom) (tag : Tag) (at : ℕ) (to : Expr) (body below : Proc) → IsOfSource i n from a hi s.atom → hi.proc ≡ source tag at (form.Migrate to body) → s.atom.proc ≡ migrate_text n tag.node a to below
+      → Translates i n from a body below → map.get v.things e.actor ≡ Some (Thing.source a hi ∷ []) → Done
   begins_move a hi tag at to body below i is text translates there =
       let left : Proc = takes tag.node (ack n) nothing (move_text n tag.node a to below) in
       let right : Proc = tells n tag.node (migrating n) a in
@@ -504,10 +506,10 @@ module _ {n from first : ℕ} {low high : Config} {v : View} (c : Coupled n from
         known = λ step k. (k.0, (tt, tt));
       })
 
-  begins_creation : (a : Expr) (hi : Atom) (tag : Tag) (at b st l pl : ℕ) (p q lp lq : Proc) → IsOfSource n from a hi s.atom → hi.proc ≡ source tag at (form.Agent b p q) → s.atom.proc ≡ agent_text n tag.node a b st l pl lp lq
-      → from ≤ st → from ≤ l → from ≤ pl → (l ≡ pl → ⊥) → Translates n from (variable b) p lp → Translates n from a q lq → map.get v.things e.actor ≡ Some (Thing.source a hi ∷ []) → Done
-  begins_creation a hi tag at b st l pl p q lp lq i is text above_st above_l above_pl apart tp tq there =
-      let body : Proc = process tag.node role.Plain (form.Agent b (child_text n tag.node a b st l pl lp) (settles n tag.node (variable st) lq)) in
+  begins_creation : (a : Expr) (hi : Atom) (tag : Tag) (at b st l pl ca : ℕ) (p q lp lq : Proc) → IsOfSource i n from a hi s.atom → hi.proc ≡ source tag at (form.Agent b p q) → s.atom.proc ≡ agent_text_of i n tag.node a b st l pl ca lp lq
+      → from ≤ st → from ≤ l → from ≤ pl → (l ≡ pl → ⊥) → from ≤ ca → Translates i n from (variable b) p lp → Translates i n from a q lq → map.get v.things e.actor ≡ Some (Thing.source a hi ∷ []) → Done
+  begins_creation a hi tag at b st l pl ca p q lp lq i is text above_st above_l above_pl apart above_ca tp tq there =
+      let body : Proc = process tag.node role.Plain (form.Agent b (child_of _ n tag.node a b st l pl ca lp) (settles n tag.node (variable st) lq)) in
       let r = reads tag.node (currentloc n) (name st) body text in
       let k = takes_token r.on in
       let env = bound st (value.Site k.site_of) r.pattern k.what in
@@ -540,6 +542,8 @@ module _ {n from first : ℕ} {low high : Config} {v : View} (c : Coupled n from
             letter_above = above_l;
             place_above = above_pl;
             apart = apart;
+            cache = ca;
+            cache_above = above_ca;
             low_body = lp;
             low_rest = lq;
             is = is;
@@ -559,30 +563,41 @@ module _ {n from first : ℕ} {low high : Config} {v : View} (c : Coupled n from
         known = λ step k. k;
       })
 
-  -- a process of the source that takes `currentloc`
-  of_source : (a : Expr) (hi : Atom) (p q : Proc) → IsOfSource n from a hi s.atom → hi.proc ≡ p → s.atom.proc ≡ q → p.tag.role ≡ role.Plain → q.tag.role ≡ role.Infra → Translates n from a p q → map.get v.things e.actor ≡ Some (Thing.source a hi ∷ []) → Done
-  of_source a hi p q i is text plain infra (Translates.migrate {k = tag} {at = at} {e = to} {p = body} {p' = below} t) there = begins_move a hi tag at to body below i is text t there
-  of_source a hi p q i is text plain infra (Translates.agent {k = tag} {at = at} {b = b} {s = st} {l = l} {t = pl} {p = x} {p' = x'} {q = y} {q' = y'} f g w apart tp tq) there =
-      begins_creation a hi tag at b st l pl x y x' y' i is text f g w apart tp tq there
-  of_source a hi p q i is text plain infra Translates.post there = absurd (let bad : role.Post ≡ role.Infra = infra in cc)
-  of_source a hi p q i is text plain infra _ there = absurd (let bad : role.Plain ≡ role.Infra = sym plain ∙ infra in cc)
+  -- what a post of the source begins where it takes an output
+  abbrev pub PostsTake : Type 0
+  PostsTake = (a : Expr) (hi : Atom) (tag : Tag) (at m : ℕ) (b ch va : Expr) → IsOfSource i n from a hi s.atom → hi.proc ≡ source tag at (form.Post b ch va)
+      → s.atom.proc ≡ post_of i n tag.node a b ch va m → from ≤ m → s.atom.proc.tag.role ≡ role.Infra → map.get v.things e.actor ≡ Some (Thing.source a hi ∷ []) → Done
+
+  -- a process of the source that takes `currentloc`, or posts
+  of_source : PostsTake → (a : Expr) (hi : Atom) (p q : Proc) → IsOfSource i n from a hi s.atom → hi.proc ≡ p → s.atom.proc ≡ q → p.tag.role ≡ role.Plain → s.atom.proc.tag.role ≡ role.Infra → Translates i n from a p q → map.get v.things e.actor ≡ Some (Thing.source a hi ∷ []) → Done
+  of_source posts a hi p q i is text plain infra (Translates.migrate {k = tag} {at = at} {e = to} {p = body} {p' = below} t) there = begins_move a hi tag at to body below i is text t there
+  of_source posts a hi p q i is text plain infra (Translates.agent {k = tag} {at = at} {b = b} {s = st} {l = l} {t = pl} {c = ca} {p = x} {p' = x'} {q = y} {q' = y'} f g w apart above tp tq) there =
+      begins_creation a hi tag at b st l pl ca x y x' y' i is text f g w apart above tp tq there
+  of_source posts a hi p q i is text plain infra (Translates.post {k = tag} {at = at} {m = m} {b = b} {c = ch} {v = va} above) there = posts a hi tag at m b ch va i is text above infra there
+  of_source posts a hi p q i is text plain infra _ there = absurd (let bad : role.Plain ≡ role.Infra = sym plain ∙ sym (ap (λ (x : Proc). x.tag.role) text) ∙ infra in cc)
 
   -- ---- all of them
 
-  pub by_thing : (t : Thing) → s.atom.proc.tag.role ≡ role.Infra → Is n from first t s.atom → begins t role.Infra kind.Comm ≡ true → map.get v.things e.actor ≡ Some (t ∷ []) → Done
-  by_thing (Thing.source a hi) infra i b there = of_source a hi hi.proc s.atom.proc i refl refl (source-plain i.stands.source.sound) infra i.translates there
-  by_thing (Thing.asking a hi) infra i b there = is_granted a hi i there
-  by_thing (Thing.settling a hi t) infra i b there = finishes a hi t i there
-  by_thing (Thing.beginning a hi p t) infra i b there = starts a hi p t i there
-  by_thing (Thing.taken m) infra i b there = takes_the_map m i there
-  by_thing (Thing.wanting m l) infra i b there = takes_lock m l i there
-  by_thing (Thing.mail m (Stage.in_agent x)) infra i b there = absurd cc
-  by_thing _ infra i b there = absurd cc
+  pub by_thing : PostsTake → (t : Thing) → s.atom.proc.tag.role ≡ role.Infra → Is i n from first t s.atom → begins t role.Infra kind.Comm ≡ true → map.get v.things e.actor ≡ Some (t ∷ []) → Done
+  by_thing posts (Thing.source a hi) infra i b there = of_source posts a hi hi.proc s.atom.proc i refl refl (source-plain i.stands.source.sound) infra i.translates there
+  by_thing posts (Thing.asking a hi) infra i b there = is_granted a hi i there
+  by_thing posts (Thing.settling a hi t) infra i b there = finishes a hi t i there
+  by_thing posts (Thing.beginning a hi p t) infra i b there = starts a hi p t i there
+  by_thing posts (Thing.taken m) infra i b there = takes_the_map m i there
+  by_thing posts (Thing.wanting m l) infra i b there = takes_lock m l i there
+  by_thing posts (Thing.mail m (Stage.in_agent x)) infra i b there = absurd cc
+  by_thing posts _ infra i b there = absurd cc
 
-pub communicates : {n from first : ℕ} {low high : Config} {v : View} → Coupled n from first low high v → (e : Event) (next : Config) → e.kind ≡ kind.Comm → e.tag.role ≡ role.Infra → apply low e ≡ Some next
-    → (w : View) × (w.stands_for ≡ v.stands_for) × Coupled n from first next high w × SameLetters v w
+-- by the central infrastructure a post takes none: it is sent
+posts-sent : {n from first : ℕ} {low high : Config} {v : View} (c : Coupled Infrastructure.central n from first low high v) (e : Event) (next : Config) (s : IsMeeting low e next)
+    (no_packet : map.get low.packets e.actor ≡ None) (h : apply low e ≡ Some next) → PostsTake c e next s no_packet h
+posts-sent c e next s no_packet h a hi tag at m b ch va i is text above infra there =
+    absurd (let bad : role.Post ≡ role.Infra = sym (ap (λ (x : Proc). x.tag.role) text) ∙ infra in cc)
+
+pub communicates : {n from first : ℕ} {low high : Config} {v : View} → Coupled Infrastructure.central n from first low high v → (e : Event) (next : Config) → e.kind ≡ kind.Comm → e.tag.role ≡ role.Infra → apply low e ≡ Some next
+    → (w : View) × (w.standing ≡ v.standing) × Coupled Infrastructure.central n from first next high w × SameLetters v w
 communicates {low = low} c e next is_comm infra h =
     let s = meeting low e next (ap (λ k. row k low e) (sym is_comm) ∙ h) in
     let its_role = same_role s.atom.proc.tag e.tag s.acts.tag ∙ infra in
     let o = of_actor c e.actor s.atom kind.Comm role.Infra s.acts.there (ap begun_by s.form) its_role (λ k r. cc) in
-    by_thing c e next s o.no_packet h o.thing its_role o.is o.its_kind o.there
+    by_thing c e next s o.no_packet h (posts-sent c e next s o.no_packet h) o.thing its_role o.is o.its_kind o.there

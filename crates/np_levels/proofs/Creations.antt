@@ -27,6 +27,7 @@ use Rattle.np_calculus.specs.declared.config.Place.TheVariants as place
 use Rattle.np_calculus.specs.Begins.{begun_by}
 use Rattle.np_calculus.specs.Changes.{Change, effect, put, still}
 use Rattle.np_calculus.specs.Config.{Config}
+use Rattle.np_calculus.specs.Parts.{IsLodged}
 use Rattle.np_calculus.specs.Reductions.{apply, are_new, goes_under, no_other, row, two_made}
 use Rattle.np_calculus.specs.Seen.{acting}
 use Rattle.np_calculus.specs.Sight.{inside, sight}
@@ -35,6 +36,7 @@ unfoldable use Rattle.np_calculus.proofs.Common.{act}
 use Rattle.np_calculus.proofs.OwnNames.{not_true}
 use Rattle.np_calculus.proofs.Rows.{parts}
 use Rattle.np_calculus.proofs.Steps.{Acts, acting-step, is-two, row-step, step-acting}
+use Rattle.cache_lift.specs.Lift.{stands_for}
 use Rattle.np_eval.specs.Eval.{Env, eval}
 use Rattle.np_eval.specs.Forms.{Layer, layer}
 use Rattle.np_protocol.specs.Chips.{Chip}
@@ -47,6 +49,7 @@ use Rattle.np_protocol.proofs.Keeps.{keeps-protocol}
 use Rattle.np_protocol.proofs.Steps.{all_taken}
 use Rattle.daemon_encode.specs.Pieces.{beside, daemon, pair, register, site, tells, variable}
 use Rattle.daemon_encode.specs.Texts.{begins as begins_text, child_text, server_text, settles}
+use Rattle.daemon_encode.specs.Infrastructures.{Infrastructure}
 use Rattle.np_source_values.specs.Known.{IsKnown, Knows}
 use Rattle.np_source_values.specs.Sources.{Agrees, Names}
 use Rattle.np_things.specs.Acting.{begins}
@@ -59,6 +62,7 @@ use Rattle.np_levels.specs.Coupled.{Coupled, IsShaped, KnowsOnly, View, chips, i
 use Rattle.np_levels.specs.Laws.{IsEvent, event_of}
 use Rattle.np_levels.specs.Letters.{SameLetters, first_letter_of, letter_under}
 use Rattle.np_levels.specs.Mirrors.{Mirrors}
+use Rattle.np_levels.proofs.Places.{put_another, same_place}
 use Rattle.np_levels.proofs.Becomes.{cancel}
 use Rattle.np_levels.proofs.Keeping.{first_put, known_on, only_at, step_new}
 use Rattle.np_levels.proofs.Marks.{reshape, step_at}
@@ -145,21 +149,21 @@ same_parts : (x y : ℕ) (p q r s : Proc) → ◌≡◌ {A = Layer} (ProcForm-F.
 same_parts x y p q r s same = (cc, cc, cc)
 
 -- who makes an agent with the role Plain was about to make it
-makes_by : {R : Type 0} (n from first : ℕ) (t : Thing) (a : Atom) → Is n from first t a → begins t role.Plain kind.Agent ≡ true
+makes_by : {R : Type 0} (i : Infrastructure) (n from first : ℕ) (t : Thing) (a : Atom) → Is i n from first t a → begins t role.Plain kind.Agent ≡ true
     → begun_by (layer a.proc) ≡ Some kind.Agent
-    → ((x : Expr) (h : Atom) (s : ℕ) → t ≡ Thing.making x h s → IsMaking n from x h s a → R) → R
-makes_by n from first (Thing.making x h s) a i b begun r = r x h s refl i
-makes_by n from first (Thing.source x h) a i b begun r = made_no_move kind.Agent refl i.translates begun
-makes_by n from first (Thing.mail m (Stage.in_agent x)) a i b begun r = absurd cc
-makes_by n from first _ a i b begun r = absurd cc
+    → ((x : Expr) (h : Atom) (s : ℕ) → t ≡ Thing.making x h s → IsMaking i n from x h s a → R) → R
+makes_by _ n from first (Thing.making x h s) a i b begun r = r x h s refl i
+makes_by _ n from first (Thing.source x h) a i b begun r = made_no_move kind.Agent refl i.translates begun
+makes_by _ n from first (Thing.mail m (Stage.in_agent x)) a i b begun r = absurd cc
+makes_by _ n from first _ a i b begun r = absurd cc
 
 same_site : (s t : ℕ) → Whereabouts.at s ≡ Whereabouts.at t → s ≡ t
 same_site s t e = cc
 
-module _ {n from first : ℕ} {low high : Config} {v : View} (c : Coupled n from first low high v) (e : Event) (next : Config) (is_agent : e.kind ≡ kind.Agent)
+module _ {n from first : ℕ} {low high : Config} {v : View} (c : Coupled Infrastructure.central n from first low high v) (lodged : IsLodged (inside high)) (e : Event) (next : Config) (is_agent : e.kind ≡ kind.Agent)
     (h : apply low e ≡ Some next) (s : IsCreating low e next)
     (no_packet : map.get low.packets e.actor ≡ None) (x : Expr) (hi : Atom) (at : ℕ) (there : map.get v.things e.actor ≡ Some (Thing.making x hi at ∷ []))
-    (i : IsMaking n from x hi at s.atom) where
+    (i : IsMaking Infrastructure.central n from x hi at s.atom) where
   abbrev node : ℕ
   node = i.creates.tag.node
 
@@ -216,10 +220,13 @@ module _ {n from first : ℕ} {low high : Config} {v : View} (c : Coupled n from
   still_new : (q : Name) → set.contains low.born q ≡ false → set.contains high.born q ≡ false
   still_new q new = not_true _ (λ t. let bad : false ≡ true = sym new ∙ c.born q t in cc)
 
+  high_there : map.get high.atoms (stands_for v.standing e.actor) ≡ Some hi
+  high_there = c.mirrored.up e.actor hi (ap (λ o. o >>= first_atom_of) there)
+
   acts : Acts high (event_of v e) hi
   acts = record {
-    there = c.mirrored.up e.actor hi (ap (λ o. o >>= first_atom_of) there);
-    stands = sym (c.places hi.agent i.stands.apart) ∙ ap (map.get low.places) (sym i.stands.agent) ∙ s.acts.stands;
+    there = high_there;
+    stands = sym (same_place c hi.agent (lodged.each (stands_for v.standing e.actor) hi high_there)) ∙ ap (map.get low.places) (sym i.stands.agent) ∙ s.acts.stands;
     tag = plain_tag hi.proc.tag s.atom.proc.tag e.tag (ap (λ (p : Proc). p.tag.node) i.creates.is ∙ sym (ap (λ (p : Proc). p.tag.node) i.is))
         (source-plain i.stands.source.sound) (ap (λ (p : Proc). p.tag.role) i.is) s.acts.tag;
   }
@@ -229,7 +236,7 @@ module _ {n from first : ℕ} {low high : Config} {v : View} (c : Coupled n from
 
   applies : apply high (event_of v e) ≡ Some then_high
   applies = ap (λ k. row k high (event_of v e)) is_agent
-      ∙ creates_so high (event_of v e) hi binder i.creates.body i.creates.rest b m acts form_is s.made_two (ap (option_map v.stands_for) s.other_none) s.differ
+      ∙ creates_so high (event_of v e) hi binder i.creates.body i.creates.rest b m acts form_is s.made_two (ap (option_map (stands_for v.standing)) s.other_none) s.differ
       (still_new b s.agent_new) (still_new m s.mark_new)
 
   -- ---- the new agent is none that there was
@@ -245,8 +252,11 @@ module _ {n from first : ℕ} {low high : Config} {v : View} (c : Coupled n from
   no_place None j = refl
   no_place (Some p) j = absurd (let bad : false ≡ true = sym s.agent_new ∙ c.stand_born.agents b (some_of _ p j) in cc)
 
+  no_messenger_yet : set.contains v.standing.messengers b ≡ false
+  no_messenger_yet = not_true _ (λ t. let bad : false ≡ true = sym s.agent_new ∙ c.messengers_born b t in cc)
+
   nowhere : (scene v high).place b ≡ Whereabouts.nowhere
-  nowhere = ap whereabouts (sym (c.places b apart) ∙ no_place (map.get low.places b) refl)
+  nowhere = ap whereabouts (sym (c.places b apart no_messenger_yet) ∙ no_place (map.get low.places b) refl)
 
   -- the site that it was told is that of its agent
   its_site : at ≡ e.site
@@ -286,7 +296,7 @@ module _ {n from first : ℕ} {low high : Config} {v : View} (c : Coupled n from
   parent_called : eval x high_env ≡ Some (value.Agent hi.agent)
   parent_called = going.stays hi.env (value.Agent b) ∙ i.stands.called
 
-  are_parent : Are n from first low_parent us
+  are_parent : Are Infrastructure.central n from first low_parent us
   are_parent = Are.one (record {
     stands = record { agent = i.stands.agent; apart = i.stands.apart; source = going.rest_source; agrees = agrees; called = parent_called };
     node = node;
@@ -306,7 +316,7 @@ module _ {n from first : ℕ} {low high : Config} {v : View} (c : Coupled n from
   abbrev telling : Proc
   telling = tells n node (register n) (pair (variable binder) (variable i.creates.site))
 
-  are_child : Are n from first low_child ws
+  are_child : Are Infrastructure.central n from first low_child ws
   are_child = Are.both {k = node} {p = beside node starting serving} {q = telling} refl
       (Are.both {k = node} {p = starting} {q = serving} refl
       (Are.one (record {
@@ -415,7 +425,7 @@ module _ {n from first : ℕ} {low high : Config} {v : View} (c : Coupled n from
   not_both : (q : Name) → same_name q m ≡ true → same_name q e.actor ≡ false
   not_both q f = ap (λ z. same_name z e.actor) (same_name-is q m f) ∙ other
 
-  shaped : (q : Name) (t u : Bool) → same_name q m ≡ t → same_name q e.actor ≡ u → IsShaped n from first next things q
+  shaped : (q : Name) (t u : Bool) → same_name q m ≡ t → same_name q e.actor ≡ u → IsShaped Infrastructure.central n from first next things q
   shaped q true u f g =
       IsShaped.atom (at_atoms q ∙ ap (λ z. cond z (Some low_parent) (cond (same_name q m) (Some low_child) (map.get low.atoms q))) (not_both q f)
       ∙ ap (λ z. cond z (Some low_child) (map.get low.atoms q)) f)
@@ -453,8 +463,8 @@ module _ {n from first : ℕ} {low high : Config} {v : View} (c : Coupled n from
   abbrev with_child : NameMap (List Thing)
   with_child = map.insert v.things m ws
 
-  mirrors_child : Mirrors v.stands_for (λ q. map.get with_child q >>= first_atom_of) (map.get (map.insert high.atoms m high_child))
-  mirrors_child = mirrors_put v.stands_for (λ q. map.get v.things q >>= first_atom_of) (map.get high.atoms) (λ q. map.get with_child q >>= first_atom_of)
+  mirrors_child : Mirrors (stands_for v.standing) (λ q. map.get with_child q >>= first_atom_of) (map.get (map.insert high.atoms m high_child))
+  mirrors_child = mirrors_put (stands_for v.standing) (λ q. map.get v.things q >>= first_atom_of) (map.get high.atoms) (λ q. map.get with_child q >>= first_atom_of)
       (map.get (map.insert high.atoms m high_child)) m high_child c.mirrored
       (λ q. first_put first_atom_of v.things m ws q)
       (λ k. get-put high.atoms m high_child k ∙ ap (λ z. cond (same_name k z) (Some high_child) (map.get high.atoms k)) (sym (c.new_marks m s.mark_new)))
@@ -474,11 +484,11 @@ module _ {n from first : ℕ} {low high : Config} {v : View} (c : Coupled n from
       go true f k = inr (ap (set.contains low.born) (same_name-is q m f) ∙ s.mark_new)
       go false f k = its (map.get v.things q) refl k
 
-  mirrored : Mirrors v.stands_for (λ q. map.get things q >>= first_atom_of) (map.get then_high.atoms)
-  mirrored = mirrors_put v.stands_for (λ q. map.get with_child q >>= first_atom_of) (map.get (map.insert high.atoms m high_child))
+  mirrored : Mirrors (stands_for v.standing) (λ q. map.get things q >>= first_atom_of) (map.get then_high.atoms)
+  mirrored = mirrors_put (stands_for v.standing) (λ q. map.get with_child q >>= first_atom_of) (map.get (map.insert high.atoms m high_child))
       (λ q. map.get things q >>= first_atom_of) (map.get then_high.atoms) e.actor high_parent mirrors_child
       (λ q. ap (λ (z : NameMap (List Thing)). map.get z q >>= first_atom_of) swapped_things ∙ first_put first_atom_of with_child e.actor us q)
-      (λ k. get-put (map.insert high.atoms m high_child) (v.stands_for e.actor) high_parent k)
+      (λ k. get-put (map.insert high.atoms m high_child) (stands_for v.standing e.actor) high_parent k)
       (λ q y j same. one_mark c q e.actor same (child_or_old q y j) (inl (Thing.making x hi at ∷ [], there)))
 
   -- ---- what is known
@@ -530,15 +540,16 @@ module _ {n from first : ℕ} {low high : Config} {v : View} (c : Coupled n from
   no_other_place p = get-put p b (place.At e.site) (daemon_agent n)
       ∙ ap (λ z. cond z (Some (place.At e.site)) (map.get p (daemon_agent n))) (same_name-swap (daemon_agent n) b ∙ apart)
 
-  coupled : Coupled n from first next then_high (record v { things = things; phase = protocol.0 })
+  coupled : Coupled Infrastructure.central n from first next then_high (record v { things = things; phase = protocol.0 })
   coupled = together c next then_high e things protocol.0 (record {
     applies = h;
     sites = ap (λ (d : Config). d.sites) is;
     high_sites = refl;
     daemon = ap (λ (p : NameMap Place). map.get p (daemon_agent n)) low_places ∙ no_other_place low.places;
     no_daemon = no_other_place high.places;
-    places = λ q f. ap (λ (p : NameMap Place). map.get p q) low_places ∙ get-put low.places b (place.At e.site) q
-        ∙ ap (cond (same_name q b) (Some (place.At e.site))) (c.places q f) ∙ sym (get-put high.places b (place.At e.site) q);
+    places = λ q f g. ap (λ (p : NameMap Place). map.get p q) low_places ∙ get-put low.places b (place.At e.site) q
+        ∙ ap (cond (same_name q b) (Some (place.At e.site))) (c.places q f g) ∙ sym (get-put high.places b (place.At e.site) q);
+    messengers = λ q is. put_another c q b (place.At e.site) is no_messenger_yet;
     said = ap (λ (d : Config). d.said) is ∙ c.said;
     born = ap (λ (d : Config). d.born) is;
     high_born = refl;
@@ -553,7 +564,7 @@ module _ {n from first : ℕ} {low high : Config} {v : View} (c : Coupled n from
     known = λ q ts j. known q ts (same_name q m) (same_name q e.actor) refl refl j;
   })
 
-  made_one : (then : Config) × (apply high (event_of v e) ≡ Some then) × (w : View) × (w.stands_for ≡ v.stands_for) × Coupled n from first next then w
+  made_one : (then : Config) × (apply high (event_of v e) ≡ Some then) × (w : View) × (w.standing ≡ v.standing) × Coupled Infrastructure.central n from first next then w
       × SameLetters v w
   made_one = (
     then_high,
@@ -564,10 +575,10 @@ module _ {n from first : ℕ} {low high : Config} {v : View} (c : Coupled n from
     λ q. letters q (same_name q m) (same_name q e.actor) refl refl,
   )
 
-pub creations-are-events : IsEvent kind.Agent
-creations-are-events n from first low high v c well e next is_agent plain h =
+pub creations-are-events : IsEvent Infrastructure.central kind.Agent
+creations-are-events n from first low high v c well lodged e next is_agent plain h =
     let s = creating low e next (ap (λ k. row k low e) (sym is_agent) ∙ h) in
     let o = of_actor c e.actor s.atom kind.Agent role.Plain s.acts.there (ap begun_by s.form) (same_role s.atom.proc.tag e.tag s.acts.tag ∙ plain)
     (λ k r. cc) in
-    makes_by n from first o.thing s.atom o.is o.its_kind (ap begun_by s.form) λ x hi at thing i.
-    made_one c e next is_agent h s o.no_packet x hi at (o.there ∙ ap (λ t. Some (t ∷ [])) thing) i
+    makes_by _ n from first o.thing s.atom o.is o.its_kind (ap begun_by s.form) λ x hi at thing i.
+    made_one c lodged e next is_agent h s o.no_packet x hi at (o.there ∙ ap (λ t. Some (t ∷ [])) thing) i

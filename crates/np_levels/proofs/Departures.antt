@@ -1,5 +1,5 @@
 -- An agent departs at both levels.
-use Rattle.std.proofs.Common.{◌≡◌, inl, ℕ, Bool, true, false, cond, nat_lt, ◌||◌, is_some, None, Some, option_map, List, [], ◌∷◌, refl, sym, ap, subst, ◌∙◌}
+use Rattle.std.proofs.Common.{◌≡◌, inl, ℕ, Bool, true, false, cond, nat_lt, ◌||◌, is_some, None, Some, option_map, List, [], ◌∷◌, refl, sym, ap, subst, ◌∙◌, IsSome}
 use Rattle.std.specs.List.{All, list_any}
 use Rattle.std.proofs.lemmas.List.Elements.{All-from_recursion, recursion_from_All}
 use Rattle.std.specs.FinMap as map
@@ -25,6 +25,7 @@ use Rattle.np_calculus.specs.declared.config.Place.TheVariants as place
 use Rattle.np_calculus.specs.Begins.{begun_by}
 use Rattle.np_calculus.specs.Changes.{effect, put}
 use Rattle.np_calculus.specs.Config.{Config}
+use Rattle.np_calculus.specs.Parts.{IsLodged}
 use Rattle.np_calculus.specs.Reductions.{apply, becomes, goes, no_other, none_made, row, site_in}
 use Rattle.np_calculus.specs.Seen.{acting}
 use Rattle.np_calculus.specs.Sight.{inside, sight}
@@ -32,6 +33,7 @@ use Rattle.np_calculus.specs.Starts.{daemon_agent, own}
 unfoldable use Rattle.np_calculus.proofs.Common.{act}
 use Rattle.np_calculus.proofs.Rows.{parts}
 use Rattle.np_calculus.proofs.Steps.{Acts, acting-step, is-none, row-step, step-acting}
+use Rattle.cache_lift.specs.Lift.{stands_for}
 use Rattle.np_eval.specs.Eval.{Env, as_site, eval}
 use Rattle.np_eval.specs.Forms.{Layer, layer}
 use Rattle.np_protocol.specs.Chips.{Chip}
@@ -43,6 +45,7 @@ use Rattle.np_protocol.specs.Steps.{Step}
 use Rattle.np_protocol.proofs.Keeps.{keeps-protocol}
 use Rattle.daemon_encode.specs.Pieces.{beside, daemon, migrated, pair, site, tells}
 use Rattle.daemon_encode.specs.Texts.{settles}
+use Rattle.daemon_encode.specs.Infrastructures.{Infrastructure}
 use Rattle.np_source_values.proofs.Values.{same-value}
 use Rattle.np_things.specs.Acting.{begins}
 use Rattle.np_things.specs.Mail.{Mail}
@@ -52,6 +55,7 @@ use Rattle.np_things.proofs.Acting.{source-plain}
 use Rattle.np_things.proofs.Starts.{constant-is}
 use Rattle.np_levels.specs.Coupled.{Coupled, IsShaped, KnowsOnly, View, chips, is_channel, is_child_of, may_know, scene}
 use Rattle.np_levels.specs.Laws.{IsEvent, event_of}
+use Rattle.np_levels.proofs.Places.{no_messenger, put_another, same_place}
 use Rattle.np_levels.proofs.Keeping.{first_put, known_on, only_at}
 use Rattle.np_levels.proofs.Letters.{same-letters}
 use Rattle.np_levels.proofs.Marks.{reshape, step_at}
@@ -127,18 +131,18 @@ same_parts : (x y : Expr) (p q : Proc) → ◌≡◌ {A = Layer} (ProcForm-F.Mig
 same_parts x y p q same = (cc, cc)
 
 -- who departs with the role Plain was about to leave
-leaves_by : {R : Type 0} (n from first : ℕ) (t : Thing) (a : Atom) → Is n from first t a → begins t role.Plain kind.Depart ≡ true
+leaves_by : {R : Type 0} (i : Infrastructure) (n from first : ℕ) (t : Thing) (a : Atom) → Is i n from first t a → begins t role.Plain kind.Depart ≡ true
     → begun_by (layer a.proc) ≡ Some kind.Depart
-    → ((x : Expr) (h : Atom) → t ≡ Thing.leaving x h → IsLeaving n from x h a → R) → R
-leaves_by n from first (Thing.leaving x h) a i b begun r = r x h refl i
-leaves_by n from first (Thing.source x h) a i b begun r = made_no_move kind.Depart refl i.translates begun
-leaves_by n from first (Thing.mail m (Stage.in_agent x)) a i b begun r = absurd cc
-leaves_by n from first _ a i b begun r = absurd cc
+    → ((x : Expr) (h : Atom) → t ≡ Thing.leaving x h → IsLeaving i n from x h a → R) → R
+leaves_by _ n from first (Thing.leaving x h) a i b begun r = r x h refl i
+leaves_by _ n from first (Thing.source x h) a i b begun r = made_no_move kind.Depart refl i.translates begun
+leaves_by _ n from first (Thing.mail m (Stage.in_agent x)) a i b begun r = absurd cc
+leaves_by _ n from first _ a i b begun r = absurd cc
 
-module _ {n from first : ℕ} {low high : Config} {v : View} (c : Coupled n from first low high v) (e : Event) (next : Config) (is_depart : e.kind ≡ kind.Depart)
+module _ {j : Infrastructure} {n from first : ℕ} {low high : Config} {v : View} (c : Coupled j n from first low high v) (lodged : IsLodged (inside high)) (e : Event) (next : Config) (is_depart : e.kind ≡ kind.Depart)
     (h : apply low e ≡ Some next) (s : IsDeparting low e next)
     (no_packet : map.get low.packets e.actor ≡ None) (x : Expr) (hi : Atom) (there : map.get v.things e.actor ≡ Some (Thing.leaving x hi ∷ []))
-    (i : IsLeaving n from x hi s.atom) where
+    (i : IsLeaving j n from x hi s.atom) where
   abbrev node : ℕ
   node = i.migrates.tag.node
 
@@ -166,10 +170,16 @@ module _ {n from first : ℕ} {low high : Config} {v : View} (c : Coupled n from
   high_site : eval to hi.env ≡ Some (value.Site s.to_site)
   high_site = sym (same-value n from i.stands.source.scope to s.atom.env hi.env going.to_sound i.stands.source.in_scope i.stands.agrees) ∙ low_site
 
+  high_there : map.get high.atoms (stands_for v.standing e.actor) ≡ Some hi
+  high_there = c.mirrored.up e.actor hi (ap (λ o. o >>= first_atom_of) there)
+
+  its_place : IsSome (map.get high.places hi.agent)
+  its_place = lodged.each (stands_for v.standing e.actor) hi high_there
+
   acts : Acts high (event_of v e) hi
   acts = record {
-    there = c.mirrored.up e.actor hi (ap (λ o. o >>= first_atom_of) there);
-    stands = sym (c.places hi.agent i.stands.apart) ∙ ap (map.get low.places) (sym i.stands.agent) ∙ s.acts.stands;
+    there = high_there;
+    stands = sym (same_place c hi.agent its_place) ∙ ap (map.get low.places) (sym i.stands.agent) ∙ s.acts.stands;
     tag = plain_tag hi.proc.tag s.atom.proc.tag e.tag (ap (λ (p : Proc). p.tag.node) i.migrates.is ∙ sym (ap (λ (p : Proc). p.tag.node) i.is))
         (source-plain i.stands.source.sound) (ap (λ (p : Proc). p.tag.role) i.is) s.acts.tag;
   }
@@ -183,7 +193,7 @@ module _ {n from first : ℕ} {low high : Config} {v : View} (c : Coupled n from
   applies : apply high (event_of v e) ≡ Some then_high
   applies = ap (λ k. row k high (event_of v e)) is_depart
       ∙ departs_so high (event_of v e) hi to i.migrates.body s.to_site acts form_is high_site
-      (ap (nat_lt s.to_site) (c.high_sites ∙ sym c.low_sites) ∙ s.below) s.made_none (ap (option_map v.stands_for) s.other_none)
+      (ap (nat_lt s.to_site) (c.high_sites ∙ sym c.low_sites) ∙ s.below) s.made_none (ap (option_map (stands_for v.standing)) s.other_none)
 
   -- ---- the two configurations afterwards
 
@@ -206,7 +216,7 @@ module _ {n from first : ℕ} {low high : Config} {v : View} (c : Coupled n from
   stands_on : StandsFor n from x went (goes s.atom left)
   stands_on = record { agent = i.stands.agent; apart = i.stands.apart; source = going.body_source; agrees = i.stands.agrees; called = i.stands.called }
 
-  are : Are n from first (goes s.atom s.body) us
+  are : Are j n from first (goes s.atom s.body) us
   are = Are.both {k = node} {p = left} {q = right} texts.1
       (Are.one (record { stands = stands_on; node = node; at = to; body = i.migrates.low; translates = i.migrates.translates; is = refl; tells = low_site }))
       (Are.one (
@@ -239,8 +249,8 @@ module _ {n from first : ℕ} {low high : Config} {v : View} (c : Coupled n from
   its : (q : Name) → same_name q e.actor ≡ true → map.get things q ≡ Some us
   its q f = get-put v.things e.actor us q ∙ ap (λ z. cond z (Some us) (map.get v.things q)) f
 
-  shaped : (q : Name) (t : Bool) → same_name q e.actor ≡ t → IsShaped n from first next things q
-  shaped q true f = subst (IsShaped n from first next things) (sym (same_name-is q e.actor f))
+  shaped : (q : Name) (t : Bool) → same_name q e.actor ≡ t → IsShaped j n from first next things q
+  shaped q true f = subst (IsShaped j n from first next things) (sym (same_name-is q e.actor f))
       (IsShaped.atom (ap (λ (d : Config). map.get d.atoms e.actor) is ∙ put_here low.atoms e.actor (goes s.atom s.body))
       (ap (λ (d : Config). map.get d.packets e.actor) is ∙ no_packet)
       (put_here v.things e.actor us) (All-from_recursion (λ u. high_atom u ≡ None)
@@ -273,7 +283,7 @@ module _ {n from first : ℕ} {low high : Config} {v : View} (c : Coupled n from
   known q ts false f j = known_on v.lock (chips v.things) (chips things) n from high.born e.made
       (λ a b any. any_kept (is_child_of a b) step (λ w. absurd cc) any) ts (c.known q ts (sym (unchanged q f) ∙ j))
 
-  coupled : Coupled n from first next then_high (record v { things = things; phase = protocol.0 })
+  coupled : Coupled j n from first next then_high (record v { things = things; phase = protocol.0 })
   coupled = together c next then_high e things protocol.0 (record {
     applies = h;
     sites = ap (λ (d : Config). d.sites) is;
@@ -282,16 +292,17 @@ module _ {n from first : ℕ} {low high : Config} {v : View} (c : Coupled n from
         ∙ ap (λ z. cond z (Some (place.Way s.to_site)) (map.get low.places (daemon_agent n))) (same_name-swap (daemon_agent n) hi.agent ∙ i.stands.apart);
     no_daemon = get-put high.places hi.agent (place.Way s.to_site) (daemon_agent n)
         ∙ ap (λ z. cond z (Some (place.Way s.to_site)) (map.get high.places (daemon_agent n))) (same_name-swap (daemon_agent n) hi.agent ∙ i.stands.apart);
-    places = λ q f. ap (λ (p : NameMap Place). map.get p q) low_places ∙ get-put low.places hi.agent (place.Way s.to_site) q
-        ∙ ap (cond (same_name q hi.agent) (Some (place.Way s.to_site))) (c.places q f)
+    places = λ q f g. ap (λ (p : NameMap Place). map.get p q) low_places ∙ get-put low.places hi.agent (place.Way s.to_site) q
+        ∙ ap (cond (same_name q hi.agent) (Some (place.Way s.to_site))) (c.places q f g)
         ∙ sym (get-put high.places hi.agent (place.Way s.to_site) q);
+    messengers = λ q is. put_another c q hi.agent (place.Way s.to_site) is (no_messenger c hi.agent its_place);
     said = ap (λ (d : Config). d.said) is ∙ c.said;
     born = ap (λ (d : Config). d.born) is;
     high_born = refl;
     shaped = λ q. shaped q (same_name q e.actor) refl;
-    mirrored = mirrors_put v.stands_for (λ q. map.get v.things q >>= first_atom_of) (map.get high.atoms) (λ q. map.get things q >>= first_atom_of)
+    mirrored = mirrors_put (stands_for v.standing) (λ q. map.get v.things q >>= first_atom_of) (map.get high.atoms) (λ q. map.get things q >>= first_atom_of)
         (map.get then_high.atoms) e.actor went c.mirrored
-        (λ q. first_put first_atom_of v.things e.actor us q) (λ k. get-put high.atoms (v.stands_for e.actor) went k)
+        (λ q. first_put first_atom_of v.things e.actor us q) (λ k. get-put high.atoms (stands_for v.standing e.actor) went k)
         (only_at c first_atom_of e.actor (inl (Thing.leaving x hi ∷ [], there)));
     mirrored_packets = record {
       up = λ q k j. c.mirrored_packets.up q k (sym (its_packets q (same_name q e.actor) refl) ∙ j);
@@ -302,7 +313,7 @@ module _ {n from first : ℕ} {low high : Config} {v : View} (c : Coupled n from
     known = λ q ts j. known q ts (same_name q e.actor) refl j;
   })
 
-  departed : (then : Config) × (apply high (event_of v e) ≡ Some then) × (w : View) × (w.stands_for ≡ v.stands_for) × Coupled n from first next then w
+  departed : (then : Config) × (apply high (event_of v e) ≡ Some then) × (w : View) × (w.standing ≡ v.standing) × Coupled j n from first next then w
       × SameLetters v w
   departed = (
     then_high,
@@ -313,10 +324,10 @@ module _ {n from first : ℕ} {low high : Config} {v : View} (c : Coupled n from
     same-letters v.things e.actor us (Thing.leaving x hi ∷ []) there refl,
   )
 
-pub departures-are-events : IsEvent kind.Depart
-departures-are-events n from first low high v c well e next is_depart plain h =
+pub departures-are-events : {i : Infrastructure} → IsEvent i kind.Depart
+departures-are-events n from first low high v c well lodged e next is_depart plain h =
     let s = departing low e next (ap (λ k. row k low e) (sym is_depart) ∙ h) in
     let o = of_actor c e.actor s.atom kind.Depart role.Plain s.acts.there (ap begun_by s.form) (same_role s.atom.proc.tag e.tag s.acts.tag ∙ plain)
     (λ k r. cc) in
-    leaves_by n from first o.thing s.atom o.is o.its_kind (ap begun_by s.form) λ x hi thing i.
-    departed c e next is_depart h s o.no_packet x hi (o.there ∙ ap (λ t. Some (t ∷ [])) thing) i
+    leaves_by _ n from first o.thing s.atom o.is o.its_kind (ap begun_by s.form) λ x hi thing i.
+    departed c lodged e next is_depart h s o.no_packet x hi (o.there ∙ ap (λ t. Some (t ∷ [])) thing) i

@@ -31,6 +31,7 @@ use Rattle.np_calculus.proofs.OwnNames.{not_true}
 use Rattle.np_calculus.proofs.Rows.{parts}
 use Rattle.np_calculus.proofs.Steps.{Acts, acting-step, is-one, one-new, row-step}
 use Rattle.np_eval.specs.Forms.{layer}
+use Rattle.daemon_encode.specs.Infrastructures.{Infrastructure}
 use Rattle.np_things.specs.Acting.{begins}
 use Rattle.np_things.specs.Shapes.{Are, Is}
 use Rattle.np_things.specs.Things.{IsHeaded, Stage, Thing, first_atom_of, first_packet_of, high_atom, high_packet, show_all, shows}
@@ -85,22 +86,22 @@ forking low e next h =
     not_one false h = refl
 
 -- the two lists of things of a bracket
-record IsSplit (n from first : ℕ) (a : Atom) (p q : Proc) (ts : List Thing) : Type 0 where
+record IsSplit (i : Infrastructure) (n from first : ℕ) (a : Atom) (p q : Proc) (ts : List Thing) : Type 0 where
   left : List Thing
   right : List Thing
   whole : ts ≡ left ++ right
-  are_left : Are n from first (goes a p) left
-  are_right : Are n from first (goes a q) right
+  are_left : Are i n from first (goes a p) left
+  are_right : Are i n from first (goes a q) right
 
 -- no thing is a bracket of the infrastructure
-no_bracket : (n from first : ℕ) (t : Thing) (a : Atom) → Is n from first t a → begins t role.Infra kind.Fork ≡ true → ⊥
-no_bracket n from first (Thing.mail m (Stage.in_agent x)) a i h = cc
-no_bracket n from first _ a i h = cc
+no_bracket : (i : Infrastructure) (n from first : ℕ) (t : Thing) (a : Atom) → Is i n from first t a → begins t role.Infra kind.Fork ≡ true → ⊥
+no_bracket _ n from first (Thing.mail m (Stage.in_agent x)) a i h = cc
+no_bracket _ n from first _ a i h = cc
 
-split : (n from first : ℕ) (a : Atom) (p q : Proc) (ts : List Thing) → layer a.proc ≡ ProcForm-F.Par p q → a.proc.tag.role ≡ role.Infra → Are n from first a ts → IsSplit n from first a p q ts
+split : {i : Infrastructure} (n from first : ℕ) (a : Atom) (p q : Proc) (ts : List Thing) → layer a.proc ≡ ProcForm-F.Par p q → a.proc.tag.role ≡ role.Infra → Are i n from first a ts → IsSplit i n from first a p q ts
 split n from first a p q ts form infra (Are.one {t = t} i) =
-    absurd (no_bracket n from first t a i (ap (λ r. begins t r kind.Fork) (sym infra) ∙ thing-begins n from first a kind.Fork (ap begun_by form) t i))
-split n from first a p q ts form infra (Are.both {p = x} {q = y} {ts = us} {us = vs} is left right) =
+    absurd (no_bracket _ n from first t a i (ap (λ r. begins t r kind.Fork) (sym infra) ∙ thing-begins n from first a kind.Fork (ap begun_by form) _ t i))
+split {i = i} n from first a p q ts form infra (Are.both {p = x} {q = y} {ts = us} {us = vs} is left right) =
     let same : ProcForm-F.Par x y ≡ ProcForm-F.Par p q = sym (ap layer is ∙ outs-Par x y) ∙ form in
     let lefts : x ≡ p = cc in
     let rights : y ≡ q = cc in
@@ -108,8 +109,8 @@ split n from first a p q ts form infra (Are.both {p = x} {q = y} {ts = us} {us =
       left = us;
       right = vs;
       whole = refl;
-      are_left = subst (λ (z : Proc). Are n from first (goes a z) us) lefts left;
-      are_right = subst (λ (z : Proc). Are n from first (goes a z) vs) rights right;
+      are_left = subst (λ (z : Proc). Are i n from first (goes a z) us) lefts left;
+      are_right = subst (λ (z : Proc). Are i n from first (goes a z) vs) rights right;
     }
 
 -- an atom is there for something
@@ -119,12 +120,12 @@ record HasFirst (ts : List Thing) : Type 0 where
   is : ts ≡ thing ∷ rest
   no_packet : high_packet thing ≡ None
 
-no-packet : (n from first : ℕ) (t : Thing) (a : Atom) → Is n from first t a → high_packet t ≡ None
-no-packet n from first (Thing.packet p) a i = absurd i
-no-packet n from first _ a i = refl
+no-packet : (i : Infrastructure) (n from first : ℕ) (t : Thing) (a : Atom) → Is i n from first t a → high_packet t ≡ None
+no-packet _ n from first (Thing.packet p) a i = absurd i
+no-packet _ n from first _ a i = refl
 
-has_first : {n from first : ℕ} {a : Atom} {ts : List Thing} → Are n from first a ts → HasFirst ts
-has_first {n} {from} {first} {a} (Are.one {t = t} i) = record { thing = t; rest = []; is = refl; no_packet = no-packet n from first t a i }
+has_first : {i : Infrastructure} {n from first : ℕ} {a : Atom} {ts : List Thing} → Are i n from first a ts → HasFirst ts
+has_first {n} {from} {first} {a} (Are.one {t = t} i) = record { thing = t; rest = []; is = refl; no_packet = no-packet _ n from first t a i }
 has_first (Are.both {us = us} is left right) = let f = has_first left in record { thing = f.thing; rest = f.rest ++ us; is = ap (λ l. l ++ us) f.is; no_packet = f.no_packet }
 
 abbrev IsLow : Thing → Type 0
@@ -158,9 +159,9 @@ headed_parts left right f g h =
       no_letter = ap first_letter_of g.is ∙ low-carries-none g.thing (All-head IsLow g.thing g.rest its);
     }
 
-module _ {n from first : ℕ} {low high : Config} {v : View} (c : Coupled n from first low high v) where
+module _ {i : Infrastructure} {n from first : ℕ} {low high : Config} {v : View} (c : Coupled i n from first low high v) where
   pub forks : (e : Event) (next : Config) → e.kind ≡ kind.Fork → e.tag.role ≡ role.Infra → apply low e ≡ Some next
-      → (w : View) × (w.stands_for ≡ v.stands_for) × Coupled n from first next high w × SameLetters v w
+      → (w : View) × (w.standing ≡ v.standing) × Coupled i n from first next high w × SameLetters v w
   forks e next is_fork infra h =
       let s = forking low e next (ap (λ k. row k low e) (sym is_fork) ∙ h) in
       let o = of_atom c e.actor s.atom s.acts.there in
@@ -170,8 +171,8 @@ module _ {n from first : ℕ} {low high : Config} {v : View} (c : Coupled n from
       forked e next s o.no_packet parts.left parts.right there parts.are_left parts.are_right headed h
     where
       forked : (e : Event) (next : Config) (s : IsForking low e next) → map.get low.packets e.actor ≡ None → (left right : List Thing) → map.get v.things e.actor ≡ Some (left ++ right)
-          → Are n from first (goes s.atom s.left) left → Are n from first (goes s.atom s.right) right → Headed left right → apply low e ≡ Some next
-          → (w : View) × (w.stands_for ≡ v.stands_for) × Coupled n from first next high w × SameLetters v w
+          → Are i n from first (goes s.atom s.left) left → Are i n from first (goes s.atom s.right) right → Headed left right → apply low e ≡ Some next
+          → (w : View) × (w.standing ≡ v.standing) × Coupled i n from first next high w × SameLetters v w
       forked e next s no_packet left right there are_left are_right headed h = (
         record v { things = things; phase = protocol.0 },
         refl,
@@ -261,7 +262,7 @@ module _ {n from first : ℕ} {low high : Config} {v : View} (c : Coupled n from
           not_both : (q : Name) → same_name q s.new ≡ true → same_name q e.actor ≡ false
           not_both q t = ap (λ x. same_name x e.actor) (same_name-is q s.new t) ∙ other
 
-          shaped : (q : Name) (t u : Bool) → same_name q s.new ≡ t → same_name q e.actor ≡ u → IsShaped n from first next things q
+          shaped : (q : Name) (t u : Bool) → same_name q s.new ≡ t → same_name q e.actor ≡ u → IsShaped i n from first next things q
           shaped q true u a b =
               IsShaped.atom (at_atoms q ∙ ap (λ t. cond t (Some (goes s.atom s.left)) (cond (same_name q s.new) (Some (goes s.atom s.right)) (map.get low.atoms q))) (not_both q a) ∙ ap (λ t. cond t (Some (goes s.atom s.right)) (map.get low.atoms q)) a)
               (at_packets q ∙ ap (map.get low.packets) (same_name-is q s.new a) ∙ no_new_packet) (at q ∙ ap (λ t. cond t (Some right) (cond (same_name q e.actor) (Some left) (map.get v.things q))) a) headed.of_right are_right

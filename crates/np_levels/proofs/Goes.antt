@@ -7,7 +7,9 @@ use Rattle.np_calculus.specs.declared.config.Atom.{Atom}
 use Rattle.np_calculus.specs.Changes.{cut, effect, still, with_made, with_said}
 use Rattle.np_calculus.specs.Config.{Config}
 use Rattle.np_calculus.specs.Reductions.{apply, becomes}
+use Rattle.cache_lift.specs.Lift.{stands_for}
 use Rattle.np_eval.specs.Eval.{Env}
+use Rattle.daemon_encode.specs.Infrastructures.{Infrastructure}
 use Rattle.np_source_values.specs.Known.{Knows}
 use Rattle.np_source_values.proofs.Known.{known-more}
 use Rattle.np_things.specs.Shapes.{IsOfSource}
@@ -19,7 +21,7 @@ use Rattle.np_levels.proofs.Stands.{Free, cut_atom, leave, put_atom, stands}
 use Rattle.np_levels.proofs.Together.{more_channels}
 use Rattle.np_levels.specs.Letters.{SameLetters}
 
-module _ {n from first : ℕ} {low high : Config} {v : View} (c : Coupled n from first low high v) (e : Event) where
+module _ {i : Infrastructure} {n from first : ℕ} {low high : Config} {v : View} (c : Coupled i n from first low high v) (e : Event) where
   -- what is known is known still, where the event's names are made
   pub still_knows : {env : Env} → Knows (agents c e) (is_channel n high.born) from env → Knows (agents c e) (is_channel n (with_made high.born e.made)) from env
   still_knows {env} k = known-more (agents c e) (is_channel n high.born) (agents c e) (is_channel n (with_made high.born e.made)) from env (λ a h. h)
@@ -27,13 +29,13 @@ module _ {n from first : ℕ} {low high : Config} {v : View} (c : Coupled n from
 
   -- the event at the marks of the high level is one of it, and what both leave is coupled
   abbrev pub IsSame : Config → Type 0
-  IsSame next = (after : Config) × (apply high (event_of v e) ≡ Some after) × (w : View) × (w.stands_for ≡ v.stands_for) × Coupled n from first next after w
+  IsSame next = (after : Config) × (apply high (event_of v e) ≡ Some after) × (w : View) × (w.standing ≡ v.standing) × Coupled i n from first next after w
       × SameLetters v w
 
   module _ (next : Config) {a : Atom} (o : Actor c e a) (applies : apply low e ≡ Some next) where
-    pub goes_on_both : (goes_low goes_high : Atom) → next ≡ effect low e (becomes e goes_low) → IsOfSource n from o.named goes_high goes_low
+    pub goes_on_both : (goes_low goes_high : Atom) → next ≡ effect low e (becomes e goes_low) → IsOfSource i n from o.named goes_high goes_low
         → Knows (agents c e) (is_channel n (with_made high.born e.made)) from goes_high.env
-        → (w : View) × (w.stands_for ≡ v.stands_for) × Coupled n from first next (effect high (event_of v e) (becomes (event_of v e) goes_high)) w
+        → (w : View) × (w.standing ≡ v.standing) × Coupled i n from first next (effect high (event_of v e) (becomes (event_of v e) goes_high)) w
         × SameLetters v w
     goes_on_both goes_low goes_high is its knows =
         let s = put_atom c e (stands c e) e.actor (Free.old {ts = Thing.source o.named o.atom ∷ []} o.there refl refl) goes_low
@@ -41,8 +43,8 @@ module _ {n from first : ℕ} {low high : Config} {v : View} (c : Coupled n from
         leave c e s next low.said high.said applies is c.said
 
     pub ends_both : (said : Option Value) → next ≡ effect low e (record still { atoms = cut e.actor ∷ []; said = said })
-        → (w : View) × (w.stands_for ≡ v.stands_for) × Coupled n from first next
-        (effect high (event_of v e) (record still { atoms = cut (v.stands_for e.actor) ∷ []; said = said })) w × SameLetters v w
+        → (w : View) × (w.standing ≡ v.standing) × Coupled i n from first next
+        (effect high (event_of v e) (record still { atoms = cut (stands_for v.standing e.actor) ∷ []; said = said })) w × SameLetters v w
     ends_both said is =
         let s = cut_atom c e (stands c e) e.actor (Free.old {ts = Thing.source o.named o.atom ∷ []} o.there refl refl) o.no_packet
         (ap (λ t. t >>= first_packet_of) o.there) in

@@ -20,8 +20,10 @@ use Rattle.np_calculus.specs.Sight.{inside, sight}
 unfoldable use Rattle.np_calculus.proofs.Common.{act}
 use Rattle.np_calculus.proofs.Rows.{parts}
 use Rattle.np_calculus.proofs.Steps.{Acts, acting-step, is-none, row-step, step-acting}
+use Rattle.cache_lift.specs.Lift.{stands_for}
 use Rattle.np_eval.specs.Eval.{as_truth, truth_of}
 use Rattle.np_eval.specs.Forms.{layer}
+use Rattle.daemon_encode.specs.Infrastructures.{Infrastructure}
 use Rattle.daemon_encode.specs.Translates.{Translates}
 use Rattle.np_source_values.specs.Sources.{IsSource}
 use Rattle.np_things.specs.Shapes.{IsOfSource, StandsFor}
@@ -72,19 +74,19 @@ unfolding act
 if_applies c e a y p q t acts form truth none other = rw (step-acting c e a acts, form, truth, none, other) refl
 
 -- of two parts either goes on
-either_part : {n from : ℕ} {x : Expr} {h a : Atom} {p p' q q' : Proc} → StandsFor n from x h a → IsSource n from x p → IsSource n from x q
-    → Translates n from x p p' → Translates n from x q q' → (t : Bool) → IsOfSource n from x (goes h (cond t p q)) (goes a (cond t p' q'))
+either_part : {i : Infrastructure} {n from : ℕ} {x : Expr} {h a : Atom} {p p' q q' : Proc} → StandsFor n from x h a → IsSource n from x p → IsSource n from x q
+    → Translates i n from x p p' → Translates i n from x q q' → (t : Bool) → IsOfSource i n from x (goes h (cond t p q)) (goes a (cond t p' q'))
 either_part {p' = p'} s left right l r true = record { stands = goes_on p' s left; translates = l }
 either_part {q' = q'} s left right l r false = record { stands = goes_on q' s right; translates = r }
 
-module _ {n from first : ℕ} {low high : Config} {v : View} (c : Coupled n from first low high v) (e : Event) (next : Config) (is : e.kind ≡ kind.If)
+module _ {i : Infrastructure} {n from first : ℕ} {low high : Config} {v : View} (c : Coupled i n from first low high v) (e : Event) (next : Config) (is : e.kind ≡ kind.If)
     (h : apply low e ≡ Some next) (s : IsTesting low e next) (o : Actor c e s.atom) where
   other : (event_of v e).other ≡ None
-  other = ap (option_map v.stands_for) s.other_none
+  other = ap (option_map (stands_for v.standing)) s.other_none
 
   tested : IsSame c e next
   tested =
-      let f = subst (λ l. IsFormOf n from o.named l (layer o.atom.proc)) s.form o.form in
+      let f = subst (λ l. IsFormOf i n from o.named l (layer o.atom.proc)) s.form o.form in
       let its = parts_of c e o (ProcForm-F.If s.test f.0 f.1) f.2 in
       let truth : truth_of s.test o.atom.env ≡ Some s.holds =
       ap (λ y. y >>= λ u. as_truth (out-Value u)) (sym (same_here c e o s.test its.0)) ∙ s.its_truth in
@@ -98,7 +100,7 @@ module _ {n from first : ℕ} {low high : Config} {v : View} (c : Coupled n from
         w.3,
       )
 
-pub ifs-are-events : IsEvent kind.If
-ifs-are-events n from first low high v c well e next is plain h =
+pub ifs-are-events : {i : Infrastructure} → IsEvent i kind.If
+ifs-are-events n from first low high v c well lodged e next is plain h =
     let s = testing low e next (ap (λ k. row k low e) (sym is) ∙ h) in
-    tested c e next is h s (actor c e s.atom kind.If s.acts plain (ap begun_by s.form) (λ e. cc) (λ e. cc))
+    tested c e next is h s (actor c e lodged s.atom kind.If s.acts plain (ap begun_by s.form) (λ e. cc) (λ e. cc))

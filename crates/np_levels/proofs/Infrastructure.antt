@@ -16,6 +16,7 @@ unfoldable use Rattle.np_calculus.proofs.Common.{act, arrive_row}
 use Rattle.np_calculus.proofs.Rows.{parts}
 use Rattle.np_calculus.proofs.Steps.{acting-step, row-step}
 use Rattle.np_eval.specs.Forms.{layer}
+use Rattle.daemon_encode.specs.Infrastructures.{Infrastructure}
 use Rattle.np_things.specs.Acting.{begins}
 use Rattle.np_things.specs.Things.{Stage, Thing}
 use Rattle.np_levels.specs.Coupled.{Coupled, View}
@@ -70,7 +71,7 @@ no_fork k IsOthers.local_test e = cc
 no_fork k IsOthers.print e = cc
 no_fork k IsOthers.post e = cc
 
-module _ {n from first : ℕ} {low high : Config} {v : View} (c : Coupled n from first low high v) (e : Event) (next : Config) (infra : e.tag.role ≡ role.Infra) where
+module _ {i : Infrastructure} {n from first : ℕ} {low high : Config} {v : View} (c : Coupled i n from first low high v) (e : Event) (next : Config) (infra : e.tag.role ≡ role.Infra) where
   no_actor : {A : Type 0} (k : Kind) → IsOthers k → (a : Atom) → acting low e ≡ Some a → begun_by (layer a.proc) ≡ Some k → A
   no_actor k o a acts begun =
       let s = acting-step low e a acts in
@@ -78,29 +79,34 @@ module _ {n from first : ℕ} {low high : Config} {v : View} (c : Coupled n from
       absurd (none_begins k o actor.thing actor.its_kind)
 
   abbrev Done : Kind → Type 0
-  Done k = (w : View) × (w.stands_for ≡ v.stands_for) × Coupled n from first next high w × LettersAfter k role.Infra low next e v w
+  Done k = (w : View) × (w.standing ≡ v.standing) × Coupled i n from first next high w × LettersAfter k role.Infra low next e v w
 
-  by_kind : (k : Kind) → e.kind ≡ k → row k low e ≡ Some next → Done k
+  -- where it is told what the taking of an output is
+  by_kind : (e.kind ≡ kind.Comm → Done kind.Comm) → (k : Kind) → e.kind ≡ k → row k low e ≡ Some next → Done k
   unfolding act arrive_row
-  by_kind kind.Send is h = sends c e next is infra (ap (λ j. row j low e) is ∙ h)
-  by_kind kind.Land is h = lands c e next is (λ plain. let bad : role.Plain ≡ role.Infra = sym plain ∙ infra in cc) (ap (λ j. row j low e) is ∙ h)
-  by_kind kind.Open is h = opens c e next is infra (ap (λ j. row j low e) is ∙ h)
-  by_kind kind.Fork is h = forks c e next is infra (ap (λ j. row j low e) is ∙ h)
-  by_kind kind.Rep is h = serves c e next is infra (ap (λ j. row j low e) is ∙ h)
-  by_kind kind.Lookup is h = looks_up c e next is infra (ap (λ j. row j low e) is ∙ h)
-  by_kind kind.Comm is h = communicates c e next is infra (ap (λ j. row j low e) is ∙ h)
-  by_kind kind.New is h = registers c e next is infra (ap (λ j. row j low e) is ∙ h)
-  by_kind kind.Arrive is h =
+  by_kind comm kind.Send is h = sends c e next is infra (ap (λ j. row j low e) is ∙ h)
+  by_kind comm kind.Land is h = lands c e next is (λ plain. let bad : role.Plain ≡ role.Infra = sym plain ∙ infra in cc) (ap (λ j. row j low e) is ∙ h)
+  by_kind comm kind.Open is h = opens c e next is infra (ap (λ j. row j low e) is ∙ h)
+  by_kind comm kind.Fork is h = forks c e next is infra (ap (λ j. row j low e) is ∙ h)
+  by_kind comm kind.Rep is h = serves c e next is infra (ap (λ j. row j low e) is ∙ h)
+  by_kind comm kind.Lookup is h = looks_up c e next is infra (ap (λ j. row j low e) is ∙ h)
+  by_kind comm kind.Comm is h = comm is
+  by_kind comm kind.New is h = registers c e next is infra (ap (λ j. row j low e) is ∙ h)
+  by_kind comm kind.Arrive is h =
       then (map.get low.places e.actor) _ (row-step low e next kind.Arrive h).gives λ p there g. then (way p) _ g λ s comes g. when (nat_eq s e.site) _ g λ here g.
       when (same_tag e.tag (record { node = 0; role = role.Plain })) _ g λ tag g. absurd (let bad : role.Infra ≡ role.Plain = sym infra ∙ same_role e.tag (record { node = 0; role = role.Plain }) tag in cc)
-  by_kind kind.Stop is h = then (acting low e) _ (row-step low e next kind.Stop h).gives λ a acts g. parts kind.Stop (sight low.sites (inside low) e.site) e a g λ p form g. no_actor kind.Stop IsOthers.stop a acts (ap begun_by form)
-  by_kind kind.Let is h = then (acting low e) _ (row-step low e next kind.Let h).gives λ a acts g. parts kind.Let (sight low.sites (inside low) e.site) e a g λ p form g. no_actor kind.Let IsOthers.bind a acts (ap begun_by form)
-  by_kind kind.If is h = then (acting low e) _ (row-step low e next kind.If h).gives λ a acts g. parts kind.If (sight low.sites (inside low) e.site) e a g λ p form g. no_actor kind.If IsOthers.test a acts (ap begun_by form)
-  by_kind kind.Agent is h = then (acting low e) _ (row-step low e next kind.Agent h).gives λ a acts g. parts kind.Agent (sight low.sites (inside low) e.site) e a g λ p form g. no_actor kind.Agent IsOthers.agent a acts (ap begun_by form)
-  by_kind kind.Depart is h = then (acting low e) _ (row-step low e next kind.Depart h).gives λ a acts g. parts kind.Depart (sight low.sites (inside low) e.site) e a g λ p form g. no_actor kind.Depart IsOthers.depart a acts (ap begun_by form)
-  by_kind kind.Local is h = then (acting low e) _ (row-step low e next kind.Local h).gives λ a acts g. parts kind.Local (sight low.sites (inside low) e.site) e a g λ p form g. no_actor kind.Local IsOthers.local_test a acts (ap begun_by form)
-  by_kind kind.Print is h = then (acting low e) _ (row-step low e next kind.Print h).gives λ a acts g. parts kind.Print (sight low.sites (inside low) e.site) e a g λ p form g. no_actor kind.Print IsOthers.print a acts (ap begun_by form)
-  by_kind kind.Post is h = then (acting low e) _ (row-step low e next kind.Post h).gives λ a acts g. parts kind.Post (sight low.sites (inside low) e.site) e a g λ p form g. no_actor kind.Post IsOthers.post a acts (ap begun_by form)
+  by_kind comm kind.Stop is h = then (acting low e) _ (row-step low e next kind.Stop h).gives λ a acts g. parts kind.Stop (sight low.sites (inside low) e.site) e a g λ p form g. no_actor kind.Stop IsOthers.stop a acts (ap begun_by form)
+  by_kind comm kind.Let is h = then (acting low e) _ (row-step low e next kind.Let h).gives λ a acts g. parts kind.Let (sight low.sites (inside low) e.site) e a g λ p form g. no_actor kind.Let IsOthers.bind a acts (ap begun_by form)
+  by_kind comm kind.If is h = then (acting low e) _ (row-step low e next kind.If h).gives λ a acts g. parts kind.If (sight low.sites (inside low) e.site) e a g λ p form g. no_actor kind.If IsOthers.test a acts (ap begun_by form)
+  by_kind comm kind.Agent is h = then (acting low e) _ (row-step low e next kind.Agent h).gives λ a acts g. parts kind.Agent (sight low.sites (inside low) e.site) e a g λ p form g. no_actor kind.Agent IsOthers.agent a acts (ap begun_by form)
+  by_kind comm kind.Depart is h = then (acting low e) _ (row-step low e next kind.Depart h).gives λ a acts g. parts kind.Depart (sight low.sites (inside low) e.site) e a g λ p form g. no_actor kind.Depart IsOthers.depart a acts (ap begun_by form)
+  by_kind comm kind.Local is h = then (acting low e) _ (row-step low e next kind.Local h).gives λ a acts g. parts kind.Local (sight low.sites (inside low) e.site) e a g λ p form g. no_actor kind.Local IsOthers.local_test a acts (ap begun_by form)
+  by_kind comm kind.Print is h = then (acting low e) _ (row-step low e next kind.Print h).gives λ a acts g. parts kind.Print (sight low.sites (inside low) e.site) e a g λ p form g. no_actor kind.Print IsOthers.print a acts (ap begun_by form)
+  by_kind comm kind.Post is h = then (acting low e) _ (row-step low e next kind.Post h).gives λ a acts g. parts kind.Post (sight low.sites (inside low) e.site) e a g λ p form g. no_actor kind.Post IsOthers.post a acts (ap begun_by form)
 
-pub infrastructure : (k : Kind) → IsQuiet k role.Infra
-infrastructure k n from first low high v c e next is infra h = by_kind c e next infra k is (ap (λ j. row j low e) (sym is) ∙ h)
+-- but for the taking of outputs, of each infrastructure
+pub others : (i : Infrastructure) (k : Kind) → (k ≡ kind.Comm → ⊥) → IsQuiet i k role.Infra
+others i k other n from first low high v c e next is infra h = by_kind c e next infra (λ comm. absurd (other (sym is ∙ comm))) k is (ap (λ j. row j low e) (sym is) ∙ h)
+
+pub infrastructure : (k : Kind) → IsQuiet Infrastructure.central k role.Infra
+infrastructure k n from first low high v c e next is infra h = by_kind c e next infra (λ comm. communicates c e next comm infra h) k is (ap (λ j. row j low e) (sym is) ∙ h)

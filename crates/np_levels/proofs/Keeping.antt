@@ -11,9 +11,11 @@ use Rattle.np_tables.specs.Names.{NameMap, NameSet, same_name}
 use Rattle.np_tables.proofs.Tables.{get-put}
 use Rattle.np_calculus.specs.Changes.{with_made}
 use Rattle.np_calculus.specs.Config.{Config}
+use Rattle.cache_lift.specs.Lift.{stands_for}
 use Rattle.np_protocol.specs.Chips.{Chip}
 use Rattle.np_protocol.specs.Scenes.{Locks}
 use Rattle.np_protocol.specs.Steps.{Step}
+use Rattle.daemon_encode.specs.Infrastructures.{Infrastructure}
 use Rattle.np_things.specs.Things.{Thing, show_all}
 use Rattle.np_levels.specs.Coupled.{Coupled, KnowsOnly, View, chips, is_channel, is_child_of, may_know}
 use Rattle.np_levels.proofs.Marks.{may_know_more}
@@ -51,10 +53,10 @@ known_on lock cs ds n from born x children ts k = All-weaker (λ t. KnowsOnly (m
     (λ t k. knows_wider (may_know lock cs t) (may_know lock ds t) (is_channel n born) (is_channel n (with_made born x)) from
     (may_know_more lock cs ds children t) (more_channels n born x) t k) ts k
 
-module _ {n from first : ℕ} {low high : Config} {v : View} (c : Coupled n from first low high v) where
+module _ {i : Infrastructure} {n from first : ℕ} {low high : Config} {v : View} (c : Coupled i n from first low high v) where
   -- a mark that has things, or is new, is the only one that stands for what it does
   pub only_at : {X : Type 0} (f : List Thing → Option X) (m : Name) → IsOldOrNew c m → (q : Name) (y : X) → (map.get v.things q >>= f) ≡ Some y
-      → v.stands_for q ≡ v.stands_for m → q ≡ m
+      → stands_for v.standing q ≡ stands_for v.standing m → q ≡ m
   only_at {X} f m is q y j same = go (map.get v.things q) refl j
     where
       go : (o : Option (List Thing)) → map.get v.things q ≡ o → (o >>= f) ≡ Some y → q ≡ m

@@ -1,5 +1,5 @@
 -- Mail of the infrastructure lands.
-use Rattle.std.proofs.Common.{◌≡◌, ℕ, Bool, true, false, cond, nat_eq, Option, None, Some, List, [], ◌∷◌, refl, sym, ap, ◌∙◌}
+use Rattle.std.proofs.Common.{◌≡◌, ℕ, true, false, cond, nat_eq, Option, None, Some, IsSome, List, [], ◌∷◌, refl, sym, ap, subst, ◌∙◌}
 use Rattle.std.proofs.lemmas.Bool.{eqb-true}
 use Rattle.std.specs.List.{list_any}
 use Rattle.std.proofs.lemmas.List.Elements.{All-from_recursion, All-nil, recursion_from_All}
@@ -14,8 +14,8 @@ use Rattle.np_syntax.specs.declared.process.ProcForm.TheVariants.{outs-Out}
 use Rattle.np_syntax.specs.declared.event.Event.{Event}
 use Rattle.np_syntax.specs.declared.event.Kind.TheVariants as kind
 use Rattle.np_syntax.proofs.Options.{then, when, done}
-use Rattle.np_tables.specs.Names.{NameMap, same_name}
-use Rattle.np_tables.proofs.Tables.{cut_here, get-cut, get-put, put_here, same_name-is}
+use Rattle.np_tables.specs.Names.{NameMap}
+use Rattle.np_tables.proofs.Tables.{cut_here, get-cut, get-put, put_here}
 use Rattle.np_calculus.specs.declared.config.Atom.{Atom}
 use Rattle.np_calculus.specs.declared.config.Packet.{Packet}
 use Rattle.np_calculus.specs.declared.config.Place.{Place}
@@ -24,7 +24,7 @@ use Rattle.np_calculus.specs.Changes.{effect, put, cut, still}
 use Rattle.np_calculus.specs.Config.{Config}
 use Rattle.np_calculus.specs.Reductions.{apply, no_other, none_made, output_in, row, same_tag, sends}
 use Rattle.np_calculus.specs.Sight.{at_site}
-use Rattle.np_calculus.specs.Starts.{daemon_agent, own}
+use Rattle.np_calculus.specs.Starts.{own}
 unfoldable use Rattle.np_calculus.proofs.Common.{land_row}
 use Rattle.np_calculus.proofs.Steps.{row-step, same_site}
 use Rattle.np_protocol.specs.Chips.{Chip}
@@ -35,11 +35,13 @@ use Rattle.np_protocol.specs.Scenes.{Scene, Whereabouts}
 use Rattle.np_protocol.specs.Steps.{Step}
 use Rattle.np_protocol.proofs.Keeps.{keeps-protocol}
 use Rattle.np_protocol.proofs.Steps.{all_taken}
+use Rattle.daemon_encode.specs.Infrastructures.{Infrastructure}
 use Rattle.np_things.specs.Mail.{Mail, content, on_channel, packet_of, receiver, to_site}
 use Rattle.np_things.specs.Shapes.{Are, IsUnderWay}
 use Rattle.np_things.specs.Things.{Stage, Thing, high_atom, show_all}
 use Rattle.np_things.proofs.Starts.{constant-is}
 use Rattle.np_levels.specs.Coupled.{Coupled, IsShaped, KnowsOnly, View, chips, is_channel, is_child_of, may_know, scene, whereabouts}
+use Rattle.np_levels.proofs.Places.{same_place}
 use Rattle.np_levels.proofs.Letters.{same-letters}
 use Rattle.np_levels.proofs.Marks.{at_mark, same_chips, step_at}
 use Rattle.np_levels.proofs.Quiet.{any_kept, quiet}
@@ -101,19 +103,15 @@ mail_comes (Mail.dack y t) step p = same_chips step p
 mail_comes {w} {phase} {before} {after} (Mail.ack y t) step p = keeps-protocol w w phase before after _ _ (Rule.comes {a = y} {s = t}) step p
 mail_comes (Mail.deliver q t) step p = same_chips step p
 
-module _ {n from first : ℕ} {low high : Config} {v : View} (c : Coupled n from first low high v) where
+module _ {i : Infrastructure} {n from first : ℕ} {low high : Config} {v : View} (c : Coupled i n from first low high v) where
   -- an agent that is at a site for the protocol is there at the low level
   pub low_place : (a : Name) (s : ℕ) → whereabouts (map.get high.places a) ≡ Whereabouts.at s → map.get low.places a ≡ Some (place.At s)
-  low_place a s h = c.places a (apart (same_name a (daemon_agent n)) refl) ∙ its (map.get high.places a) h
+  low_place a s h = same_place c a (subst IsSome (sym (its (map.get high.places a) h)) refl) ∙ its (map.get high.places a) h
     where
       its : (o : Option Place) → whereabouts o ≡ Whereabouts.at s → o ≡ Some (place.At s)
       its None e = absurd cc
       its (Some (place.At t)) e = let same : t ≡ s = cc in ap (λ u. Some (place.At u)) same
       its (Some (place.Way t)) e = absurd cc
-
-      apart : (u : Bool) → same_name a (daemon_agent n) ≡ u → u ≡ false
-      apart false e = refl
-      apart true e = absurd (let none : Whereabouts.nowhere ≡ Whereabouts.at s = ap whereabouts (sym (ap (map.get high.places) (same_name-is a (daemon_agent n) e) ∙ c.no_daemon)) ∙ h in cc)
 
   -- mail goes where its receiver is
   mail_finds : {after give : List Chip} (m : Mail) → Step (chips v.things) after (show_all (Thing.mail m Stage.on_the_way ∷ [])) give → map.get low.places (receiver n m) ≡ Some (place.At (to_site m))
@@ -127,7 +125,7 @@ module _ {n from first : ℕ} {low high : Config} {v : View} (c : Coupled n from
       low_place q.agent t (recursion_from_All (IsTrueOf (scene v high) v.phase) (Chip.delivery q.agent t ∷ Chip.knows q.agent ∷ []) (all_taken step (IsTrueOf (scene v high) v.phase) c.protocol.true_chips)).0
 
   pub lands : (e : Event) (next : Config) → e.kind ≡ kind.Land → (e.tag.role ≡ role.Plain → ⊥) → apply low e ≡ Some next
-      → (w : View) × (w.stands_for ≡ v.stands_for) × Coupled n from first next high w × SameLetters v w
+      → (w : View) × (w.standing ≡ v.standing) × Coupled i n from first next high w × SameLetters v w
   lands e next is_land apart h =
       let row_is : row kind.Land low e ≡ Some next = ap (λ k. row k low e) (sym is_land) ∙ h in
       let l = landing low e next row_is in

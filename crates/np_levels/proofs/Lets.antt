@@ -20,8 +20,10 @@ use Rattle.np_calculus.specs.Sight.{inside, sight}
 unfoldable use Rattle.np_calculus.proofs.Common.{act}
 use Rattle.np_calculus.proofs.Rows.{parts}
 use Rattle.np_calculus.proofs.Steps.{Acts, acting-step, is-none, row-step, step-acting}
+use Rattle.cache_lift.specs.Lift.{stands_for}
 use Rattle.np_eval.specs.Eval.{Env, bind, eval}
 use Rattle.np_eval.specs.Forms.{layer}
+use Rattle.daemon_encode.specs.Infrastructures.{Infrastructure}
 use Rattle.np_levels.specs.Coupled.{Coupled, View, is_channel}
 use Rattle.np_levels.specs.Laws.{IsEvent, event_of}
 use Rattle.np_levels.proofs.Actors.{Actor, actor, agents, known_here, parts_of, same_here}
@@ -74,14 +76,14 @@ let_applies : (c : Config) (e : Event) (a : Atom) (x : Pat) (y : Expr) (p : Proc
 unfolding act
 let_applies c e a x y p v env acts form gives binds none other = rw (step-acting c e a acts, form, gives, binds, none, other) refl
 
-module _ {n from first : ℕ} {low high : Config} {v : View} (c : Coupled n from first low high v) (e : Event) (next : Config) (is : e.kind ≡ kind.Let)
+module _ {i : Infrastructure} {n from first : ℕ} {low high : Config} {v : View} (c : Coupled i n from first low high v) (e : Event) (next : Config) (is : e.kind ≡ kind.Let)
     (h : apply low e ≡ Some next) (s : IsLetting low e next) (o : Actor c e s.atom) where
   other : (event_of v e).other ≡ None
-  other = ap (option_map v.stands_for) s.other_none
+  other = ap (option_map (stands_for v.standing)) s.other_none
 
   bound : IsSame c e next
   bound =
-      let f = subst (λ l. IsFormOf n from o.named l (layer o.atom.proc)) s.form o.form in
+      let f = subst (λ l. IsFormOf i n from o.named l (layer o.atom.proc)) s.form o.form in
       let its = parts_of c e o (ProcForm-F.Let s.pattern s.bound f.0) f.1 in
       let gives : eval s.bound o.atom.env ≡ Some s.what = sym (same_here c e o s.bound its.0) ∙ s.its_value in
       let b = bound_both o.is.stands s.what s.env its.1 s.binds in
@@ -97,7 +99,7 @@ module _ {n from first : ℕ} {low high : Config} {v : View} (c : Coupled n from
         w.3,
       )
 
-pub lets-are-events : IsEvent kind.Let
-lets-are-events n from first low high v c well e next is plain h =
+pub lets-are-events : {i : Infrastructure} → IsEvent i kind.Let
+lets-are-events n from first low high v c well lodged e next is plain h =
     let s = letting low e next (ap (λ k. row k low e) (sym is) ∙ h) in
-    bound c e next is h s (actor c e s.atom kind.Let s.acts plain (ap begun_by s.form) (λ e. cc) (λ e. cc))
+    bound c e next is h s (actor c e lodged s.atom kind.Let s.acts plain (ap begun_by s.form) (λ e. cc) (λ e. cc))

@@ -25,6 +25,7 @@ pub mod News
 pub mod Orders
 pub mod Outputs
 pub mod Packets
+pub mod Places
 pub mod Plains
 pub mod Posts
 pub mod Prints

@@ -23,13 +23,16 @@ unfoldable use Rattle.np_calculus.proofs.Common.{act, away_row, here_row}
 use Rattle.np_calculus.proofs.FrameRule.{not-false}
 use Rattle.np_calculus.proofs.Rows.{parts}
 use Rattle.np_calculus.proofs.Steps.{Acts, acting-step, is-none, is-one, one-new, row-step, step-acting}
+use Rattle.cache_lift.specs.Lift.{stands_for}
 use Rattle.np_eval.specs.Eval.{agent_of, as_agent, as_chan, chan_of, eval}
 use Rattle.np_eval.specs.Forms.{layer}
+use Rattle.daemon_encode.specs.Infrastructures.{Infrastructure}
 use Rattle.np_things.specs.Mail.{Posted, as_output}
 use Rattle.np_things.specs.Shapes.{IsAgents, IsOfSource}
 use Rattle.np_things.specs.Things.{Thing}
 use Rattle.np_levels.specs.Coupled.{Coupled, View, is_channel}
 use Rattle.np_levels.specs.Laws.{IsEvent, event_of}
+use Rattle.np_levels.proofs.Places.{known_there, same_place}
 use Rattle.np_levels.proofs.Actors.{Actor, actor, agents, known_agent, known_apart, known_channel, known_here, Parts, parts_of, same_here}
 use Rattle.np_levels.proofs.Applies.{takes_nothing}
 use Rattle.np_levels.proofs.Bodies.{first_part, goes_on, second_part}
@@ -124,10 +127,10 @@ module _ (c : Config) (e : Event) (a : Atom) (x y z : Expr) (p q : Proc) (agent 
   unfolding act away_row
   misses_applies away none = rw (step-acting c e a acts, form, its_agent, its_chan, its_value, other, away, none) refl
 
-module _ {n from first : ℕ} {low high : Config} {v : View} (c : Coupled n from first low high v) (e : Event) (next : Config) (is : e.kind ≡ kind.Local)
+module _ {i : Infrastructure} {n from first : ℕ} {low high : Config} {v : View} (c : Coupled i n from first low high v) (e : Event) (next : Config) (is : e.kind ≡ kind.Local)
     (h : apply low e ≡ Some next) (s : IsLocating low e next) (o : Actor c e s.atom) where
-  form : IsFormOf n from o.named (ProcForm-F.IfLocal s.agent_named s.chan_named s.sent s.met s.unmet) (layer o.atom.proc)
-  form = subst (λ l. IsFormOf n from o.named l (layer o.atom.proc)) s.form o.form
+  form : IsFormOf i n from o.named (ProcForm-F.IfLocal s.agent_named s.chan_named s.sent s.met s.unmet) (layer o.atom.proc)
+  form = subst (λ l. IsFormOf i n from o.named l (layer o.atom.proc)) s.form o.form
 
   sound_parts : Parts c e o (ProcForm-F.IfLocal s.agent_named s.chan_named s.sent form.0 form.1)
   sound_parts = parts_of c e o (ProcForm-F.IfLocal s.agent_named s.chan_named s.sent form.0 form.1) form.2
@@ -141,31 +144,34 @@ module _ {n from first : ℕ} {low high : Config} {v : View} (c : Coupled n from
   value_is : eval s.sent o.atom.env ≡ Some s.what
   value_is = sym (same_here c e o s.sent sound_parts.2) ∙ s.its_value
 
+  its_lock : agents c e s.agent ≡ true
+  its_lock = known_agent c e o s.agent_named s.agent sound_parts.0 agent_is
+
   apart : IsAgents n s.agent
-  apart = known_apart c s.agent (known_agent c e o s.agent_named s.agent sound_parts.0 agent_is)
+  apart = known_apart c s.agent its_lock
 
   other : (event_of v e).other ≡ None
-  other = ap (option_map v.stands_for) s.other_none
+  other = ap (option_map (stands_for v.standing)) s.other_none
 
   -- its agent is at the site at both levels, or at none
-  same_place : is_at high s.agent e.site ≡ is_at low s.agent e.site
-  same_place = ap (λ p. at_site p e.site) (sym (c.places s.agent apart))
+  same_site : is_at high s.agent e.site ≡ is_at low s.agent e.site
+  same_site = ap (λ p. at_site p e.site) (sym (same_place c s.agent (known_there c s.agent its_lock)))
 
   found : FindsIt low e next s.atom s.met s.agent s.chan s.what → IsSame c e next
-  found i =
+  found it =
       let p : Posted = record { agent = s.agent; chan = s.chan; value = s.what; tag = e.tag } in
-      let part : IsOfSource n from o.named (goes o.atom form.0) (goes s.atom s.met) =
+      let part : IsOfSource i n from o.named (goes o.atom form.0) (goes s.atom s.met) =
       record { stands = goes_on s.met o.is.stands (first_part o.is.stands.source sound_parts.3); translates = form.3 } in
       let knows = knows_wider (agents c e) (agents c e) (is_channel n high.born) (is_channel n (with_made high.born e.made)) from (λ a h. h)
       (more_channels n high.born e.made) (Thing.opened p)
       (known_channel c e o s.chan_named s.chan sound_parts.1 chan_is, known_here c e o s.sent s.what sound_parts.2 value_is) in
-      let w = made_both c e next o h i.new (as_output p) (as_output p) (Thing.opened p) i.is_new
+      let w = made_both c e next o h it.new (as_output p) (as_output p) (Thing.opened p) it.is_new
       (record { apart = apart; tag = p.tag; is = refl }) refl refl (refl, refl) knows (goes s.atom s.met) (goes o.atom form.0) part
-      (still_knows c e o.knows) i.is in (
-        effect high (event_of v e) (record still { atoms = put i.new (as_output p) ∷ put (v.stands_for e.actor) (goes o.atom form.0) ∷ [] }),
+      (still_knows c e o.knows) it.is in (
+        effect high (event_of v e) (record still { atoms = put it.new (as_output p) ∷ put (stands_for v.standing e.actor) (goes o.atom form.0) ∷ [] }),
         ap (λ k. row k high (event_of v e)) is
             ∙ finds_applies high (event_of v e) o.atom s.agent_named s.chan_named s.sent form.0 form.1 s.agent s.chan s.what o.acts form.2
-            agent_is chan_is value_is other i.new (same_place ∙ i.here) i.made_one (new_mark c e i.new i.is_new).high_new,
+            agent_is chan_is value_is other it.new (same_site ∙ it.here) it.made_one (new_mark c e it.new it.is_new).high_new,
         w.0,
         w.1,
         w.2,
@@ -173,14 +179,14 @@ module _ {n from first : ℕ} {low high : Config} {v : View} (c : Coupled n from
       )
 
   missed : Misses low e next s.atom s.unmet s.agent → IsSame c e next
-  missed i =
-      let part : IsOfSource n from o.named (goes o.atom form.1) (goes s.atom s.unmet) =
+  missed it =
+      let part : IsOfSource i n from o.named (goes o.atom form.1) (goes s.atom s.unmet) =
       record { stands = goes_on s.unmet o.is.stands (second_part o.is.stands.source sound_parts.3); translates = form.4 } in
-      let w = goes_on_both c e next o h (goes s.atom s.unmet) (goes o.atom form.1) i.is part (still_knows c e o.knows) in (
+      let w = goes_on_both c e next o h (goes s.atom s.unmet) (goes o.atom form.1) it.is part (still_knows c e o.knows) in (
         effect high (event_of v e) (becomes (event_of v e) (goes o.atom form.1)),
         ap (λ k. row k high (event_of v e)) is
             ∙ misses_applies high (event_of v e) o.atom s.agent_named s.chan_named s.sent form.0 form.1 s.agent s.chan s.what o.acts form.2
-            agent_is chan_is value_is other (same_place ∙ i.away) i.made_none,
+            agent_is chan_is value_is other (same_site ∙ it.away) it.made_none,
         w.0,
         w.1,
         w.2,
@@ -190,7 +196,7 @@ module _ {n from first : ℕ} {low high : Config} {v : View} (c : Coupled n from
   located : IsSame c e next
   located = elim s.ends [ inl i ↦ found i | inr i ↦ missed i ]
 
-pub locals-are-events : IsEvent kind.Local
-locals-are-events n from first low high v c well e next is plain h =
+pub locals-are-events : {i : Infrastructure} → IsEvent i kind.Local
+locals-are-events n from first low high v c well lodged e next is plain h =
     let s = locating low e next (ap (λ k. row k low e) (sym is) ∙ h) in
-    located c e next is h s (actor c e s.atom kind.Local s.acts plain (ap begun_by s.form) (λ e. cc) (λ e. cc))
+    located c e next is h s (actor c e lodged s.atom kind.Local s.acts plain (ap begun_by s.form) (λ e. cc) (λ e. cc))

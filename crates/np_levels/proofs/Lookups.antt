@@ -41,6 +41,7 @@ use Rattle.np_protocol.proofs.Kept.{phase_of}
 use Rattle.np_protocol.proofs.Steps.{all_taken, sum_before}
 use Rattle.daemon_encode.specs.Pieces.{ack, beside, gives, lock, name, stop, takes, unit, variable}
 use Rattle.daemon_encode.specs.Daemon.{acks, frees}
+use Rattle.daemon_encode.specs.Infrastructures.{Infrastructure}
 use Rattle.np_things.specs.Acting.{begins}
 use Rattle.np_things.specs.Desks.{Took, desk, looks}
 use Rattle.np_things.specs.Mail.{Mail}
@@ -119,10 +120,10 @@ gives_two a k x y env c v on at = rw (forms.outs-Out (variable x) (variable y), 
 frees_map : (n m : ℕ) (a : Name) (env : Env) (ps : List (Name × Name)) → map.get env m ≡ Some (value.Places ps) → sends (record { agent = a; proc = frees n m; env = env }) ≡ Some (own n 10, value.Places ps)
 frees_map n m a env ps at = rw (forms.outs-Out (lock n) (variable m), channel-is (own n 10) env, variable-is m env, at) refl
 
-looks_by : {R : Type 0} (n from first : ℕ) (t : Thing) (a : Atom) → Is n from first t a → begins t role.Infra kind.Lookup ≡ true → ((m : Mail) (ps : List (Name × Name)) → t ≡ Thing.looking m ps → IsLooking n first m ps a → R) → R
-looks_by n from first (Thing.looking m ps) a i h f = f m ps refl i
-looks_by n from first (Thing.mail m (Stage.in_agent x)) a i h f = absurd cc
-looks_by n from first _ a i h f = absurd cc
+looks_by : {R : Type 0} (i : Infrastructure) (n from first : ℕ) (t : Thing) (a : Atom) → Is i n from first t a → begins t role.Infra kind.Lookup ≡ true → ((m : Mail) (ps : List (Name × Name)) → t ≡ Thing.looking m ps → IsLooking n first m ps a → R) → R
+looks_by _ n from first (Thing.looking m ps) a i h f = f m ps refl i
+looks_by _ n from first (Thing.mail m (Stage.in_agent x)) a i h f = absurd cc
+looks_by _ n from first _ a i h f = absurd cc
 
 some_lock : (o : Option Name) → is_some o ≡ true → (l : Name) × (o ≡ Some l)
 some_lock None h = absurd cc
@@ -132,7 +133,7 @@ registered_then : (t : Bool) → 1 ≤ one_if t → t ≡ true
 registered_then true h = refl
 registered_then false h = absurd (let bad : ⊥ = omega arith in bad)
 
-module _ {n from first : ℕ} {low high : Config} {v : View} (c : Coupled n from first low high v) where
+module _ {i : Infrastructure} {n from first : ℕ} {low high : Config} {v : View} (c : Coupled i n from first low high v) where
   -- whom the daemon looks up is in the map
   request_registered : (a : Name) {after give : List Chip} (m : Name → Option Name) → Step (chips v.things) after (Chip.locks m ∷ Chip.request a ∷ []) give → is_some (v.lock a) ≡ true
   request_registered a m step = c.protocol.registered a ∙ ap is_registered (phase_of step v.phase c.protocol.rows a Phase.asking (Column.request ∷ []) refl refl refl)
@@ -147,11 +148,11 @@ module _ {n from first : ℕ} {low high : Config} {v : View} (c : Coupled n from
 
   -- an atom that looks up goes on with a lock
   looked : (e : Event) (next : Config) (s : IsFinding low e next) (m : Mail) (ps : List (Name × Name)) → IsLooking n first m ps s.atom → map.get low.packets e.actor ≡ None → map.get v.things e.actor ≡ Some (Thing.looking m ps ∷ [])
-      → apply low e ≡ Some next → (w : View) × (w.stands_for ≡ v.stands_for) × Coupled n from first next high w × SameLetters v w
-  looked e next s m ps i no_packet there h = go m i.service i.took i.map i.is there
+      → apply low e ≡ Some next → (w : View) × (w.standing ≡ v.standing) × Coupled i n from first next high w × SameLetters v w
+  looked e next s m ps its no_packet there h = go m its.service its.took its.map its.is there
     where
       go : (m : Mail) (k : Service) → Took first k m s.atom.env → map.get s.atom.env (desk n first k).map ≡ Some (value.Places ps) → s.atom.proc ≡ (desk n first k).body → map.get v.things e.actor ≡ Some (Thing.looking m ps ∷ [])
-          → (w : View) × (w.stands_for ≡ v.stands_for) × Coupled n from first next high w × SameLetters v w
+          → (w : View) × (w.standing ≡ v.standing) × Coupled i n from first next high w × SameLetters v w
       go (Mail.migrating a) Service.grants took map_is text at =
           let steps = step_at v.things e.actor (Thing.looking (Mail.migrating a) ps ∷ []) [] at in
           let told = recursion_from_All (IsTrueOf (scene v high) v.phase) (Chip.locks (find_place ps) ∷ Chip.request a ∷ []) (all_taken steps (IsTrueOf (scene v high) v.phase) c.protocol.true_chips) in
@@ -165,8 +166,8 @@ module _ {n from first : ℕ} {low high : Config} {v : View} (c : Coupled n from
             there = at;
             headed = All-from_recursion (λ u. high_atom u ≡ None) (Thing.places ps ∷ []) (refl, tt);
             are = Are.both {k = 0} {p = left} {q = frees n (first + 5)} refl
-                (Are.one (record { agent = i.agent; waits = (refl, there_is s.atom.env (first + 6) (first + 4) (value.Chan lock.0) (λ e. let bad : ⊥ = omega arith in bad) ∙ took, here_is s.atom.env (first + 6) (value.Chan lock.0)) }))
-                (Are.one (record { agent = i.agent; gives = frees_map n (first + 5) s.atom.agent env ps (there_is s.atom.env (first + 6) (first + 5) (value.Chan lock.0) (λ e. let bad : ⊥ = omega arith in bad) ∙ map_is) }));
+                (Are.one (record { agent = its.agent; waits = (refl, there_is s.atom.env (first + 6) (first + 4) (value.Chan lock.0) (λ e. let bad : ⊥ = omega arith in bad) ∙ took, here_is s.atom.env (first + 6) (value.Chan lock.0)) }))
+                (Are.one (record { agent = its.agent; gives = frees_map n (first + 5) s.atom.agent env ps (there_is s.atom.env (first + 6) (first + 5) (value.Chan lock.0) (λ e. let bad : ⊥ = omega arith in bad) ∙ map_is) }));
             atoms = refl;
             packets = refl;
             protocol = λ step. keeps-protocol (scene v high) (scene v high) v.phase (chips v.things) _ [] (Chip.wants a lock.0 ∷ [])
@@ -189,14 +190,14 @@ module _ {n from first : ℕ} {low high : Config} {v : View} (c : Coupled n from
             headed = All-from_recursion (λ u. high_atom u ≡ None) (Thing.places ps ∷ []) (refl, tt);
             are = Are.both {k = 0} {p = left} {q = frees n (first + 14)} refl
                 (Are.one (record {
-                  agent = i.agent;
+                  agent = its.agent;
                   waits = (
                     refl,
                     (there_is s.atom.env (first + 15) (first + 12) (value.Chan lock.0) (λ e. let bad : ⊥ = omega arith in bad) ∙ took.0, there_is s.atom.env (first + 15) (first + 13) (value.Chan lock.0) (λ e. let bad : ⊥ = omega arith in bad) ∙ took.1),
                     here_is s.atom.env (first + 15) (value.Chan lock.0),
                   );
                 }))
-                (Are.one (record { agent = i.agent; gives = frees_map n (first + 14) s.atom.agent env ps (there_is s.atom.env (first + 15) (first + 14) (value.Chan lock.0) (λ e. let bad : ⊥ = omega arith in bad) ∙ map_is) }));
+                (Are.one (record { agent = its.agent; gives = frees_map n (first + 14) s.atom.agent env ps (there_is s.atom.env (first + 15) (first + 14) (value.Chan lock.0) (λ e. let bad : ⊥ = omega arith in bad) ∙ map_is) }));
             atoms = refl;
             packets = refl;
             protocol = λ step. keeps-protocol (scene v high) (scene v high) v.phase (chips v.things) _ [] (Chip.wants p.agent lock.0 ∷ [])
@@ -218,8 +219,8 @@ module _ {n from first : ℕ} {low high : Config} {v : View} (c : Coupled n from
             there = at;
             headed = All-from_recursion (λ u. high_atom u ≡ None) (Thing.places ps ∷ []) (refl, tt);
             are = Are.both {k = 0} {p = left} {q = frees n (first + 19)} refl
-                (Are.one (record { agent = i.agent; gives = gives_two s.atom.agent 0 (first + 20) (first + 18) env lock.0 (value.Site t) (here_is s.atom.env (first + 20) (value.Chan lock.0)) (there_is s.atom.env (first + 20) (first + 18) (value.Chan lock.0) (λ e. let bad : ⊥ = omega arith in bad) ∙ took.1) }))
-                (Are.one (record { agent = i.agent; gives = frees_map n (first + 19) s.atom.agent env ps (there_is s.atom.env (first + 20) (first + 19) (value.Chan lock.0) (λ e. let bad : ⊥ = omega arith in bad) ∙ map_is) }));
+                (Are.one (record { agent = its.agent; gives = gives_two s.atom.agent 0 (first + 20) (first + 18) env lock.0 (value.Site t) (here_is s.atom.env (first + 20) (value.Chan lock.0)) (there_is s.atom.env (first + 20) (first + 18) (value.Chan lock.0) (λ e. let bad : ⊥ = omega arith in bad) ∙ took.1) }))
+                (Are.one (record { agent = its.agent; gives = frees_map n (first + 19) s.atom.agent env ps (there_is s.atom.env (first + 20) (first + 19) (value.Chan lock.0) (λ e. let bad : ⊥ = omega arith in bad) ∙ map_is) }));
             atoms = refl;
             packets = refl;
             protocol = λ step. keeps-protocol (scene v high) (scene v high) v.phase (chips v.things) _ (Chip.delivery b t ∷ []) (Chip.free lock.0 t ∷ []) (Rule.delivered {b = b} {l = lock.0} {s = t} lock.1)
@@ -244,7 +245,7 @@ module _ {n from first : ℕ} {low high : Config} {v : View} (c : Coupled n from
             headed = All-from_recursion (λ u. high_atom u ≡ None) (Thing.mail (Mail.ack a t) (Stage.in_agent s.atom.agent) ∷ Thing.places ps ∷ []) (refl, (refl, tt));
             are = Are.both {k = 0} {p = beside 0 one two} {q = frees n (first + 10)} refl
                 (Are.both {k = 0} {p = one} {q = two} refl
-                (Are.one (record { agent = i.agent; gives = gives_two s.atom.agent 0 (first + 11) (first + 9) env lock.0 (value.Site t) (here_is s.atom.env (first + 11) (value.Chan lock.0)) site_is }))
+                (Are.one (record { agent = its.agent; gives = gives_two s.atom.agent 0 (first + 11) (first + 9) env lock.0 (value.Site t) (here_is s.atom.env (first + 11) (value.Chan lock.0)) site_is }))
                 (Are.one (
                   record {
                     agent = refl;
@@ -261,7 +262,7 @@ module _ {n from first : ℕ} {low high : Config} {v : View} (c : Coupled n from
                   },
                   tt,
                 )))
-                (Are.one (record { agent = i.agent; gives = frees_map n (first + 10) s.atom.agent env ps (there_is s.atom.env (first + 11) (first + 10) (value.Chan lock.0) (λ e. let bad : ⊥ = omega arith in bad) ∙ map_is) }));
+                (Are.one (record { agent = its.agent; gives = frees_map n (first + 10) s.atom.agent env ps (there_is s.atom.env (first + 11) (first + 10) (value.Chan lock.0) (λ e. let bad : ⊥ = omega arith in bad) ∙ map_is) }));
             atoms = refl;
             packets = refl;
             protocol = λ step. keeps-protocol (scene v high) (scene v high) v.phase (chips v.things) _ (Chip.report a t true ∷ []) (Chip.ack_sent a t ∷ Chip.free lock.0 t ∷ []) (Rule.notes {a = a} {l = lock.0} {t = t} lock.1)
@@ -275,8 +276,8 @@ module _ {n from first : ℕ} {low high : Config} {v : View} (c : Coupled n from
       go _ _ took map_is text at = absurd took
 
   pub looks_up : (e : Event) (next : Config) → e.kind ≡ kind.Lookup → e.tag.role ≡ role.Infra → apply low e ≡ Some next
-      → (w : View) × (w.stands_for ≡ v.stands_for) × Coupled n from first next high w × SameLetters v w
+      → (w : View) × (w.standing ≡ v.standing) × Coupled i n from first next high w × SameLetters v w
   looks_up e next is_lookup infra h =
       let s = finding low e next (ap (λ k. row k low e) (sym is_lookup) ∙ h) in
       let o = of_actor c e.actor s.atom kind.Lookup role.Infra s.acts.there (ap begun_by s.form) (same_role s.atom.proc.tag e.tag s.acts.tag ∙ infra) (λ k r. cc) in
-      looks_by n from first o.thing s.atom o.is o.its_kind λ m ps thing i. looked e next s m ps i o.no_packet (o.there ∙ ap (λ t. Some (t ∷ [])) thing) h
+      looks_by _ n from first o.thing s.atom o.is o.its_kind λ m ps thing i. looked e next s m ps i o.no_packet (o.there ∙ ap (λ t. Some (t ∷ [])) thing) h

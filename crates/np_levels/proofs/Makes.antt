@@ -12,6 +12,8 @@ use Rattle.np_calculus.specs.Changes.{effect, put, still, with_made}
 use Rattle.np_calculus.specs.Config.{Config}
 use Rattle.np_calculus.specs.Reductions.{apply}
 use Rattle.np_calculus.proofs.OwnNames.{not_true}
+use Rattle.cache_lift.specs.Lift.{stands_for}
+use Rattle.daemon_encode.specs.Infrastructures.{Infrastructure}
 use Rattle.np_source_values.specs.Known.{Knows}
 use Rattle.np_things.specs.Shapes.{Is, IsOfSource}
 use Rattle.np_things.specs.Things.{Thing, first_packet_of, high_atom, high_packet}
@@ -22,15 +24,15 @@ use Rattle.np_levels.proofs.Quiet.{things_born}
 use Rattle.np_levels.proofs.Stands.{Free, IsNewMark, IsSilent, Knowing, leave, new_mark, put_atom, stands}
 use Rattle.np_levels.specs.Letters.{SameLetters}
 
-module _ {n from first : ℕ} {low high : Config} {v : View} (c : Coupled n from first low high v) (e : Event) (next : Config) {a : Atom} (o : Actor c e a)
+module _ {i : Infrastructure} {n from first : ℕ} {low high : Config} {v : View} (c : Coupled i n from first low high v) (e : Event) (next : Config) {a : Atom} (o : Actor c e a)
     (applies : apply low e ≡ Some next) where
-  pub made_both : (m : Name) (x y : Atom) (t : Thing) → set.contains low.born m ≡ false → Is n from first t x → high_atom t ≡ Some y → high_packet t ≡ None
+  pub made_both : (m : Name) (x y : Atom) (t : Thing) → set.contains low.born m ≡ false → Is i n from first t x → high_atom t ≡ Some y → high_packet t ≡ None
       → IsSilent t → Knowing c e t
-      → (goes_low goes_high : Atom) → IsOfSource n from o.named goes_high goes_low
+      → (goes_low goes_high : Atom) → IsOfSource i n from o.named goes_high goes_low
       → Knows (agents c e) (is_channel n (with_made high.born e.made)) from goes_high.env
       → next ≡ effect low e (record still { atoms = put m x ∷ put e.actor goes_low ∷ [] })
-      → (w : View) × (w.stands_for ≡ v.stands_for) × Coupled n from first next
-      (effect high (event_of v e) (record still { atoms = put m y ∷ put (v.stands_for e.actor) goes_high ∷ [] })) w × SameLetters v w
+      → (w : View) × (w.standing ≡ v.standing) × Coupled i n from first next
+      (effect high (event_of v e) (record still { atoms = put m y ∷ put (stands_for v.standing e.actor) goes_high ∷ [] })) w × SameLetters v w
   made_both m x y t is_new its atom packet silent knows goes_low goes_high goes knows_on is =
       let new : IsNewMark c e m = new_mark c e m is_new in
       let s = put_atom c e (stands c e) m (Free.new new.no_things is_new) x t y its atom packet silent knows new.no_packet
@@ -38,8 +40,8 @@ module _ {n from first : ℕ} {low high : Config} {v : View} (c : Coupled n from
       let r = put_atom c e s e.actor (Free.old {ts = Thing.source o.named o.atom ∷ []} there refl refl) goes_low
       (Thing.source o.named goes_high) goes_high goes refl refl (refl, refl) knows_on o.no_packet (ap (λ l. l >>= first_packet_of) there) in
       let w = leave c e r next low.said high.said applies is c.said in
-      subst (λ (k : Name). (w : View) × (w.stands_for ≡ v.stands_for) × Coupled n from first next
-      (effect high (event_of v e) (record still { atoms = put k y ∷ put (v.stands_for e.actor) goes_high ∷ [] })) w × SameLetters v w) new.stands_for w
+      subst (λ (k : Name). (w : View) × (w.standing ≡ v.standing) × Coupled i n from first next
+      (effect high (event_of v e) (record still { atoms = put k y ∷ put (stands_for v.standing e.actor) goes_high ∷ [] })) w × SameLetters v w) new.itself w
     where
       apart : same_name e.actor m ≡ false
       apart = not_true _ (λ h. let bad : false ≡ true =

@@ -18,6 +18,7 @@ use Rattle.np_protocol.specs.Phases.{Phase}
 use Rattle.np_protocol.specs.Protocol.{Protocol}
 use Rattle.np_protocol.specs.Scenes.{Locks, Scene}
 use Rattle.np_protocol.specs.Steps.{Step}
+use Rattle.daemon_encode.specs.Infrastructures.{Infrastructure}
 use Rattle.np_things.specs.Things.{Thing, first_atom_of, first_packet_of, show_all}
 use Rattle.np_levels.specs.Coupled.{Coupled, IsShaped, KnowsOnly, View, chips, is_channel, is_child_of, may_know, scene}
 use Rattle.np_levels.proofs.Born.{born-kept, made-kept}
@@ -38,8 +39,8 @@ pub same_chips : {w : Scene} {phase : Name → Phase} {before after take : List 
 same_chips {w} {phase} {before} {after} {take} step p =
     any_order w phase before after (IsPermutation-trans after (take ++ step.rest) before step.given (IsPermutation-sym before (take ++ step.rest) step.taken)) p
 
-pub reshape : {n from first : ℕ} {low next : Config} {things others : NameMap (List Thing)} (m : Name) → map.get next.atoms m ≡ map.get low.atoms m → map.get next.packets m ≡ map.get low.packets m
-    → map.get others m ≡ map.get things m → IsShaped n from first low things m → IsShaped n from first next others m
+pub reshape : {i : Infrastructure} {n from first : ℕ} {low next : Config} {things others : NameMap (List Thing)} (m : Name) → map.get next.atoms m ≡ map.get low.atoms m → map.get next.packets m ≡ map.get low.packets m
+    → map.get others m ≡ map.get things m → IsShaped i n from first low things m → IsShaped i n from first next others m
 reshape m a k t (IsShaped.nothing x y z) = IsShaped.nothing (a ∙ x) (k ∙ y) (t ∙ z)
 reshape m a k t (IsShaped.atom x y z u r) = IsShaped.atom (a ∙ x) (k ∙ y) (t ∙ z) u r
 reshape m a k t (IsShaped.packet x y z r) = IsShaped.packet (a ∙ x) (k ∙ y) (t ∙ z) r
@@ -50,7 +51,7 @@ pub may_know_more : (lock : Locks) (cs ds : List Chip) → ((a b : Name) → lis
 may_know_more lock cs ds f (Thing.settling a h s) b k = elim (or_cases _ (list_any (is_child_of h.agent b) cs) k) [ inl i ↦ ap (λ t. t || list_any (is_child_of h.agent b) ds) i | inr j ↦ or_second _ _ (f h.agent b j) ]
 may_know_more lock cs ds f _ b k = k
 
-module _ {n from first : ℕ} {low high : Config} {v : View} (c : Coupled n from first low high v) where
+module _ {i : Infrastructure} {n from first : ℕ} {low high : Config} {v : View} (c : Coupled i n from first low high v) where
   -- an event that leaves places and what was said, and changes the things of one mark
   pub record At (next : Config) (e : Event) (m : Name) (ts us : List Thing) (phase : Name → Phase) : Type 0 where
     pub applies : apply low e ≡ Some next
@@ -60,7 +61,7 @@ module _ {n from first : ℕ} {low high : Config} {v : View} (c : Coupled n from
     pub born : next.born ≡ with_made low.born e.made
     pub there : map.get v.things m ≡ Some ts
     pub others : (q : Name) → same_name q m ≡ false → (map.get next.atoms q ≡ map.get low.atoms q) × (map.get next.packets q ≡ map.get low.packets q)
-    pub here : IsShaped n from first next (map.insert v.things m us) m
+    pub here : IsShaped i n from first next (map.insert v.things m us) m
     pub atoms : first_atom_of us ≡ first_atom_of ts
     pub packets : first_packet_of us ≡ first_packet_of ts
     pub protocol : Protocol (scene v high) phase (chips (map.insert v.things m us))
@@ -94,8 +95,8 @@ module _ {n from first : ℕ} {low high : Config} {v : View} (c : Coupled n from
       was : (q : Name) → same_name q m ≡ true → map.get v.things q ≡ Some ts
       was q e = ap (map.get v.things) (same_name-is q m e) ∙ x.there
 
-      shaped : (q : Name) (t : Bool) → same_name q m ≡ t → IsShaped n from first next things q
-      shaped q true e = subst (IsShaped n from first next things) (sym (same_name-is q m e)) x.here
+      shaped : (q : Name) (t : Bool) → same_name q m ≡ t → IsShaped i n from first next things q
+      shaped q true e = subst (IsShaped i n from first next things) (sym (same_name-is q m e)) x.here
       shaped q false e = reshape q (x.others q e).0 (x.others q e).1 (unchanged q e) (c.shaped q)
 
       first_atom : (q : Name) (t : Bool) → same_name q m ≡ t → (map.get things q >>= first_atom_of) ≡ (map.get v.things q >>= first_atom_of)

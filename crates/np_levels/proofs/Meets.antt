@@ -35,6 +35,7 @@ use Rattle.np_protocol.specs.Phases.{Phase}
 use Rattle.np_protocol.specs.Protocol.{Protocol}
 use Rattle.np_protocol.specs.Scenes.{Locks}
 use Rattle.np_protocol.specs.Steps.{Step}
+use Rattle.daemon_encode.specs.Infrastructures.{Infrastructure}
 use Rattle.np_things.specs.Shapes.{Are}
 use Rattle.np_things.specs.Things.{IsHeaded, Thing, first_atom_of, first_packet_of, show_all}
 use Rattle.np_levels.specs.Coupled.{Coupled, IsShaped, KnowsOnly, View, chips, is_channel, is_child_of, may_know, scene}
@@ -111,7 +112,7 @@ step_of_two things m o ts gone us h k = record {
   given = permuted (flat (λ (e : Name × List Thing). show_all e.1) (entries_put (map.remove things o) m us));
 }
 
-module _ {n from first : ℕ} {low high : Config} {v : View} (c : Coupled n from first low high v) where
+module _ {i : Infrastructure} {n from first : ℕ} {low high : Config} {v : View} (c : Coupled i n from first low high v) where
   abbrev pub left_things : Name → Name → List Thing → NameMap (List Thing)
   left_things m o us = map.insert (map.remove v.things o) m us
 
@@ -122,7 +123,7 @@ module _ {n from first : ℕ} {low high : Config} {v : View} (c : Coupled n from
     pub there : map.get v.things e.actor ≡ Some ts
     pub other_there : map.get v.things s.other ≡ Some (u ∷ [])
     pub headed : IsHeaded us
-    pub are : Are n from first (goes_under s.atom s.body s.env) us
+    pub are : Are i n from first (goes_under s.atom s.body s.env) us
     pub atoms : first_atom_of us ≡ first_atom_of ts
     pub packets : first_packet_of us ≡ first_packet_of ts
     pub letters : first_letter_of us ≡ first_letter_of ts
@@ -135,7 +136,7 @@ module _ {n from first : ℕ} {low high : Config} {v : View} (c : Coupled n from
         → AllByRecursion (λ t. KnowsOnly (may_know v.lock (chips (left_things e.actor s.other us)) t) (is_channel n high.born) from t) us
 
   pub meets : (next : Config) (e : Event) (s : IsMeeting low e next) (ts us : List Thing) (u : Thing) → Meets next e s ts us u
-      → (w : View) × (w.stands_for ≡ v.stands_for) × Coupled n from first next high w × SameLetters v w
+      → (w : View) × (w.standing ≡ v.standing) × Coupled i n from first next high w × SameLetters v w
   meets next e s ts us u b = (
     record v { things = things; phase = protocol.0 },
     refl,
@@ -195,7 +196,7 @@ module _ {n from first : ℕ} {low high : Config} {v : View} (c : Coupled n from
       unchanged : (q : Name) → same_name q s.other ≡ false → same_name q e.actor ≡ false → map.get things q ≡ map.get v.things q
       unchanged q t r = at q ∙ ap (λ x. cond x (Some us) (cond (same_name q s.other) None (map.get v.things q))) r ∙ ap (λ x. cond x None (map.get v.things q)) t
 
-      shaped : (q : Name) (t r : Bool) → same_name q s.other ≡ t → same_name q e.actor ≡ r → IsShaped n from first next things q
+      shaped : (q : Name) (t r : Bool) → same_name q s.other ≡ t → same_name q e.actor ≡ r → IsShaped i n from first next things q
       shaped q true r x y =
           IsShaped.nothing (at_atoms q ∙ ap (λ t. cond t None (cond (same_name q e.actor) (Some (goes_under s.atom s.body s.env)) (map.get low.atoms q))) x) (at_packets q ∙ ap (map.get low.packets) (same_name-is q s.other x) ∙ b.no_other_packet) (gone q x)
       shaped q false true x y =

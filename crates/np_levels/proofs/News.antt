@@ -27,8 +27,10 @@ use Rattle.np_calculus.proofs.FrameRule.{not-false}
 use Rattle.np_calculus.proofs.OwnNames.{not_true}
 use Rattle.np_calculus.proofs.Rows.{parts}
 use Rattle.np_calculus.proofs.Steps.{Acts, acting-step, is-one, one-new, row-step, step-acting}
+use Rattle.cache_lift.specs.Lift.{stands_for}
 use Rattle.np_eval.specs.Eval.{Env}
 use Rattle.np_eval.specs.Forms.{layer}
+use Rattle.daemon_encode.specs.Infrastructures.{Infrastructure}
 use Rattle.np_source_values.specs.Known.{IsKnown}
 use Rattle.np_levels.specs.Coupled.{Coupled, View, is_channel}
 use Rattle.np_levels.specs.Laws.{IsEvent, event_of}
@@ -79,20 +81,20 @@ unfolding act
 new_applies c e a x ty p m acts form one other new = rw (step-acting c e a acts, form, one, other, new) refl
 
 -- a new name that is made is a channel of the high level
-new_channel : {n from first : ℕ} {low high : Config} {v : View} → Coupled n from first low high v → (e : Event) (m : Name) → e.made ≡ made.One m
+new_channel : {i : Infrastructure} {n from first : ℕ} {low high : Config} {v : View} → Coupled i n from first low high v → (e : Event) (m : Name) → e.made ≡ made.One m
     → set.contains low.born m ≡ false → is_channel n (with_made high.born e.made) m ≡ true
 new_channel {n} {low = low} {high = high} c e m one new =
     and-in (ap (λ x. set.contains (with_made high.born x) m) one ∙ born_here high.born m)
     (ap not (not_true (set.contains (own_names n) m) (λ t. let bad : false ≡ true = sym new ∙ c.born m (c.own_born m t) in cc)))
 
-module _ {n from first : ℕ} {low high : Config} {v : View} (c : Coupled n from first low high v) (e : Event) (next : Config) (is : e.kind ≡ kind.New)
+module _ {i : Infrastructure} {n from first : ℕ} {low high : Config} {v : View} (c : Coupled i n from first low high v) (e : Event) (next : Config) (is : e.kind ≡ kind.New)
     (h : apply low e ≡ Some next) (s : IsNaming low e next) (o : Actor c e s.atom) where
   other : (event_of v e).other ≡ None
-  other = ap (option_map v.stands_for) s.other_none
+  other = ap (option_map (stands_for v.standing)) s.other_none
 
   named : IsSame c e next
   named =
-      let f = subst (λ l. IsFormOf n from o.named l (layer o.atom.proc)) s.form o.form in
+      let f = subst (λ l. IsFormOf i n from o.named l (layer o.atom.proc)) s.form o.form in
       let its = parts_of c e o (ProcForm-F.New s.binder s.ty f.0) f.1 in
       let b = binder_both o.is.stands s.binder its.0 (value.Chan s.new) its.1 its.3 in
       let knows = b.0.knows (agents c e) (is_channel n (with_made high.born e.made)) (still_knows c e o.knows)
@@ -109,7 +111,7 @@ module _ {n from first : ℕ} {low high : Config} {v : View} (c : Coupled n from
         w.3,
       )
 
-pub news-are-events : IsEvent kind.New
-news-are-events n from first low high v c well e next is plain h =
+pub news-are-events : {i : Infrastructure} → IsEvent i kind.New
+news-are-events n from first low high v c well lodged e next is plain h =
     let s = naming low e next (ap (λ k. row k low e) (sym is) ∙ h) in
-    named c e next is h s (actor c e s.atom kind.New s.acts plain (ap begun_by s.form) (λ e. cc) (λ e. cc))
+    named c e next is h s (actor c e lodged s.atom kind.New s.acts plain (ap begun_by s.form) (λ e. cc) (λ e. cc))

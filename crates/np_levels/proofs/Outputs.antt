@@ -23,10 +23,12 @@ use Rattle.std.proofs.lemmas.Bool.{eqb-true}
 use Rattle.np_levels.proofs.Quiet.{or_cases}
 use Rattle.np_eval.specs.Eval.{as_chan, chan_of, eval}
 use Rattle.np_eval.specs.Forms.{Layer, as_out, layer}
+use Rattle.daemon_encode.specs.Infrastructures.{Infrastructure}
 use Rattle.daemon_encode.specs.Translates.{Translates}
 use Rattle.np_source_values.specs.Known.{IsKnown, Knows}
 use Rattle.np_source_values.proofs.Known.{value-is-known}
 use Rattle.np_source_values.proofs.Values.{same-value}
+use Rattle.np_things.proofs.Acting.{PostBegins, post-begins}
 use Rattle.np_things.specs.Mail.{Mail, content, on_channel, receiver}
 use Rattle.np_things.specs.Desks.{desk}
 use Rattle.np_things.specs.Shapes.{Are, Is, IsAgents, IsMail, IsOfSource, WaitsFor}
@@ -74,19 +76,23 @@ chan-known agents chans v (IsKnown.tuple {vs = vs} k) c h = absurd (let e = ap a
 not_out : {A : Type 0} (l : Layer) (k : Kind) (c e : Expr) → begun_by l ≡ Some k → l ≡ ProcForm-F.Out c e → A
 not_out l k c e b h = absurd (let bad : None ≡ Some k = sym (ap begun_by h) ∙ b in cc)
 
+post-out : {A : Type 0} (q : Proc) (c e : Expr) → PostBegins q → layer q ≡ ProcForm-F.Out c e → A
+post-out q c e (PostBegins.is_sent r is) h = not_out _ kind.Send c e is h
+post-out q c e (PostBegins.takes_cache r is) h = not_out _ kind.Comm c e is h
+
 -- what is translated to an output is this output
-pub translated-out : {n from : ℕ} {a : Expr} {p q : Proc} (c e : Expr) → Translates n from a p q → layer q ≡ ProcForm-F.Out c e → layer p ≡ ProcForm-F.Out c e
+pub translated-out : {i : Infrastructure} {n from : ℕ} {a : Expr} {p q : Proc} (c e : Expr) → Translates i n from a p q → layer q ≡ ProcForm-F.Out c e → layer p ≡ ProcForm-F.Out c e
 translated-out c e Translates.output h = h
 translated-out c e Translates.stop h = not_out _ kind.Stop c e (ap begun_by forms.outs-Stop) h
 translated-out c e (Translates.parallel t u) h = not_out _ kind.Fork c e (ap begun_by (forms.outs-Par _ _)) h
 translated-out c e (Translates.channel t) h = not_out _ kind.New c e (ap begun_by (forms.outs-New _ _ _)) h
 translated-out c e (Translates.input t) h = not_out _ kind.Comm c e (ap begun_by (forms.outs-Inp _ _ _)) h
 translated-out c e (Translates.replicated t) h = not_out _ kind.Rep c e (ap begun_by (forms.outs-Rep _ _ _)) h
-translated-out c e (Translates.agent s l t d u w) h = not_out _ kind.Comm c e (ap begun_by (forms.outs-Inp _ _ _)) h
+translated-out c e (Translates.agent s l t d x u w) h = not_out _ kind.Comm c e (ap begun_by (forms.outs-Inp _ _ _)) h
 translated-out c e (Translates.migrate t) h = not_out _ kind.Comm c e (ap begun_by (forms.outs-Inp _ _ _)) h
 translated-out c e (Translates.iflocal t u) h = not_out _ kind.Local c e (ap begun_by (forms.outs-IfLocal _ _ _ _ _)) h
 translated-out c e Translates.send h = not_out _ kind.Send c e (ap begun_by (forms.outs-Send _ _ _ _)) h
-translated-out c e Translates.post h = not_out _ kind.Send c e (ap begun_by (forms.outs-Send _ _ _ _)) h
+translated-out {i = i} {n = n} {a = a} {q = q} c e (Translates.post {k = tag} {m = m} {b = b} {c = d} {v = v} above) h = post-out q c e (post-begins i n tag.node a b d v m) h
 translated-out c e (Translates.test t u) h = not_out _ kind.If c e (ap begun_by (forms.outs-If _ _ _)) h
 translated-out c e (Translates.bind t) h = not_out _ kind.Let c e (ap begun_by (forms.outs-Let _ _ _)) h
 translated-out c e Translates.print h = not_out _ kind.Print c e (ap begun_by (forms.outs-Print _)) h
@@ -121,7 +127,7 @@ module _ (n from first : ℕ) (agents : Name → Bool) (born : NameSet) (main : 
   by_text : {A : Type 0} (p : Proc) (k : Kind) → low.proc ≡ p → begun_by (layer p) ≡ Some k → A
   by_text p k is b = not_out (layer p) k o.on o.sent b (sym (ap layer is) ∙ o.form)
 
-  source_channel : (a : Expr) (h : Atom) → IsOfSource n from a h low → Knows agents (is_channel n born) from h.env → set.contains (own_names n) chan ≡ false
+  source_channel : {i : Infrastructure} (a : Expr) (h : Atom) → IsOfSource i n from a h low → Knows agents (is_channel n born) from h.env → set.contains (own_names n) chan ≡ false
   source_channel a h i k =
       let form : layer h.proc ≡ ProcForm-F.Out o.on o.sent = translated-out o.on o.sent i.translates o.form in
       let s = i.stands.source in
@@ -149,48 +155,48 @@ module _ (n from first : ℕ) (agents : Name → Bool) (born : NameSet) (main : 
   wants_given (Mail.message p) l w = by_text _ kind.Comm w.0 (ap begun_by (forms.outs-Inp _ _ _))
   wants_given _ l w = absurd w
 
-  gift_of : (t : Thing) → Is n from first t low → KnowsOnly agents (is_channel n born) from t → Gift n low chan v t
-  gift_of (Thing.source a h) i k = Gift.of_source (source_channel a h i k) (ap (λ x. same_name x (daemon_agent n)) i.stands.agent ∙ i.stands.apart) refl
-  gift_of (Thing.asking a h) i k = by_text _ kind.Comm i.is (ap begun_by (forms.outs-Inp _ _ _))
-  gift_of (Thing.leaving a h) i k = by_text _ kind.Depart i.is (ap begun_by (forms.outs-Migrate _ _))
-  gift_of (Thing.settling a h s) i k = by_text _ kind.Comm i.is (ap begun_by (forms.outs-Inp _ _ _))
-  gift_of (Thing.making a h s) i k = by_text _ kind.Agent i.is (ap begun_by (forms.outs-Agent _ _ _))
-  gift_of (Thing.beginning a h p s) i k = by_text _ kind.Comm i.is (ap begun_by (forms.outs-Inp _ _ _))
-  gift_of (Thing.opened p) i k =
+  gift_of : (i : Infrastructure) (t : Thing) → Is i n from first t low → KnowsOnly agents (is_channel n born) from t → Gift n low chan v t
+  gift_of _ (Thing.source a h) i k = Gift.of_source (source_channel a h i k) (ap (λ x. same_name x (daemon_agent n)) i.stands.agent ∙ i.stands.apart) refl
+  gift_of _ (Thing.asking a h) i k = by_text _ kind.Comm i.is (ap begun_by (forms.outs-Inp _ _ _))
+  gift_of _ (Thing.leaving a h) i k = by_text _ kind.Depart i.is (ap begun_by (forms.outs-Migrate _ _))
+  gift_of _ (Thing.settling a h s) i k = by_text _ kind.Comm i.is (ap begun_by (forms.outs-Inp _ _ _))
+  gift_of _ (Thing.making a h s) i k = by_text _ kind.Agent i.is (ap begun_by (forms.outs-Agent _ _ _))
+  gift_of _ (Thing.beginning a h p s) i k = by_text _ kind.Comm i.is (ap begun_by (forms.outs-Inp _ _ _))
+  gift_of _ (Thing.opened p) i k =
       let g = given p.chan p.value (ap sends i.is ∙ output-gives p.agent p.chan p.value i.tag) in
       Gift.of_source (ap (set.contains (own_names n)) g.0 ∙ not_own (set.contains born p.chan) (set.contains (own_names n) p.chan) k.0)
       (ap (λ (a : Atom). same_name a.agent (daemon_agent n)) i.is ∙ i.apart) refl
-  gift_of (Thing.token a s) i k = let g = given (own n 9) (value.Site s) i.0.gives in Gift.of_token i.0.agent i.1 g.0 g.1
-  gift_of (Thing.letters a) i k = by_text _ kind.Rep i.is (ap begun_by (forms.outs-Rep _ _ _))
-  gift_of (Thing.opening p) i k = not_out (layer low.proc) kind.Open o.on o.sent (ap begun_by i.0.is) o.form
-  gift_of (Thing.mail m stage) i k = mail_given m stage i
-  gift_of (Thing.taken m) i k = by_text _ kind.Comm i.is (ap begun_by (forms.outs-Inp _ _ _))
-  gift_of (Thing.looking m ps) i k = looks_given m ps i.service i.is
-  gift_of (Thing.wanting m l) i k = wants_given m l i.waits
-  gift_of (Thing.serving s) i k = by_text _ kind.Rep i.is (ap begun_by (forms.outs-Rep _ _ _))
-  gift_of (Thing.places ps) i k = let g = given (own n 10) (value.Places ps) i.gives in Gift.of_map i.agent g.0 g.1
-  gift_of (Thing.free l s) i k = let g = given l (value.Site s) i.gives in Gift.of_lock i.agent g.0 g.1
-  gift_of (Thing.packet p) i k = absurd i
+  gift_of _ (Thing.token a s) i k = let g = given (own n 9) (value.Site s) i.0.gives in Gift.of_token i.0.agent i.1 g.0 g.1
+  gift_of _ (Thing.letters a) i k = by_text _ kind.Rep i.is (ap begun_by (forms.outs-Rep _ _ _))
+  gift_of _ (Thing.opening p) i k = not_out (layer low.proc) kind.Open o.on o.sent (ap begun_by i.0.is) o.form
+  gift_of _ (Thing.mail m stage) i k = mail_given m stage i
+  gift_of _ (Thing.taken m) i k = by_text _ kind.Comm i.is (ap begun_by (forms.outs-Inp _ _ _))
+  gift_of _ (Thing.looking m ps) i k = looks_given m ps i.service i.is
+  gift_of _ (Thing.wanting m l) i k = wants_given m l i.waits
+  gift_of _ (Thing.serving s) i k = by_text _ kind.Rep i.is (ap begun_by (forms.outs-Rep _ _ _))
+  gift_of _ (Thing.places ps) i k = let g = given (own n 10) (value.Places ps) i.gives in Gift.of_map i.agent g.0 g.1
+  gift_of _ (Thing.free l s) i k = let g = given l (value.Site s) i.gives in Gift.of_lock i.agent g.0 g.1
+  gift_of _ (Thing.packet p) i k = absurd i
 
 -- the one thing of an output
-pub record IsGiven (n from first : ℕ) (low : Atom) (chan : Name) (v : Value) (ts : List Thing) : Type 0 where
+pub record IsGiven (i : Infrastructure) (n from first : ℕ) (low : Atom) (chan : Name) (v : Value) (ts : List Thing) : Type 0 where
   pub thing : Thing
   pub alone : ts ≡ thing ∷ []
-  pub is : Is n from first thing low
+  pub is : Is i n from first thing low
   pub gift : Gift n low chan v thing
 
-module _ {n from first : ℕ} {low high : Config} {v : View} (c : Coupled n from first low high v) where
+module _ {i : Infrastructure} {n from first : ℕ} {low high : Config} {v : View} (c : Coupled i n from first low high v) where
   may-main : (t : Thing) → may_know v.lock (chips v.things) t (main_agent n) ≡ true
   may-main (Thing.settling a h s) = ap (λ t. t || list_any (is_child_of h.agent (main_agent n)) (chips v.things)) c.main
   may-main (Thing.beginning a h p s) = ap (λ t. t || same_name (main_agent n) h.agent) c.main
   may-main _ = c.main
 
-  pub given_by : (m : Name) (a : Atom) (s : Name × Value) → map.get low.atoms m ≡ Some a → sends a ≡ Some s → (ts : List Thing) → map.get v.things m ≡ Some ts → Are n from first a ts → IsGiven n from first a s.0 s.1 ts
+  pub given_by : (m : Name) (a : Atom) (s : Name × Value) → map.get low.atoms m ≡ Some a → sends a ≡ Some s → (ts : List Thing) → map.get v.things m ≡ Some ts → Are i n from first a ts → IsGiven i n from first a s.0 s.1 ts
   given_by m a s there gives ts has (Are.one {t = t} i) = record {
     thing = t;
     alone = refl;
     is = i;
-    gift = gift_of n from first (may_know v.lock (chips v.things) t) high.born (may-main t) a s.0 s.1 gives t i
+    gift = gift_of n from first (may_know v.lock (chips v.things) t) high.born (may-main t) a s.0 s.1 gives _ t i
         (All-head (λ t. KnowsOnly (may_know v.lock (chips v.things) t) (is_channel n high.born) from t) t [] (c.known m (t ∷ []) has));
   }
   given_by m a s there gives ts has (Are.both is left right) =

@@ -22,13 +22,16 @@ use Rattle.np_calculus.specs.Sight.{at_site}
 use Rattle.np_calculus.specs.Starts.{daemon_agent}
 unfoldable use Rattle.np_calculus.proofs.Common.{land_row}
 use Rattle.np_calculus.proofs.Steps.{is-none, row-step}
+use Rattle.cache_lift.specs.Lift.{stands_for}
 use Rattle.np_eval.specs.Eval.{agent_of, as_agent, as_chan, as_site, chan_of, eval}
 use Rattle.np_eval.specs.Forms.{layer}
+use Rattle.daemon_encode.specs.Infrastructures.{Infrastructure}
 use Rattle.np_things.specs.Mail.{Posted, as_output}
 use Rattle.np_things.specs.Shapes.{IsUnderWay}
 use Rattle.np_things.specs.Things.{Stage, Thing, first_atom_of, first_packet_of}
 use Rattle.np_levels.specs.Coupled.{Coupled, KnowsOnly, View, chips, is_channel, may_know}
 use Rattle.np_levels.specs.Laws.{IsEvent, event_of}
+use Rattle.np_levels.proofs.Places.{known_there, same_place}
 use Rattle.np_levels.proofs.Actors.{Actor, Parts, actor, agents, known_agent, known_apart, known_channel, known_here, parts_of, same_here}
 use Rattle.np_levels.proofs.Applies.{land_applies, send_applies, takes_nothing}
 use Rattle.np_levels.proofs.Forms.{IsFormOf}
@@ -40,7 +43,7 @@ use Rattle.np_levels.proofs.Together.{knows_wider, more_channels}
 
 -- ---- it is sent
 
-module _ {n from first : ℕ} {low high : Config} {v : View} (c : Coupled n from first low high v) (e : Event) (next : Config) (is : e.kind ≡ kind.Send)
+module _ {i : Infrastructure} {n from first : ℕ} {low high : Config} {v : View} (c : Coupled i n from first low high v) (e : Event) (next : Config) (is : e.kind ≡ kind.Send)
     (plain : e.tag.role ≡ role.Plain) (h : apply low e ≡ Some next) (s : IsSending low e next) (o : Actor c e s.atom)
     (form : layer o.atom.proc ≡ ProcForm-F.Send s.receiver s.to s.chan s.sent) where
   its : Parts c e o (ProcForm-F.Send s.receiver s.to s.chan s.sent)
@@ -75,20 +78,20 @@ module _ {n from first : ℕ} {low high : Config} {v : View} (c : Coupled n from
       let r = write c e (stands c e) e.actor (Free.old {ts = Thing.source o.named o.atom ∷ []} o.there refl refl) None (Some s.packet)
       (Some (Thing.packet s.packet)) (Holds.packet flies) (refl, refl) knows_packet in
       let w = leave c e r next low.said high.said h s.is c.said in (
-        effect high (event_of v e) (record still { atoms = cut (v.stands_for e.actor) ∷ []; packets = put (v.stands_for e.actor) s.packet ∷ [] }),
+        effect high (event_of v e) (record still { atoms = cut (stands_for v.standing e.actor) ∷ []; packets = put (stands_for v.standing e.actor) s.packet ∷ [] }),
         ap (λ k. row k high (event_of v e)) is ∙ send_applies high (event_of v e) o.atom o.acts s.receiver s.to s.chan s.sent s.packet form agent site chan sent
-            s.its_tag s.made_none (ap (option_map v.stands_for) s.other_none),
+            s.its_tag s.made_none (ap (option_map (stands_for v.standing)) s.other_none),
         w.0,
         w.1,
         w.2,
         w.3,
       )
 
-pub sends-are-events : IsEvent kind.Send
-sends-are-events n from first low high v c well e next is plain h =
+pub sends-are-events : {i : Infrastructure} → IsEvent i kind.Send
+sends-are-events {i = i} n from first low high v c well lodged e next is plain h =
     let s = sending low e next (ap (λ k. row k low e) (sym is) ∙ h) in
-    let o = actor c e s.atom kind.Send s.acts plain (ap begun_by s.form) (λ e. cc) (λ e. cc) in
-    sends_both c e next is plain h s o (subst (λ l. IsFormOf n from o.named l (layer o.atom.proc)) s.form o.form)
+    let o = actor c e lodged s.atom kind.Send s.acts plain (ap begun_by s.form) (λ e. cc) (λ e. cc) in
+    sends_both c e next is plain h s o (subst (λ l. IsFormOf i n from o.named l (layer o.atom.proc)) s.form o.form)
 
 -- ---- it lands
 
@@ -129,7 +132,7 @@ flies_of_source n (Thing.packet p) k i plain r = r (ap Thing.packet (sym i.0))
 flies_of_source n (Thing.mail m Stage.on_the_way) k i plain r = absurd (i.1 plain)
 flies_of_source n _ k i plain r = absurd i
 
-module _ {n from first : ℕ} {low high : Config} {v : View} (c : Coupled n from first low high v) (e : Event) (next : Config) (is : e.kind ≡ kind.Land)
+module _ {i : Infrastructure} {n from first : ℕ} {low high : Config} {v : View} (c : Coupled i n from first low high v) (e : Event) (next : Config) (is : e.kind ≡ kind.Land)
     (h : apply low e ≡ Some next) (s : IsComing low e next)
     (no_atom : map.get low.atoms e.actor ≡ None) (there : map.get v.things e.actor ≡ Some (Thing.packet s.packet ∷ [])) where
   knows : KnowsOnly (agents c e) (is_channel n high.born) from (Thing.packet s.packet)
@@ -139,19 +142,19 @@ module _ {n from first : ℕ} {low high : Config} {v : View} (c : Coupled n from
   apart : same_name s.packet.agent (daemon_agent n) ≡ false
   apart = known_apart c s.packet.agent knows.0
 
-  high_there : map.get high.packets (v.stands_for e.actor) ≡ Some s.packet
+  high_there : map.get high.packets (stands_for v.standing e.actor) ≡ Some s.packet
   high_there = c.mirrored_packets.up e.actor s.packet (ap (λ o. o >>= first_packet_of) there)
 
   applies : (here : Bool) → at_site (map.get low.places s.packet.agent) e.site ≡ here
       → apply high (event_of v e) ≡ Some (effect high (event_of v e)
       (record still {
-        packets = cut (v.stands_for e.actor) ∷ [];
+        packets = cut (stands_for v.standing e.actor) ∷ [];
         atoms =
-            cond here (put (v.stands_for e.actor) (output_in s.packet.agent s.packet.chan s.packet.value e.tag) ∷ []) [];
+            cond here (put (stands_for v.standing e.actor) (output_in s.packet.agent s.packet.chan s.packet.value e.tag) ∷ []) [];
       }))
   applies here at = ap (λ k. row k high (event_of v e)) is
-      ∙ land_applies high (event_of v e) s.packet here high_there s.to s.tag s.made_none (ap (option_map v.stands_for) s.other_none)
-      (ap (λ p. at_site p e.site) (sym (c.places s.packet.agent apart)) ∙ at)
+      ∙ land_applies high (event_of v e) s.packet here high_there s.to s.tag s.made_none (ap (option_map (stands_for v.standing)) s.other_none)
+      (ap (λ p. at_site p e.site) (sym (same_place c s.packet.agent (known_there c s.packet.agent knows.0))) ∙ at)
 
   leaves : (here : Bool) → at_site (map.get low.places s.packet.agent) e.site ≡ here
       → next ≡ effect low e (record still {
@@ -182,8 +185,8 @@ module _ {n from first : ℕ} {low high : Config} {v : View} (c : Coupled n from
       (ap (λ o. o >>= first_atom_of) there)) next low.said high.said h (leaves false at) c.said in
       (_, applies false at, w.0, w.1, w.2, w.3)
 
-pub lands-are-events : IsEvent kind.Land
-lands-are-events n from first low high v c well e next is plain h =
+pub lands-are-events : {i : Infrastructure} → IsEvent i kind.Land
+lands-are-events n from first low high v c well lodged e next is plain h =
     let s = coming low e next (ap (λ k. row k low e) (sym is) ∙ h) in
     let o = of_packet c e.actor s.packet s.there in
     flies_of_source n o.thing s.packet o.is (same_role s.packet.tag e.tag s.tag ∙ plain) λ thing.

@@ -13,7 +13,9 @@ use Rattle.np_syntax.proofs.Options.{done}
 use Rattle.np_calculus.specs.Begins.{begun_by}
 use Rattle.np_calculus.specs.Reductions.{no_other, role_index, same_tag}
 use Rattle.np_eval.specs.Forms.{Layer, layer}
+use Rattle.daemon_encode.specs.Infrastructures.{Infrastructure}
 use Rattle.daemon_encode.specs.Translates.{Translates}
+use Rattle.np_things.proofs.Acting.{PostBegins, post-begins}
 
 -- an event that takes no output has no other mark
 pub none-other : (o : Option Name) (w : Unit {0}) → no_other o ≡ Some w → o ≡ None
@@ -34,19 +36,23 @@ is_move _ = false
 not_moving : {A : Type 0} (l : Layer) (j k : Kind) → is_move k ≡ false → is_move j ≡ true → begun_by l ≡ Some k → begun_by l ≡ Some j → A
 not_moving l j k f t h i = absurd (let bad : false ≡ true = sym f ∙ ap is_move (done (sym i ∙ h)) ∙ t in cc)
 
+post_no_move : {A : Type 0} (q : Proc) (j : Kind) → is_move j ≡ true → PostBegins q → begun_by (layer q) ≡ Some j → A
+post_no_move q j t (PostBegins.is_sent r is) h = not_moving _ j kind.Send refl t is h
+post_no_move q j t (PostBegins.takes_cache r is) h = not_moving _ j kind.Comm refl t is h
+
 -- a translation begins no such event: it takes `currentloc` before
-pub made_no_move : {A : Type 0} {n from : ℕ} {a : Expr} {p q : Proc} (j : Kind) → is_move j ≡ true → Translates n from a p q → begun_by (layer q) ≡ Some j → A
+pub made_no_move : {i : Infrastructure} {A : Type 0} {n from : ℕ} {a : Expr} {p q : Proc} (j : Kind) → is_move j ≡ true → Translates i n from a p q → begun_by (layer q) ≡ Some j → A
 made_no_move j t Translates.output h = absurd (let bad : None ≡ Some j = sym (ap begun_by (forms.outs-Out _ _)) ∙ h in cc)
 made_no_move j t Translates.stop h = not_moving _ j kind.Stop refl t (ap begun_by forms.outs-Stop) h
 made_no_move j t (Translates.parallel x y) h = not_moving _ j kind.Fork refl t (ap begun_by (forms.outs-Par _ _)) h
 made_no_move j t (Translates.channel x) h = not_moving _ j kind.New refl t (ap begun_by (forms.outs-New _ _ _)) h
 made_no_move j t (Translates.input x) h = not_moving _ j kind.Comm refl t (ap begun_by (forms.outs-Inp _ _ _)) h
 made_no_move j t (Translates.replicated x) h = not_moving _ j kind.Rep refl t (ap begun_by (forms.outs-Rep _ _ _)) h
-made_no_move j t (Translates.agent s l u d x y) h = not_moving _ j kind.Comm refl t (ap begun_by (forms.outs-Inp _ _ _)) h
+made_no_move j t (Translates.agent s l u d z x y) h = not_moving _ j kind.Comm refl t (ap begun_by (forms.outs-Inp _ _ _)) h
 made_no_move j t (Translates.migrate x) h = not_moving _ j kind.Comm refl t (ap begun_by (forms.outs-Inp _ _ _)) h
 made_no_move j t (Translates.iflocal x y) h = not_moving _ j kind.Local refl t (ap begun_by (forms.outs-IfLocal _ _ _ _ _)) h
 made_no_move j t Translates.send h = not_moving _ j kind.Send refl t (ap begun_by (forms.outs-Send _ _ _ _)) h
-made_no_move j t Translates.post h = not_moving _ j kind.Send refl t (ap begun_by (forms.outs-Send _ _ _ _)) h
+made_no_move {i = i} {n = n} {a = a} {q = q} j t (Translates.post {k = tag} {m = m} {b = b} {c = c} {v = v} above) h = post_no_move q j t (post-begins i n tag.node a b c v m) h
 made_no_move j t (Translates.test x y) h = not_moving _ j kind.If refl t (ap begun_by (forms.outs-If _ _ _)) h
 made_no_move j t (Translates.bind x) h = not_moving _ j kind.Let refl t (ap begun_by (forms.outs-Let _ _ _)) h
 made_no_move j t Translates.print h = not_moving _ j kind.Print refl t (ap begun_by (forms.outs-Print _)) h

@@ -25,6 +25,8 @@ use Rattle.np_tables.proofs.Tables.{get-put, put_here, same_name-is}
 use Rattle.np_calculus.specs.declared.config.Atom.{Atom}
 use Rattle.np_calculus.specs.Begins.{begun_by}
 use Rattle.np_calculus.specs.Config.{Config}
+use Rattle.np_calculus.specs.Parts.{IsLodged}
+use Rattle.np_calculus.specs.Sight.{inside}
 use Rattle.np_calculus.specs.Reductions.{apply, row, same_tag}
 use Rattle.np_calculus.specs.Starts.{daemon_agent, own}
 use Rattle.np_calculus.specs.Well.{Well}
@@ -35,6 +37,7 @@ use Rattle.np_scope.specs.Sound.{IsSoundExpr}
 use Rattle.np_scope.proofs.SoundParts.{ProcParts, proc-parts}
 use Rattle.daemon_encode.specs.Pieces.{daemon, message, pair, site}
 use Rattle.daemon_encode.specs.Texts.{letter, post_text}
+use Rattle.daemon_encode.specs.Infrastructures.{Infrastructure}
 use Rattle.daemon_encode.specs.Translates.{Translates, source}
 use Rattle.np_source_values.specs.Known.{IsKnown}
 use Rattle.np_source_values.proofs.Known.{value-is-known}
@@ -51,6 +54,7 @@ use Rattle.np_calculus.proofs.Steps.{Acts, step-acting}
 unfoldable use Rattle.np_calculus.proofs.Common.{act}
 use Rattle.np_syntax.proofs.Bools.{and-in}
 use Rattle.np_lift.specs.Posts.{letter_at, letter_sent}
+use Rattle.cache_lift.specs.Lift.{stands_for}
 use Rattle.np_protocol.specs.Chips.{Chip}
 use Rattle.np_protocol.specs.Phases.{Phase}
 use Rattle.np_protocol.specs.Protocol.{Protocol}
@@ -64,6 +68,7 @@ use Rattle.np_levels.specs.Coupled.{Coupled, IsShaped, KnowsOnly, View, chips, i
 use Rattle.np_levels.specs.Laws.{PostsAreEvents, post_of}
 use Rattle.np_levels.specs.Letters.{IsPosting, as_letter, first_letter_of}
 use Rattle.np_levels.specs.Mirrors.{Mirrors}
+use Rattle.np_levels.proofs.Places.{same_place}
 use Rattle.np_levels.proofs.Actors.{agent_known}
 use Rattle.np_levels.proofs.Born.{born-kept, made-kept}
 use Rattle.np_levels.proofs.Letters.{letter-put}
@@ -83,17 +88,18 @@ pub mirrors_put : {X : Type 0} (st : Name → Name) (low high : Name → Option 
 mirrors_put st low high low' high' m x = mirrors_write st low high low' high' m (Some x)
 
 -- a post of the source, by its text
-post_by : {R : Type 0} (n from : ℕ) (a : Expr) (p q : Proc) → Translates n from a p q → p.tag.role ≡ role.Plain → q.tag.role ≡ role.Post
+post_by : {i : Infrastructure} {R : Type 0} (n from : ℕ) (a : Expr) (p q : Proc) → Translates i n from a p q → p.tag.role ≡ role.Plain → q.tag.role ≡ role.Post
     → ((tag : Tag) (at : ℕ) (b c v : Expr) → p ≡ source tag at (form.Post b c v) → q ≡ post_text n tag.node b c v → R) → R
-post_by n from a p q (Translates.post {k = tag} {at = at} {b = b} {c = c} {v = v}) plain post r = r tag at b c v refl refl
-post_by n from a p q (Translates.agent f g w x y z) plain post r = absurd (let bad : role.Infra ≡ role.Post = post in cc)
+post_by {i = Infrastructure.central} n from a p q (Translates.post {k = tag} {at = at} {b = b} {c = c} {v = v} m) plain post r = r tag at b c v refl refl
+post_by {i = Infrastructure.cached} n from a p q (Translates.post m) plain post r = absurd (let bad : role.Infra ≡ role.Post = post in cc)
+post_by n from a p q (Translates.agent f g w x u y z) plain post r = absurd (let bad : role.Infra ≡ role.Post = post in cc)
 post_by n from a p q (Translates.migrate t) plain post r = absurd (let bad : role.Infra ≡ role.Post = post in cc)
 post_by n from a p q _ plain post r = absurd (let bad : role.Plain ≡ role.Post = sym plain ∙ post in cc)
 
-posts_source : {R : Type 0} (n from first : ℕ) (t : Thing) (a : Atom) → Is n from first t a → begins t role.Post kind.Send ≡ true → ((x : Expr) (h : Atom) → t ≡ Thing.source x h → IsOfSource n from x h a → R) → R
-posts_source n from first (Thing.source x h) a i b r = r x h refl i
-posts_source n from first (Thing.mail m (Stage.in_agent x)) a i b r = absurd cc
-posts_source n from first _ a i b r = absurd cc
+posts_source : {R : Type 0} (i : Infrastructure) (n from first : ℕ) (t : Thing) (a : Atom) → Is i n from first t a → begins t role.Post kind.Send ≡ true → ((x : Expr) (h : Atom) → t ≡ Thing.source x h → IsOfSource i n from x h a → R) → R
+posts_source _ n from first (Thing.source x h) a i b r = r x h refl i
+posts_source _ n from first (Thing.mail m (Stage.in_agent x)) a i b r = absurd cc
+posts_source _ n from first _ a i b r = absurd cc
 
 agent-value : (u : Value) (a : Name) → as_agent (out-Value u) ≡ Some a → u ≡ value.Agent a
 agent-value u a h = sym (roll-out-Value u) ∙ ap roll-Value (layer_is (out-Value u) h) ∙ outs.rolls-Agent a
@@ -109,17 +115,17 @@ letter-is b x e env a n u ab xn eu =
     let packed : eval (letter x e) env ≡ Some (value.Letter n u) = rw (eval-form (letter x e) env, eval-pack x e env, at_x, eu, is_x) refl in
     pair-is b (letter x e) (value.Agent a) (value.Letter n u) env (at_b ∙ ap Some (agent-value vb a is_b)) packed
 
-module _ {n from first : ℕ} {low high : Config} {v : View} (c : Coupled n from first low high v) (well : Well high) (e : Event) (next : Config) (post : e.tag.role ≡ role.Post) (h : apply low e ≡ Some next) (s : IsSending low e next)
-    (no_packet : map.get low.packets e.actor ≡ None) (x : Expr) (hi : Atom) (there : map.get v.things e.actor ≡ Some (Thing.source x hi ∷ [])) (i : IsOfSource n from x hi s.atom)
+module _ {j : Infrastructure} {n from first : ℕ} {low high : Config} {v : View} (c : Coupled j n from first low high v) (well : Well high) (lodged : IsLodged (inside high)) (e : Event) (next : Config) (post : e.tag.role ≡ role.Post) (h : apply low e ≡ Some next) (s : IsSending low e next)
+    (no_packet : map.get low.packets e.actor ≡ None) (x : Expr) (hi : Atom) (there : map.get v.things e.actor ≡ Some (Thing.source x hi ∷ [])) (i : IsOfSource j n from x hi s.atom)
     (tag : Tag) (at : ℕ) (b ch va : Expr) (source_is : hi.proc ≡ source tag at (form.Post b ch va)) (text_is : s.atom.proc ≡ post_text n tag.node b ch va) where
-  high_there : map.get high.atoms (v.stands_for e.actor) ≡ Some hi
+  high_there : map.get high.atoms (stands_for v.standing e.actor) ≡ Some hi
   high_there = c.mirrored.up e.actor hi (ap (λ o. o >>= first_atom_of) there)
 
   form_is : layer hi.proc ≡ ProcForm-F.Post b ch va
   form_is = ap layer source_is ∙ forms.outs-Post b ch va
 
   abbrev ready : Has (agent_of b hi.env) × Has (chan_of ch hi.env) × Has (eval va hi.env)
-  ready = subst (Ready high hi.env) form_is (well.ready (v.stands_for e.actor) hi high_there)
+  ready = subst (Ready high hi.env) form_is (well.ready (stands_for v.standing e.actor) hi high_there)
 
   abbrev plain : Tag
   plain = record { node = e.tag.node; role = role.Plain }
@@ -130,13 +136,13 @@ module _ {n from first : ℕ} {low high : Config} {v : View} (c : Coupled n from
   acts : Acts high (post_of v e) hi
   acts = record {
     there = high_there;
-    stands = sym (c.places hi.agent i.stands.apart) ∙ ap (map.get low.places) (sym i.stands.agent) ∙ s.acts.stands;
+    stands = sym (same_place c hi.agent (lodged.each (stands_for v.standing e.actor) hi high_there)) ∙ ap (map.get low.places) (sym i.stands.agent) ∙ s.acts.stands;
     tag = and-in (ap (λ (t : Tag). nat_eq t.node e.tag.node) (ap (λ (q : Proc). q.tag) source_is) ∙ (and-out _ _ (ap (λ (q : Proc). same_tag q.tag e.tag) (sym text_is) ∙ s.acts.tag)).0)
         (ap (λ r. nat_eq (role_index r) 0) (source-plain i.stands.source.sound));
   }
 
   abbrev then_high : Config
-  then_high = effect high (post_of v e) (record still { atoms = put (v.stands_for e.actor) (as_output p) ∷ [] })
+  then_high = effect high (post_of v e) (record still { atoms = put (stands_for v.standing e.actor) (as_output p) ∷ [] })
 
   applies : apply high (post_of v e) ≡ Some then_high
   unfolding act
@@ -206,8 +212,8 @@ module _ {n from first : ℕ} {low high : Config} {v : View} (c : Coupled n from
   same_born : next.born ≡ low.born
   same_born = ap (λ (d : Config). d.born) s.is ∙ ap (with_made low.born) s.made_none
 
-  shaped : (q : Name) (t : Bool) → same_name q e.actor ≡ t → IsShaped n from first next things q
-  shaped q true f = subst (IsShaped n from first next things) (sym (same_name-is q e.actor f))
+  shaped : (q : Name) (t : Bool) → same_name q e.actor ≡ t → IsShaped j n from first next things q
+  shaped q true f = subst (IsShaped j n from first next things) (sym (same_name-is q e.actor f))
       (IsShaped.packet (ap (λ (d : Config). map.get d.atoms e.actor) s.is ∙ cut_here low.atoms e.actor) (ap (λ (d : Config). map.get d.packets e.actor) s.is ∙ put_here low.packets e.actor s.packet)
       (put_here v.things e.actor (Thing.mail (Mail.message p) Stage.on_the_way ∷ [])) (packet, λ r. let bad : role.Plain ≡ role.Post = sym r ∙ ap (λ (t : Tag). t.role) s.its_tag ∙ post in cc))
   shaped q false f = reshape q (ap (λ (d : Config). map.get d.atoms q) s.is ∙ get-cut low.atoms e.actor q ∙ ap (λ t. cond t None (map.get low.atoms q)) f) (ap (λ (d : Config). map.get d.packets q) s.is ∙ get-put low.packets e.actor s.packet q ∙ ap (λ t. cond t (Some s.packet) (map.get low.packets q)) f)
@@ -234,7 +240,7 @@ module _ {n from first : ℕ} {low high : Config} {v : View} (c : Coupled n from
       go true f = (Thing.source x hi ∷ [], ap (map.get v.things) (same_name-is q e.actor f) ∙ there)
       go false f = (ts, sym (unchanged q f) ∙ j)
 
-  one_mark : (q : Name) (y : Atom) → (map.get v.things q >>= first_atom_of) ≡ Some y → v.stands_for q ≡ v.stands_for e.actor → q ≡ e.actor
+  one_mark : (q : Name) (y : Atom) → (map.get v.things q >>= first_atom_of) ≡ Some y → stands_for v.standing q ≡ stands_for v.standing e.actor → q ≡ e.actor
   one_mark q y j same = go (map.get v.things q) refl j
     where
       go : (o : Option (List Thing)) → map.get v.things q ≡ o → (o >>= first_atom_of) ≡ Some y → q ≡ e.actor
@@ -249,23 +255,25 @@ module _ {n from first : ℕ} {low high : Config} {v : View} (c : Coupled n from
       (λ z k. knows_more (may_know v.lock (chips v.things) z) (may_know v.lock (chips things) z) (is_channel n high.born) from (may_know_more v.lock (chips v.things) (chips things) (λ a d any. any_kept (is_child_of a d) step (λ w. absurd cc) any) z) z k)
       ts (c.known q ts (sym (unchanged q f) ∙ j))
 
-  coupled : Coupled n from first next then_high (record v { things = things; phase = protocol.0 })
+  coupled : Coupled j n from first next then_high (record v { things = things; phase = protocol.0 })
   coupled = record {
     low_sites = ap (λ (d : Config). d.sites) s.is ∙ c.low_sites;
     high_sites = c.high_sites;
     daemon = ap (λ (d : Config). map.get d.places (daemon_agent n)) s.is ∙ c.daemon;
     no_daemon = c.no_daemon;
-    places = λ q f. ap (λ (d : Config). map.get d.places q) s.is ∙ c.places q f;
+    places = λ q f g. ap (λ (d : Config). map.get d.places q) s.is ∙ c.places q f g;
+    messengers = c.messengers;
+    messengers_born = λ q is. born q (c.messengers_born q is);
     said = ap (λ (d : Config). d.said) s.is ∙ c.said;
     born = λ q j. born q (c.born q j);
     own_born = c.own_born;
     stand_born = born-kept low next e c.stand_born h;
     shaped = λ q. shaped q (same_name q e.actor) refl;
-    mirrored = mirrors_put v.stands_for (λ q. map.get v.things q >>= first_atom_of) (map.get high.atoms) (λ q. map.get things q >>= first_atom_of) (map.get then_high.atoms) e.actor (as_output p) c.mirrored its_atoms
-        (λ k. get-put high.atoms (v.stands_for e.actor) (as_output p) k) one_mark;
+    mirrored = mirrors_put (stands_for v.standing) (λ q. map.get v.things q >>= first_atom_of) (map.get high.atoms) (λ q. map.get things q >>= first_atom_of) (map.get then_high.atoms) e.actor (as_output p) c.mirrored its_atoms
+        (λ k. get-put high.atoms (stands_for v.standing e.actor) (as_output p) k) one_mark;
     mirrored_packets = record { up = λ q k j. c.mirrored_packets.up q k (sym (its_packets q) ∙ j); down = λ k y j. let d = c.mirrored_packets.down k y j in (d.0, d.1, its_packets d.0 ∙ d.2) };
     new_marks = λ q j. c.new_marks q (ap (λ b. set.contains b q) (sym same_born) ∙ j);
-    old_marks = λ q j. born (v.stands_for q) (c.old_marks q (ap (λ b. set.contains b q) (sym same_born) ∙ j));
+    old_marks = λ q j. born (stands_for v.standing q) (c.old_marks q (ap (λ b. set.contains b q) (sym same_born) ∙ j));
     distinct = λ q k ts ws j l f. let a = was q ts j in let d = was k ws l in c.distinct q k a.0 d.0 a.1 d.1 f;
     protocol = protocol.1;
     locks_born = λ a l j. born l (c.locks_born a l j);
@@ -281,7 +289,7 @@ module _ {n from first : ℕ} {low high : Config} {v : View} (c : Coupled n from
       ∙ ap (λ l. letter_sent l s.atom.env) (ap layer text_is ∙ forms.outs-Send (daemon n) (site 0) (message n) (pair b (letter ch va)))
       ∙ rw (content_is, outs.outs-Tuple (value.Agent p.agent ∷ value.Letter p.chan p.value ∷ []), outs.outs-Agent p.agent, outs.outs-Letter p.chan p.value) refl
 
-  still_coupled : (w : View) × (w.stands_for ≡ v.stands_for) × Coupled n from first next then_high w × IsPosting low e v w
+  still_coupled : (w : View) × (w.standing ≡ v.standing) × Coupled j n from first next then_high w × IsPosting low e v w
   still_coupled = (
     record v { things = things; phase = protocol.0 },
     refl,
@@ -294,12 +302,12 @@ module _ {n from first : ℕ} {low high : Config} {v : View} (c : Coupled n from
     },
   )
 
-pub posts-are-events : PostsAreEvents
-posts-are-events n from first low high v c well e next is_send post h =
+pub posts-are-events : {i : Infrastructure} → PostsAreEvents i
+posts-are-events n from first low high v c well lodged e next is_send post h =
     let s = sending low e next (ap (λ k. row k low e) (sym is_send) ∙ h) in
     let o = of_actor c e.actor s.atom kind.Send role.Post s.acts.there (ap begun_by s.form) (same_role s.atom.proc.tag e.tag s.acts.tag ∙ post) (λ k r. cc) in
-    posts_source n from first o.thing s.atom o.is o.its_kind λ x hi thing i.
+    posts_source _ n from first o.thing s.atom o.is o.its_kind λ x hi thing i.
     post_by n from x hi.proc s.atom.proc i.translates (source-plain i.stands.source.sound) (same_role s.atom.proc.tag e.tag s.acts.tag ∙ post) λ tag at b ch va source_is text_is.
     let there : map.get v.things e.actor ≡ Some (Thing.source x hi ∷ []) = o.there ∙ ap (λ t. Some (t ∷ [])) thing in
-    let w = still_coupled c well e next post h s o.no_packet x hi there i tag at b ch va source_is text_is in
-    (then_high c well e next post h s o.no_packet x hi there i tag at b ch va source_is text_is, applies c well e next post h s o.no_packet x hi there i tag at b ch va source_is text_is, w.0, w.1, w.2, w.3)
+    let w = still_coupled c well lodged e next post h s o.no_packet x hi there i tag at b ch va source_is text_is in
+    (then_high c well lodged e next post h s o.no_packet x hi there i tag at b ch va source_is text_is, applies c well lodged e next post h s o.no_packet x hi there i tag at b ch va source_is text_is, w.0, w.1, w.2, w.3)

@@ -18,8 +18,10 @@ use Rattle.np_calculus.specs.Sight.{inside, sight}
 unfoldable use Rattle.np_calculus.proofs.Common.{act}
 use Rattle.np_calculus.proofs.Rows.{parts}
 use Rattle.np_calculus.proofs.Steps.{Acts, acting-step, is-none, row-step, step-acting}
+use Rattle.cache_lift.specs.Lift.{stands_for}
 use Rattle.np_eval.specs.Eval.{eval}
 use Rattle.np_eval.specs.Forms.{layer}
+use Rattle.daemon_encode.specs.Infrastructures.{Infrastructure}
 use Rattle.np_levels.specs.Coupled.{Coupled, View}
 use Rattle.np_levels.specs.Laws.{IsEvent, event_of}
 use Rattle.np_levels.proofs.Actors.{Actor, actor, parts_of, same_here}
@@ -61,18 +63,18 @@ print_applies : (c : Config) (e : Event) (a : Atom) (y : Expr) (v : Value) → A
 unfolding act
 print_applies c e a y v acts form gives none other = rw (step-acting c e a acts, form, gives, none, other) refl
 
-module _ {n from first : ℕ} {low high : Config} {v : View} (c : Coupled n from first low high v) (e : Event) (next : Config) (is : e.kind ≡ kind.Print)
+module _ {i : Infrastructure} {n from first : ℕ} {low high : Config} {v : View} (c : Coupled i n from first low high v) (e : Event) (next : Config) (is : e.kind ≡ kind.Print)
     (h : apply low e ≡ Some next) (s : IsPrinting low e next) (o : Actor c e s.atom) where
   other : (event_of v e).other ≡ None
-  other = ap (option_map v.stands_for) s.other_none
+  other = ap (option_map (stands_for v.standing)) s.other_none
 
   printed : IsSame c e next
   printed =
-      let form : layer o.atom.proc ≡ ProcForm-F.Print s.said = subst (λ l. IsFormOf n from o.named l (layer o.atom.proc)) s.form o.form in
+      let form : layer o.atom.proc ≡ ProcForm-F.Print s.said = subst (λ l. IsFormOf i n from o.named l (layer o.atom.proc)) s.form o.form in
       let its = parts_of c e o (ProcForm-F.Print s.said) form in
       let gives : eval s.said o.atom.env ≡ Some s.what = sym (same_here c e o s.said its.1) ∙ s.its_value in
       let w = ends_both c e next o h (Some s.what) s.is in (
-        effect high (event_of v e) (record still { atoms = cut (v.stands_for e.actor) ∷ []; said = Some s.what }),
+        effect high (event_of v e) (record still { atoms = cut (stands_for v.standing e.actor) ∷ []; said = Some s.what }),
         ap (λ k. row k high (event_of v e)) is ∙ print_applies high (event_of v e) o.atom s.said s.what o.acts form gives s.made_none other,
         w.0,
         w.1,
@@ -80,7 +82,7 @@ module _ {n from first : ℕ} {low high : Config} {v : View} (c : Coupled n from
         w.3,
       )
 
-pub prints-are-events : IsEvent kind.Print
-prints-are-events n from first low high v c well e next is plain h =
+pub prints-are-events : {i : Infrastructure} → IsEvent i kind.Print
+prints-are-events n from first low high v c well lodged e next is plain h =
     let s = printing low e next (ap (λ k. row k low e) (sym is) ∙ h) in
-    printed c e next is h s (actor c e s.atom kind.Print s.acts plain (ap begun_by s.form) (λ e. cc) (λ e. cc))
+    printed c e next is h s (actor c e lodged s.atom kind.Print s.acts plain (ap begun_by s.form) (λ e. cc) (λ e. cc))

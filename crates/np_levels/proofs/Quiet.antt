@@ -10,11 +10,13 @@ use Rattle.np_tables.specs.Names.{NameMap}
 use Rattle.np_calculus.specs.Config.{Config}
 use Rattle.np_calculus.specs.Parts.{AreBorn}
 use Rattle.np_calculus.specs.Starts.{daemon_agent, main_agent, own, own_names}
+use Rattle.cache_lift.specs.Lift.{stands_for}
 use Rattle.np_protocol.specs.Chips.{Chip}
 use Rattle.np_protocol.specs.Phases.{Phase}
 use Rattle.np_protocol.specs.Protocol.{Protocol}
 use Rattle.np_protocol.specs.Scenes.{Locks}
 use Rattle.np_protocol.specs.Steps.{Step}
+use Rattle.daemon_encode.specs.Infrastructures.{Infrastructure}
 use Rattle.np_source_values.proofs.Known.{more_known}
 use Rattle.np_things.specs.Things.{Thing, carried, first_atom_of, first_packet_of}
 use Rattle.np_levels.specs.Coupled.{Coupled, IsShaped, KnowsLetter, KnowsOnly, View, chips, is_channel, may_know, scene, whereabouts}
@@ -82,7 +84,7 @@ module _ (p : Chip → Bool) where
 
 -- ---- marks
 
-module _ {n from first : ℕ} {low high : Config} {v : View} (c : Coupled n from first low high v) where
+module _ {i : Infrastructure} {n from first : ℕ} {low high : Config} {v : View} (c : Coupled i n from first low high v) where
   -- what has things is born
   pub things_born : (m : Name) (ts : List Thing) → map.get v.things m ≡ Some ts → set.contains low.born m ≡ true
   things_born m ts h = go (c.shaped m)
@@ -90,7 +92,7 @@ module _ {n from first : ℕ} {low high : Config} {v : View} (c : Coupled n from
       some_of : {A : Type 0} (o : Option A) (x : A) → o ≡ Some x → IsSome o
       some_of o x e = rw e refl
 
-      go : IsShaped n from first low v.things m → set.contains low.born m ≡ true
+      go : IsShaped i n from first low v.things m → set.contains low.born m ≡ true
       go (IsShaped.nothing a k t) = absurd (no_value (sym t ∙ h))
       go (IsShaped.atom a k t u r) = c.stand_born.marks m (inl (some_of _ _ a))
       go (IsShaped.packet a k t r) = c.stand_born.marks m (inr (some_of _ _ k))
@@ -102,7 +104,7 @@ module _ {n from first : ℕ} {low high : Config} {v : View} (c : Coupled n from
     pub said : next.said ≡ low.said
     pub born : (q : Name) → set.contains low.born q ≡ true → set.contains next.born q ≡ true
     pub stand_born : AreBorn next
-    pub shaped : (m : Name) → IsShaped n from first next things m
+    pub shaped : (m : Name) → IsShaped i n from first next things m
     pub atoms : (m : Name) → (map.get things m >>= first_atom_of) ≡ (map.get v.things m >>= first_atom_of)
     pub packets : (m : Name) → (map.get things m >>= first_packet_of) ≡ (map.get v.things m >>= first_packet_of)
     pub old_or_new : (m : Name) (ts : List Thing) → map.get things m ≡ Some ts → ((us : List Thing) × (map.get v.things m ≡ Some us)) ⊎ (set.contains low.born m ≡ false)
@@ -116,13 +118,15 @@ module _ {n from first : ℕ} {low high : Config} {v : View} (c : Coupled n from
   truth true = inl refl
   truth false = inr refl
 
-  pub quiet_with : (next : Config) (things : NameMap (List Thing)) (lock : Locks) (phase : Name → Phase) → NextWith next things lock phase → Coupled n from first next high (record v { things = things; lock = lock; phase = phase })
+  pub quiet_with : (next : Config) (things : NameMap (List Thing)) (lock : Locks) (phase : Name → Phase) → NextWith next things lock phase → Coupled i n from first next high (record v { things = things; lock = lock; phase = phase })
   quiet_with next things lock phase x = record {
     low_sites = x.sites ∙ c.low_sites;
     high_sites = c.high_sites;
     daemon = ap (λ (p : NameMap _). map.get p (daemon_agent n)) x.places ∙ c.daemon;
     no_daemon = c.no_daemon;
-    places = λ q e. ap (λ (p : NameMap _). map.get p q) x.places ∙ c.places q e;
+    places = λ q e f. ap (λ (p : NameMap _). map.get p q) x.places ∙ c.places q e f;
+    messengers = c.messengers;
+    messengers_born = λ q is. x.born q (c.messengers_born q is);
     said = x.said ∙ c.said;
     born = λ q h. x.born q (c.born q h);
     own_born = c.own_born;
@@ -143,15 +147,15 @@ module _ {n from first : ℕ} {low high : Config} {v : View} (c : Coupled n from
       still_new : (m : Name) → set.contains next.born m ≡ false → set.contains low.born m ≡ false
       still_new m h = elim (truth (set.contains low.born m)) [ inl t ↦ absurd (let bad = x.born m t in cc) | inr f ↦ f ]
 
-      old : (m : Name) → set.contains next.born m ≡ true → (set.contains low.born m ≡ true) ⊎ (set.contains low.born m ≡ false) → set.contains next.born (v.stands_for m) ≡ true
-      old m h (inl t) = x.born (v.stands_for m) (c.old_marks m t)
+      old : (m : Name) → set.contains next.born m ≡ true → (set.contains low.born m ≡ true) ⊎ (set.contains low.born m ≡ false) → set.contains next.born (stands_for v.standing m) ≡ true
+      old m h (inl t) = x.born (stands_for v.standing m) (c.old_marks m t)
       old m h (inr f) = ap (set.contains next.born) (c.new_marks m f) ∙ h
 
       -- a new mark stands for no old one
-      apart : (m k : Name) → set.contains low.born m ≡ false → set.contains low.born k ≡ true → v.stands_for m ≡ v.stands_for k → ⊥
+      apart : (m k : Name) → set.contains low.born m ≡ false → set.contains low.born k ≡ true → stands_for v.standing m ≡ stands_for v.standing k → ⊥
       apart m k f t e = let bad : false ≡ true = sym f ∙ ap (set.contains low.born) (sym (c.new_marks m f) ∙ e) ∙ c.old_marks k t in cc
 
-      one : (m k : Name) → v.stands_for m ≡ v.stands_for k → ((ts : List Thing) × (map.get v.things m ≡ Some ts)) ⊎ (set.contains low.born m ≡ false)
+      one : (m k : Name) → stands_for v.standing m ≡ stands_for v.standing k → ((ts : List Thing) × (map.get v.things m ≡ Some ts)) ⊎ (set.contains low.born m ≡ false)
           → ((us : List Thing) × (map.get v.things k ≡ Some us)) ⊎ (set.contains low.born k ≡ false) → m ≡ k
       one m k e (inl a) (inl b) = c.distinct m k a.0 b.0 a.1 b.1 e
       one m k e (inl a) (inr g) = absurd (apart k m g (things_born m a.0 a.1) (sym e))
@@ -165,14 +169,14 @@ module _ {n from first : ℕ} {low high : Config} {v : View} (c : Coupled n from
     pub said : next.said ≡ low.said
     pub born : (q : Name) → set.contains low.born q ≡ true → set.contains next.born q ≡ true
     pub stand_born : AreBorn next
-    pub shaped : (m : Name) → IsShaped n from first next things m
+    pub shaped : (m : Name) → IsShaped i n from first next things m
     pub atoms : (m : Name) → (map.get things m >>= first_atom_of) ≡ (map.get v.things m >>= first_atom_of)
     pub packets : (m : Name) → (map.get things m >>= first_packet_of) ≡ (map.get v.things m >>= first_packet_of)
     pub old_or_new : (m : Name) (ts : List Thing) → map.get things m ≡ Some ts → ((us : List Thing) × (map.get v.things m ≡ Some us)) ⊎ (set.contains low.born m ≡ false)
     pub protocol : Protocol (scene v high) phase (chips things)
     pub known : (m : Name) (ts : List Thing) → map.get things m ≡ Some ts → All (λ t. KnowsOnly (may_know v.lock (chips things) t) (is_channel n high.born) from t) ts
 
-  pub quiet : (next : Config) (things : NameMap (List Thing)) (phase : Name → Phase) → Next next things phase → Coupled n from first next high (record v { things = things; phase = phase })
+  pub quiet : (next : Config) (things : NameMap (List Thing)) (phase : Name → Phase) → Next next things phase → Coupled i n from first next high (record v { things = things; phase = phase })
   quiet next things phase x = quiet_with next things v.lock phase (record {
     sites = x.sites;
     places = x.places;

@@ -46,6 +46,7 @@ use Rattle.np_protocol.proofs.Keeps.{keeps-protocol}
 use Rattle.np_protocol.proofs.Steps.{all_taken}
 use Rattle.daemon_encode.specs.Pieces.{ack, beside, gives, lock, unit, variable}
 use Rattle.daemon_encode.specs.Daemon.{acks, enters, with_lock as with_text}
+use Rattle.daemon_encode.specs.Infrastructures.{Infrastructure}
 use Rattle.np_things.specs.Acting.{begins}
 use Rattle.np_things.specs.Desks.{Took, desk}
 use Rattle.np_things.specs.Mail.{Mail}
@@ -126,16 +127,16 @@ with-is : (m a l : ℕ) (env : Env) (ps : List (Name × Name)) (b k : Name) → 
 with-is m a l env ps b k x y z =
     rw (eval-form (with_text m a l) env, eval-with (variable m) (variable a) (variable l) env, variable-is m env, x, variable-is a env, y, variable-is l env, z, outs.outs-Places ps, outs.outs-Agent b, outs.outs-Chan k) refl
 
-names_by : {R : Type 0} (n from first : ℕ) (t : Thing) (a : Atom) → Is n from first t a → begins t role.Infra kind.New ≡ true → ((m : Mail) (ps : List (Name × Name)) → t ≡ Thing.looking m ps → IsLooking n first m ps a → R) → R
-names_by n from first (Thing.looking m ps) a i h f = f m ps refl i
-names_by n from first (Thing.mail m (Stage.in_agent x)) a i h f = absurd cc
-names_by n from first _ a i h f = absurd cc
+names_by : {R : Type 0} (i : Infrastructure) (n from first : ℕ) (t : Thing) (a : Atom) → Is i n from first t a → begins t role.Infra kind.New ≡ true → ((m : Mail) (ps : List (Name × Name)) → t ≡ Thing.looking m ps → IsLooking n first m ps a → R) → R
+names_by _ n from first (Thing.looking m ps) a i h f = f m ps refl i
+names_by _ n from first (Thing.mail m (Stage.in_agent x)) a i h f = absurd cc
+names_by _ n from first _ a i h f = absurd cc
 
-module _ {n from first : ℕ} {low high : Config} {v : View} (c : Coupled n from first low high v) where
+module _ {i : Infrastructure} {n from first : ℕ} {low high : Config} {v : View} (c : Coupled i n from first low high v) where
   entered : (e : Event) (next : Config) (s : IsNaming low e next) (b : Name) (t : ℕ) (ps : List (Name × Name)) → IsLooking n first (Mail.register b t) ps s.atom → s.atom.proc ≡ (desk n first Service.registers).body → Took first Service.registers (Mail.register b t) s.atom.env
       → map.get s.atom.env (first + 2) ≡ Some (value.Places ps) → map.get low.packets e.actor ≡ None → map.get v.things e.actor ≡ Some (Thing.looking (Mail.register b t) ps ∷ []) → apply low e ≡ Some next
-      → (w : View) × (w.stands_for ≡ v.stands_for) × Coupled n from first next high w × SameLetters v w
-  entered e next s b t ps i text took map_is no_packet there h = (
+      → (w : View) × (w.standing ≡ v.standing) × Coupled i n from first next high w × SameLetters v w
+  entered e next s b t ps looks text took map_is no_packet there h = (
     record v { things = things; lock = lock_now; phase = protocol.0 },
     refl,
     quiet_with c next things lock_now protocol.0 (record {
@@ -241,11 +242,11 @@ module _ {n from first : ℕ} {low high : Config} {v : View} (c : Coupled n from
       lock_is : map.get env (first + 3) ≡ Some (value.Chan s.new)
       lock_is = here_is s.atom.env (first + 3) (value.Chan s.new)
 
-      are : Are n from first low_atom us
+      are : Are i n from first low_atom us
       are = Are.both {k = 0} {p = beside 0 (gives 0 (lock n) (with_text (first + 2) first (first + 3))) (gives 0 (variable (first + 3)) (variable (first + 1)))} {q = acks n first (first + 1)} refl
           (Are.both {k = 0} {p = gives 0 (lock n) (with_text (first + 2) first (first + 3))} {q = gives 0 (variable (first + 3)) (variable (first + 1))} refl
-          (Are.one (record { agent = i.agent; gives = rw (forms.outs-Out (lock n) (with_text (first + 2) first (first + 3)), channel-is (own n 10) env, with-is (first + 2) first (first + 3) env ps b s.new places_is agent_is lock_is) refl }))
-          (Are.one (record { agent = i.agent; gives = gives_two s.atom.agent 0 (first + 3) (first + 1) env s.new (value.Site t) lock_is site_is })))
+          (Are.one (record { agent = looks.agent; gives = rw (forms.outs-Out (lock n) (with_text (first + 2) first (first + 3)), channel-is (own n 10) env, with-is (first + 2) first (first + 3) env ps b s.new places_is agent_is lock_is) refl }))
+          (Are.one (record { agent = looks.agent; gives = gives_two s.atom.agent 0 (first + 3) (first + 1) env s.new (value.Site t) lock_is site_is })))
           (Are.one (
             record {
               agent = refl;
@@ -263,8 +264,8 @@ module _ {n from first : ℕ} {low high : Config} {v : View} (c : Coupled n from
             tt,
           ))
 
-      shaped : (q : Name) (u : Bool) → same_name q e.actor ≡ u → IsShaped n from first next things q
-      shaped q true f = subst (IsShaped n from first next things) (sym (same_name-is q e.actor f))
+      shaped : (q : Name) (u : Bool) → same_name q e.actor ≡ u → IsShaped i n from first next things q
+      shaped q true f = subst (IsShaped i n from first next things) (sym (same_name-is q e.actor f))
           (IsShaped.atom (ap (λ (d : Config). map.get d.atoms e.actor) is ∙ put_here low.atoms e.actor low_atom) (ap (λ (d : Config). map.get d.packets e.actor) is ∙ no_packet) (put_here v.things e.actor us)
           (All-from_recursion (λ u. high_atom u ≡ None) (Thing.free s.new t ∷ Thing.mail (Mail.ack b t) (Stage.in_agent s.atom.agent) ∷ []) (refl, (refl, tt))) are)
       shaped q false f = reshape q (ap (λ (d : Config). map.get d.atoms q) is ∙ get-put low.atoms e.actor low_atom q ∙ ap (λ x. cond x (Some low_atom) (map.get low.atoms q)) f) (ap (λ (d : Config). map.get d.packets q) is) (unchanged q f) (c.shaped q)
@@ -295,11 +296,11 @@ module _ {n from first : ℕ} {low high : Config} {v : View} (c : Coupled n from
           vs (c.known q vs (sym (unchanged q f) ∙ j))
 
   pub registers : (e : Event) (next : Config) → e.kind ≡ kind.New → e.tag.role ≡ role.Infra → apply low e ≡ Some next
-      → (w : View) × (w.stands_for ≡ v.stands_for) × Coupled n from first next high w × SameLetters v w
+      → (w : View) × (w.standing ≡ v.standing) × Coupled i n from first next high w × SameLetters v w
   registers e next is_new infra h =
       let s = naming low e next (ap (λ k. row k low e) (sym is_new) ∙ h) in
       let o = of_actor c e.actor s.atom kind.New role.Infra s.acts.there (ap begun_by s.form) (same_role s.atom.proc.tag e.tag s.acts.tag ∙ infra) (λ k r. cc) in
-      names_by n from first o.thing s.atom o.is o.its_kind λ m ps thing i.
+      names_by _ n from first o.thing s.atom o.is o.its_kind λ m ps thing i.
       by_service e next s m ps i i.service i.took i.map i.is o.no_packet (o.there ∙ ap (λ t. Some (t ∷ [])) thing) h
     where
       no_new : {A : Type 0} (e : Event) (next : Config) (s : IsNaming low e next) (a m : Expr) (x : ℕ) (p q : Proc) → layer s.atom.proc ≡ ProcForm-F.Lookup a m x p q → A
@@ -307,7 +308,7 @@ module _ {n from first : ℕ} {low high : Config} {v : View} (c : Coupled n from
 
       by_service : (e : Event) (next : Config) (s : IsNaming low e next) (m : Mail) (ps : List (Name × Name)) → IsLooking n first m ps s.atom → (k : Service) → Took first k m s.atom.env → map.get s.atom.env (desk n first k).map ≡ Some (value.Places ps)
           → s.atom.proc ≡ (desk n first k).body → map.get low.packets e.actor ≡ None → map.get v.things e.actor ≡ Some (Thing.looking m ps ∷ []) → apply low e ≡ Some next
-          → (w : View) × (w.stands_for ≡ v.stands_for) × Coupled n from first next high w × SameLetters v w
+          → (w : View) × (w.standing ≡ v.standing) × Coupled i n from first next high w × SameLetters v w
       by_service e next s (Mail.register b t) ps i Service.registers took map_is text no_packet there h = entered e next s b t ps i text took map_is no_packet there h
       by_service e next s m ps i Service.grants took map_is text no_packet there h = no_new e next s _ _ _ _ _ (ap layer text ∙ forms.outs-Lookup _ _ _ _ _)
       by_service e next s m ps i Service.notes_moves took map_is text no_packet there h = no_new e next s _ _ _ _ _ (ap layer text ∙ forms.outs-Lookup _ _ _ _ _)

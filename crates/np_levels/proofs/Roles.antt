@@ -25,12 +25,13 @@ use Rattle.np_eval.specs.Forms.{Layer, layer}
 use Rattle.np_protocol.specs.Chips.{Service}
 use Rattle.np_scope.specs.Sound.{IsSoundProc}
 use Rattle.np_scope.proofs.SoundParts.{ProcParts, proc-parts}
+use Rattle.daemon_encode.specs.Infrastructures.{Infrastructure}
 use Rattle.daemon_encode.specs.Translates.{Translates}
 use Rattle.np_things.specs.Desks.{desk}
 use Rattle.np_things.specs.Mail.{Mail}
 use Rattle.np_things.specs.Shapes.{Are, Gives, Is, IsMail, WaitsFor}
 use Rattle.np_things.specs.Things.{Stage, Thing}
-use Rattle.np_things.proofs.Acting.{output-begins, source-plain}
+use Rattle.np_things.proofs.Acting.{PostBegins, output-begins, post-begins, source-plain}
 use Rattle.np_levels.specs.Coupled.{Coupled, View}
 use Rattle.np_levels.specs.Laws.{RolesOfEvents}
 use Rattle.np_levels.specs.Roles.{occurs}
@@ -49,7 +50,11 @@ module _ (n from : ℕ) (k : Kind) where
   plainly : (r : Role) (l : Layer) (j : Kind) → r ≡ role.Plain → begun_by l ≡ Some j → begun_by l ≡ Some k → occurs role.Plain j ≡ true → occurs r k ≡ true
   plainly r l j plain is begun may = ap (λ r. occurs r k) plain ∙ same-kind l j k role.Plain is begun may
 
-  of-source : {scope bound : List ℕ} {node after : ℕ} (a : Expr) (p q : Proc) → Translates n from a p q → IsSoundProc n scope node p after bound → begun_by (layer q) ≡ Some k
+  of-post : (q : Proc) → PostBegins q → begun_by (layer q) ≡ Some k → occurs q.tag.role k ≡ true
+  of-post q (PostBegins.is_sent r is) b = ap (λ r. occurs r k) r ∙ same-kind (layer q) kind.Send k role.Post is b refl
+  of-post q (PostBegins.takes_cache r is) b = ap (λ r. occurs r k) r ∙ same-kind (layer q) kind.Comm k role.Infra is b refl
+
+  of-source : {i : Infrastructure} {scope bound : List ℕ} {node after : ℕ} (a : Expr) (p q : Proc) → Translates i n from a p q → IsSoundProc n scope node p after bound → begun_by (layer q) ≡ Some k
       → occurs q.tag.role k ≡ true
   of-source a p q Translates.stop s b = plainly q.tag.role (layer q) kind.Stop (source-plain s) (ap begun_by forms.outs-Stop) b refl
   of-source a p q (Translates.parallel x y) s b = plainly q.tag.role (layer q) kind.Fork (source-plain s) (ap begun_by (forms.outs-Par _ _)) b refl
@@ -57,16 +62,16 @@ module _ (n from : ℕ) (k : Kind) where
   of-source a p q Translates.output s b = no-kind k (sym (ap begun_by (forms.outs-Out _ _)) ∙ b)
   of-source a p q (Translates.input x) s b = plainly q.tag.role (layer q) kind.Comm (source-plain s) (ap begun_by (forms.outs-Inp _ _ _)) b refl
   of-source a p q (Translates.replicated x) s b = plainly q.tag.role (layer q) kind.Rep (source-plain s) (ap begun_by (forms.outs-Rep _ _ _)) b refl
-  of-source a p q (Translates.agent c d f g x y) s b = same-kind (layer q) kind.Comm k role.Infra (ap begun_by (forms.outs-Inp _ _ _)) b refl
+  of-source a p q (Translates.agent c d f g z x y) s b = same-kind (layer q) kind.Comm k role.Infra (ap begun_by (forms.outs-Inp _ _ _)) b refl
   of-source a p q (Translates.migrate x) s b = same-kind (layer q) kind.Comm k role.Infra (ap begun_by (forms.outs-Inp _ _ _)) b refl
   of-source a p q (Translates.iflocal x y) s b = plainly q.tag.role (layer q) kind.Local (source-plain s) (ap begun_by (forms.outs-IfLocal _ _ _ _ _)) b refl
   of-source a p q Translates.send s b = plainly q.tag.role (layer q) kind.Send (source-plain s) (ap begun_by (forms.outs-Send _ _ _ _)) b refl
-  of-source a p q Translates.post s b = same-kind (layer q) kind.Send k role.Post (ap begun_by (forms.outs-Send _ _ _ _)) b refl
+  of-source {i = i} a p q (Translates.post {k = tag} {m = m} {b = to} {c = c} {v = v} above) s b = of-post q (post-begins i n tag.node a to c v m) b
   of-source a p q (Translates.test x y) s b = plainly q.tag.role (layer q) kind.If (source-plain s) (ap begun_by (forms.outs-If _ _ _)) b refl
   of-source a p q (Translates.bind x) s b = plainly q.tag.role (layer q) kind.Let (source-plain s) (ap begun_by (forms.outs-Let _ _ _)) b refl
   of-source a p q Translates.print s b = plainly q.tag.role (layer q) kind.Print (source-plain s) (ap begun_by (forms.outs-Print _)) b refl
-  of-source {scope} {bound} {node} {after} a p q Translates.open_letter s b = absurd (subst (ProcParts n scope node after bound) (forms.outs-Open _) (proc-parts n s))
-  of-source {scope} {bound} {node} {after} a p q (Translates.lookup x y) s b = absurd (subst (ProcParts n scope node after bound) (forms.outs-Lookup _ _ _ _ _) (proc-parts n s))
+  of-source {scope = scope} {bound = bound} {node = node} {after = after} a p q Translates.open_letter s b = absurd (subst (ProcParts n scope node after bound) (forms.outs-Open _) (proc-parts n s))
+  of-source {scope = scope} {bound = bound} {node = node} {after = after} a p q (Translates.lookup x y) s b = absurd (subst (ProcParts n scope node after bound) (forms.outs-Lookup _ _ _ _ _) (proc-parts n s))
 
 -- ---- things
 
@@ -98,29 +103,29 @@ module _ (n from first : ℕ) (low : Atom) (k : Kind) (begun : begun_by (layer l
   mails m Stage.on_the_way i = absurd i
   mails m Stage.there i = gives-none i
 
-  of-thing : (t : Thing) → Is n from first t low → occurs low.proc.tag.role k ≡ true
-  of-thing (Thing.source a h) i = of-source n from k a h.proc low.proc i.translates i.stands.source.sound begun
-  of-thing (Thing.asking a h) i = by-text _ kind.Comm i.is (ap begun_by (forms.outs-Inp _ _ _)) refl
-  of-thing (Thing.leaving a h) i = by-text _ kind.Depart i.is (ap begun_by (forms.outs-Migrate _ _)) refl
-  of-thing (Thing.settling a h s) i = by-text _ kind.Comm i.is (ap begun_by (forms.outs-Inp _ _ _)) refl
-  of-thing (Thing.making a h s) i = by-text _ kind.Agent i.is (ap begun_by (forms.outs-Agent _ _ _)) refl
-  of-thing (Thing.beginning a h p s) i = by-text _ kind.Comm i.is (ap begun_by (forms.outs-Inp _ _ _)) refl
-  of-thing (Thing.opened p) i = no-kind k (sym (ap (λ (a : Atom). begun_by (layer a.proc)) i.is ∙ ap begun_by (forms.outs-Out _ _)) ∙ begun)
-  of-thing (Thing.token a s) i = gives-none i.0
-  of-thing (Thing.letters a) i = by-text _ kind.Rep i.is (ap begun_by (forms.outs-Rep _ _ _)) refl
-  of-thing (Thing.opening p) i = by-layer _ kind.Open i.0.is refl i.0.role refl
-  of-thing (Thing.mail m stage) i = mails m stage i
-  of-thing (Thing.taken m) i = by-text _ kind.Comm i.is (ap begun_by (forms.outs-Inp _ _ _)) refl
-  of-thing (Thing.looking m ps) i = looks i.service i.is
-  of-thing (Thing.wanting m l) i = wants m l i.waits
-  of-thing (Thing.serving s) i = by-text _ kind.Rep i.is (ap begun_by (forms.outs-Rep _ _ _)) refl
-  of-thing (Thing.places ps) i = gives-none i
-  of-thing (Thing.free l s) i = gives-none i
-  of-thing (Thing.packet p) i = absurd i
+  of-thing : (i : Infrastructure) (t : Thing) → Is i n from first t low → occurs low.proc.tag.role k ≡ true
+  of-thing _ (Thing.source a h) i = of-source n from k a h.proc low.proc i.translates i.stands.source.sound begun
+  of-thing _ (Thing.asking a h) i = by-text _ kind.Comm i.is (ap begun_by (forms.outs-Inp _ _ _)) refl
+  of-thing _ (Thing.leaving a h) i = by-text _ kind.Depart i.is (ap begun_by (forms.outs-Migrate _ _)) refl
+  of-thing _ (Thing.settling a h s) i = by-text _ kind.Comm i.is (ap begun_by (forms.outs-Inp _ _ _)) refl
+  of-thing _ (Thing.making a h s) i = by-text _ kind.Agent i.is (ap begun_by (forms.outs-Agent _ _ _)) refl
+  of-thing _ (Thing.beginning a h p s) i = by-text _ kind.Comm i.is (ap begun_by (forms.outs-Inp _ _ _)) refl
+  of-thing _ (Thing.opened p) i = no-kind k (sym (ap (λ (a : Atom). begun_by (layer a.proc)) i.is ∙ ap begun_by (forms.outs-Out _ _)) ∙ begun)
+  of-thing _ (Thing.token a s) i = gives-none i.0
+  of-thing _ (Thing.letters a) i = by-text _ kind.Rep i.is (ap begun_by (forms.outs-Rep _ _ _)) refl
+  of-thing _ (Thing.opening p) i = by-layer _ kind.Open i.0.is refl i.0.role refl
+  of-thing _ (Thing.mail m stage) i = mails m stage i
+  of-thing _ (Thing.taken m) i = by-text _ kind.Comm i.is (ap begun_by (forms.outs-Inp _ _ _)) refl
+  of-thing _ (Thing.looking m ps) i = looks i.service i.is
+  of-thing _ (Thing.wanting m l) i = wants m l i.waits
+  of-thing _ (Thing.serving s) i = by-text _ kind.Rep i.is (ap begun_by (forms.outs-Rep _ _ _)) refl
+  of-thing _ (Thing.places ps) i = gives-none i
+  of-thing _ (Thing.free l s) i = gives-none i
+  of-thing _ (Thing.packet p) i = absurd i
 
   -- a bracket splits
-  of-things : (ts : List Thing) → Are n from first low ts → occurs low.proc.tag.role k ≡ true
-  of-things ts (Are.one {t = t} i) = of-thing t i
+  of-things : {i : Infrastructure} (ts : List Thing) → Are i n from first low ts → occurs low.proc.tag.role k ≡ true
+  of-things ts (Are.one {t = t} i) = of-thing _ t i
   of-things ts (Are.both is a b) = by-text _ kind.Fork is (ap begun_by (forms.outs-Par _ _)) refl
 
 -- ---- events
@@ -130,7 +135,7 @@ landing role.Plain = refl
 landing role.Post = refl
 landing role.Infra = refl
 
-module _ {n from first : ℕ} {low high : Config} {v : View} (c : Coupled n from first low high v) (e : Event) (next : Config) where
+module _ {i : Infrastructure} {n from first : ℕ} {low high : Config} {v : View} (c : Coupled i n from first low high v) (e : Event) (next : Config) where
   by_actor : (k : Kind) (a : Atom) → acting low e ≡ Some a → begun_by (layer a.proc) ≡ Some k → occurs e.tag.role k ≡ true
   by_actor k a acts begun =
       let s = acting-step low e a acts in
@@ -159,5 +164,5 @@ module _ {n from first : ℕ} {low high : Config} {v : View} (c : Coupled n from
   by_kind kind.Lookup h = then (acting low e) _ (row-step low e next kind.Lookup h).gives λ a acts g. parts kind.Lookup (sight low.sites (inside low) e.site) e a g λ p form g. by_actor kind.Lookup a acts (ap begun_by form)
   by_kind kind.Post h = then (acting low e) _ (row-step low e next kind.Post h).gives λ a acts g. parts kind.Post (sight low.sites (inside low) e.site) e a g λ p form g. by_actor kind.Post a acts (ap begun_by form)
 
-pub roles-of-events : RolesOfEvents
+pub roles-of-events : {i : Infrastructure} → RolesOfEvents i
 roles-of-events n from first low high v c e next h = by_kind c e next e.kind h

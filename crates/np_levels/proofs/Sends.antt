@@ -1,5 +1,5 @@
 -- The infrastructure sends mail.
-use Rattle.std.proofs.Common.{◌≡◌, ℕ, Bool, true, false, cond, None, Some, List, [], ◌∷◌, refl, sym, ap, ◌∙◌}
+use Rattle.std.proofs.Common.{◌≡◌, ℕ, true, false, cond, None, Some, List, [], ◌∷◌, refl, sym, ap, ◌∙◌}
 use Rattle.std.specs.List.{list_any}
 use Rattle.std.proofs.lemmas.List.Elements.{All-from_recursion, recursion_from_All}
 use Rattle.std.specs.FinMap as map
@@ -15,7 +15,7 @@ use Rattle.np_syntax.specs.declared.event.Event.{Event}
 use Rattle.np_syntax.specs.declared.event.Kind.TheVariants as kind
 use Rattle.np_syntax.specs.declared.event.Made.TheVariants as made
 use Rattle.np_syntax.proofs.Options.{then, when, done}
-use Rattle.np_tables.specs.Names.{NameMap, same_name}
+use Rattle.np_tables.specs.Names.{NameMap}
 use Rattle.np_tables.proofs.Tables.{cut_here, get-cut, get-put, put_here}
 use Rattle.np_calculus.specs.declared.config.Atom.{Atom}
 use Rattle.np_calculus.specs.declared.config.Packet.{Packet}
@@ -31,21 +31,22 @@ use Rattle.np_calculus.proofs.Steps.{Acts, acting-step, is-none, row-step}
 use Rattle.np_eval.specs.Eval.{agent_of, as_site, chan_of, eval}
 use Rattle.np_eval.specs.Forms.{layer}
 use Rattle.np_calculus.specs.Begins.{begun_by}
-use Rattle.np_calculus.specs.Starts.{daemon_agent, own}
-use Rattle.np_tables.proofs.Tables.{same_name-is}
+use Rattle.np_calculus.specs.Starts.{own}
 use Rattle.np_protocol.specs.Chips.{Chip}
 use Rattle.np_protocol.specs.Phases.{Phase, is_present}
 use Rattle.np_protocol.specs.Protocol.{IsTrueOf, Protocol}
 use Rattle.np_protocol.specs.Rules.{Rule}
-use Rattle.np_protocol.specs.Scenes.{Scene, Whereabouts, is_there}
+use Rattle.np_protocol.specs.Scenes.{Scene, Whereabouts}
 use Rattle.np_protocol.specs.Steps.{Step}
 use Rattle.np_protocol.proofs.Keeps.{keeps-protocol}
 use Rattle.np_protocol.proofs.Steps.{all_taken}
+use Rattle.daemon_encode.specs.Infrastructures.{Infrastructure}
 use Rattle.np_things.specs.Acting.{begins}
 use Rattle.np_things.specs.Mail.{Mail, content, on_channel, packet_of, receiver as receiver_of, to_site}
 use Rattle.np_things.specs.Shapes.{Is, IsSender, Mails}
 use Rattle.np_things.specs.Things.{Stage, Thing, show_all}
 use Rattle.np_levels.specs.Coupled.{Coupled, IsShaped, KnowsOnly, View, chips, is_channel, is_child_of, may_know, scene, whereabouts}
+use Rattle.np_levels.proofs.Places.{same_place, some_there}
 use Rattle.np_levels.proofs.Applies.{takes_nothing}
 use Rattle.np_levels.proofs.Letters.{same-letters}
 use Rattle.np_levels.proofs.Marks.{at_mark, same_chips, step_at}
@@ -120,9 +121,9 @@ packet_is n m low e next s r t x y form for_agent for_site on holds =
     some_is e = cc
 
 -- what is sent is mail
-sends_mail : {R : Type 0} (n from first : ℕ) (t : Thing) (a : Atom) → Is n from first t a → begins t role.Infra kind.Send ≡ true → ((m : Mail) (x : Name) → t ≡ Thing.mail m (Stage.in_agent x) → Mails n m x a → IsSender m x → R) → R
-sends_mail n from first (Thing.mail m (Stage.in_agent x)) a i h f = f m x refl i.0 i.1
-sends_mail n from first _ a i h f = absurd cc
+sends_mail : {R : Type 0} (i : Infrastructure) (n from first : ℕ) (t : Thing) (a : Atom) → Is i n from first t a → begins t role.Infra kind.Send ≡ true → ((m : Mail) (x : Name) → t ≡ Thing.mail m (Stage.in_agent x) → Mails n m x a → IsSender m x → R) → R
+sends_mail _ n from first (Thing.mail m (Stage.in_agent x)) a i h f = f m x refl i.0 i.1
+sends_mail _ n from first _ a i h f = absurd cc
 
 -- mail has no child
 no_child : (a b : Name) (m : Mail) (x : Name) → list_any (is_child_of a b) (show_all (Thing.mail m (Stage.in_agent x) ∷ [])) ≡ false
@@ -148,23 +149,17 @@ mail_leaves (Mail.dack y t) x s own step there p = same_chips step p
 mail_leaves (Mail.ack y t) x s own step there p = same_chips step p
 mail_leaves (Mail.deliver q t) x s own step there p = same_chips step p
 
-module _ {n from first : ℕ} {low high : Config} {v : View} (c : Coupled n from first low high v) where
+module _ {i : Infrastructure} {n from first : ℕ} {low high : Config} {v : View} (c : Coupled i n from first low high v) where
   -- an agent that reports is where the low level has it
   at_site_of : (x : Name) (s t : ℕ) → v.phase x ≡ Phase.reporting t → map.get low.places x ≡ Some (place.At s) → (scene v high).place x ≡ Whereabouts.at s
-  at_site_of x s t r h = ap whereabouts (sym (c.places x (apart (same_name x (daemon_agent n)) refl)) ∙ h)
-    where
-      apart : (u : Bool) → same_name x (daemon_agent n) ≡ u → u ≡ false
-      apart false e = refl
-      apart true e =
-          let none : whereabouts (map.get high.places x) ≡ Whereabouts.nowhere = ap whereabouts (ap (map.get high.places) (same_name-is x (daemon_agent n) e) ∙ c.no_daemon) in
-          absurd (let bad : false ≡ true = ap is_there (sym none) ∙ c.protocol.placed x ∙ ap is_present r in cc)
+  at_site_of x s t r h = ap whereabouts (sym (same_place c x (some_there (map.get high.places x) (c.protocol.placed x ∙ ap is_present r))) ∙ h)
 
   pub sends : (e : Event) (next : Config) → e.kind ≡ kind.Send → e.tag.role ≡ role.Infra → apply low e ≡ Some next
-      → (w : View) × (w.stands_for ≡ v.stands_for) × Coupled n from first next high w × SameLetters v w
+      → (w : View) × (w.standing ≡ v.standing) × Coupled i n from first next high w × SameLetters v w
   sends e next is_send infra h =
       let s = sending low e next (ap (λ k. row k low e) (sym is_send) ∙ h) in
       let o = of_actor c e.actor s.atom kind.Send role.Infra s.acts.there (ap begun_by s.form) (same_role s.atom.proc.tag e.tag s.acts.tag ∙ infra) (λ k r. cc) in
-      sends_mail n from first o.thing s.atom o.is o.its_kind λ m x thing mails own.
+      sends_mail _ n from first o.thing s.atom o.is o.its_kind λ m x thing mails own.
       let there : map.get v.things e.actor ≡ Some (Thing.mail m (Stage.in_agent x) ∷ []) = o.there ∙ ap (λ t. Some (t ∷ [])) thing in
       let us : List Thing = Thing.mail m Stage.on_the_way ∷ [] in
       let step = step_at v.things e.actor (Thing.mail m (Stage.in_agent x) ∷ []) us there in

@@ -38,6 +38,7 @@ use Rattle.np_protocol.specs.Chips.{Chip, Service}
 use Rattle.np_protocol.specs.Protocol.{IsTrueOf}
 use Rattle.np_protocol.proofs.Steps.{all_taken}
 use Rattle.daemon_encode.specs.Pieces.{beside, daemon, dack, deliver, expression, infra, name, pair, site, tells, two_names, variable}
+use Rattle.daemon_encode.specs.Infrastructures.{Infrastructure}
 use Rattle.np_syntax.specs.declared.process.ProcForm as form
 use Rattle.np_things.proofs.Starts.{constant-is}
 use Rattle.np_things.specs.Acting.{begins}
@@ -136,13 +137,13 @@ took n x Service.ends_deliveries (Mail.dack b s) v env next same is h = two_ther
 took n x _ _ v env next same is h = absurd (let bad : ⊥ = omega arith in bad)
 
 -- what a replicated input of the infrastructure is
-serves_by : {R : Type 0} (n from first : ℕ) (t : Thing) (a : Atom) → Is n from first t a → begins t role.Infra kind.Rep ≡ true → ((x : Name) → t ≡ Thing.letters x → IsLetters n from x a → R) → ((k : Service) → t ≡ Thing.serving k → IsServing n first k a → R) → R
-serves_by n from first (Thing.letters x) a i h f g = f x refl i
-serves_by n from first (Thing.serving k) a i h f g = g k refl i
-serves_by n from first (Thing.mail m (Stage.in_agent x)) a i h f g = absurd cc
-serves_by n from first _ a i h f g = absurd cc
+serves_by : {R : Type 0} (i : Infrastructure) (n from first : ℕ) (t : Thing) (a : Atom) → Is i n from first t a → begins t role.Infra kind.Rep ≡ true → ((x : Name) → t ≡ Thing.letters x → IsLetters n from x a → R) → ((k : Service) → t ≡ Thing.serving k → IsServing n first k a → R) → R
+serves_by _ n from first (Thing.letters x) a i h f g = f x refl i
+serves_by _ n from first (Thing.serving k) a i h f g = g k refl i
+serves_by _ n from first (Thing.mail m (Stage.in_agent x)) a i h f g = absurd cc
+serves_by _ n from first _ a i h f g = absurd cc
 
-module _ {n from first : ℕ} {low high : Config} {v : View} (c : Coupled n from first low high v) where
+module _ {i : Infrastructure} {n from first : ℕ} {low high : Config} {v : View} (c : Coupled i n from first low high v) where
   -- a lock of an agent is no name of the infrastructure but main's
   pub no_lock_at : (m : Name) (i : ℕ) (t : Thing) → list_any (nat_eq i) own_numbers ≡ true → (i ≡ 13 → ⊥) → map.get v.things m ≡ Some (t ∷ []) → (l : Name) (s : ℕ) → t ≡ Thing.free l s → l ≡ own n i → ⊥
   no_lock_at m i t own_one other there l s is on =
@@ -151,7 +152,7 @@ module _ {n from first : ℕ} {low high : Config} {v : View} (c : Coupled n from
       other (number-of n i 13 (c.locks_apart claim.0 (own n i) (claim.1 ∙ ap Some on) (is-own n i own_one)))
 
   served : (e : Event) (next : Config) (s : IsRepeating low e next) (k : Service) → IsServing n first k s.atom → apply low e ≡ Some next
-      → (w : View) × (w.stands_for ≡ v.stands_for) × Coupled n from first next high w × SameLetters v w
+      → (w : View) × (w.standing ≡ v.standing) × Coupled i n from first next high w × SameLetters v w
   served e next s k i h =
       let d = desk n first k in
       let form : ProcForm-F.Rep s.on s.pattern s.body ≡ ProcForm-F.Rep d.chan d.pattern (takes_map n d) = sym s.form ∙ ap layer i.is ∙ forms.outs-Rep d.chan d.pattern (takes_map n d) in
@@ -212,9 +213,9 @@ letter_mail : {R : Type 0} (m : Mail) → on_channel m ≡ 6 → ((p : Posted) (
 letter_mail (Mail.deliver p s) e r = r p s refl
 letter_mail _ e r = absurd (let bad : ⊥ = omega arith in bad)
 
-module _ {n from first : ℕ} {low high : Config} {v : View} (c : Coupled n from first low high v) where
+module _ {i : Infrastructure} {n from first : ℕ} {low high : Config} {v : View} (c : Coupled i n from first low high v) where
   handed : (e : Event) (next : Config) (s : IsRepeating low e next) (x : Name) → IsLetters n from x s.atom → apply low e ≡ Some next
-      → (w : View) × (w.stands_for ≡ v.stands_for) × Coupled n from first next high w × SameLetters v w
+      → (w : View) × (w.standing ≡ v.standing) × Coupled i n from first next high w × SameLetters v w
   handed e next s x i h =
       let left : Proc = infra i.node (form.Open (variable i.letter)) in
       let right : Proc = tells n i.node (dack n) (pair i.named (variable i.place)) in
@@ -283,8 +284,8 @@ module _ {n from first : ℕ} {low high : Config} {v : View} (c : Coupled n from
       })
 
   pub serves : (e : Event) (next : Config) → e.kind ≡ kind.Rep → e.tag.role ≡ role.Infra → apply low e ≡ Some next
-      → (w : View) × (w.stands_for ≡ v.stands_for) × Coupled n from first next high w × SameLetters v w
+      → (w : View) × (w.standing ≡ v.standing) × Coupled i n from first next high w × SameLetters v w
   serves e next is_rep infra h =
       let s = repeating low e next (ap (λ k. row k low e) (sym is_rep) ∙ h) in
       let o = of_actor c e.actor s.atom kind.Rep role.Infra s.acts.there (ap begun_by s.form) (same_role s.atom.proc.tag e.tag s.acts.tag ∙ infra) (λ k r. cc) in
-      serves_by n from first o.thing s.atom o.is o.its_kind (λ x thing i. handed e next s x i h) (λ k thing i. served c e next s k i h)
+      serves_by _ n from first o.thing s.atom o.is o.its_kind (λ x thing i. handed e next s x i h) (λ k thing i. served c e next s k i h)

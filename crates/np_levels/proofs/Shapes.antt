@@ -15,6 +15,7 @@ use Rattle.np_calculus.specs.Begins.{begun_by}
 use Rattle.np_calculus.specs.Config.{Config}
 use Rattle.np_calculus.specs.Reductions.{role_index, same_tag}
 use Rattle.np_eval.specs.Forms.{layer}
+use Rattle.daemon_encode.specs.Infrastructures.{Infrastructure}
 use Rattle.np_things.specs.Acting.{begins}
 use Rattle.np_things.specs.Shapes.{Are, Is, IsUnderWay}
 use Rattle.np_things.specs.Things.{IsHeaded, Thing}
@@ -34,21 +35,21 @@ same_role a b h = go a.role b.role (and-out _ _ h).1
     go role.Infra role.Infra e = refl
     go _ _ e = absurd cc
 
-module _ {n from first : ℕ} {low high : Config} {v : View} (c : Coupled n from first low high v) where
+module _ {i : Infrastructure} {n from first : ℕ} {low high : Config} {v : View} (c : Coupled i n from first low high v) where
   -- the things of an atom that stands there
   pub record OfAtom (m : Name) (a : Atom) : Type 0 where
     pub things : List Thing
     pub no_packet : map.get low.packets m ≡ None
     pub there : map.get v.things m ≡ Some things
     pub headed : IsHeaded things
-    pub are : Are n from first a things
+    pub are : Are i n from first a things
 
   pub of_atom : (m : Name) (a : Atom) → map.get low.atoms m ≡ Some a → OfAtom m a
   of_atom m a h = go (c.shaped m)
     where
-      go : IsShaped n from first low v.things m → OfAtom m a
+      go : IsShaped i n from first low v.things m → OfAtom m a
       go (IsShaped.nothing x y z) = absurd (no_value (sym x ∙ h))
-      go (IsShaped.atom {ts = ts} x y z u r) = record { things = ts; no_packet = y; there = z; headed = u; are = subst (λ b. Are n from first b ts) (sym (done (sym x ∙ h))) r }
+      go (IsShaped.atom {ts = ts} x y z u r) = record { things = ts; no_packet = y; there = z; headed = u; are = subst (λ b. Are i n from first b ts) (sym (done (sym x ∙ h))) r }
       go (IsShaped.packet x y z r) = absurd (no_value (sym x ∙ h))
 
   -- the thing of a packet that flies
@@ -61,7 +62,7 @@ module _ {n from first : ℕ} {low high : Config} {v : View} (c : Coupled n from
   pub of_packet : (m : Name) (k : Packet) → map.get low.packets m ≡ Some k → OfPacket m k
   of_packet m k h = go (c.shaped m)
     where
-      go : IsShaped n from first low v.things m → OfPacket m k
+      go : IsShaped i n from first low v.things m → OfPacket m k
       go (IsShaped.nothing x y z) = absurd (no_value (sym y ∙ h))
       go (IsShaped.atom x y z u r) = absurd (no_value (sym y ∙ h))
       go (IsShaped.packet {t = t} x y z r) = record { thing = t; no_atom = x; there = z; is = subst (IsUnderWay n t) (sym (done (sym y ∙ h))) r }
@@ -71,7 +72,7 @@ module _ {n from first : ℕ} {low high : Config} {v : View} (c : Coupled n from
     pub thing : Thing
     pub no_packet : map.get low.packets m ≡ None
     pub there : map.get v.things m ≡ Some (thing ∷ [])
-    pub is : Is n from first thing a
+    pub is : Is i n from first thing a
     pub its_kind : begins thing r k ≡ true
 
   pub of_actor : (m : Name) (a : Atom) (k : Kind) (r : Role) → map.get low.atoms m ≡ Some a → begun_by (layer a.proc) ≡ Some k → a.proc.tag.role ≡ r → (k ≡ kind.Fork → r ≡ role.Infra → ⊥) → OfActor m a k r

@@ -42,8 +42,10 @@ use Rattle.np_calculus.specs.Changes.{rewritten, with_made}
 use Rattle.np_calculus.specs.Config.{Config}
 use Rattle.np_calculus.specs.Reductions.{apply}
 use Rattle.np_calculus.specs.Starts.{daemon_agent}
+use Rattle.cache_lift.specs.Lift.{stands_for}
 use Rattle.np_protocol.specs.Phases.{Phase}
 use Rattle.np_protocol.specs.Protocol.{Protocol}
+use Rattle.daemon_encode.specs.Infrastructures.{Infrastructure}
 use Rattle.np_things.specs.Shapes.{Are, Is, IsUnderWay}
 use Rattle.np_things.specs.Things.{Thing, carried, first_atom_of, first_packet_of, high_atom, high_packet, show_all, shows}
 use Rattle.np_levels.specs.Coupled.{Coupled, IsShaped, KnowsOnly, View, chips, is_channel, is_child_of, may_know, scene}
@@ -64,10 +66,10 @@ abbrev pub IsSilent : Thing → Type 0
 IsSilent t = (shows t ≡ []) × (carried t ≡ None)
 
 -- what stands under a mark for one thing at most
-pub data Holds (n from first : ℕ) : Option Atom → Option Packet → Option Thing → Type 0 where
-  nothing : Holds n from first None None None
-  atom : {a : Atom} {t : Thing} → Is n from first t a → Holds n from first (Some a) None (Some t)
-  packet : {k : Packet} {t : Thing} → IsUnderWay n t k → Holds n from first None (Some k) (Some t)
+pub data Holds (i : Infrastructure) (n from first : ℕ) : Option Atom → Option Packet → Option Thing → Type 0 where
+  nothing : Holds i n from first None None None
+  atom : {a : Atom} {t : Thing} → Is i n from first t a → Holds i n from first (Some a) None (Some t)
+  packet : {k : Packet} {t : Thing} → IsUnderWay n t k → Holds i n from first None (Some k) (Some t)
 
 abbrev pub listed : Option Thing → Option (List Thing)
 listed None = None
@@ -81,7 +83,7 @@ listed-packet : (o : Option Thing) → (listed o >>= first_packet_of) ≡ (o >>=
 listed-packet None = refl
 listed-packet (Some t) = refl
 
-module _ {n from first : ℕ} {low high : Config} {v : View} (c : Coupled n from first low high v) (e : Event) where
+module _ {i : Infrastructure} {n from first : ℕ} {low high : Config} {v : View} (c : Coupled i n from first low high v) (e : Event) where
   -- what a thing may know is known, where the event's names are made
   abbrev pub Knowing : Thing → Type 0
   Knowing t = KnowsOnly (may_know v.lock (chips v.things) t) (is_channel n (with_made high.born e.made)) from t
@@ -89,9 +91,9 @@ module _ {n from first : ℕ} {low high : Config} {v : View} (c : Coupled n from
   -- what stands under the marks of two configurations that come from the coupled ones, and what it is there for
   pub record Stands (atoms : NameMap Atom) (packets : NameMap Packet) (high_atoms : NameMap Atom) (high_packets : NameMap Packet)
       (things : NameMap (List Thing)) : Type 0 where
-    pub shaped : (m : Name) → IsShaped n from first (record low { atoms = atoms; packets = packets }) things m
-    pub mirrored : Mirrors v.stands_for (λ m. map.get things m >>= first_atom_of) (map.get high_atoms)
-    pub mirrored_packets : Mirrors v.stands_for (λ m. map.get things m >>= first_packet_of) (map.get high_packets)
+    pub shaped : (m : Name) → IsShaped i n from first (record low { atoms = atoms; packets = packets }) things m
+    pub mirrored : Mirrors (stands_for v.standing) (λ m. map.get things m >>= first_atom_of) (map.get high_atoms)
+    pub mirrored_packets : Mirrors (stands_for v.standing) (λ m. map.get things m >>= first_packet_of) (map.get high_packets)
     pub old_or_new : (m : Name) (ts : List Thing) → map.get things m ≡ Some ts → IsOldOrNew c m
     pub order : Reordered (chips things) (chips v.things)
     pub letters : (m : Name) → letter_under things m ≡ letter_under v.things m
@@ -124,7 +126,7 @@ module _ {n from first : ℕ} {low high : Config} {v : View} (c : Coupled n from
         go (Free.new none f) = inr f
         go (Free.old {ts = ts} h silent none) = s.old_or_new m ts h
 
-    only : {X : Type 0} (f : List Thing → Option X) → IsOnly v.stands_for (λ q. map.get things q >>= f) m
+    only : {X : Type 0} (f : List Thing → Option X) → IsOnly (stands_for v.standing) (λ q. map.get things q >>= f) m
     only f q y h same = go (map.get things q) refl h
       where
         go : (o : Option (List Thing)) → map.get things q ≡ o → (o >>= f) ≡ Some y → q ≡ m
@@ -132,13 +134,13 @@ module _ {n from first : ℕ} {low high : Config} {v : View} (c : Coupled n from
         go (Some ts) i j = one_mark c q m same (s.old_or_new q ts i) is_old_or_new
 
     -- the high level has under this mark what the things are
-    pub high_atom_at : map.get high_atoms (v.stands_for m) ≡ (map.get things m >>= first_atom_of)
-    high_atom_at = mirror_at v.stands_for (λ q. map.get things q >>= first_atom_of) (map.get high_atoms) m s.mirrored (only first_atom_of)
+    pub high_atom_at : map.get high_atoms (stands_for v.standing m) ≡ (map.get things m >>= first_atom_of)
+    high_atom_at = mirror_at (stands_for v.standing) (λ q. map.get things q >>= first_atom_of) (map.get high_atoms) m s.mirrored (only first_atom_of)
 
-    pub high_packet_at : map.get high_packets (v.stands_for m) ≡ (map.get things m >>= first_packet_of)
-    high_packet_at = mirror_at v.stands_for (λ q. map.get things q >>= first_packet_of) (map.get high_packets) m s.mirrored_packets (only first_packet_of)
+    pub high_packet_at : map.get high_packets (stands_for v.standing m) ≡ (map.get things m >>= first_packet_of)
+    high_packet_at = mirror_at (stands_for v.standing) (λ q. map.get things q >>= first_packet_of) (map.get high_packets) m s.mirrored_packets (only first_packet_of)
 
-    module _ (a : Option Atom) (k : Option Packet) (u : Option Thing) (holds : Holds n from first a k u) (silent : IfSome u IsSilent)
+    module _ (a : Option Atom) (k : Option Packet) (u : Option Thing) (holds : Holds i n from first a k u) (silent : IfSome u IsSilent)
         (knows : IfSome u Knowing) where
       abbrev after : NameMap (List Thing)
       after = rewritten things m (listed u)
@@ -149,16 +151,16 @@ module _ {n from first : ℕ} {low high : Config} {v : View} (c : Coupled n from
       there : (q : Name) → same_name q m ≡ false → map.get after q ≡ map.get things q
       there q f = rewritten_there things m (listed u) q f
 
-      shape_here : (a : Option Atom) (k : Option Packet) (u : Option Thing) → Holds n from first a k u → map.get (rewritten atoms m a) m ≡ a
+      shape_here : (a : Option Atom) (k : Option Packet) (u : Option Thing) → Holds i n from first a k u → map.get (rewritten atoms m a) m ≡ a
           → map.get (rewritten packets m k) m ≡ k → map.get (rewritten things m (listed u)) m ≡ listed u
-          → IsShaped n from first (record low { atoms = rewritten atoms m a; packets = rewritten packets m k }) (rewritten things m (listed u)) m
+          → IsShaped i n from first (record low { atoms = rewritten atoms m a; packets = rewritten packets m k }) (rewritten things m (listed u)) m
       shape_here a k u Holds.nothing x y z = IsShaped.nothing x y z
       shape_here a k u (Holds.atom {t = t} i) x y z = IsShaped.atom x y z (All-nil (λ u. high_atom u ≡ None)) (Are.one i)
       shape_here a k u (Holds.packet i) x y z = IsShaped.packet x y z i
 
       shaped : (q : Name) (t : Bool) → same_name q m ≡ t
-          → IsShaped n from first (record low { atoms = rewritten atoms m a; packets = rewritten packets m k }) after q
-      shaped q true e = subst (IsShaped n from first (record low { atoms = rewritten atoms m a; packets = rewritten packets m k }) after)
+          → IsShaped i n from first (record low { atoms = rewritten atoms m a; packets = rewritten packets m k }) after q
+      shaped q true e = subst (IsShaped i n from first (record low { atoms = rewritten atoms m a; packets = rewritten packets m k }) after)
           (sym (same_name-is q m e))
           (shape_here a k u holds (rewritten_here atoms m a) (rewritten_here packets m k) (rewritten_here things m (listed u)))
       shaped q false e = reshape q (rewritten_there atoms m a q e) (rewritten_there packets m k q e) (there q e) (s.shaped q)
@@ -217,18 +219,18 @@ module _ {n from first : ℕ} {low high : Config} {v : View} (c : Coupled n from
           go true e = sym (ap (letter_under things) (same_name-is q m e) ∙ none_there free) ∙ s.letters q
           go false e = s.letters q
 
-      pub write : Stands (rewritten atoms m a) (rewritten packets m k) (rewritten high_atoms (v.stands_for m) (u >>= high_atom))
-          (rewritten high_packets (v.stands_for m) (u >>= high_packet)) after
+      pub write : Stands (rewritten atoms m a) (rewritten packets m k) (rewritten high_atoms (stands_for v.standing m) (u >>= high_atom))
+          (rewritten high_packets (stands_for v.standing m) (u >>= high_packet)) after
       write = record {
         shaped = λ q. shaped q (same_name q m) refl;
-        mirrored = mirrors_write v.stands_for (λ q. map.get things q >>= first_atom_of) (map.get high_atoms) (λ q. map.get after q >>= first_atom_of)
-            (map.get (rewritten high_atoms (v.stands_for m) (u >>= high_atom))) m (u >>= high_atom)
-            s.mirrored (first_of first_atom_of (u >>= high_atom) (listed-atom u)) (get-rewritten high_atoms (v.stands_for m) (u >>= high_atom))
+        mirrored = mirrors_write (stands_for v.standing) (λ q. map.get things q >>= first_atom_of) (map.get high_atoms) (λ q. map.get after q >>= first_atom_of)
+            (map.get (rewritten high_atoms (stands_for v.standing m) (u >>= high_atom))) m (u >>= high_atom)
+            s.mirrored (first_of first_atom_of (u >>= high_atom) (listed-atom u)) (get-rewritten high_atoms (stands_for v.standing m) (u >>= high_atom))
             (only first_atom_of);
-        mirrored_packets = mirrors_write v.stands_for (λ q. map.get things q >>= first_packet_of) (map.get high_packets)
-            (λ q. map.get after q >>= first_packet_of) (map.get (rewritten high_packets (v.stands_for m) (u >>= high_packet))) m (u >>= high_packet)
+        mirrored_packets = mirrors_write (stands_for v.standing) (λ q. map.get things q >>= first_packet_of) (map.get high_packets)
+            (λ q. map.get after q >>= first_packet_of) (map.get (rewritten high_packets (stands_for v.standing m) (u >>= high_packet))) m (u >>= high_packet)
             s.mirrored_packets (first_of first_packet_of (u >>= high_packet) (listed-packet u))
-            (get-rewritten high_packets (v.stands_for m) (u >>= high_packet)) (only first_packet_of);
+            (get-rewritten high_packets (stands_for v.standing m) (u >>= high_packet)) (only first_packet_of);
         old_or_new = λ q ts h. old_or_new q ts (same_name q m) refl h;
         order = and_then order s.order;
         letters = letters;
@@ -236,52 +238,52 @@ module _ {n from first : ℕ} {low high : Config} {v : View} (c : Coupled n from
       }
 
     -- an atom stands there then, and no packet did
-    pub put_atom : (a : Atom) (t : Thing) (h : Atom) → Is n from first t a → high_atom t ≡ Some h → high_packet t ≡ None → IsSilent t → Knowing t
+    pub put_atom : (a : Atom) (t : Thing) (h : Atom) → Is i n from first t a → high_atom t ≡ Some h → high_packet t ≡ None → IsSilent t → Knowing t
         → map.get packets m ≡ None → (map.get things m >>= first_packet_of) ≡ None
-        → Stands (map.insert atoms m a) packets (map.insert high_atoms (v.stands_for m) h) high_packets (map.insert things m (t ∷ []))
+        → Stands (map.insert atoms m a) packets (map.insert high_atoms (stands_for v.standing m) h) high_packets (map.insert things m (t ∷ []))
     put_atom a t h is its_atom no_packet silent knows none high_none =
-        let w : Stands (map.insert atoms m a) (rewritten packets m None) (rewritten high_atoms (v.stands_for m) (high_atom t))
-        (rewritten high_packets (v.stands_for m) (high_packet t)) (map.insert things m (t ∷ [])) =
+        let w : Stands (map.insert atoms m a) (rewritten packets m None) (rewritten high_atoms (stands_for v.standing m) (high_atom t))
+        (rewritten high_packets (stands_for v.standing m) (high_packet t)) (map.insert things m (t ∷ [])) =
         write (Some a) None (Some t) (Holds.atom is) silent knows in
-        let x = subst (λ (p : NameMap Packet). Stands (map.insert atoms m a) p (rewritten high_atoms (v.stands_for m) (high_atom t))
-        (rewritten high_packets (v.stands_for m) (high_packet t)) (map.insert things m (t ∷ []))) (sym (uncut packets m none)) w in
-        let y = subst (λ (o : Option Atom). Stands (map.insert atoms m a) packets (rewritten high_atoms (v.stands_for m) o)
-        (rewritten high_packets (v.stands_for m) (high_packet t)) (map.insert things m (t ∷ []))) its_atom x in
-        subst (λ (p : NameMap Packet). Stands (map.insert atoms m a) packets (map.insert high_atoms (v.stands_for m) h) p (map.insert things m (t ∷ [])))
-        (ap (rewritten high_packets (v.stands_for m)) no_packet ∙ sym (uncut high_packets (v.stands_for m) (high_packet_at ∙ high_none))) y
+        let x = subst (λ (p : NameMap Packet). Stands (map.insert atoms m a) p (rewritten high_atoms (stands_for v.standing m) (high_atom t))
+        (rewritten high_packets (stands_for v.standing m) (high_packet t)) (map.insert things m (t ∷ []))) (sym (uncut packets m none)) w in
+        let y = subst (λ (o : Option Atom). Stands (map.insert atoms m a) packets (rewritten high_atoms (stands_for v.standing m) o)
+        (rewritten high_packets (stands_for v.standing m) (high_packet t)) (map.insert things m (t ∷ []))) its_atom x in
+        subst (λ (p : NameMap Packet). Stands (map.insert atoms m a) packets (map.insert high_atoms (stands_for v.standing m) h) p (map.insert things m (t ∷ [])))
+        (ap (rewritten high_packets (stands_for v.standing m)) no_packet ∙ sym (uncut high_packets (stands_for v.standing m) (high_packet_at ∙ high_none))) y
 
     -- an atom goes
     pub cut_atom : map.get packets m ≡ None → (map.get things m >>= first_packet_of) ≡ None
-        → Stands (map.remove atoms m) packets (map.remove high_atoms (v.stands_for m)) high_packets (map.remove things m)
+        → Stands (map.remove atoms m) packets (map.remove high_atoms (stands_for v.standing m)) high_packets (map.remove things m)
     cut_atom none high_none =
-        let w : Stands (map.remove atoms m) (rewritten packets m None) (map.remove high_atoms (v.stands_for m)) (rewritten high_packets (v.stands_for m) None)
+        let w : Stands (map.remove atoms m) (rewritten packets m None) (map.remove high_atoms (stands_for v.standing m)) (rewritten high_packets (stands_for v.standing m) None)
         (map.remove things m) = write None None None Holds.nothing tt tt in
-        let x = subst (λ (p : NameMap Packet). Stands (map.remove atoms m) p (map.remove high_atoms (v.stands_for m))
-        (rewritten high_packets (v.stands_for m) None) (map.remove things m)) (sym (uncut packets m none)) w in
-        subst (λ (p : NameMap Packet). Stands (map.remove atoms m) packets (map.remove high_atoms (v.stands_for m)) p (map.remove things m))
-        (sym (uncut high_packets (v.stands_for m) (high_packet_at ∙ high_none))) x
+        let x = subst (λ (p : NameMap Packet). Stands (map.remove atoms m) p (map.remove high_atoms (stands_for v.standing m))
+        (rewritten high_packets (stands_for v.standing m) None) (map.remove things m)) (sym (uncut packets m none)) w in
+        subst (λ (p : NameMap Packet). Stands (map.remove atoms m) packets (map.remove high_atoms (stands_for v.standing m)) p (map.remove things m))
+        (sym (uncut high_packets (stands_for v.standing m) (high_packet_at ∙ high_none))) x
 
     -- a packet goes
     pub cut_packet : map.get atoms m ≡ None → (map.get things m >>= first_atom_of) ≡ None
-        → Stands atoms (map.remove packets m) high_atoms (map.remove high_packets (v.stands_for m)) (map.remove things m)
+        → Stands atoms (map.remove packets m) high_atoms (map.remove high_packets (stands_for v.standing m)) (map.remove things m)
     cut_packet none high_none =
-        let w : Stands (rewritten atoms m None) (map.remove packets m) (rewritten high_atoms (v.stands_for m) None) (map.remove high_packets (v.stands_for m))
+        let w : Stands (rewritten atoms m None) (map.remove packets m) (rewritten high_atoms (stands_for v.standing m) None) (map.remove high_packets (stands_for v.standing m))
         (map.remove things m) = write None None None Holds.nothing tt tt in
-        let x = subst (λ (p : NameMap Atom). Stands p (map.remove packets m) (rewritten high_atoms (v.stands_for m) None)
-        (map.remove high_packets (v.stands_for m)) (map.remove things m)) (sym (uncut atoms m none)) w in
-        subst (λ (p : NameMap Atom). Stands atoms (map.remove packets m) p (map.remove high_packets (v.stands_for m)) (map.remove things m))
-        (sym (uncut high_atoms (v.stands_for m) (high_atom_at ∙ high_none))) x
+        let x = subst (λ (p : NameMap Atom). Stands p (map.remove packets m) (rewritten high_atoms (stands_for v.standing m) None)
+        (map.remove high_packets (stands_for v.standing m)) (map.remove things m)) (sym (uncut atoms m none)) w in
+        subst (λ (p : NameMap Atom). Stands atoms (map.remove packets m) p (map.remove high_packets (stands_for v.standing m)) (map.remove things m))
+        (sym (uncut high_atoms (stands_for v.standing m) (high_atom_at ∙ high_none))) x
 
   -- a new mark stands for itself, and nothing is there
   pub record IsNewMark (m : Name) : Type 0 where
-    pub stands_for : v.stands_for m ≡ m
+    pub itself : stands_for v.standing m ≡ m
     pub no_things : map.get v.things m ≡ None
     pub no_packet : map.get low.packets m ≡ None
     pub high_new : set.contains high.born m ≡ false
 
   pub new_mark : (m : Name) → set.contains low.born m ≡ false → IsNewMark m
   new_mark m f = record {
-    stands_for = c.new_marks m f;
+    itself = c.new_marks m f;
     no_things = no_things (map.get v.things m) refl;
     no_packet =
         no_packet (map.get low.packets m) refl;
@@ -308,7 +310,7 @@ module _ {n from first : ℕ} {low high : Config} {v : View} (c : Coupled n from
       → Stands atoms packets high_atoms high_packets things
       → (next : Config) (said high_said : List (ℕ × Value)) → apply low e ≡ Some next
       → next ≡ record low { atoms = atoms; packets = packets; born = with_made low.born e.made; said = said } → said ≡ high_said
-      → (w : View) × (w.stands_for ≡ v.stands_for) × Coupled n from first next
+      → (w : View) × (w.standing ≡ v.standing) × Coupled i n from first next
       (record high { atoms = high_atoms; packets = high_packets; born = with_made high.born e.made; said = high_said }) w × SameLetters v w
   leave {atoms} {packets} {high_atoms} {high_packets} {things} s next said high_said applies is same = (
     record v { things = things; phase = protocol.0 },
@@ -320,7 +322,8 @@ module _ {n from first : ℕ} {low high : Config} {v : View} (c : Coupled n from
           high_sites = refl;
           daemon = ap (λ (d : Config). map.get d.places (daemon_agent n)) is;
           no_daemon = refl;
-          places = λ q f. ap (λ (d : Config). map.get d.places q) is ∙ c.places q f;
+          places = λ q f g. ap (λ (d : Config). map.get d.places q) is ∙ c.places q f g;
+          messengers = c.messengers;
           said = ap (λ (d : Config). d.said) is ∙ same;
           born = ap (λ (d : Config). d.born) is;
           high_born = refl;

@@ -13,7 +13,7 @@ use Rattle.np_syntax.specs.declared.program.Program.{Program}
 use Rattle.np_syntax.specs.declared.program.LowProgram.{LowProgram}
 use Rattle.np_syntax.specs.Options.{◌>>=◌}
 use Rattle.np_tables.specs.Names.{NameMap, name_cmp, same_name}
-use Rattle.np_tables.proofs.Tables.{get-none, get-put, put_cases, put_here, born_here, same_name-is, same_name-itself, same_name-swap}
+use Rattle.np_tables.proofs.Tables.{contains-none, get-none, get-put, put_cases, put_here, born_here, same_name-is, same_name-itself, same_name-swap}
 use Rattle.np_calculus.specs.declared.config.Atom.{Atom}
 use Rattle.np_calculus.specs.declared.config.Packet.{Packet}
 use Rattle.np_calculus.specs.declared.config.Place.{Place}
@@ -23,6 +23,8 @@ use Rattle.np_calculus.specs.Parts.{IsMark}
 use Rattle.np_calculus.specs.Sight.{inside}
 use Rattle.np_calculus.specs.Starts.{daemon_agent, daemon_mark, first_atom, main_agent, main_mark, names_alone, own, own_names, start_high, start_low, with_agent}
 use Rattle.np_calculus.proofs.OwnNames.{daemon_mark-born, mark-born, with_all-keeps}
+use Rattle.cache_lift.specs.Lift.{at_first}
+use Rattle.cache_lift.proofs.Standings.{stands-itself}
 use Rattle.np_protocol.specs.Chips.{Chip, Service}
 use Rattle.np_protocol.specs.Phases.{Phase}
 use Rattle.np_protocol.specs.Protocol.{Protocol}
@@ -34,6 +36,7 @@ use Rattle.np_protocol.proofs.Scenes.{same_scene}
 use Rattle.np_protocol.proofs.Starts.{starts-in-order}
 use Rattle.np_eval.specs.Eval.{find_place}
 use Rattle.np_scope.specs.Sound.{IsSound}
+use Rattle.daemon_encode.specs.Infrastructures.{Infrastructure}
 use Rattle.daemon_encode.specs.Translates.{IsLowOf}
 use Rattle.np_things.specs.Laws.{HasStartThings}
 use Rattle.np_things.specs.Starts.{daemon_things, main_things}
@@ -59,7 +62,7 @@ no_entries {X} = none (map.entries (map.empty {X = X} {R = name_cmp})) (sym (len
 no_value : {A : Type 0} {x : A} → None ≡ Some x → ⊥
 no_value e = cc
 
-module _ (p : Program) (q : LowProgram) (low : IsLowOf p q) (sound : IsSound p) where
+module _ (p : Program) (q : LowProgram) (low : IsLowOf Infrastructure.central p q) (sound : IsSound p) where
   abbrev n : ℕ
   n = length p.sites
 
@@ -118,7 +121,7 @@ module _ (p : Program) (q : LowProgram) (low : IsLowOf p q) (sound : IsSound p) 
       (same_scene (first_scene main here p.at) _ (first_phase main) _ places-are (λ x. refl) (starts-in-order main here p.at (find_place ((main, here) ∷ [])) map-is))
 
   abbrev view : View
-  view = record { things = things; stands_for = λ m. m; lock = first_locks main here; phase = ordered.0 }
+  view = record { things = things; standing = at_first; lock = first_locks main here; phase = ordered.0 }
 
   -- ---- what stands under which name
 
@@ -171,10 +174,10 @@ module _ (p : Program) (q : LowProgram) (low : IsLowOf p q) (sound : IsSound p) 
   neither : {X : Type 0} (x y : X) (m : Name) → same_name m (daemon_mark n) ≡ false → same_name m (main_mark n) ≡ false → map.get (two x y) m ≡ None
   neither {X} x y m e f = rw (get-put (map.insert (map.empty {X = X} {R = name_cmp}) (main_mark n) x) (daemon_mark n) y m, e, get-put (map.empty {X = X} {R = name_cmp}) (main_mark n) x m, f, get-none {X = X} m) refl
 
-  is-shaped : (m : Name) → IsShaped n p.binders low.first low_start things m
+  is-shaped : (m : Name) → IsShaped Infrastructure.central n p.binders low.first low_start things m
   is-shaped m = go (same_name m (daemon_mark n)) (same_name m (main_mark n)) refl refl
     where
-      go : (t u : Bool) → same_name m (daemon_mark n) ≡ t → same_name m (main_mark n) ≡ u → IsShaped n p.binders low.first low_start things m
+      go : (t u : Bool) → same_name m (daemon_mark n) ≡ t → same_name m (main_mark n) ≡ u → IsShaped Infrastructure.central n p.binders low.first low_start things m
       go true u e f =
           let same = same_name-is m (daemon_mark n) e in
           IsShaped.atom (ap (map.get low_start.atoms) same ∙ at-daemon (first_atom main q.main) (first_atom daemon q.daemon)) (get-none m) (ap (map.get things) same ∙ at-daemon (main_things n p.at p.main) (daemon_things n p.at)) headed.1 are.daemon
@@ -229,23 +232,31 @@ module _ (p : Program) (q : LowProgram) (low : IsLowOf p q) (sound : IsSound p) 
   here-born : set.contains (own_names n) here ≡ true
   here-born = with_all-keeps _ (names (own n) (14 ∷ 15 ∷ 16 ∷ [])) here (born_here _ here)
 
-  coupled : Coupled n p.binders low.first low_start high_start view
+  none-yet : (x : Name) → set.contains at_first.messengers x ≡ true → ⊥
+  none-yet x is = let bad : false ≡ true = sym (contains-none x) ∙ is in cc
+
+  coupled : Coupled Infrastructure.central n p.binders low.first low_start high_start view
   coupled = record {
     low_sites = refl;
     high_sites = refl;
     daemon = put_here (map.insert (map.empty {X = Place} {R = name_cmp}) main (place.At p.at)) daemon (place.At 0);
     no_daemon = rw (get-put (map.empty {X = Place} {R = name_cmp}) main (place.At p.at) daemon, daemon-apart, get-none {X = Place} daemon) refl;
-    places = λ x e. rw (get-put (map.insert (map.empty {X = Place} {R = name_cmp}) main (place.At p.at)) daemon (place.At 0) x, e) refl;
+    places = λ x e f. rw (get-put (map.insert (map.empty {X = Place} {R = name_cmp}) main (place.At p.at)) daemon (place.At 0) x, e) refl;
+    messengers = λ x is. absurd (none-yet x is);
+    messengers_born = λ x is. absurd (none-yet x is);
     said = refl;
     born = λ x h. h;
     own_born = λ x h. h;
     stand_born = record { agents = born-agents; marks = born-marks };
     shaped = is-shaped;
-    mirrored = record { up = λ m x h. up m (map.get things m) x refl h; down = down };
+    mirrored = record {
+      up = λ m x h. ap (map.get high_start.atoms) (stands-itself m) ∙ up m (map.get things m) x refl h;
+      down = λ k x h. let d = down k x h in (d.0, stands-itself d.0 ∙ d.1, d.2);
+    };
     mirrored_packets = record { up = λ m k h. absurd (no-packet m (map.get things m) k refl h); down = λ m k h. absurd (no_value (sym (get-none m) ∙ h)) };
-    new_marks = λ m h. refl;
-    old_marks = λ m h. h;
-    distinct = λ m k ts us h i e. e;
+    new_marks = λ m h. stands-itself m;
+    old_marks = λ m h. ap (set.contains low_start.born) (stands-itself m) ∙ h;
+    distinct = λ m k ts us h i e. sym (stands-itself m) ∙ e ∙ stands-itself k;
     protocol = ordered.1;
     locks_born = λ a l h. ap (set.contains (own_names n)) (its-lock a l (same_name a main) h) ∙ here-born;
     locks_apart = λ a l h o. its-lock a l (same_name a main) h;
@@ -258,7 +269,7 @@ module _ (p : Program) (q : LowProgram) (low : IsLowOf p q) (sound : IsSound p) 
           (subst IsSome (get-put (map.insert (map.empty {X = Place} {R = name_cmp}) main (place.At p.at)) daemon (place.At 0) x
           ∙ ap (cond (same_name x daemon) (Some (place.At 0))) (get-put (map.empty {X = Place} {R = name_cmp}) main (place.At p.at) x ∙ ap (cond (same_name x main) (Some (place.At p.at))) (get-none x))) h)
 
-      its-mark : (m : Name) → IsShaped n p.binders low.first low_start things m → IsMark (inside low_start) m → set.contains (own_names n) m ≡ true
+      its-mark : (m : Name) → IsShaped Infrastructure.central n p.binders low.first low_start things m → IsMark (inside low_start) m → set.contains (own_names n) m ≡ true
       its-mark m (IsShaped.nothing a k t) (inl h) = absurd (let none = subst IsSome a h in cc)
       its-mark m (IsShaped.nothing a k t) (inr h) = absurd (let none = subst IsSome k h in cc)
       its-mark m (IsShaped.packet a k t u) h = absurd (no_value (sym (get-none m) ∙ k))
@@ -275,8 +286,8 @@ pub starts-coupled : StartsCoupled
 unfolding start_low start_high
 starts-coupled p q low sound = (
   view p q low sound,
-  subst (λ (c : Config). Coupled (length p.sites) p.binders low.first c (start_high p) (view p q low sound)) (sym same) (coupled p q low sound),
-  λ m. refl,
+  subst (λ (c : Config). Coupled Infrastructure.central (length p.sites) p.binders low.first c (start_high p) (view p q low sound)) (sym same) (coupled p q low sound),
+  refl,
   λ m. no-letter p q low sound m (map.get (things p q low sound) m) refl,
 )
   where

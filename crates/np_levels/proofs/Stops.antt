@@ -16,7 +16,9 @@ use Rattle.np_calculus.specs.Sight.{inside, sight}
 unfoldable use Rattle.np_calculus.proofs.Common.{act}
 use Rattle.np_calculus.proofs.Rows.{parts}
 use Rattle.np_calculus.proofs.Steps.{Acts, acting-step, is-none, row-step, step-acting}
+use Rattle.cache_lift.specs.Lift.{stands_for}
 use Rattle.np_eval.specs.Forms.{layer}
+use Rattle.daemon_encode.specs.Infrastructures.{Infrastructure}
 use Rattle.np_levels.specs.Coupled.{Coupled, View}
 use Rattle.np_levels.specs.Laws.{IsEvent, event_of}
 use Rattle.np_levels.proofs.Actors.{Actor, actor}
@@ -52,21 +54,21 @@ stop_applies : (c : Config) (e : Event) (a : Atom) → Acts c e a → layer a.pr
 unfolding act
 stop_applies c e a acts form none other = rw (step-acting c e a acts, form, none, other) refl
 
-module _ {n from first : ℕ} {low high : Config} {v : View} (c : Coupled n from first low high v) (e : Event) (next : Config) (is : e.kind ≡ kind.Stop)
+module _ {i : Infrastructure} {n from first : ℕ} {low high : Config} {v : View} (c : Coupled i n from first low high v) (e : Event) (next : Config) (is : e.kind ≡ kind.Stop)
     (h : apply low e ≡ Some next) (s : IsStopping low e next) (o : Actor c e s.atom) where
   stopped : IsSame c e next
   stopped =
-      let form : layer o.atom.proc ≡ ProcForm-F.Stop = subst (λ l. IsFormOf n from o.named l (layer o.atom.proc)) s.form o.form in
+      let form : layer o.atom.proc ≡ ProcForm-F.Stop = subst (λ l. IsFormOf i n from o.named l (layer o.atom.proc)) s.form o.form in
       let w = ends_both c e next o h None s.is in (
-        effect high (event_of v e) (record still { atoms = cut (v.stands_for e.actor) ∷ [] }),
-        ap (λ k. row k high (event_of v e)) is ∙ stop_applies high (event_of v e) o.atom o.acts form s.made_none (ap (option_map v.stands_for) s.other_none),
+        effect high (event_of v e) (record still { atoms = cut (stands_for v.standing e.actor) ∷ [] }),
+        ap (λ k. row k high (event_of v e)) is ∙ stop_applies high (event_of v e) o.atom o.acts form s.made_none (ap (option_map (stands_for v.standing)) s.other_none),
         w.0,
         w.1,
         w.2,
         w.3,
       )
 
-pub stops-are-events : IsEvent kind.Stop
-stops-are-events n from first low high v c well e next is plain h =
+pub stops-are-events : {i : Infrastructure} → IsEvent i kind.Stop
+stops-are-events n from first low high v c well lodged e next is plain h =
     let s = stopping low e next (ap (λ k. row k low e) (sym is) ∙ h) in
-    stopped c e next is h s (actor c e s.atom kind.Stop s.acts plain (ap begun_by s.form) (λ e. cc) (λ e. cc))
+    stopped c e next is h s (actor c e lodged s.atom kind.Stop s.acts plain (ap begun_by s.form) (λ e. cc) (λ e. cc))

@@ -24,6 +24,7 @@ use Rattle.np_calculus.specs.Reductions.{apply, goes_under, row, sends}
 use Rattle.np_calculus.specs.Starts.{daemon_agent, own_names}
 use Rattle.np_calculus.proofs.OwnNames.{not_true}
 use Rattle.np_calculus.proofs.Steps.{Offers}
+use Rattle.cache_lift.specs.Lift.{stands_for}
 use Rattle.np_eval.specs.Eval.{Env, as_chan, bind, chan_of, eval}
 use Rattle.np_eval.specs.Forms.{layer}
 use Rattle.np_scope.specs.Sound.{IsSoundExpr}
@@ -31,6 +32,7 @@ use Rattle.np_scope.proofs.SoundParts.{BodyParts, ProcParts, proc-parts}
 use Rattle.np_source_values.specs.Known.{IsKnown, Knows}
 use Rattle.np_source_values.proofs.Known.{value-is-known}
 use Rattle.np_source_values.proofs.Values.{same-value}
+use Rattle.daemon_encode.specs.Infrastructures.{Infrastructure}
 use Rattle.daemon_encode.specs.Translates.{Translates}
 use Rattle.np_things.specs.Mail.{Posted, as_output}
 use Rattle.np_things.specs.Shapes.{Is, IsAgents, IsOfSource, IsOpened}
@@ -52,7 +54,7 @@ use Rattle.np_levels.specs.Letters.{SameLetters}
 
 -- ---- the output
 
-module _ {n from first : ℕ} {low high : Config} {v : View} (c : Coupled n from first low high v) (e : Event) where
+module _ {i : Infrastructure} {n from first : ℕ} {low high : Config} {v : View} (c : Coupled i n from first low high v) (e : Event) where
   -- an output of the source that both levels have
   pub record Given (m agent chan : Name) (what : Value) : Type 0 where
     pub no_packet : map.get low.packets m ≡ None
@@ -60,13 +62,13 @@ module _ {n from first : ℕ} {low high : Config} {v : View} (c : Coupled n from
     pub there : map.get v.things m ≡ Some (thing ∷ [])
     pub silent : IsSilent thing
     pub no_high_packet : high_packet thing ≡ None
-    pub offers : Offers high (v.stands_for m) agent chan what
+    pub offers : Offers high (stands_for v.standing m) agent chan what
     pub known : IsKnown (agents c e) (is_channel n high.born) what
 
   module _ (m : Name) (agent chan : Name) (what : Value) (s : Offers low m agent chan what) where
     -- what it gives at the high level
-    offers_there : (mate : Atom) → map.get high.atoms (v.stands_for m) ≡ Some mate → s.mate.agent ≡ mate.agent → sends mate ≡ Some s.sent
-        → Offers high (v.stands_for m) agent chan what
+    offers_there : (mate : Atom) → map.get high.atoms (stands_for v.standing m) ≡ Some mate → s.mate.agent ≡ mate.agent → sends mate ≡ Some s.sent
+        → Offers high (stands_for v.standing m) agent chan what
     offers_there mate waits same sends_it = record {
       mate = mate;
       waits = waits;
@@ -77,7 +79,7 @@ module _ {n from first : ℕ} {low high : Config} {v : View} (c : Coupled n from
       is = s.is;
     }
 
-    of_atom_of_source : (x : Expr) (hi : Atom) → IsOfSource n from x hi s.mate → map.get low.packets m ≡ None
+    of_atom_of_source : (x : Expr) (hi : Atom) → IsOfSource i n from x hi s.mate → map.get low.packets m ≡ None
         → map.get v.things m ≡ Some (Thing.source x hi ∷ []) → Given m agent chan what
     of_atom_of_source x hi i none there =
         let o : IsOutput s.mate s.sent.0 s.sent.1 = is_output s.mate s.sent s.sends_it in
@@ -127,7 +129,7 @@ module _ {n from first : ℕ} {low high : Config} {v : View} (c : Coupled n from
         let agents_too : IsAgents n s.mate.agent = ap (λ a. same_name a (daemon_agent n)) (sym (same_name-is agent s.mate.agent s.together)) ∙ apart in
         by_source n s.mate s.sent.0 s.sent.1 g.thing other agents_too g.gift λ of_source. go g.thing of_source g.is o.no_packet there
       where
-        go : (t : Thing) → is_of_source t ≡ true → Is n from first t s.mate → map.get low.packets m ≡ None → map.get v.things m ≡ Some (t ∷ [])
+        go : (t : Thing) → is_of_source t ≡ true → Is i n from first t s.mate → map.get low.packets m ≡ None → map.get v.things m ≡ Some (t ∷ [])
             → Given m agent chan what
         go (Thing.source x hi) of_source i none there = of_atom_of_source x hi i none there
         go (Thing.opened p) of_source i none there = of_opened p i none there
@@ -135,7 +137,7 @@ module _ {n from first : ℕ} {low high : Config} {v : View} (c : Coupled n from
 
 -- ---- the input
 
-module _ {n from first : ℕ} {low high : Config} {v : View} (c : Coupled n from first low high v) (e : Event) {a : Atom} (o : Actor c e a) (on : Expr)
+module _ {i : Infrastructure} {n from first : ℕ} {low high : Config} {v : View} (c : Coupled i n from first low high v) (e : Event) {a : Atom} (o : Actor c e a) (on : Expr)
     (pattern : Pat) (chan other : Name) (what : Value) (env : Env)
     (its_chan : chan_of on a.env ≡ Some chan) (offers : Offers low other a.agent chan what) (binds : bind pattern what a.env ≡ Some env) where
   -- what an input takes at the high level, and binds there
@@ -164,7 +166,7 @@ module _ {n from first : ℕ} {low high : Config} {v : View} (c : Coupled n from
 
 -- ---- the input goes on, and the output is gone
 
-module _ {n from first : ℕ} {low high : Config} {v : View} (c : Coupled n from first low high v) (e : Event) (next : Config) (s : IsMeeting low e next)
+module _ {i : Infrastructure} {n from first : ℕ} {low high : Config} {v : View} (c : Coupled i n from first low high v) (e : Event) (next : Config) (s : IsMeeting low e next)
     (o : Actor c e s.atom) (h : apply low e ≡ Some next) where
   -- an input is no output
   apart : same_name e.actor s.other ≡ false
@@ -173,11 +175,11 @@ module _ {n from first : ℕ} {low high : Config} {v : View} (c : Coupled n from
       let out = is_output s.offers.mate s.offers.sent s.offers.sends_it in
       let bad : ProcForm-F.Inp s.on s.pattern s.body ≡ ProcForm-F.Out out.on out.sent = sym s.form ∙ ap (λ (a : Atom). layer a.proc) same ∙ out.form in cc)
 
-  pub met_both : (goes_low goes_high : Atom) → Given c e s.other o.atom.agent s.chan s.what → IsOfSource n from o.named goes_high goes_low
+  pub met_both : (goes_low goes_high : Atom) → Given c e s.other o.atom.agent s.chan s.what → IsOfSource i n from o.named goes_high goes_low
       → Knows (agents c e) (is_channel n (with_made high.born e.made)) from goes_high.env
       → next ≡ effect low e (record still { atoms = put e.actor goes_low ∷ cut s.other ∷ [] })
-      → (w : View) × (w.stands_for ≡ v.stands_for) × Coupled n from first next
-      (effect high (event_of v e) (record still { atoms = put (v.stands_for e.actor) goes_high ∷ cut (v.stands_for s.other) ∷ [] })) w
+      → (w : View) × (w.standing ≡ v.standing) × Coupled i n from first next
+      (effect high (event_of v e) (record still { atoms = put (stands_for v.standing e.actor) goes_high ∷ cut (stands_for v.standing s.other) ∷ [] })) w
       × SameLetters v w
   met_both goes_low goes_high g goes knows is =
       let first = put_atom c e (stands c e) e.actor (Free.old {ts = Thing.source o.named o.atom ∷ []} o.there refl refl) goes_low
@@ -190,36 +192,36 @@ module _ {n from first : ℕ} {low high : Config} {v : View} (c : Coupled n from
       there = get-put v.things e.actor (Thing.source o.named goes_high ∷ []) s.other
           ∙ ap (λ b. cond b (Some (Thing.source o.named goes_high ∷ [])) (map.get v.things s.other)) (same_name-swap s.other e.actor ∙ apart) ∙ g.there
 
-module _ {n from first : ℕ} {low high : Config} {v : View} (c : Coupled n from first low high v) (e : Event) (next : Config) (is : e.kind ≡ kind.Comm)
+module _ {i : Infrastructure} {n from first : ℕ} {low high : Config} {v : View} (c : Coupled i n from first low high v) (e : Event) (next : Config) (is : e.kind ≡ kind.Comm)
     (h : apply low e ≡ Some next) (s : IsMeeting low e next) (o : Actor c e s.atom) (p : Proc) (form : layer o.atom.proc ≡ ProcForm-F.Inp s.on s.pattern p)
-    (translates : Translates n from o.named p s.body) (t : Taken c e o s.on s.pattern s.chan s.other s.what s.env s.its_chan s.offers s.binds p) where
+    (translates : Translates i n from o.named p s.body) (t : Taken c e o s.on s.pattern s.chan s.other s.what s.env s.its_chan s.offers s.binds p) where
   meets_both : IsSame c e next
   meets_both =
       let w = met_both c e next s o h (goes_under s.atom s.body s.env) (goes_under o.atom p t.bound.env) t.given
       (record { stands = goes_on_under s.body o.is.stands t.bound; translates = translates }) t.knows s.is in (
-        effect high (event_of v e) (record still { atoms = put (v.stands_for e.actor) (goes_under o.atom p t.bound.env) ∷ cut (v.stands_for s.other) ∷ [] }),
+        effect high (event_of v e) (record still { atoms = put (stands_for v.standing e.actor) (goes_under o.atom p t.bound.env) ∷ cut (stands_for v.standing s.other) ∷ [] }),
         ap (λ k. row k high (event_of v e)) is
-            ∙ comm_applies high (event_of v e) o.atom o.acts s.on s.pattern p s.chan (v.stands_for s.other) s.what t.bound.env t.on_high
-            (ap (option_map v.stands_for) s.its_other) t.given.offers t.binds_high s.made_none form,
+            ∙ comm_applies high (event_of v e) o.atom o.acts s.on s.pattern p s.chan (stands_for v.standing s.other) s.what t.bound.env t.on_high
+            (ap (option_map (stands_for v.standing)) s.its_other) t.given.offers t.binds_high s.made_none form,
         w.0,
         w.1,
         w.2,
         w.3,
       )
 
-pub communications-are-events : IsEvent kind.Comm
-communications-are-events n from first low high v c well e next is plain h =
+pub communications-are-events : {i : Infrastructure} → IsEvent i kind.Comm
+communications-are-events {i = i} n from first low high v c well lodged e next is plain h =
     let s = meeting low e next (ap (λ k. row k low e) (sym is) ∙ h) in
-    let o = actor c e s.atom kind.Comm s.acts plain (ap begun_by s.form) (λ e. cc) (λ e. cc) in
-    let f = subst (λ l. IsFormOf n from o.named l (layer o.atom.proc)) s.form o.form in
+    let o = actor c e lodged s.atom kind.Comm s.acts plain (ap begun_by s.form) (λ e. cc) (λ e. cc) in
+    let f = subst (λ l. IsFormOf i n from o.named l (layer o.atom.proc)) s.form o.form in
     let its = parts_of c e o (ProcForm-F.Inp s.on s.pattern f.0) f.1 in
     meets_both c e next is h s o f.0 f.1 f.2 (taken c e o s.on s.pattern s.chan s.other s.what s.env s.its_chan s.offers s.binds f.0 its.0 its.1)
 
 -- ---- a copy stands in the output's place
 
-module _ {n from first : ℕ} {low high : Config} {v : View} (c : Coupled n from first low high v) (e : Event) (next : Config) (is : e.kind ≡ kind.Rep)
+module _ {i : Infrastructure} {n from first : ℕ} {low high : Config} {v : View} (c : Coupled i n from first low high v) (e : Event) (next : Config) (is : e.kind ≡ kind.Rep)
     (h : apply low e ≡ Some next) (s : IsRepeating low e next) (o : Actor c e s.atom) (p : Proc) (form : layer o.atom.proc ≡ ProcForm-F.Rep s.on s.pattern p)
-    (translates : Translates n from o.named p s.body) (t : Taken c e o s.on s.pattern s.chan s.other s.value s.env s.its_chan s.offers s.binds p) where
+    (translates : Translates i n from o.named p s.body) (t : Taken c e o s.on s.pattern s.chan s.other s.value s.env s.its_chan s.offers s.binds p) where
   copies_both : IsSame c e next
   copies_both =
       let r = put_atom c e (stands c e) s.other (Free.old {ts = t.given.thing ∷ []} t.given.there (ap (λ l. l ++ []) t.given.silent.0) t.given.silent.1)
@@ -227,20 +229,20 @@ module _ {n from first : ℕ} {low high : Config} {v : View} (c : Coupled n from
       (record { stands = goes_on_under s.body o.is.stands t.bound; translates = translates }) refl refl (refl, refl) t.knows t.given.no_packet
       (ap (λ l. l >>= first_packet_of) t.given.there ∙ t.given.no_high_packet) in
       let w = leave c e r next low.said high.said h s.is c.said in (
-        effect high (event_of v e) (record still { atoms = put (v.stands_for s.other) (goes_under o.atom p t.bound.env) ∷ [] }),
+        effect high (event_of v e) (record still { atoms = put (stands_for v.standing s.other) (goes_under o.atom p t.bound.env) ∷ [] }),
         ap (λ k. row k high (event_of v e)) is
-            ∙ rep_applies high (event_of v e) o.atom o.acts s.on s.pattern p s.chan (v.stands_for s.other) s.value t.bound.env t.on_high
-            (ap (option_map v.stands_for) s.its_other) t.given.offers t.binds_high s.made_none form,
+            ∙ rep_applies high (event_of v e) o.atom o.acts s.on s.pattern p s.chan (stands_for v.standing s.other) s.value t.bound.env t.on_high
+            (ap (option_map (stands_for v.standing)) s.its_other) t.given.offers t.binds_high s.made_none form,
         w.0,
         w.1,
         w.2,
         w.3,
       )
 
-pub copies-are-events : IsEvent kind.Rep
-copies-are-events n from first low high v c well e next is plain h =
+pub copies-are-events : {i : Infrastructure} → IsEvent i kind.Rep
+copies-are-events {i = i} n from first low high v c well lodged e next is plain h =
     let s = repeating low e next (ap (λ k. row k low e) (sym is) ∙ h) in
-    let o = actor c e s.atom kind.Rep s.acts plain (ap begun_by s.form) (λ e. cc) (λ e. cc) in
-    let f = subst (λ l. IsFormOf n from o.named l (layer o.atom.proc)) s.form o.form in
+    let o = actor c e lodged s.atom kind.Rep s.acts plain (ap begun_by s.form) (λ e. cc) (λ e. cc) in
+    let f = subst (λ l. IsFormOf i n from o.named l (layer o.atom.proc)) s.form o.form in
     let its = parts_of c e o (ProcForm-F.Rep s.on s.pattern f.0) f.1 in
     copies_both c e next is h s o f.0 f.1 f.2 (taken c e o s.on s.pattern s.chan s.other s.value s.env s.its_chan s.offers s.binds f.0 its.0 its.1)

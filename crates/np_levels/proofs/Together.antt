@@ -15,8 +15,10 @@ use Rattle.np_calculus.specs.Changes.{with_made}
 use Rattle.np_calculus.specs.Config.{Config}
 use Rattle.np_calculus.specs.Reductions.{apply}
 use Rattle.np_calculus.specs.Starts.{daemon_agent}
+use Rattle.cache_lift.specs.Lift.{stands_for}
 use Rattle.np_protocol.specs.Phases.{Phase}
 use Rattle.np_protocol.specs.Protocol.{Protocol}
+use Rattle.daemon_encode.specs.Infrastructures.{Infrastructure}
 use Rattle.np_source_values.proofs.Known.{more_known}
 use Rattle.np_things.specs.Mail.{Posted}
 use Rattle.np_things.specs.Things.{Thing, carried, first_atom_of, first_packet_of}
@@ -78,13 +80,13 @@ more_channels n born x q h = let both = and-out (set.contains born q) _ h in and
 
 -- ---- what an event of both levels leaves
 
-module _ {n from first : ℕ} {low high : Config} {v : View} (c : Coupled n from first low high v) where
+module _ {i : Infrastructure} {n from first : ℕ} {low high : Config} {v : View} (c : Coupled i n from first low high v) where
   -- the mark had things, or is new
   abbrev pub IsOldOrNew : Name → Type 0
   IsOldOrNew m = ((us : List Thing) × (map.get v.things m ≡ Some us)) ⊎ (set.contains low.born m ≡ false)
 
   -- such marks that stand for one mark are one
-  pub one_mark : (m k : Name) → v.stands_for m ≡ v.stands_for k → IsOldOrNew m → IsOldOrNew k → m ≡ k
+  pub one_mark : (m k : Name) → stands_for v.standing m ≡ stands_for v.standing k → IsOldOrNew m → IsOldOrNew k → m ≡ k
   one_mark m k e (inl a) (inl b) = c.distinct m k a.0 b.0 a.1 b.1 e
   one_mark m k e (inl a) (inr g) = absurd (let bad : false ≡ true =
       sym g ∙ ap (set.contains low.born) (sym (c.new_marks k g) ∙ sym e) ∙ c.old_marks m (things_born c m a.0 a.1) in cc)
@@ -99,26 +101,29 @@ module _ {n from first : ℕ} {low high : Config} {v : View} (c : Coupled n from
     pub high_sites : after.sites ≡ high.sites
     pub daemon : map.get next.places (daemon_agent n) ≡ map.get low.places (daemon_agent n)
     pub no_daemon : map.get after.places (daemon_agent n) ≡ map.get high.places (daemon_agent n)
-    pub places : (q : Name) → same_name q (daemon_agent n) ≡ false → map.get next.places q ≡ map.get after.places q
+    pub places : (q : Name) → same_name q (daemon_agent n) ≡ false → set.contains v.standing.messengers q ≡ false → map.get next.places q ≡ map.get after.places q
+    pub messengers : (q : Name) → set.contains v.standing.messengers q ≡ true → map.get after.places q ≡ None
     pub said : next.said ≡ after.said
     pub born : next.born ≡ with_made low.born e.made
     pub high_born : after.born ≡ with_made high.born e.made
-    pub shaped : (m : Name) → IsShaped n from first next things m
-    pub mirrored : Mirrors v.stands_for (λ m. map.get things m >>= first_atom_of) (map.get after.atoms)
-    pub mirrored_packets : Mirrors v.stands_for (λ m. map.get things m >>= first_packet_of) (map.get after.packets)
+    pub shaped : (m : Name) → IsShaped i n from first next things m
+    pub mirrored : Mirrors (stands_for v.standing) (λ m. map.get things m >>= first_atom_of) (map.get after.atoms)
+    pub mirrored_packets : Mirrors (stands_for v.standing) (λ m. map.get things m >>= first_packet_of) (map.get after.packets)
     pub old_or_new : (m : Name) (ts : List Thing) → map.get things m ≡ Some ts → IsOldOrNew m
     pub protocol : Protocol (scene v after) phase (chips things)
     pub known : (m : Name) (ts : List Thing) → map.get things m ≡ Some ts
         → All (λ t. KnowsOnly (may_know v.lock (chips things) t) (is_channel n after.born) from t) ts
 
   pub together : (next after : Config) (e : Event) (things : NameMap (List Thing)) (phase : Name → Phase) → Both next after e things phase
-      → Coupled n from first next after (record v { things = things; phase = phase })
+      → Coupled i n from first next after (record v { things = things; phase = phase })
   together next after e things phase x = record {
     low_sites = x.sites ∙ c.low_sites;
     high_sites = x.high_sites ∙ c.high_sites;
     daemon = x.daemon ∙ c.daemon;
     no_daemon = x.no_daemon ∙ c.no_daemon;
     places = x.places;
+    messengers = x.messengers;
+    messengers_born = λ q is. stays q (c.messengers_born q is);
     said = x.said;
     born = λ q h. ap (λ b. set.contains b q) x.born ∙ made_in_both high.born low.born c.born e.made q (ap (λ b. set.contains b q) (sym x.high_born) ∙ h);
     own_born = λ q h. ap (λ b. set.contains b q) x.high_born ∙ made-kept high.born e.made q (c.own_born q h);
@@ -143,6 +148,6 @@ module _ {n from first : ℕ} {low high : Config} {v : View} (c : Coupled n from
       still_new m h = elim (true_or_false (set.contains low.born m)) [ inl t ↦ absurd (let bad = stays m t in cc) | inr f ↦ f ]
 
       old : (m : Name) → set.contains next.born m ≡ true → (set.contains low.born m ≡ true) ⊎ (set.contains low.born m ≡ false)
-          → set.contains next.born (v.stands_for m) ≡ true
-      old m h (inl t) = stays (v.stands_for m) (c.old_marks m t)
+          → set.contains next.born (stands_for v.standing m) ≡ true
+      old m h (inl t) = stays (stands_for v.standing m) (c.old_marks m t)
       old m h (inr f) = ap (set.contains next.born) (c.new_marks m f) ∙ h

@@ -1,6 +1,6 @@
 -- The invariant between the two levels: how a configuration of the low program of a source belongs to one of the source itself
--- (docs/LANGUAGE.md, "Translation and daemon"). Here n is the number of sites, the source's binders are below `from`, and the daemon's are numbered
--- from `first`.
+-- (docs/LANGUAGE.md, "Translation and daemon"). Here i is the infrastructure, n the number of sites, the source's binders are below `from`, and the
+-- daemon's are numbered from `first`.
 use Rattle.std.specs.Prelude.{◌≡◌, ℕ, Bool, true, false, not, ◌||◌, ◌&&◌, is_some, Option, None, Some, List, [], ◌∷◌}
 use Rattle.std.specs.List.{All, flat_map, list_any}
 use Rattle.std.specs.FinMap as map
@@ -15,21 +15,23 @@ use Rattle.np_calculus.specs.declared.config.Place.TheVariants as place
 use Rattle.np_calculus.specs.Config.{Config}
 use Rattle.np_calculus.specs.Parts.{AreBorn}
 use Rattle.np_calculus.specs.Starts.{daemon_agent, main_agent, own, own_names}
+use Rattle.cache_lift.specs.Lift.{Standing, stands_for}
 use Rattle.np_protocol.specs.Chips.{Chip}
 use Rattle.np_protocol.specs.Phases.{Phase}
 use Rattle.np_protocol.specs.Protocol.{Protocol}
 use Rattle.np_protocol.specs.Scenes.{Locks, Scene, Whereabouts}
+use Rattle.daemon_encode.specs.Infrastructures.{Infrastructure}
 use Rattle.np_source_values.specs.Known.{IsKnown, Knows}
 use Rattle.np_things.specs.Mail.{Posted}
 use Rattle.np_things.specs.Shapes.{Are, IsUnderWay}
 use Rattle.np_things.specs.Things.{Thing, carried, first_atom_of, first_packet_of, IsHeaded, show_all}
 use Rattle.np_levels.specs.Mirrors.{Mirrors}
 
--- What is told of the two configurations besides: the things under each mark of the low level, the mark of the high level for which each stands
--- (itself, as long as no infrastructure passes a mark on), the agents' locks, and the phases of their affairs.
+-- What is told of the two configurations besides: the things under each mark of the low level, the marks that stand for others of the high level
+-- and the messengers (none, as long as no infrastructure passes a mark on), the agents' locks, and the phases of their affairs.
 pub record View : Type 0 where
   pub things : NameMap (List Thing)
-  pub stands_for : Name → Name
+  pub standing : Standing
   pub lock : Locks
   pub phase : Name → Phase
 
@@ -84,21 +86,25 @@ KnowsOnly agents chans from t = KnowsLetter agents chans (carried t)
 
 -- A mark is that of nothing, of an atom or of a packet, and its things are what that is there for. Of the things of an atom the first alone may be
 -- an atom of the high level: so the atoms of the source keep their marks.
-pub data IsShaped (n from first : ℕ) (low : Config) (things : NameMap (List Thing)) (m : Name) : Type 0 where
-  nothing : map.get low.atoms m ≡ None → map.get low.packets m ≡ None → map.get things m ≡ None → IsShaped n from first low things m
-  atom : {a : Atom} {ts : List Thing} → map.get low.atoms m ≡ Some a → map.get low.packets m ≡ None → map.get things m ≡ Some ts → IsHeaded ts → Are n from first a ts
-      → IsShaped n from first low things m
+pub data IsShaped (i : Infrastructure) (n from first : ℕ) (low : Config) (things : NameMap (List Thing)) (m : Name) : Type 0 where
+  nothing : map.get low.atoms m ≡ None → map.get low.packets m ≡ None → map.get things m ≡ None → IsShaped i n from first low things m
+  atom : {a : Atom} {ts : List Thing} → map.get low.atoms m ≡ Some a → map.get low.packets m ≡ None → map.get things m ≡ Some ts → IsHeaded ts → Are i n from first a ts
+      → IsShaped i n from first low things m
   packet : {k : Packet} {t : Thing} → map.get low.atoms m ≡ None → map.get low.packets m ≡ Some k → map.get things m ≡ Some (t ∷ []) → IsUnderWay n t k
-      → IsShaped n from first low things m
+      → IsShaped i n from first low things m
 
-pub record Coupled (n from first : ℕ) (low high : Config) (v : View) : Type 0 where
+pub record Coupled (i : Infrastructure) (n from first : ℕ) (low high : Config) (v : View) : Type 0 where
   -- both are of one program; so the sites that expressions name are the same
   pub low_sites : low.sites ≡ n
   pub high_sites : high.sites ≡ n
-  -- agents are at the same places, so what is at a site for the one is so for the other; the daemon stands at site 0, so what is sent to it lands
+  -- agents are at the same places, but for messengers, so what is at a site for the one is so for the other; the daemon stands at site 0, so what is
+  -- sent to it lands
   pub daemon : map.get low.places (daemon_agent n) ≡ Some (place.At 0)
   pub no_daemon : map.get high.places (daemon_agent n) ≡ None
-  pub places : (q : Name) → same_name q (daemon_agent n) ≡ false → map.get low.places q ≡ map.get high.places q
+  pub places : (q : Name) → same_name q (daemon_agent n) ≡ false → set.contains v.standing.messengers q ≡ false → map.get low.places q ≡ map.get high.places q
+  -- a messenger is an agent of the low level alone, so no agent of the source is one; and an agent that is made is none yet
+  pub messengers : (q : Name) → set.contains v.standing.messengers q ≡ true → map.get high.places q ≡ None
+  pub messengers_born : (q : Name) → set.contains v.standing.messengers q ≡ true → set.contains low.born q ≡ true
   -- the same was printed
   pub said : low.said ≡ high.said
   -- a name that is new to the low level is new to the high one, and is no own name
@@ -107,15 +113,15 @@ pub record Coupled (n from first : ℕ) (low high : Config) (v : View) : Type 0 
   -- a name that is made is no mark and no agent yet: what is put under it puts nothing else away
   pub stand_born : AreBorn low
   -- each atom and each packet is there for something, and nothing else is: so the form of what acts tells what it is there for
-  pub shaped : (m : Name) → IsShaped n from first low v.things m
+  pub shaped : (m : Name) → IsShaped i n from first low v.things m
   -- the high level has the atoms and packets that the things are, and no others: so what acts at the low level for the source acts at the high one
-  pub mirrored : Mirrors v.stands_for (λ m. map.get v.things m >>= first_atom_of) (map.get high.atoms)
-  pub mirrored_packets : Mirrors v.stands_for (λ m. map.get v.things m >>= first_packet_of) (map.get high.packets)
+  pub mirrored : Mirrors (stands_for v.standing) (λ m. map.get v.things m >>= first_atom_of) (map.get high.atoms)
+  pub mirrored_packets : Mirrors (stands_for v.standing) (λ m. map.get v.things m >>= first_packet_of) (map.get high.packets)
   -- a name that is new stands for itself, and what stands for it is new
-  pub new_marks : (m : Name) → set.contains low.born m ≡ false → v.stands_for m ≡ m
-  pub old_marks : (m : Name) → set.contains low.born m ≡ true → set.contains low.born (v.stands_for m) ≡ true
+  pub new_marks : (m : Name) → set.contains low.born m ≡ false → stands_for v.standing m ≡ m
+  pub old_marks : (m : Name) → set.contains low.born m ≡ true → set.contains low.born (stands_for v.standing m) ≡ true
   -- marks that stand for one mark are one: so an event takes from the high level what it takes from the low one
-  pub distinct : (m k : Name) (ts us : List Thing) → map.get v.things m ≡ Some ts → map.get v.things k ≡ Some us → v.stands_for m ≡ v.stands_for k → m ≡ k
+  pub distinct : (m k : Name) (ts us : List Thing) → map.get v.things m ≡ Some ts → map.get v.things k ≡ Some us → stands_for v.standing m ≡ stands_for v.standing k → m ≡ k
   -- the chips that the things show keep the protocol: so an agent has one affair at a time, and letters and look-ups find their agents in the map
   pub protocol : Protocol (scene v high) v.phase (chips v.things)
   -- a lock is no name of the infrastructure but main's: so nothing else is taken for it; and a new name is no lock

@@ -1,3 +1,5 @@
+ghost use Rattle.std.specs.Prelude.{◌≡◌};
+ghost use Rattle.daemon_encode.specs.Infrastructures.{Infrastructure};
 ghost use Rattle.np_levels.specs.Laws.{ArrivalsAreEvents, IsEvent, IsQuiet, PostsAreEvents, RolesOfEvents, StartsCoupled};
 ghost use Rattle.np_syntax.specs.declared.event.Kind.{Kind};
 ghost use Rattle.np_syntax.specs.declared.event.Kind.TheVariants as kind;
@@ -10,47 +12,50 @@ pub fn law_coupled_starts()
 {}
 
 /// Each event of the infrastructure, and the landing of a post, is nothing at the high level: the two configurations stay
-/// coupled. The opening of a letter hands it over, and all others leave the letters that are under way.
+/// coupled. The opening of a letter hands it over, and all others leave the letters that are under way. Where an output is taken, this is
+/// said of the central infrastructure.
 pub fn law_quiet()
-    ensures infrastructure { (k : Kind) → IsQuiet k role.Infra }
-    ensures posts_land { IsQuiet kind.Land role.Post }
+    ensures others { (i : Infrastructure) (k : Kind) → (k ≡ kind.Comm → ⊥) → IsQuiet i k role.Infra }
+    ensures infrastructure { (k : Kind) → IsQuiet Infrastructure.central k role.Infra }
+    ensures posts_land { (i : Infrastructure) → IsQuiet i kind.Land role.Post }
 {}
 
 /// A Send of a post is an event of the high level, and the two configurations stay coupled. Its letter is under way then.
 pub fn law_posts_are_events()
-    ensures { PostsAreEvents }
+    ensures { (i : Infrastructure) → PostsAreEvents i }
 {}
 
 /// An event that one process of the source makes alone is the same event of the high level: it is done, makes a channel, binds a value, tests, says a
 /// value, or finds an agent at its site or not.
 pub fn law_steps_are_events()
-    ensures stops { IsEvent kind.Stop }
-    ensures news { IsEvent kind.New }
-    ensures lets { IsEvent kind.Let }
-    ensures ifs { IsEvent kind.If }
-    ensures prints { IsEvent kind.Print }
-    ensures locals { IsEvent kind.Local }
+    ensures stops { (i : Infrastructure) → IsEvent i kind.Stop }
+    ensures news { (i : Infrastructure) → IsEvent i kind.New }
+    ensures lets { (i : Infrastructure) → IsEvent i kind.Let }
+    ensures ifs { (i : Infrastructure) → IsEvent i kind.If }
+    ensures prints { (i : Infrastructure) → IsEvent i kind.Print }
+    ensures locals { (i : Infrastructure) → IsEvent i kind.Local }
 {}
 
 /// Where the source forks, sends, takes an output, or takes one by a copy of a replicated input, and where what it sent lands, the high level does
 /// the same, and the two configurations stay coupled.
 pub fn law_meetings_are_events()
-    ensures forks { IsEvent kind.Fork }
-    ensures sends { IsEvent kind.Send }
-    ensures lands { IsEvent kind.Land }
-    ensures communications { IsEvent kind.Comm }
-    ensures copies { IsEvent kind.Rep }
+    ensures forks { (i : Infrastructure) → IsEvent i kind.Fork }
+    ensures sends { (i : Infrastructure) → IsEvent i kind.Send }
+    ensures lands { (i : Infrastructure) → IsEvent i kind.Land }
+    ensures communications { (i : Infrastructure) → IsEvent i kind.Comm }
+    ensures copies { (i : Infrastructure) → IsEvent i kind.Rep }
 {}
 
-/// Where an agent is made, departs or arrives for the source, the same is an event of the high level, and the two configurations stay coupled.
+/// Where an agent departs or arrives for the source, and is no messenger, the same is an event of the high level, and the two configurations stay
+/// coupled; and so where one is made, by the central infrastructure.
 pub fn law_moves_are_events()
-    ensures creations { IsEvent kind.Agent }
-    ensures departures { IsEvent kind.Depart }
-    ensures arrivals { ArrivalsAreEvents }
+    ensures creations { IsEvent Infrastructure.central kind.Agent }
+    ensures departures { (i : Infrastructure) → IsEvent i kind.Depart }
+    ensures arrivals { (i : Infrastructure) → ArrivalsAreEvents i }
 {}
 
 /// Each event of the low level is of the infrastructure, of a post, or of the source's own, and of a kind that such events
 /// have.
 pub fn law_roles()
-    ensures { RolesOfEvents }
+    ensures { (i : Infrastructure) → RolesOfEvents i }
 {}

@@ -19,6 +19,7 @@ use Rattle.np_calculus.specs.Reductions.{apply, output_in, run}
 use Rattle.np_calculus.specs.Starts.{start_high, start_low}
 use Rattle.np_lift.specs.Posts.{Deed, Letter, and_on, deed_by, deeds, deeds_to, letter_at, prepended}
 use Rattle.np_check.specs.Faults.{IsAccepted}
+use Rattle.daemon_encode.specs.Infrastructures.{Infrastructure}
 use Rattle.daemon_encode.specs.Translates.{IsLowOf}
 use Rattle.np_things.specs.Mail.{as_output}
 use Rattle.np_things.specs.Things.{Thing, carried, high_atom}
@@ -30,6 +31,7 @@ use Rattle.np_rest.proofs.Highs.{rests-together}
 use Rattle.np_simulation.specs.Laws.{IsLifted}
 use Rattle.np_simulation.proofs.Lodged.{runs-are-lodged}
 use Rattle.np_simulation.proofs.Runs.{from-starts}
+use Rattle.np_simulation.proofs.Steps.{itself}
 use Rattle.np_posts.specs.Laws.{LettersInPlace, LettersStandAbove, PostsArePaired, RestsAbove, RestsAllHanded}
 use Rattle.np_posts.specs.UnderWay.{letters_of, listed}
 use Rattle.np_posts.proofs.Carrying.{carries-first, headed-letters}
@@ -101,7 +103,7 @@ one-more low next v u w e es applies may letters turns m =
     subst (λ xs. Turns (letter v m) (deeds_to m xs) (letter w m)) (sym (ap (λ o. and_on low e o (λ d. deeds d es)) applies))
     (turn low next e v u m (deeds next es) (letter w m) (turns m) e.kind e.tag.role letters)
 
-module _ (p : Program) (q : LowProgram) (low : IsLowOf p q) (accepted : IsAccepted p) (events : List Event) (c : Config)
+module _ (p : Program) (q : LowProgram) (low : IsLowOf Infrastructure.central p q) (accepted : IsAccepted p) (events : List Event) (c : Config)
     (h : run (start_low q) events ≡ Some c) where
   lifted : (l : IsLifted (length p.sites) p.binders low.first (start_high p) events c) × (v : View) × NoLetters v × TakeTurns (start_low q) v events l.view
   lifted = from-starts TakeTurns (record { none = λ c v m. Turns.stays; more = one-more }) p q low accepted events c h
@@ -114,7 +116,7 @@ posts-are-paired p q low accepted events c h mark =
     turns-alternate (deeds_to mark (deeds (start_low q) events)) _ (turns p q low accepted events c h mark)
 
 -- the things of a mark carry the letter that is under way there, and no other
-in-place : {n from first : ℕ} {low : Config} (v : View) (m : Name) → IsShaped n from first low v.things m
+in-place : {i : Infrastructure} {n from first : ℕ} {low : Config} (v : View) (m : Name) → IsShaped i n from first low v.things m
     → letters_of (map.get v.things m) ≡ listed (letter v m)
 in-place v m (IsShaped.nothing a k none) = ap letters_of none ∙ sym (ap (λ o. listed (option_map as_letter (o >>= first_letter_of))) none)
 in-place v m (IsShaped.atom {ts = ts} a k there headed are) =
@@ -138,7 +140,7 @@ letters-stand-above p q low accepted events c h high runs mark l left =
     sym (turns-left None (deeds_to mark (deeds (start_low q) events)) _ (turns p q low accepted events c h mark)) ∙ left in
     let first = carries-first (map.get v.view.things mark) l its in
     let there : map.get v.high.atoms mark ≡ Some (as_output first.letter) =
-    ap (map.get v.high.atoms) (sym (v.stand mark)) ∙ v.coupled.mirrored.up mark (as_output first.letter) first.stands in (
+    ap (map.get v.high.atoms) (sym (itself v.view v.stand mark)) ∙ v.coupled.mirrored.up mark (as_output first.letter) first.stands in (
       first.letter.tag,
       ap (λ (d : Config). map.get d.atoms mark) (done (sym v.runs ∙ runs)) ∙ there
           ∙ ap (λ (k : Letter). Some (output_in k.agent k.chan k.value first.letter.tag)) first.is,

@@ -13,6 +13,7 @@ use Rattle.np_calculus.specs.Starts.{start_high, start_low}
 use Rattle.np_lift.specs.Lift.{lift}
 use Rattle.np_lift.specs.Posts.{IsAllHanded, IsPaired, Letter, deeds, deeds_to}
 use Rattle.np_check.specs.Faults.{IsAccepted}
+use Rattle.daemon_encode.specs.Infrastructures.{Infrastructure}
 use Rattle.daemon_encode.specs.Translates.{IsLowOf}
 use Rattle.np_rest.specs.Laws.{HasRest}
 use Rattle.np_simulation.specs.Laws.{IsLifted}
@@ -20,29 +21,29 @@ use Rattle.np_posts.specs.UnderWay.{left_by, letters_of, under_way}
 
 -- each post of a run is handed over once at most, before the next one of its mark
 abbrev pub PostsArePaired : Type 0
-PostsArePaired = (p : Program) (q : LowProgram) (low : IsLowOf p q) → IsAccepted p → (events : List Event) (c : Config) → run (start_low q) events ≡ Some c
+PostsArePaired = (p : Program) (q : LowProgram) (low : IsLowOf Infrastructure.central p q) → IsAccepted p → (events : List Event) (c : Config) → run (start_low q) events ≡ Some c
     → IsPaired (start_low q) events
 
 -- The things of the mark of a post that was not opened yet carry its letter, one of them and once; and no things carry any other. The things are those
 -- by which the run's end belongs to that of the lifted run.
 abbrev pub LettersInPlace : Type 0
-LettersInPlace = (p : Program) (q : LowProgram) (low : IsLowOf p q) → IsAccepted p → (events : List Event) (c : Config) → run (start_low q) events ≡ Some c
+LettersInPlace = (p : Program) (q : LowProgram) (low : IsLowOf Infrastructure.central p q) → IsAccepted p → (events : List Event) (c : Config) → run (start_low q) events ≡ Some c
     → (l : IsLifted (length p.sites) p.binders low.first (start_high p) events c)
     × ((mark : Name) → letters_of (map.get l.view.things mark) ≡ under_way (deeds_to mark (deeds (start_low q) events)))
 
 -- where the lifted run leads to, the output of each such letter stands in its agent already, under the mark of its post
 abbrev pub LettersStandAbove : Type 0
-LettersStandAbove = (p : Program) (q : LowProgram) (low : IsLowOf p q) → IsAccepted p → (events : List Event) (c : Config) → run (start_low q) events ≡ Some c
+LettersStandAbove = (p : Program) (q : LowProgram) (low : IsLowOf Infrastructure.central p q) → IsAccepted p → (events : List Event) (c : Config) → run (start_low q) events ≡ Some c
     → (high : Config) → run (start_high p) (lift events) ≡ Some high → (mark : Name) (letter : Letter)
     → left_by None (deeds_to mark (deeds (start_low q) events)) ≡ Some letter
     → (tag : Tag) × (map.get high.atoms mark ≡ Some (output_in letter.agent letter.chan letter.value tag))
 
 -- where the run has come to rest each of its posts was handed over, once
 abbrev pub RestsAllHanded : Type 0
-RestsAllHanded = (p : Program) (q : LowProgram) (low : IsLowOf p q) → IsAccepted p → (events : List Event) (c : Config) → run (start_low q) events ≡ Some c
+RestsAllHanded = (p : Program) (q : LowProgram) (low : IsLowOf Infrastructure.central p q) → IsAccepted p → (events : List Event) (c : Config) → run (start_low q) events ≡ Some c
     → Idle c → IsAllHanded (start_low q) events
 
 -- and the lifted run has come to rest at the high level, where nothing is left of the infrastructure
 abbrev pub RestsAbove : Type 0
-RestsAbove = (p : Program) (q : LowProgram) (low : IsLowOf p q) → IsAccepted p → (events : List Event) (c : Config) → run (start_low q) events ≡ Some c
+RestsAbove = (p : Program) (q : LowProgram) (low : IsLowOf Infrastructure.central p q) → IsAccepted p → (events : List Event) (c : Config) → run (start_low q) events ≡ Some c
     → Idle c → (l : IsLifted (length p.sites) p.binders low.first (start_high p) events c) × Idle l.high × HasRest l.view

@@ -1,5 +1,5 @@
 -- Where no site can act at the low level, none can at the high level.
-use Rattle.std.proofs.Common.{◌≡◌, ◌+◌, inl, inr, ℕ, Bool, true, false, Option, None, Some, List, [], ◌∷◌, refl, sym, ap, subst, ◌∙◌}
+use Rattle.std.proofs.Common.{◌≡◌, ◌+◌, inl, inr, ℕ, true, false, Option, None, Some, IsSome, List, [], ◌∷◌, refl, sym, ap, subst, ◌∙◌}
 use Rattle.std.specs.List.{All}
 use Rattle.std.proofs.lemmas.List.Elements.{All-from_recursion, recursion_from_All}
 use Rattle.std.specs.FinMap as map
@@ -12,8 +12,6 @@ use Rattle.np_syntax.specs.declared.process.ProcForm.{ProcForm-F}
 use Rattle.np_syntax.specs.declared.process.ProcForm.TheVariants as forms
 use Rattle.np_syntax.specs.Options.{◌>>=◌}
 use Rattle.np_syntax.proofs.Options.{done}
-use Rattle.np_tables.specs.Names.{same_name}
-use Rattle.np_tables.proofs.Tables.{same_name-is}
 use Rattle.np_calculus.specs.declared.config.Atom.{Atom}
 use Rattle.np_calculus.specs.declared.config.Packet.{Packet}
 use Rattle.np_calculus.specs.declared.config.Place.TheVariants as place
@@ -22,7 +20,7 @@ use Rattle.np_calculus.specs.Idle.{Can, HasMeeting, HasWork, Idle, waits}
 use Rattle.np_calculus.specs.Parts.{IsLodged}
 use Rattle.np_calculus.specs.Reductions.{output_in}
 use Rattle.np_calculus.specs.Sight.{inside}
-use Rattle.np_calculus.specs.Starts.{daemon_agent, own}
+use Rattle.np_calculus.specs.Starts.{own}
 use Rattle.np_eval.specs.Eval.{as_chan, chan_of}
 use Rattle.np_eval.specs.Forms.{given_on, layer, taken_on}
 use Rattle.np_protocol.specs.Chips.{Chip}
@@ -32,11 +30,13 @@ use Rattle.np_protocol.specs.Scenes.{is_there}
 use Rattle.np_scope.specs.Sound.{IsSoundExpr}
 use Rattle.np_scope.proofs.SoundParts.{ProcParts, proc-parts}
 use Rattle.daemon_encode.specs.Pieces.{currentloc}
+use Rattle.daemon_encode.specs.Infrastructures.{Infrastructure}
 use Rattle.np_source_values.proofs.Values.{same-value}
 use Rattle.np_things.specs.Mail.{Mail, Posted, as_output}
 use Rattle.np_things.specs.Shapes.{Is, IsOfSource}
 use Rattle.np_things.specs.Things.{Thing, carried, first_atom_of, first_packet_of, high_atom, high_packet}
 use Rattle.np_levels.specs.Coupled.{Coupled, View, scene, whereabouts}
+use Rattle.np_levels.proofs.Places.{same_place}
 use Rattle.np_levels.proofs.Values.{channel-is}
 use Rattle.np_rest.specs.Laws.{HasRest, RestsTogether}
 use Rattle.np_rest.proofs.Begins.{Goes, goes}
@@ -51,21 +51,21 @@ found None f b h = absurd cc
 found (Some a) f b h = (a, refl, h)
 
 -- how an atom of the high level stands at the low one: as its translation, or as the output of a letter that was opened
-data Stands (n from : ℕ) (h a : Atom) : Type 0 where
-  source : (x : Expr) → IsOfSource n from x h a → Stands n from h a
-  opened : (p : Posted) (tag : Tag) → h ≡ as_output p → a ≡ output_in p.agent p.chan p.value tag → Stands n from h a
+data Stands (i : Infrastructure) (n from : ℕ) (h a : Atom) : Type 0 where
+  source : (x : Expr) → IsOfSource i n from x h a → Stands i n from h a
+  opened : (p : Posted) (tag : Tag) → h ≡ as_output p → a ≡ output_in p.agent p.chan p.value tag → Stands i n from h a
 
-module _ {n from first : ℕ} {low high : Config} {v : View} (c : Coupled n from first low high v) (lodged : IsLodged (inside low)) (idle : Idle low) where
+module _ {i : Infrastructure} {n from first : ℕ} {low high : Config} {v : View} (c : Coupled i n from first low high v) (lodged : IsLodged (inside low)) (idle : Idle low) where
   -- ---- letters
 
   -- no letter waits for its agent's lock
   no_letter : {A : Type 0} (m : Name) (p : Posted) (l : Name) (a : Atom) → map.get v.things m ≡ Some (Thing.wanting (Mail.message p) l ∷ []) → map.get low.atoms m ≡ Some a
-      → Is n from first (Thing.wanting (Mail.message p) l) a → A
+      → Is i n from first (Thing.wanting (Mail.message p) l) a → A
   no_letter m p l a under there i =
       let tells = recursion_from_All (IsTrueOf (scene v high) v.phase) (Chip.wants p.agent l ∷ Chip.knows p.agent ∷ []) (told c lodged idle m (Thing.wanting (Mail.message p) l ∷ []) under) in
       no_wanting c lodged idle p.agent l tells.0 m a there i.agent (takes_bound a (first + 15) 0 _ _ l i.waits.0 i.waits.2)
 
-  none_carried : (m : Name) (t : Thing) (a : Atom) → map.get v.things m ≡ Some (t ∷ []) → map.get low.atoms m ≡ Some a → Is n from first t a → MayRest t → carried t ≡ None
+  none_carried : (m : Name) (t : Thing) (a : Atom) → map.get v.things m ≡ Some (t ∷ []) → map.get low.atoms m ≡ Some a → Is i n from first t a → MayRest t → carried t ≡ None
   none_carried m t a under there i (MayRest.passes {p = p} {l = l}) = no_letter m p l a under there i
   none_carried m t a under there i _ = refl
 
@@ -78,21 +78,21 @@ module _ {n from first : ℕ} {low high : Config} {v : View} (c : Coupled n from
 
   -- ---- atoms of the high level
 
-  by_thing : (m : Name) (t : Thing) (a h : Atom) → map.get v.things m ≡ Some (t ∷ []) → map.get low.atoms m ≡ Some a → Is n from first t a → MayRest t → high_atom t ≡ Some h → Stands n from h a
-  by_thing m t a h under there i (MayRest.source {a = x} {h = k}) e = Stands.source x (subst (λ y. IsOfSource n from x y a) (done (sym e)) i)
-  by_thing m t a h under there i (MayRest.asking {a = x} {h = k}) e = no_asking c lodged idle m x k under
-  by_thing m t a h under there i (MayRest.settling {a = x} {h = k} {s = s}) e = no_settling c lodged idle m x k s under
-  by_thing m t a h under there i (MayRest.beginning {a = x} {h = k} {p = p} {s = s}) e = no_beginning c lodged idle m x k p s under
-  by_thing m t a h under there i (MayRest.opened {p = p}) e = Stands.opened p i.tag (done e) i.is
-  by_thing m t a h under there i (MayRest.passes {p = p} {l = l}) e = no_letter m p l a under there i
-  by_thing m t a h under there i _ e = absurd cc
+  by_thing : (m : Name) (t : Thing) (a h : Atom) → map.get v.things m ≡ Some (t ∷ []) → map.get low.atoms m ≡ Some a → Is i n from first t a → MayRest t → high_atom t ≡ Some h → Stands i n from h a
+  by_thing m t a h under there is (MayRest.source {a = x} {h = k}) e = Stands.source x (subst (λ y. IsOfSource i n from x y a) (done (sym e)) is)
+  by_thing m t a h under there is (MayRest.asking {a = x} {h = k}) e = no_asking c lodged idle m x k under
+  by_thing m t a h under there is (MayRest.settling {a = x} {h = k} {s = s}) e = no_settling c lodged idle m x k s under
+  by_thing m t a h under there is (MayRest.beginning {a = x} {h = k} {p = p} {s = s}) e = no_beginning c lodged idle m x k p s under
+  by_thing m t a h under there is (MayRest.opened {p = p}) e = Stands.opened p is.tag (done e) is.is
+  by_thing m t a h under there is (MayRest.passes {p = p} {l = l}) e = no_letter m p l a under there is
+  by_thing m t a h under there is _ e = absurd cc
 
   -- the atom of the low level for one of the high level
   record Below (h : Atom) : Type 0 where
     mark : Name
     atom : Atom
     there : map.get low.atoms mark ≡ Some atom
-    stands : Stands n from h atom
+    stands : Stands i n from h atom
 
   below : (k : Name) (h : Atom) → map.get high.atoms k ≡ Some h → Below h
   below k h there =
@@ -107,52 +107,13 @@ module _ {n from first : ℕ} {low high : Config} {v : View} (c : Coupled n from
         stands = by_thing d.0 o.thing o.atom h under o.there o.is (may_rest c lodged idle d.0 o.atom o.there o.thing under o.is) (ap first_atom_of (sym o.alone) ∙ f.2);
       }
 
-  its_agent : (h a : Atom) → Stands n from h a → a.agent ≡ h.agent
+  its_agent : (h a : Atom) → Stands i n from h a → a.agent ≡ h.agent
   its_agent h a (Stands.source x i) = i.stands.agent
   its_agent h a (Stands.opened p tag hi is) = ap (λ (b : Atom). b.agent) is ∙ sym (ap (λ (b : Atom). b.agent) hi)
 
   -- an expression of a source names the same channel at both levels
-  same_chan : (x : Expr) (h a : Atom) (i : IsOfSource n from x h a) (y : Expr) → IsSoundExpr n i.stands.source.scope y → chan_of y a.env ≡ chan_of y h.env
+  same_chan : (x : Expr) (h a : Atom) (i : IsOfSource i n from x h a) (y : Expr) → IsSoundExpr n i.stands.source.scope y → chan_of y a.env ≡ chan_of y h.env
   same_chan x h a i y sound = ap (λ o. o >>= λ u. as_chan (out-Value u)) (same-value n from i.stands.source.scope y a.env h.env sound i.stands.source.in_scope i.stands.agrees)
-
-  -- what gives at the high level gives at the low one
-  gives_below : (m : Name) (h a : Atom) (chan : Name) → map.get low.atoms m ≡ Some a → Stands n from h a → Giving h chan → Giving a chan
-  gives_below m h a chan there (Stands.opened p tag hi is) g =
-      let given : Giving (as_output p) chan = subst (λ b. Giving b chan) hi g in
-      subst (λ b. Giving b chan) (sym is) (record { from = given.from; form = given.form; on = given.on })
-  gives_below m h a chan there (Stands.source x i) g = go (goes n from x h.proc a.proc i.translates)
-    where
-      go : Goes n (layer h.proc) (layer a.proc) → Giving a chan
-      go (Goes.gives {c = y} {e = e} hi lo) =
-          let src = i.stands.source in
-          let parts = subst (ProcParts n src.scope src.node src.after src.bound) hi (proc-parts n src.sound) in
-          let same : g.from ≡ y = done (sym (ap given_on hi) ∙ g.form) in
-          record { from = y; form = ap given_on lo; on = same_chan x h a i y parts.1 ∙ ap (λ z. chan_of z h.env) (sym same) ∙ g.on }
-      go (Goes.takes hi lo) = absurd (let bad : Some g.from ≡ None = sym g.form ∙ ap given_on hi in cc)
-      go (Goes.serves hi lo) = absurd (let bad : Some g.from ≡ None = sym g.form ∙ ap given_on hi in cc)
-      go (Goes.asks none other lo) = absurd (let bad : Some g.from ≡ None = sym g.form ∙ none in cc)
-      go (Goes.acts free) = no_work c lodged idle m a there free
-
-  -- what takes at the high level takes at the low one
-  takes_below : (m : Name) (h a : Atom) (chan : Name) → map.get low.atoms m ≡ Some a → Stands n from h a → Taking h chan → Taking a chan
-  takes_below m h a chan there (Stands.opened p tag hi is) g =
-      absurd (let bad : Some g.to ≡ None = sym g.form ∙ ap (λ (b : Atom). taken_on (layer b.proc)) hi ∙ ap taken_on (forms.outs-Out _ _) in cc)
-  takes_below m h a chan there (Stands.source x i) g = go (goes n from x h.proc a.proc i.translates)
-    where
-      go : Goes n (layer h.proc) (layer a.proc) → Taking a chan
-      go (Goes.gives hi lo) = absurd (let bad : Some g.to ≡ None = sym g.form ∙ ap taken_on hi in cc)
-      go (Goes.takes {c = y} {x = w} hi lo) =
-          let src = i.stands.source in
-          let parts = subst (ProcParts n src.scope src.node src.after src.bound) hi (proc-parts n src.sound) in
-          let same : g.to ≡ (y, w) = done (sym (ap taken_on hi) ∙ g.form) in
-          record { to = (y, w); form = ap taken_on lo; on = same_chan x h a i y parts.0 ∙ ap (λ (z : Expr × Pat). chan_of z.0 h.env) (sym same) ∙ g.on }
-      go (Goes.serves {c = y} {x = w} hi lo) =
-          let src = i.stands.source in
-          let parts = subst (ProcParts n src.scope src.node src.after src.bound) hi (proc-parts n src.sound) in
-          let same : g.to ≡ (y, w) = done (sym (ap taken_on hi) ∙ g.form) in
-          record { to = (y, w); form = ap taken_on lo; on = same_chan x h a i y parts.0 ∙ ap (λ (z : Expr × Pat). chan_of z.0 h.env) (sym same) ∙ g.on }
-      go (Goes.asks none other lo) = absurd (let bad : Some g.to ≡ None = sym g.form ∙ other in cc)
-      go (Goes.acts free) = no_work c lodged idle m a there free
 
   -- ---- what can act
 
@@ -162,32 +123,6 @@ module _ {n from first : ℕ} {low high : Config} {v : View} (c : Coupled n from
     | inl i ↦ (let t = token c lodged idle a.agent i in no_meeting c lodged idle t.0 m t.1 a (own n 9) t.3 there t.4.0.agent (gives_there t.4.0) (record { to = (currentloc n, w); form = ap taken_on form; on = channel-is (own n 9) a.env }))
     | inr i ↦ absurd (let bad : true ≡ false = sym (ap (λ o. is_there (whereabouts o)) placed) ∙ c.protocol.placed a.agent ∙ ap is_present i in cc)
   ]
-
-  no_work_above : (s : ℕ) (agent : Name) → map.get high.places agent ≡ Some (place.At s) → HasWork high agent → ⊥
-  no_work_above s agent placed h = go (below h.mark h.atom h.there)
-    where
-      by_source : (m : Name) (x : Expr) (a : Atom) → map.get low.atoms m ≡ Some a → IsOfSource n from x h.atom a → Goes n (layer h.atom.proc) (layer a.proc) → ⊥
-      by_source m x a there i (Goes.gives hi lo) = let bad : true ≡ false = sym (ap waits hi) ∙ h.acts in cc
-      by_source m x a there i (Goes.takes hi lo) = let bad : true ≡ false = sym (ap waits hi) ∙ h.acts in cc
-      by_source m x a there i (Goes.serves hi lo) = let bad : true ≡ false = sym (ap waits hi) ∙ h.acts in cc
-      by_source m x a there i (Goes.asks none other lo) = no_move m a s _ _ there (ap (map.get high.places) (i.stands.agent ∙ h.of) ∙ placed) lo
-      by_source m x a there i (Goes.acts free) = no_work c lodged idle m a there free
-
-      by_stand : (m : Name) (a : Atom) → map.get low.atoms m ≡ Some a → Stands n from h.atom a → ⊥
-      by_stand m a there (Stands.source x i) = by_source m x a there i (goes n from x h.atom.proc a.proc i.translates)
-      by_stand m a there (Stands.opened p tag hi is) = let bad : true ≡ false = sym (ap (λ (b : Atom). waits (layer b.proc)) hi ∙ ap waits (forms.outs-Out _ _)) ∙ h.acts in cc
-
-      go : Below h.atom → ⊥
-      go b = by_stand b.mark b.atom b.there b.stands
-
-  no_meeting_above : (agent : Name) → HasMeeting high agent → ⊥
-  no_meeting_above agent h =
-      let o = below h.output h.giver h.gives in
-      let i = below h.input h.taker h.takes in
-      let given : Giving h.giver h.chan = record { from = h.from; form = h.output_form; on = h.given } in
-      let taken : Taking h.taker h.chan = record { to = h.to; form = h.input_form; on = h.taken } in
-      no_meeting c lodged idle o.mark i.mark o.atom i.atom h.chan o.there i.there (its_agent h.giver o.atom o.stands ∙ h.giver_of ∙ sym (its_agent h.taker i.atom i.stands ∙ h.taker_of))
-      (gives_below o.mark h.giver o.atom h.chan o.there o.stands given) (takes_below i.mark h.taker i.atom h.chan i.there i.stands taken)
 
   no_packets : (t : Thing) (k : Packet) → MayRest t → high_packet t ≡ Some k → ⊥
   no_packets t k MayRest.source h = cc
@@ -201,19 +136,82 @@ module _ {n from first : ℕ} {low high : Config} {v : View} (c : Coupled n from
       no_packets o.thing p (may_rest c lodged idle d.0 o.atom o.there o.thing (f.1 ∙ ap Some o.alone) o.is) (ap first_packet_of (sym o.alone) ∙ f.2)
 
   no_arrival_above : (a : Name) (s : ℕ) → map.get high.places a ≡ Some (place.Way s) → ⊥
-  no_arrival_above a s comes = go (same_name a (daemon_agent n)) refl
-    where
-      go : (t : Bool) → same_name a (daemon_agent n) ≡ t → ⊥
-      go false e = no_arrival c lodged idle a s (c.places a e ∙ comes)
-      go true e = let bad : None ≡ Some (place.Way s) = sym (ap (map.get high.places) (same_name-is a (daemon_agent n) e) ∙ c.no_daemon) ∙ comes in cc
-
-  none_can : (s : ℕ) → Can high s → ⊥
-  none_can s (inl h) = no_packet_above h.mark h.packet h.flies
-  none_can s (inr (inl h)) = no_arrival_above h.agent s h.comes
-  none_can s (inr (inr h)) = elim h.works [ inl w ↦ no_work_above s h.agent h.stands w | inr m ↦ no_meeting_above h.agent m ]
+  no_arrival_above a s comes = no_arrival c lodged idle a s (same_place c a (subst IsSome (sym comes) refl) ∙ comes)
 
   has_rest : HasRest v
   has_rest = record { agents = rests c lodged idle; lock = (let p = map_there c lodged idle in (p.mark, p.held, p.under)); letters = no_letters }
+
+-- by the central infrastructure each process of the source goes on as its translation does
+module _ {n from first : ℕ} {low high : Config} {v : View} (c : Coupled Infrastructure.central n from first low high v) (lodged : IsLodged (inside low)) (idle : Idle low) where
+  -- what gives at the high level gives at the low one
+  gives_below : (m : Name) (h a : Atom) (chan : Name) → map.get low.atoms m ≡ Some a → Stands Infrastructure.central n from h a → Giving h chan → Giving a chan
+  gives_below m h a chan there (Stands.opened p tag hi is) g =
+      let given : Giving (as_output p) chan = subst (λ b. Giving b chan) hi g in
+      subst (λ b. Giving b chan) (sym is) (record { from = given.from; form = given.form; on = given.on })
+  gives_below m h a chan there (Stands.source x i) g = go (goes n from x h.proc a.proc i.translates)
+    where
+      go : Goes n (layer h.proc) (layer a.proc) → Giving a chan
+      go (Goes.gives {c = y} {e = e} hi lo) =
+          let src = i.stands.source in
+          let parts = subst (ProcParts n src.scope src.node src.after src.bound) hi (proc-parts n src.sound) in
+          let same : g.from ≡ y = done (sym (ap given_on hi) ∙ g.form) in
+          record { from = y; form = ap given_on lo; on = same_chan c lodged idle x h a i y parts.1 ∙ ap (λ z. chan_of z h.env) (sym same) ∙ g.on }
+      go (Goes.takes hi lo) = absurd (let bad : Some g.from ≡ None = sym g.form ∙ ap given_on hi in cc)
+      go (Goes.serves hi lo) = absurd (let bad : Some g.from ≡ None = sym g.form ∙ ap given_on hi in cc)
+      go (Goes.asks none other lo) = absurd (let bad : Some g.from ≡ None = sym g.form ∙ none in cc)
+      go (Goes.acts free) = no_work c lodged idle m a there free
+
+  -- what takes at the high level takes at the low one
+  takes_below : (m : Name) (h a : Atom) (chan : Name) → map.get low.atoms m ≡ Some a → Stands Infrastructure.central n from h a → Taking h chan → Taking a chan
+  takes_below m h a chan there (Stands.opened p tag hi is) g =
+      absurd (let bad : Some g.to ≡ None = sym g.form ∙ ap (λ (b : Atom). taken_on (layer b.proc)) hi ∙ ap taken_on (forms.outs-Out _ _) in cc)
+  takes_below m h a chan there (Stands.source x i) g = go (goes n from x h.proc a.proc i.translates)
+    where
+      go : Goes n (layer h.proc) (layer a.proc) → Taking a chan
+      go (Goes.gives hi lo) = absurd (let bad : Some g.to ≡ None = sym g.form ∙ ap taken_on hi in cc)
+      go (Goes.takes {c = y} {x = w} hi lo) =
+          let src = i.stands.source in
+          let parts = subst (ProcParts n src.scope src.node src.after src.bound) hi (proc-parts n src.sound) in
+          let same : g.to ≡ (y, w) = done (sym (ap taken_on hi) ∙ g.form) in
+          record { to = (y, w); form = ap taken_on lo; on = same_chan c lodged idle x h a i y parts.0 ∙ ap (λ (z : Expr × Pat). chan_of z.0 h.env) (sym same) ∙ g.on }
+      go (Goes.serves {c = y} {x = w} hi lo) =
+          let src = i.stands.source in
+          let parts = subst (ProcParts n src.scope src.node src.after src.bound) hi (proc-parts n src.sound) in
+          let same : g.to ≡ (y, w) = done (sym (ap taken_on hi) ∙ g.form) in
+          record { to = (y, w); form = ap taken_on lo; on = same_chan c lodged idle x h a i y parts.0 ∙ ap (λ (z : Expr × Pat). chan_of z.0 h.env) (sym same) ∙ g.on }
+      go (Goes.asks none other lo) = absurd (let bad : Some g.to ≡ None = sym g.form ∙ other in cc)
+      go (Goes.acts free) = no_work c lodged idle m a there free
+
+  no_work_above : (s : ℕ) (agent : Name) → map.get high.places agent ≡ Some (place.At s) → HasWork high agent → ⊥
+  no_work_above s agent placed h = go (below c lodged idle h.mark h.atom h.there)
+    where
+      by_source : (m : Name) (x : Expr) (a : Atom) → map.get low.atoms m ≡ Some a → IsOfSource Infrastructure.central n from x h.atom a → Goes n (layer h.atom.proc) (layer a.proc) → ⊥
+      by_source m x a there i (Goes.gives hi lo) = let bad : true ≡ false = sym (ap waits hi) ∙ h.acts in cc
+      by_source m x a there i (Goes.takes hi lo) = let bad : true ≡ false = sym (ap waits hi) ∙ h.acts in cc
+      by_source m x a there i (Goes.serves hi lo) = let bad : true ≡ false = sym (ap waits hi) ∙ h.acts in cc
+      by_source m x a there i (Goes.asks none other lo) = no_move c lodged idle m a s _ _ there (ap (map.get high.places) (i.stands.agent ∙ h.of) ∙ placed) lo
+      by_source m x a there i (Goes.acts free) = no_work c lodged idle m a there free
+
+      by_stand : (m : Name) (a : Atom) → map.get low.atoms m ≡ Some a → Stands Infrastructure.central n from h.atom a → ⊥
+      by_stand m a there (Stands.source x i) = by_source m x a there i (goes n from x h.atom.proc a.proc i.translates)
+      by_stand m a there (Stands.opened p tag hi is) = let bad : true ≡ false = sym (ap (λ (b : Atom). waits (layer b.proc)) hi ∙ ap waits (forms.outs-Out _ _)) ∙ h.acts in cc
+
+      go : Below c lodged idle h.atom → ⊥
+      go b = by_stand b.mark b.atom b.there b.stands
+
+  no_meeting_above : (agent : Name) → HasMeeting high agent → ⊥
+  no_meeting_above agent h =
+      let o = below c lodged idle h.output h.giver h.gives in
+      let i = below c lodged idle h.input h.taker h.takes in
+      let given : Giving h.giver h.chan = record { from = h.from; form = h.output_form; on = h.given } in
+      let taken : Taking h.taker h.chan = record { to = h.to; form = h.input_form; on = h.taken } in
+      no_meeting c lodged idle o.mark i.mark o.atom i.atom h.chan o.there i.there (its_agent c lodged idle h.giver o.atom o.stands ∙ h.giver_of ∙ sym (its_agent c lodged idle h.taker i.atom i.stands ∙ h.taker_of))
+      (gives_below o.mark h.giver o.atom h.chan o.there o.stands given) (takes_below i.mark h.taker i.atom h.chan i.there i.stands taken)
+
+  none_can : (s : ℕ) → Can high s → ⊥
+  none_can s (inl h) = no_packet_above c lodged idle h.mark h.packet h.flies
+  none_can s (inr (inl h)) = no_arrival_above c lodged idle h.agent s h.comes
+  none_can s (inr (inr h)) = elim h.works [ inl w ↦ no_work_above s h.agent h.stands w | inr m ↦ no_meeting_above h.agent m ]
 
 pub rests-together : RestsTogether
 rests-together n from first low high v c lodged idle = (none_can c lodged idle, has_rest c lodged idle)

@@ -18,6 +18,7 @@ use Rattle.np_protocol.specs.Columns.{Column, times}
 use Rattle.np_protocol.specs.Phases.{Phase, is_moving, is_registered, line}
 use Rattle.np_protocol.specs.Protocol.{IsTrueOf, one_if}
 use Rattle.np_protocol.proofs.Steps.{sum_before}
+use Rattle.daemon_encode.specs.Infrastructures.{Infrastructure}
 use Rattle.np_things.specs.Mail.{Mail}
 use Rattle.np_things.specs.Shapes.{Is}
 use Rattle.np_things.specs.Things.{Stage, Thing, show_all, shows}
@@ -94,7 +95,7 @@ module _ (a : Name) where
 
 -- ---- the phases
 
-module _ {n from first : ℕ} {low high : Config} {v : View} (c : Coupled n from first low high v) (lodged : IsLodged (inside low)) (idle : Idle low) where
+module _ {i : Infrastructure} {n from first : ℕ} {low high : Config} {v : View} (c : Coupled i n from first low high v) (lodged : IsLodged (inside low)) (idle : Idle low) where
   -- who is in a column in the phase of an agent is there
   in_phase : (a : Name) (p : Phase) (col : Column) → v.phase a ≡ p → 1 ≤ times col (line p) → Rester c lodged idle (in_column a col)
   in_phase a p col is h =
@@ -107,32 +108,32 @@ module _ {n from first : ℕ} {low high : Config} {v : View} (c : Coupled n from
       absurd (let bad : false ≡ true = sym (never a col none r.thing r.rests) ∙ r.shown in cc)
 
   -- no acknowledgement waits for an agent that takes it
-  no_ack : {A : Type 0} (a : Name) (p : Phase) → v.phase a ≡ p → 1 ≤ times Column.ack (line p) → (i : Name) (b : Atom) → map.get low.atoms i ≡ Some b → b.agent ≡ a → Taking b (own n 7) → A
-  no_ack a p is h i b there of taking =
+  no_ack : {A : Type 0} (a : Name) (p : Phase) → v.phase a ≡ p → 1 ≤ times Column.ack (line p) → (m : Name) (b : Atom) → map.get low.atoms m ≡ Some b → b.agent ≡ a → Taking b (own n 7) → A
+  no_ack a p is h m b there of taking =
       let r = in_phase a p Column.ack is h in
       let t = ack_of a r.thing r.rests r.shown in
-      let g = subst (λ x. Is n from first x r.atom) t.1 r.is in
-      no_meeting c lodged idle r.mark i r.atom b (own n 7) r.there there (g.agent ∙ sym of) (gives_there g) taking
+      let g = subst (λ x. Is i n from first x r.atom) t.1 r.is in
+      no_meeting c lodged idle r.mark m r.atom b (own n 7) r.there there (g.agent ∙ sym of) (gives_there g) taking
 
   not_granting : {A : Type 0} (a : Name) → v.phase a ≡ Phase.granting → A
   not_granting a is =
       let r = in_phase a Phase.granting Column.mover is (omega arith) in
       let t = mover_of a r.thing r.rests r.shown in
-      let i = subst (λ x. Is n from first x r.atom) {y = Thing.asking t.0 t.1} t.2 r.is in
+      let i = subst (λ x. Is i n from first x r.atom) {y = Thing.asking t.0 t.1} t.2 r.is in
       no_ack a Phase.granting is (omega arith) r.mark r.atom r.there (i.stands.agent ∙ t.3) (asking_takes n from t.0 t.1 r.atom i)
 
   not_finishing : {A : Type 0} (a : Name) → v.phase a ≡ Phase.finishing → A
   not_finishing a is =
       let r = in_phase a Phase.finishing Column.waiter is (omega arith) in
       let t = waiter_of a r.thing r.rests r.shown in
-      let i = subst (λ x. Is n from first x r.atom) {y = Thing.settling t.0 t.1 t.2} t.3 r.is in
+      let i = subst (λ x. Is i n from first x r.atom) {y = Thing.settling t.0 t.1 t.2} t.3 r.is in
       no_ack a Phase.finishing is (omega arith) r.mark r.atom r.there (i.stands.agent ∙ t.4) (settling_takes n from t.0 t.1 r.atom t.2 i)
 
   not_starting : {A : Type 0} (a : Name) → v.phase a ≡ Phase.starting → A
   not_starting a is =
       let r = in_phase a Phase.starting Column.child is (omega arith) in
       let t = child_of a r.thing r.rests r.shown in
-      let i = subst (λ x. Is n from first x r.atom) {y = Thing.beginning t.0 t.1 t.2 t.3} t.4 r.is in
+      let i = subst (λ x. Is i n from first x r.atom) {y = Thing.beginning t.0 t.1 t.2 t.3} t.4 r.is in
       no_ack a Phase.starting is (omega arith) r.mark r.atom r.there (i.stands.agent ∙ t.5) (beginning_takes n from t.0 t.1 r.atom t.2 t.3 i)
 
   not_registering : {A : Type 0} (a : Name) → v.phase a ≡ Phase.registering → A
@@ -148,21 +149,21 @@ module _ {n from first : ℕ} {low high : Config} {v : View} (c : Coupled n from
   not_moving a _ is = refl
 
   -- nothing in the daemon waits for the lock of an agent: it is free
-  pub no_wanting : {A : Type 0} (a l : Name) → v.lock a ≡ Some l → (i : Name) (b : Atom) → map.get low.atoms i ≡ Some b → b.agent ≡ daemon_agent n → Taking b l → A
-  no_wanting a l has i b there of taking =
+  pub no_wanting : {A : Type 0} (a l : Name) → v.lock a ≡ Some l → (m : Name) (b : Atom) → map.get low.atoms m ≡ Some b → b.agent ≡ daemon_agent n → Taking b l → A
+  no_wanting a l has m b there of taking =
       let known : one_if (is_registered (v.phase a)) ≡ 1 = ap one_if (sym (c.protocol.registered a) ∙ ap is_some has) in
       let still : one_if (is_moving (v.phase a)) ≡ 0 = ap one_if (not_moving a (v.phase a) refl) in
       let some : 1 ≤ count_by (has_lock (v.lock a) a) (chips v.things) = omega (arith, c.protocol.one_lock a) in
       let r = rester c lodged idle (has_lock (v.lock a) a) (any_counted (has_lock (v.lock a) a) (chips v.things) some) in
       let t = free_of a l r.thing r.rests (subst (λ o. list_any (has_lock o a) (shows r.thing) ≡ true) has r.shown) in
-      let g = subst (λ x. Is n from first x r.atom) t.1 r.is in
-      no_meeting c lodged idle r.mark i r.atom b l r.there there (g.agent ∙ sym of) (gives_there g) taking
+      let g = subst (λ x. Is i n from first x r.atom) t.1 r.is in
+      no_meeting c lodged idle r.mark m r.atom b l r.there there (g.agent ∙ sym of) (gives_there g) taking
 
   not_asking : {A : Type 0} (a : Name) → v.phase a ≡ Phase.asking → A
   not_asking a is =
       let r = in_phase a Phase.asking Column.request is (omega arith) in
       let t = request_of a r.thing r.rests r.shown in
-      let i = subst (λ x. Is n from first x r.atom) t.1 r.is in
+      let i = subst (λ x. Is i n from first x r.atom) t.1 r.is in
       let under : map.get v.things r.mark ≡ Some (Thing.wanting (Mail.migrating a) t.0 ∷ []) = r.under ∙ ap (λ x. Some (x ∷ [])) t.1 in
       let tells = recursion_from_All (IsTrueOf (scene v high) v.phase) (Chip.request a ∷ Chip.wants a t.0 ∷ []) (told c lodged idle r.mark (Thing.wanting (Mail.migrating a) t.0 ∷ []) under) in
       no_wanting a t.0 tells.1.0 r.mark r.atom r.there i.agent (takes_bound r.atom (first + 6) 0 _ _ t.0 i.waits.0 i.waits.2)
@@ -234,8 +235,8 @@ module _ {n from first : ℕ} {low high : Config} {v : View} (c : Coupled n from
   no_settling m x h s under = absurd (none_busy h.agent Column.waiter refl refl (in_line m (Thing.settling x h s) h.agent Column.waiter under (ap (λ t. ((t || false) || false)) (same_name-itself h.agent))))
 
   -- the `currentloc` of an agent that rests is free
-  pub token : (a : Name) → v.phase a ≡ Phase.resting → (m : Name) × (b : Atom) × (s : ℕ) × (map.get low.atoms m ≡ Some b) × Is n from first (Thing.token a s) b
+  pub token : (a : Name) → v.phase a ≡ Phase.resting → (m : Name) × (b : Atom) × (s : ℕ) × (map.get low.atoms m ≡ Some b) × Is i n from first (Thing.token a s) b
   token a is =
       let r = in_phase a Phase.resting Column.token is (omega arith) in
       let t = token_of a r.thing r.rests r.shown in
-      (r.mark, r.atom, t.0, r.there, subst (λ x. Is n from first x r.atom) t.1 r.is)
+      (r.mark, r.atom, t.0, r.there, subst (λ x. Is i n from first x r.atom) t.1 r.is)

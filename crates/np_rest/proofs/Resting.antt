@@ -18,6 +18,7 @@ use Rattle.np_eval.specs.Forms.{layer}
 use Rattle.np_protocol.specs.Chips.{Chip, Service}
 use Rattle.np_protocol.specs.Protocol.{IsTrueOf}
 use Rattle.np_protocol.specs.Scenes.{is_there}
+use Rattle.daemon_encode.specs.Infrastructures.{Infrastructure}
 use Rattle.np_things.specs.Mail.{Mail, Posted}
 use Rattle.np_things.specs.Shapes.{Gives, HasTaken, Is, IsMail, WaitsFor}
 use Rattle.np_things.specs.Things.{Stage, Thing, shows}
@@ -41,7 +42,7 @@ pub data MayRest : Thing → Type 0 where
   places : {ps : List (Name × Name)} → MayRest (Thing.places ps)
   free : {l : Name} {s : ℕ} → MayRest (Thing.free l s)
 
-module _ {n from first : ℕ} {low high : Config} {v : View} (c : Coupled n from first low high v) (lodged : IsLodged (inside low)) (idle : Idle low) where
+module _ {i : Infrastructure} {n from first : ℕ} {low high : Config} {v : View} (c : Coupled i n from first low high v) (lodged : IsLodged (inside low)) (idle : Idle low) where
   module _ (m : Name) (a : Atom) (there : map.get low.atoms m ≡ Some a) where
     -- mail for the daemon is taken by a server
     served : {A : Type 0} (k : Service) (w : Value) → Gives (daemon_agent n) (own n (chan_number k)) w a → A
@@ -78,7 +79,7 @@ module _ {n from first : ℕ} {low high : Config} {v : View} (c : Coupled n from
     wants (Mail.message p) l w = MayRest.passes
     wants _ l w = absurd w
 
-    pub may_rest : (t : Thing) → map.get v.things m ≡ Some (t ∷ []) → Is n from first t a → MayRest t
+    pub may_rest : (t : Thing) → map.get v.things m ≡ Some (t ∷ []) → Is i n from first t a → MayRest t
     may_rest (Thing.source x h) under i = MayRest.source
     may_rest (Thing.asking x h) under i = MayRest.asking
     may_rest (Thing.leaving x h) under i = no_work c lodged idle m a there (ap (λ (q : Proc). waits (layer q)) i.is ∙ ap waits (forms.outs-Migrate _ _))
@@ -105,7 +106,7 @@ module _ {n from first : ℕ} {low high : Config} {v : View} (c : Coupled n from
     pub under : map.get v.things mark ≡ Some (thing ∷ [])
     pub atom : Atom
     pub there : map.get low.atoms mark ≡ Some atom
-    pub is : Is n from first thing atom
+    pub is : Is i n from first thing atom
     pub rests : MayRest thing
     pub shown : list_any p (shows thing) ≡ true
 

@@ -18,6 +18,7 @@ use Rattle.np_protocol.specs.Chips.{Chip, Service, does, is_of_locks, service_nu
 use Rattle.np_protocol.specs.Protocol.{IsTrueOf}
 use Rattle.np_protocol.specs.Scenes.{is_there}
 use Rattle.np_protocol.proofs.Steps.{all_taken}
+use Rattle.daemon_encode.specs.Infrastructures.{Infrastructure}
 use Rattle.np_things.specs.Desks.{desk}
 use Rattle.np_things.specs.Mail.{Mail}
 use Rattle.np_things.specs.Shapes.{Gives, Is, IsLooking, IsServing}
@@ -120,7 +121,7 @@ same_service Service.passes_on Service.passes_on h = refl
 same_service Service.ends_deliveries Service.ends_deliveries h = refl
 same_service _ _ h = absurd cc
 
-module _ {n from first : ℕ} {low high : Config} {v : View} (c : Coupled n from first low high v) (lodged : IsLodged (inside low)) (idle : Idle low) where
+module _ {i : Infrastructure} {n from first : ℕ} {low high : Config} {v : View} (c : Coupled i n from first low high v) (lodged : IsLodged (inside low)) (idle : Idle low) where
   -- what a thing tells is true
   pub told : (m : Name) (ts : List Thing) → map.get v.things m ≡ Some ts → All (IsTrueOf (scene v high) v.phase) (show_all ts)
   told m ts h = all_taken (step_at v.things m ts [] h) (IsTrueOf (scene v high) v.phase) c.protocol.true_chips
@@ -132,7 +133,7 @@ module _ {n from first : ℕ} {low high : Config} {v : View} (c : Coupled n from
     pub under : map.get v.things mark ≡ Some (thing ∷ [])
     pub atom : Atom
     pub there : map.get low.atoms mark ≡ Some atom
-    pub is : Is n from first thing atom
+    pub is : Is i n from first thing atom
     pub shown : list_any p (shows thing) ≡ true
 
   alone_shows : (p : Chip → Bool) (t : Thing) → list_any p (show_all (t ∷ [])) ≡ true → list_any p (shows t) ≡ true
@@ -167,7 +168,7 @@ module _ {n from first : ℕ} {low high : Config} {v : View} (c : Coupled n from
       b : Bearer is_of_locks
       b = bearer is_of_locks (any_counted is_of_locks (chips v.things) (omega (arith, c.protocol.one_map)))
 
-      go : (t : Thing) → map.get v.things b.mark ≡ Some (t ∷ []) → Is n from first t b.atom → IsStanding t → list_any is_of_locks (shows t) ≡ true → MapThere
+      go : (t : Thing) → map.get v.things b.mark ≡ Some (t ∷ []) → Is i n from first t b.atom → IsStanding t → list_any is_of_locks (shows t) ≡ true → MapThere
       go t under i IsStanding.letters shown = absurd cc
       go t under i IsStanding.serving shown = absurd cc
       go t under i (IsStanding.places {ps = ps}) shown = record { mark = b.mark; held = ps; under = under; atom = b.atom; there = b.there; gives = i }
@@ -187,7 +188,7 @@ module _ {n from first : ℕ} {low high : Config} {v : View} (c : Coupled n from
       b : Bearer (does k)
       b = bearer (does k) (any_counted (does k) (chips v.things) (c.protocol.services k))
 
-      go : (t : Thing) → Is n from first t b.atom → IsStanding t → list_any (does k) (shows t) ≡ true → Server (daemon_agent n) (own n (chan_number k))
+      go : (t : Thing) → Is i n from first t b.atom → IsStanding t → list_any (does k) (shows t) ≡ true → Server (daemon_agent n) (own n (chan_number k))
       go t i IsStanding.letters shown = absurd cc
       go t i (IsStanding.serving {k = j}) shown =
           let same : j ≡ k = sym (same_service k j (one_truth _ shown)) in
@@ -201,7 +202,7 @@ module _ {n from first : ℕ} {low high : Config} {v : View} (c : Coupled n from
       b : Bearer (takes_for a)
       b = bearer (takes_for a) (any_counted (takes_for a) (chips v.things) (c.protocol.letters a placed))
 
-      go : (t : Thing) → Is n from first t b.atom → IsStanding t → list_any (takes_for a) (shows t) ≡ true → Server a (own n 6)
+      go : (t : Thing) → Is i n from first t b.atom → IsStanding t → list_any (takes_for a) (shows t) ≡ true → Server a (own n 6)
       go t i (IsStanding.letters {a = x}) shown =
           record { mark = b.mark; atom = b.atom; there = b.there; agent = i.agent ∙ sym (same_name-is a x (one_truth _ shown)); taking = serves_own b.atom n 6 i.node _ _ i.is }
       go t i IsStanding.serving shown = absurd cc

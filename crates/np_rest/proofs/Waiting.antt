@@ -23,6 +23,7 @@ use Rattle.np_eval.specs.Eval.{chan_of}
 use Rattle.np_eval.specs.Forms.{given_on, layer, taken_on}
 use Rattle.daemon_encode.specs.Pieces.{ack, beside, channel, currentloc, gives, nothing, sends, serves as serves_text, takes as takes_text, unit, variable}
 use Rattle.daemon_encode.specs.Texts.{move_text}
+use Rattle.daemon_encode.specs.Infrastructures.{Infrastructure}
 use Rattle.np_things.specs.Shapes.{Are, Gives, Is, IsAsking, IsBeginning, IsSettling}
 use Rattle.np_things.specs.Things.{Thing}
 use Rattle.np_levels.specs.Coupled.{Coupled, IsShaped, View}
@@ -60,17 +61,17 @@ takes_bound low y k x p l is at = record {
 }
 
 -- who waits for the grant of a move, for the end of an affair, or to begin, takes an acknowledgement
-pub asking_takes : (n from : ℕ) (x : Expr) (h low : Atom) → IsAsking n from x h low → Taking low (own n 7)
+pub asking_takes : {i : Infrastructure} (n from : ℕ) (x : Expr) (h low : Atom) → IsAsking i n from x h low → Taking low (own n 7)
 asking_takes n from x h low i = takes_own low n 7 i.migrates.tag.node nothing (move_text n i.migrates.tag.node x i.migrates.to i.migrates.low) i.is
 
-pub settling_takes : (n from : ℕ) (x : Expr) (h low : Atom) (s : ℕ) → IsSettling n from x h s low → Taking low (own n 7)
+pub settling_takes : {i : Infrastructure} (n from : ℕ) (x : Expr) (h low : Atom) (s : ℕ) → IsSettling i n from x h s low → Taking low (own n 7)
 settling_takes n from x h low s i = takes_own low n 7 i.node nothing (beside i.node i.body (gives i.node (currentloc n) i.at)) i.is
 
-pub beginning_takes : (n from : ℕ) (x : Expr) (h low : Atom) (p : Name) (s : ℕ) → IsBeginning n from x h p s low → Taking low (own n 7)
+pub beginning_takes : {i : Infrastructure} (n from : ℕ) (x : Expr) (h low : Atom) (p : Name) (s : ℕ) → IsBeginning i n from x h p s low → Taking low (own n 7)
 beginning_takes n from x h low p s i =
     takes_own low n 7 i.node nothing (beside i.node (beside i.node i.body (sends i.node i.maker (variable i.binder) (ack n) unit)) (gives i.node (currentloc n) (variable i.binder))) i.is
 
-module _ {n from first : ℕ} {low high : Config} {v : View} (c : Coupled n from first low high v) (lodged : IsLodged (inside low)) (idle : Idle low) where
+module _ {i : Infrastructure} {n from first : ℕ} {low high : Config} {v : View} (c : Coupled i n from first low high v) (lodged : IsLodged (inside low)) (idle : Idle low) where
   pub no_packet : (m : Name) (k : Packet) → map.get low.packets m ≡ Some k → ⊥
   no_packet m k h = idle k.to (inl (record { mark = m; packet = k; flies = h; to = refl }))
 
@@ -124,16 +125,16 @@ module _ {n from first : ℕ} {low high : Config} {v : View} (c : Coupled n from
     pub alone : ts ≡ thing ∷ []
     pub atom : Atom
     pub there : map.get low.atoms m ≡ Some atom
-    pub is : Is n from first thing atom
+    pub is : Is i n from first thing atom
 
   pub one_thing : (m : Name) (ts : List Thing) → map.get v.things m ≡ Some ts → Alone m ts
   one_thing m ts h = go (c.shaped m)
     where
-      by_things : (a : Atom) (us : List Thing) → map.get low.atoms m ≡ Some a → ts ≡ us → Are n from first a us → Alone m ts
+      by_things : (a : Atom) (us : List Thing) → map.get low.atoms m ≡ Some a → ts ≡ us → Are i n from first a us → Alone m ts
       by_things a us there same (Are.one {t = t} i) = record { thing = t; alone = same; atom = a; there = there; is = i }
       by_things a us there same (Are.both is x y) = no_work m a there (ap (λ (q : Proc). waits (layer q)) is ∙ ap waits (forms.outs-Par _ _))
 
-      go : IsShaped n from first low v.things m → Alone m ts
+      go : IsShaped i n from first low v.things m → Alone m ts
       go (IsShaped.nothing a k t) = absurd (no_value (sym t ∙ h))
       go (IsShaped.packet {k = p} a k t u) = absurd (no_packet m p k)
       go (IsShaped.atom {a = a} {ts = us} there k t u r) = by_things a us there (done (sym t ∙ h)) r

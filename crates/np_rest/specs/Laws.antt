@@ -8,6 +8,7 @@ use Rattle.np_calculus.specs.Idle.{Idle}
 use Rattle.np_calculus.specs.Parts.{IsLodged}
 use Rattle.np_calculus.specs.Sight.{inside}
 use Rattle.np_protocol.specs.Phases.{Phase}
+use Rattle.daemon_encode.specs.Infrastructures.{Infrastructure}
 use Rattle.np_things.specs.Things.{Thing, carried}
 use Rattle.np_levels.specs.Coupled.{Coupled, View}
 
@@ -22,4 +23,4 @@ pub record HasRest (v : View) : Type 0 where
 
 -- where no site can act at the low level, and each atom's agent has a place, none can at the high level
 abbrev pub RestsTogether : Type 0
-RestsTogether = (n from first : ℕ) (low high : Config) (v : View) → Coupled n from first low high v → IsLodged (inside low) → Idle low → Idle high × HasRest v
+RestsTogether = (n from first : ℕ) (low high : Config) (v : View) → Coupled Infrastructure.central n from first low high v → IsLodged (inside low) → Idle low → Idle high × HasRest v

@@ -8,12 +8,15 @@ use Rattle.np_calculus.specs.Config.{Config}
 use Rattle.np_calculus.specs.Reductions.{apply, run}
 use Rattle.np_calculus.specs.Starts.{start_high, start_low}
 use Rattle.np_calculus.specs.Well.{Well}
+use Rattle.np_calculus.specs.Parts.{IsLodged}
+use Rattle.np_calculus.specs.Sight.{inside}
 use Rattle.np_lift.specs.Lift.{lift}
+use Rattle.cache_lift.specs.Lift.{at_first}
 use Rattle.np_check.specs.Faults.{IsAccepted}
+use Rattle.daemon_encode.specs.Infrastructures.{Infrastructure}
 use Rattle.daemon_encode.specs.Translates.{IsLowOf}
-use Rattle.np_safety.proofs.Starts.{well-typed}
+use Rattle.np_safety.proofs.Starts.{runs-well, well-typed}
 use Rattle.np_levels.specs.Coupled.{Coupled, View}
-use Rattle.np_levels.specs.Laws.{StandForThemselves}
 use Rattle.np_levels.specs.Letters.{LettersAfter, NoLetters}
 use Rattle.np_levels.specs.Roles.{occurs}
 use Rattle.np_levels.proofs.Roles.{roles-of-events}
@@ -29,8 +32,8 @@ pub record Follows (Made : Config → View → List Event → View → Type 0) :
       → Made low v (e ∷ es) w
 
 module _ (n from first : ℕ) (Made : Config → View → List Event → View → Type 0) (follows : Follows Made) where
-  pub along : (events : List Event) (low high : Config) (v : View) → Coupled n from first low high v → StandForThemselves v
-      → ((hs : List Event) (d : Config) → run high hs ≡ Some d → Well d) → (c : Config) → run low events ≡ Some c
+  pub along : (events : List Event) (low high : Config) (v : View) → Coupled Infrastructure.central n from first low high v → v.standing ≡ at_first
+      → ((hs : List Event) (d : Config) → run high hs ≡ Some d → Well d × IsLodged (inside d)) → (c : Config) → run low events ≡ Some c
       → (l : IsLifted n from first high events c) × Made low v events l.view
   along [] low high v coupled stand well c h = (
     record {
@@ -38,14 +41,14 @@ module _ (n from first : ℕ) (Made : Config → View → List Event → View �
       runs = refl;
       said = ap (λ (d : Config). d.said) (done h) ∙ coupled.said;
       view = v;
-      coupled = subst (λ d. Coupled n from first d high v) (sym (done h)) coupled;
+      coupled = subst (λ d. Coupled Infrastructure.central n from first d high v) (sym (done h)) coupled;
       stand = stand;
     },
     follows.none low v,
   )
   along (e ∷ es) low high v coupled stand well c h =
       then (apply low e) _ h λ next applies rest.
-      let s = step coupled stand (well [] high refl) e next applies in
+      let s = step coupled stand (well [] high refl).0 (well [] high refl).1 e next applies in
       let l = along es next s.then s.view s.coupled s.stand (λ hs d r. well (s.made ++ hs) d (s.runs hs ∙ r)) c rest in (
         record {
           high = l.0.high;
@@ -69,12 +72,12 @@ stays-well p accepted hs d h =
     subst Well (done (sym h ∙ x.1)) x.2
 
 -- from the starts, where no letter is under way
-pub from-starts : (Made : Config → View → List Event → View → Type 0) → Follows Made → (p : Program) (q : LowProgram) (low : IsLowOf p q) → IsAccepted p
+pub from-starts : (Made : Config → View → List Event → View → Type 0) → Follows Made → (p : Program) (q : LowProgram) (low : IsLowOf Infrastructure.central p q) → IsAccepted p
     → (events : List Event) (c : Config) → run (start_low q) events ≡ Some c
     → (l : IsLifted (length p.sites) p.binders low.first (start_high p) events c) × (v : View) × NoLetters v × Made (start_low q) v events l.view
 from-starts Made follows p q low accepted events c h =
     let start = starts-coupled p q low accepted.sound in
-    let l = along (length p.sites) p.binders low.first Made follows events _ (start_high p) start.0 start.1 start.2 (stays-well p accepted) c h in
+    let l = along (length p.sites) p.binders low.first Made follows events _ (start_high p) start.0 start.1 start.2 (λ hs d r. (stays-well p accepted hs d r, (runs-well p accepted).lodged hs d r)) c h in
     (l.0, start.0, start.3, l.1)
 
 pub runs-are-lifted : RunsAreLifted

@@ -1,5 +1,6 @@
 -- One event of the low level is one of the high level, or none.
-use Rattle.std.proofs.Common.{◌≡◌, ℕ, true, Option, None, Some, List, [], ◌∷◌, ◌++◌, option_map, refl, sym, ap, subst, ◌∙◌}
+use Rattle.std.proofs.Common.{◌≡◌, ℕ, true, false, Option, None, Some, List, [], ◌∷◌, ◌++◌, option_map, refl, sym, ap, subst, ◌∙◌}
+use Rattle.std.specs.FinSet as set
 use Rattle.np_syntax.specs.declared.value.Name.{Name}
 use Rattle.np_syntax.specs.declared.process.Role.{Role}
 use Rattle.np_syntax.specs.declared.process.Role.TheVariants as role
@@ -7,13 +8,19 @@ use Rattle.np_syntax.specs.declared.event.Event.{Event}
 use Rattle.np_syntax.specs.declared.event.Kind.{Kind}
 use Rattle.np_syntax.specs.declared.event.Kind.TheVariants as kind
 use Rattle.np_syntax.specs.Options.{◌>>=◌}
+use Rattle.np_tables.proofs.Tables.{contains-none}
 use Rattle.np_calculus.specs.Config.{Config}
 use Rattle.np_calculus.specs.Reductions.{apply, run}
 use Rattle.np_calculus.specs.Well.{Well}
+use Rattle.np_calculus.specs.Parts.{IsLodged}
+use Rattle.np_calculus.specs.Sight.{inside}
 use Rattle.np_lift.specs.Lift.{lift, lifted, posted}
 use Rattle.np_lift.proofs.Lifted.{lifted-by-table}
+use Rattle.cache_lift.specs.Lift.{at_first, stands_for}
+use Rattle.cache_lift.proofs.Standings.{stands-itself}
+use Rattle.daemon_encode.specs.Infrastructures.{Infrastructure}
 use Rattle.np_levels.specs.Coupled.{Coupled, View}
-use Rattle.np_levels.specs.Laws.{IsEvent, StandForThemselves, event_of, post_of}
+use Rattle.np_levels.specs.Laws.{IsEvent, event_of, post_of}
 use Rattle.np_levels.specs.Letters.{LettersAfter}
 use Rattle.np_levels.specs.Roles.{occurs}
 use Rattle.np_levels.proofs.Arrivals.{arrivals-are-events}
@@ -34,15 +41,18 @@ use Rattle.np_levels.proofs.Stops.{stops-are-events}
 use Rattle.np_levels.proofs.Takes.{communications-are-events, copies-are-events}
 
 -- where each mark stands for itself, an event and a post have the same marks at both levels
-same-other : (v : View) → StandForThemselves v → (o : Option Name) → option_map v.stands_for o ≡ o
+pub itself : (v : View) → v.standing ≡ at_first → (m : Name) → stands_for v.standing m ≡ m
+itself v stand m = ap (λ s. stands_for s m) stand ∙ stands-itself m
+
+same-other : (v : View) → v.standing ≡ at_first → (o : Option Name) → option_map (stands_for v.standing) o ≡ o
 same-other v stand None = refl
-same-other v stand (Some m) = ap Some (stand m)
+same-other v stand (Some m) = ap Some (itself v stand m)
 
-same-event : (v : View) → StandForThemselves v → (e : Event) → event_of v e ≡ e
-same-event v stand e = λ i. record e { actor = stand e.actor i; other = same-other v stand e.other i }
+same-event : (v : View) → v.standing ≡ at_first → (e : Event) → event_of v e ≡ e
+same-event v stand e = λ i. record e { actor = itself v stand e.actor i; other = same-other v stand e.other i }
 
-same-post : (v : View) → StandForThemselves v → (e : Event) → post_of v e ≡ posted e
-same-post v stand e = λ i. record (posted e) { actor = stand e.actor i }
+same-post : (v : View) → v.standing ≡ at_first → (e : Event) → post_of v e ≡ posted e
+same-post v stand e = λ i. record (posted e) { actor = itself v stand e.actor i }
 
 -- a list that begins with an event is lifted so
 lifts-none : (e : Event) (es : List Event) → lifted e ≡ None → lift (e ∷ es) ≡ lift es
@@ -61,11 +71,11 @@ pub record Step (n from first : ℕ) (low : Config) (v : View) (next high : Conf
   pub then : Config
   pub runs : (es : List Event) → run high (made ++ es) ≡ run then es
   pub view : View
-  pub coupled : Coupled n from first next then view
-  pub stand : StandForThemselves view
+  pub coupled : Coupled Infrastructure.central n from first next then view
+  pub stand : view.standing ≡ at_first
   pub letters : LettersAfter e.kind e.tag.role low next e v view
 
-by-kind : (k : Kind) → occurs role.Plain k ≡ true → (k ≡ kind.Arrive → ⊥) → IsEvent k
+by-kind : (k : Kind) → occurs role.Plain k ≡ true → (k ≡ kind.Arrive → ⊥) → IsEvent Infrastructure.central k
 by-kind kind.Stop h other = stops-are-events
 by-kind kind.Fork h other = forks-are-events
 by-kind kind.New h other = news-are-events
@@ -82,9 +92,9 @@ by-kind kind.Land h other = lands-are-events
 by-kind kind.Print h other = prints-are-events
 by-kind _ h other = absurd cc
 
-module _ {n from first : ℕ} {low high : Config} {v : View} (c : Coupled n from first low high v) (stand : StandForThemselves v) (well : Well high) (e : Event) (next : Config) (h : apply low e ≡ Some next) where
-  still : (w : View) → w.stands_for ≡ v.stands_for → StandForThemselves w
-  still w same m = ap (λ (f : Name → Name). f m) same ∙ stand m
+module _ {n from first : ℕ} {low high : Config} {v : View} (c : Coupled Infrastructure.central n from first low high v) (stand : v.standing ≡ at_first) (well : Well high) (lodged : IsLodged (inside high)) (e : Event) (next : Config) (h : apply low e ≡ Some next) where
+  still : (w : View) → w.standing ≡ v.standing → w.standing ≡ at_first
+  still w same = same ∙ stand
 
   -- what an event of its kind and role makes of the letters it makes of them
   at-event : (k : Kind) (r : Role) → e.kind ≡ k → e.tag.role ≡ r → (w : View) → LettersAfter k r low next e v w → LettersAfter e.kind e.tag.role low next e v w
@@ -93,7 +103,7 @@ module _ {n from first : ℕ} {low high : Config} {v : View} (c : Coupled n from
 
   -- nothing at the high level
   quiet : (k : Kind) (r : Role) → e.kind ≡ k → e.tag.role ≡ r → lifted e ≡ None
-      → (w : View) × (w.stands_for ≡ v.stands_for) × Coupled n from first next high w × LettersAfter k r low next e v w → Step n from first low v next high e
+      → (w : View) × (w.standing ≡ v.standing) × Coupled Infrastructure.central n from first next high w × LettersAfter k r low next e v w → Step n from first low v next high e
   quiet k r its-kind its-role none w = record {
     made = [];
     lifts = λ es. lifts-none e es none;
@@ -107,7 +117,7 @@ module _ {n from first : ℕ} {low high : Config} {v : View} (c : Coupled n from
 
   -- one event
   one : (k : Kind) (r : Role) → e.kind ≡ k → e.tag.role ≡ r → (d f : Event) → f ≡ d → lifted e ≡ Some d
-      → (then : Config) × (apply high f ≡ Some then) × (w : View) × (w.stands_for ≡ v.stands_for) × Coupled n from first next then w
+      → (then : Config) × (apply high f ≡ Some then) × (w : View) × (w.standing ≡ v.standing) × Coupled Infrastructure.central n from first next then w
       × LettersAfter k r low next e v w
       → Step n from first low v next high e
   one k r its-kind its-role d f same is w = record {
@@ -121,21 +131,24 @@ module _ {n from first : ℕ} {low high : Config} {v : View} (c : Coupled n from
     letters = at-event k r its-kind its-role w.2 w.5;
   }
 
+  no-messenger : set.contains v.standing.messengers e.actor ≡ false
+  no-messenger = ap (λ s. set.contains s.messengers e.actor) stand ∙ contains-none e.actor
+
   may-have : (r : Role) → e.tag.role ≡ r → occurs r e.kind ≡ true
   may-have r is = ap (λ s. occurs s e.kind) (sym is) ∙ roles-of-events n from first low high v c e next h
 
   of-post : e.tag.role ≡ role.Post → (k : Kind) → e.kind ≡ k → occurs role.Post k ≡ true → Step n from first low v next high e
   of-post post kind.Send is may = one kind.Send role.Post is post (posted e) (post_of v e) (same-post v stand e) (lifted-by-table.post e post is)
-      (posts-are-events n from first low high v c well e next is post h)
+      (posts-are-events n from first low high v c well lodged e next is post h)
   of-post post kind.Land is may = quiet kind.Land role.Post is post (lifted-by-table.landing e post is)
       (lands c e next is (λ plain. let bad : role.Plain ≡ role.Post = sym plain ∙ post in cc) h)
   of-post post _ is may = absurd cc
 
   of-source : e.tag.role ≡ role.Plain → (k : Kind) → e.kind ≡ k → occurs role.Plain k ≡ true → Step n from first low v next high e
   of-source plain kind.Arrive is may = one kind.Arrive role.Plain is plain e e refl (lifted-by-table.plain e plain)
-      (arrivals-are-events n from first low high v c well e next is plain h)
+      (arrivals-are-events n from first low high v c well e next is plain no-messenger h)
   of-source plain k is may = one k role.Plain is plain e (event_of v e) (same-event v stand e) (lifted-by-table.plain e plain)
-      (by-kind k may (λ a. absurd cc) n from first low high v c well e next is plain h)
+      (by-kind k may (λ a. absurd cc) n from first low high v c well lodged e next is plain h)
 
   by-role : (r : Role) → e.tag.role ≡ r → Step n from first low v next high e
   by-role role.Infra is = quiet e.kind role.Infra refl is (lifted-by-table.infra e is) (infrastructure e.kind n from first low high v c e next refl is h)

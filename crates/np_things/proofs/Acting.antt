@@ -18,6 +18,8 @@ use Rattle.np_eval.specs.Eval.{chan_of, eval}
 use Rattle.np_eval.specs.Forms.{Layer, as_out, layer}
 use Rattle.np_protocol.specs.Chips.{Service}
 use Rattle.np_scope.specs.Sound.{IsSoundProc}
+use Rattle.daemon_encode.specs.Infrastructures.{Infrastructure}
+use Rattle.daemon_encode.specs.InfrastructureTexts.{post_of}
 use Rattle.daemon_encode.specs.Translates.{Translates}
 use Rattle.np_things.specs.Acting.{BeginsByThing, begins}
 use Rattle.np_things.specs.Desks.{desk}
@@ -54,10 +56,23 @@ by-layer t low l j k is its infra may h =
     let same : j ≡ k = done (sym h ∙ ap begun_by is ∙ its) in
     ap (λ r. begins t r k) infra ∙ ap (begins t role.Infra) (sym same) ∙ may
 
-of-source : (n from : ℕ) (a : Expr) (h : Atom) (p q : Proc) (k : Kind) → Translates n from a p q → p.tag.role ≡ role.Plain → begun_by (layer q) ≡ Some k → begins (Thing.source a h) q.tag.role k ≡ true
-of-source n from a h p q k (Translates.agent above b c d e f) plain i = ap (begins (Thing.source a h) role.Infra) (sym (done (sym i ∙ ap begun_by (forms.outs-Inp _ _ _))))
+-- how a post begins: it is sent, or it takes its agent's cache
+pub data PostBegins (p : Proc) : Type 0 where
+  is_sent : p.tag.role ≡ role.Post → begun_by (layer p) ≡ Some kind.Send → PostBegins p
+  takes_cache : p.tag.role ≡ role.Infra → begun_by (layer p) ≡ Some kind.Comm → PostBegins p
+
+pub post-begins : (i : Infrastructure) (n k : ℕ) (a b c v : Expr) (m : ℕ) → PostBegins (post_of i n k a b c v m)
+post-begins Infrastructure.central n k a b c v m = PostBegins.is_sent refl (ap begun_by (forms.outs-Send _ _ _ _))
+post-begins Infrastructure.cached n k a b c v m = PostBegins.takes_cache refl (ap begun_by (forms.outs-Inp _ _ _))
+
+by-post : (a : Expr) (h : Atom) (q : Proc) (k : Kind) → PostBegins q → begun_by (layer q) ≡ Some k → begins (Thing.source a h) q.tag.role k ≡ true
+by-post a h q k (PostBegins.is_sent r is) begun = ap (λ x. begins (Thing.source a h) x k) r ∙ ap (begins (Thing.source a h) role.Post) (sym (done (sym begun ∙ is)))
+by-post a h q k (PostBegins.takes_cache r is) begun = ap (λ x. begins (Thing.source a h) x k) r ∙ ap (begins (Thing.source a h) role.Infra) (sym (done (sym begun ∙ is)))
+
+of-source : {i : Infrastructure} (n from : ℕ) (a : Expr) (h : Atom) (p q : Proc) (k : Kind) → Translates i n from a p q → p.tag.role ≡ role.Plain → begun_by (layer q) ≡ Some k → begins (Thing.source a h) q.tag.role k ≡ true
+of-source n from a h p q k (Translates.agent above b c d u e f) plain i = ap (begins (Thing.source a h) role.Infra) (sym (done (sym i ∙ ap begun_by (forms.outs-Inp _ _ _))))
 of-source n from a h p q k (Translates.migrate t) plain i = ap (begins (Thing.source a h) role.Infra) (sym (done (sym i ∙ ap begun_by (forms.outs-Inp _ _ _))))
-of-source n from a h p q k Translates.post plain i = ap (begins (Thing.source a h) role.Post) (sym (done (sym i ∙ ap begun_by (forms.outs-Send _ _ _ _))))
+of-source {i = i} n from a h p q k (Translates.post {k = tag} {m = m} {b = b} {c = c} {v = v} above) plain begun = by-post a h q k (post-begins i n tag.node a b c v m) begun
 of-source n from a h p q k _ plain i = ap (λ r. begins (Thing.source a h) r k) plain
 
 module _ (n from first : ℕ) (low : Atom) (k : Kind) (begun : begun_by (layer low.proc) ≡ Some k) where
@@ -81,27 +96,27 @@ module _ (n from first : ℕ) (low : Atom) (k : Kind) (begun : begun_by (layer l
   mails m Stage.on_the_way i = absurd i
   mails m Stage.there i = gives-none i
 
-  pub thing-begins : (t : Thing) → Is n from first t low → begins t low.proc.tag.role k ≡ true
-  thing-begins (Thing.source a h) i = of-source n from a h h.proc low.proc k i.translates (source-plain i.stands.source.sound) begun
-  thing-begins (Thing.asking a h) i = by-text (Thing.asking a h) low _ kind.Comm k i.is (ap begun_by (forms.outs-Inp _ _ _)) refl begun
-  thing-begins (Thing.leaving a h) i = by-text (Thing.leaving a h) low _ kind.Depart k i.is (ap begun_by (forms.outs-Migrate _ _)) refl begun
-  thing-begins (Thing.settling a h s) i = by-text (Thing.settling a h s) low _ kind.Comm k i.is (ap begun_by (forms.outs-Inp _ _ _)) refl begun
-  thing-begins (Thing.making a h s) i = by-text (Thing.making a h s) low _ kind.Agent k i.is (ap begun_by (forms.outs-Agent _ _ _)) refl begun
-  thing-begins (Thing.beginning a h p s) i = by-text (Thing.beginning a h p s) low _ kind.Comm k i.is (ap begun_by (forms.outs-Inp _ _ _)) refl begun
-  thing-begins (Thing.opened p) i = absurd (let none : None ≡ Some k = sym (ap (λ (a : Atom). begun_by (layer a.proc)) i.is ∙ ap begun_by (forms.outs-Out _ _)) ∙ begun in cc)
-  thing-begins (Thing.token a s) i = gives-none i.0
-  thing-begins (Thing.letters a) i = by-text (Thing.letters a) low _ kind.Rep k i.is (ap begun_by (forms.outs-Rep _ _ _)) refl begun
-  thing-begins (Thing.opening p) i = by-layer (Thing.opening p) low _ kind.Open k i.0.is refl i.0.role refl begun
-  thing-begins (Thing.mail m stage) i = mails m stage i
-  thing-begins (Thing.taken m) i = by-text (Thing.taken m) low _ kind.Comm k i.is (ap begun_by (forms.outs-Inp _ _ _)) refl begun
-  thing-begins (Thing.looking m ps) i = looks m ps i.service i.is
-  thing-begins (Thing.wanting m l) i = wants m l i.waits
-  thing-begins (Thing.serving s) i = by-text (Thing.serving s) low _ kind.Rep k i.is (ap begun_by (forms.outs-Rep _ _ _)) refl begun
-  thing-begins (Thing.places ps) i = gives-none i
-  thing-begins (Thing.free l s) i = gives-none i
-  thing-begins (Thing.packet p) i = absurd i
+  pub thing-begins : (i : Infrastructure) (t : Thing) → Is i n from first t low → begins t low.proc.tag.role k ≡ true
+  thing-begins _ (Thing.source a h) i = of-source n from a h h.proc low.proc k i.translates (source-plain i.stands.source.sound) begun
+  thing-begins _ (Thing.asking a h) i = by-text (Thing.asking a h) low _ kind.Comm k i.is (ap begun_by (forms.outs-Inp _ _ _)) refl begun
+  thing-begins _ (Thing.leaving a h) i = by-text (Thing.leaving a h) low _ kind.Depart k i.is (ap begun_by (forms.outs-Migrate _ _)) refl begun
+  thing-begins _ (Thing.settling a h s) i = by-text (Thing.settling a h s) low _ kind.Comm k i.is (ap begun_by (forms.outs-Inp _ _ _)) refl begun
+  thing-begins _ (Thing.making a h s) i = by-text (Thing.making a h s) low _ kind.Agent k i.is (ap begun_by (forms.outs-Agent _ _ _)) refl begun
+  thing-begins _ (Thing.beginning a h p s) i = by-text (Thing.beginning a h p s) low _ kind.Comm k i.is (ap begun_by (forms.outs-Inp _ _ _)) refl begun
+  thing-begins _ (Thing.opened p) i = absurd (let none : None ≡ Some k = sym (ap (λ (a : Atom). begun_by (layer a.proc)) i.is ∙ ap begun_by (forms.outs-Out _ _)) ∙ begun in cc)
+  thing-begins _ (Thing.token a s) i = gives-none i.0
+  thing-begins _ (Thing.letters a) i = by-text (Thing.letters a) low _ kind.Rep k i.is (ap begun_by (forms.outs-Rep _ _ _)) refl begun
+  thing-begins _ (Thing.opening p) i = by-layer (Thing.opening p) low _ kind.Open k i.0.is refl i.0.role refl begun
+  thing-begins _ (Thing.mail m stage) i = mails m stage i
+  thing-begins _ (Thing.taken m) i = by-text (Thing.taken m) low _ kind.Comm k i.is (ap begun_by (forms.outs-Inp _ _ _)) refl begun
+  thing-begins _ (Thing.looking m ps) i = looks m ps i.service i.is
+  thing-begins _ (Thing.wanting m l) i = wants m l i.waits
+  thing-begins _ (Thing.serving s) i = by-text (Thing.serving s) low _ kind.Rep k i.is (ap begun_by (forms.outs-Rep _ _ _)) refl begun
+  thing-begins _ (Thing.places ps) i = gives-none i
+  thing-begins _ (Thing.free l s) i = gives-none i
+  thing-begins _ (Thing.packet p) i = absurd i
 
-pub begins-by-thing : BeginsByThing
-begins-by-thing n from first low ts k (Are.one {t = t} i) begun = inl (record { thing = t; alone = refl; is = i; its_kind = thing-begins n from first low k begun t i })
+pub begins-by-thing : {i : Infrastructure} → BeginsByThing i
+begins-by-thing n from first low ts k (Are.one {t = t} i) begun = inl (record { thing = t; alone = refl; is = i; its_kind = thing-begins n from first low k begun _ t i })
 begins-by-thing n from first low ts k (Are.both is a b) begun =
     inr (done (sym (ap (λ (q : Proc). begun_by (layer q)) is ∙ ap begun_by (forms.outs-Par _ _)) ∙ begun), ap (λ (q : Proc). q.tag.role) is)

@@ -22,6 +22,7 @@ use Rattle.np_scope.specs.Sound.{IsSound}
 use Rattle.daemon_encode.specs.Pieces.{beside, currentloc, expression, gives, here, main, site}
 use Rattle.daemon_encode.specs.Texts.{server_text}
 use Rattle.daemon_encode.specs.Daemon.{first_places}
+use Rattle.daemon_encode.specs.Infrastructures.{Infrastructure}
 use Rattle.daemon_encode.specs.Translates.{IsLowOf}
 use Rattle.np_source_values.specs.Sources.{Names}
 use Rattle.np_source_values.proofs.Sources.{sound-is-source}
@@ -42,7 +43,7 @@ constant-is v env = eval-form (expression (expr.Val v)) env ∙ eval-val v env
 pub gives-own : (n i k : ℕ) (a : Name) (v : Value) (env : Env) → sends (record { agent = a; proc = gives k (expression (expr.Val (value.Chan (own n i)))) (expression (expr.Val v)); env = env }) ≡ Some (own n i, v)
 gives-own n i k a v env = rw (outs-Out (expression (expr.Val (value.Chan (own n i)))) (expression (expr.Val v)), constant-is (value.Chan (own n i)) env, outs-Chan (own n i), constant-is v env) refl
 
-module _ (p : Program) (q : LowProgram) (low : IsLowOf p q) (sound : IsSound p) where
+module _ (p : Program) (q : LowProgram) (low : IsLowOf Infrastructure.central p q) (sound : IsSound p) where
   abbrev n : ℕ
   n = length p.sites
 
@@ -52,13 +53,13 @@ module _ (p : Program) (q : LowProgram) (low : IsLowOf p q) (sound : IsSound p) 
   abbrev before : Proc
   before = beside 0 low.body (gives 0 (currentloc n) (site p.at))
 
-  main_are : Are n p.binders low.first (first_atom (main_agent n) (beside 0 before (server_text n 0 (main n) low.letter low.place))) (main_things n p.at p.main)
+  main_are : Are Infrastructure.central n p.binders low.first (first_atom (main_agent n) (beside 0 before (server_text n 0 (main n) low.letter low.place))) (main_things n p.at p.main)
   main_are =
       Are.both {k = 0} {p = before} {q = server_text n 0 (main n) low.letter low.place} refl
       (Are.both {k = 0} {p = low.body} {q = gives 0 (currentloc n) (site p.at)} refl (Are.one source) (Are.one token))
       (Are.one letters)
     where
-      source : IsOfSource n p.binders (main n) (first_atom (main_agent n) p.main) (first_atom (main_agent n) low.body)
+      source : IsOfSource Infrastructure.central n p.binders (main n) (first_atom (main_agent n) p.main) (first_atom (main_agent n) low.body)
       source = record {
         stands = record { agent = refl; apart = agents; source = sound-is-source p sound; agrees = record { same = λ x h. refl }; called = constant-is (value.Agent (main_agent n)) map.empty };
         translates = low.translates;
@@ -86,7 +87,7 @@ module _ (p : Program) (q : LowProgram) (low : IsLowOf p q) (sound : IsSound p) 
   abbrev its_server : Service → Proc
   its_server k = server n (desk n low.first k)
 
-  serves : (k : Service) → Are n p.binders low.first (first_atom (daemon_agent n) (its_server k)) (Thing.serving k ∷ [])
+  serves : (k : Service) → Are Infrastructure.central n p.binders low.first (first_atom (daemon_agent n) (its_server k)) (Thing.serving k ∷ [])
   serves k = Are.one (record { agent = refl; is = refl })
 
   abbrev two_parts : Proc
@@ -104,7 +105,7 @@ module _ (p : Program) (q : LowProgram) (low : IsLowOf p q) (sound : IsSound p) 
   abbrev with_passes : Proc
   with_passes = beside 0 with_notes (its_server Service.passes_on)
 
-  daemon_are : Are n p.binders low.first (first_atom (daemon_agent n) (beside 0 with_passes (its_server Service.ends_deliveries))) (daemon_things n p.at)
+  daemon_are : Are Infrastructure.central n p.binders low.first (first_atom (daemon_agent n) (beside 0 with_passes (its_server Service.ends_deliveries))) (daemon_things n p.at)
   daemon_are =
       Are.both {k = 0} {p = with_passes} {q = its_server Service.ends_deliveries} refl
       (Are.both {k = 0} {p = with_notes} {q = its_server Service.passes_on} refl
@@ -122,6 +123,6 @@ module _ (p : Program) (q : LowProgram) (low : IsLowOf p q) (sound : IsSound p) 
 
 pub starts-with-things : StartsWithThings
 starts-with-things p q low sound = record {
-  main = subst (λ b. Are (length p.sites) p.binders low.first (first_atom (main_agent (length p.sites)) b) (main_things (length p.sites) p.at p.main)) (sym low.main) (main_are p q low sound);
-  daemon = subst (λ b. Are (length p.sites) p.binders low.first (first_atom (daemon_agent (length p.sites)) b) (daemon_things (length p.sites) p.at)) (sym low.daemon) (daemon_are p q low sound);
+  main = subst (λ b. Are Infrastructure.central (length p.sites) p.binders low.first (first_atom (main_agent (length p.sites)) b) (main_things (length p.sites) p.at p.main)) (sym low.main) (main_are p q low sound);
+  daemon = subst (λ b. Are Infrastructure.central (length p.sites) p.binders low.first (first_atom (daemon_agent (length p.sites)) b) (daemon_things (length p.sites) p.at)) (sym low.daemon) (daemon_are p q low sound);
 }

@@ -7,6 +7,7 @@ use Rattle.np_syntax.specs.declared.event.Kind.TheVariants as kind
 use Rattle.np_calculus.specs.declared.config.Atom.{Atom}
 use Rattle.np_calculus.specs.Begins.{begun_by}
 use Rattle.np_eval.specs.Forms.{layer}
+use Rattle.daemon_encode.specs.Infrastructures.{Infrastructure}
 use Rattle.np_things.specs.Shapes.{Are, Is}
 use Rattle.np_things.specs.Things.{Stage, Thing}
 
@@ -31,15 +32,15 @@ begins (Thing.serving k) role.Infra kind.Rep = true
 begins _ _ _ = false
 
 -- an atom that begins an event of a kind is there for one thing, which begins such events; or it is a bracket of the infrastructure
-pub record BeginsAlone (n from first : ℕ) (low : Atom) (ts : List Thing) (k : Kind) : Type 0 where
+pub record BeginsAlone (i : Infrastructure) (n from first : ℕ) (low : Atom) (ts : List Thing) (k : Kind) : Type 0 where
   pub thing : Thing
   pub alone : ts ≡ thing ∷ []
-  pub is : Is n from first thing low
+  pub is : Is i n from first thing low
   pub its_kind : begins thing low.proc.tag.role k ≡ true
 
 abbrev pub IsBracket : Atom → Kind → Type 0
 IsBracket low k = (k ≡ kind.Fork) × (low.proc.tag.role ≡ role.Infra)
 
-abbrev pub BeginsByThing : Type 0
-BeginsByThing = (n from first : ℕ) (low : Atom) (ts : List Thing) (k : Kind) → Are n from first low ts → begun_by (layer low.proc) ≡ Some k
-    → BeginsAlone n from first low ts k ⊎ IsBracket low k
+abbrev pub BeginsByThing : Infrastructure → Type 0
+BeginsByThing i = (n from first : ℕ) (low : Atom) (ts : List Thing) (k : Kind) → Are i n from first low ts → begun_by (layer low.proc) ≡ Some k
+    → BeginsAlone i n from first low ts k ⊎ IsBracket low k

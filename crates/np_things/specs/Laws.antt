@@ -4,6 +4,7 @@ use Rattle.np_syntax.specs.declared.program.Program.{Program}
 use Rattle.np_syntax.specs.declared.program.LowProgram.{LowProgram}
 use Rattle.np_calculus.specs.Starts.{daemon_agent, first_atom, main_agent}
 use Rattle.np_scope.specs.Sound.{IsSound}
+use Rattle.daemon_encode.specs.Infrastructures.{Infrastructure}
 use Rattle.daemon_encode.specs.Translates.{IsLowOf}
 use Rattle.np_things.specs.Shapes.{Are}
 use Rattle.np_things.specs.Starts.{daemon_things, main_things}
@@ -26,8 +27,8 @@ DaemonByServers = (n s0 x : ℕ) → daemon_text n s0 x
 
 -- the two atoms of the low start of a sound program
 pub record HasStartThings (p : Program) (q : LowProgram) (first : ℕ) : Type 0 where
-  pub main : Are (length p.sites) p.binders first (first_atom (main_agent (length p.sites)) q.main) (main_things (length p.sites) p.at p.main)
-  pub daemon : Are (length p.sites) p.binders first (first_atom (daemon_agent (length p.sites)) q.daemon) (daemon_things (length p.sites) p.at)
+  pub main : Are Infrastructure.central (length p.sites) p.binders first (first_atom (main_agent (length p.sites)) q.main) (main_things (length p.sites) p.at p.main)
+  pub daemon : Are Infrastructure.central (length p.sites) p.binders first (first_atom (daemon_agent (length p.sites)) q.daemon) (daemon_things (length p.sites) p.at)
 
 abbrev pub StartsWithThings : Type 0
-StartsWithThings = (p : Program) (q : LowProgram) (low : IsLowOf p q) → IsSound p → HasStartThings p q low.first
+StartsWithThings = (p : Program) (q : LowProgram) (low : IsLowOf Infrastructure.central p q) → IsSound p → HasStartThings p q low.first

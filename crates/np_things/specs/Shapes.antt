@@ -1,4 +1,4 @@
--- Which thing an atom or a packet of the low level is (docs/LANGUAGE.md, "Translation and daemon"). Here n is the number of sites, the source's binders
+-- Which thing an atom or a packet of the low level is (docs/LANGUAGE.md, "Translation and daemon"). Here i is the infrastructure, n the number of sites, the source's binders
 -- are below `from`, and the daemon's are numbered from `first`. What only sends, outputs or opens is told by the values of its expressions; what binds
 -- is told by its text.
 use Rattle.std.specs.Prelude.{◌≡◌, ◌≤◌, ◌+◌, ℕ, false, Some, List, [], ◌∷◌, ◌++◌}
@@ -21,8 +21,10 @@ use Rattle.np_eval.specs.Eval.{agent_of, chan_of, eval, letter_of}
 use Rattle.np_eval.specs.Forms.{layer}
 use Rattle.np_protocol.specs.Chips.{Service}
 use Rattle.daemon_encode.specs.Pieces.{variable, nothing, name, pair, ack, deliver, beside, process, takes, sends as sends_text}
-use Rattle.daemon_encode.specs.Texts.{begins, child_text, move_text, server_text, settles}
+use Rattle.daemon_encode.specs.Texts.{begins, move_text, server_text, settles}
 use Rattle.daemon_encode.specs.Daemon.{acks}
+use Rattle.daemon_encode.specs.Infrastructures.{Infrastructure}
+use Rattle.daemon_encode.specs.InfrastructureTexts.{child_of}
 use Rattle.daemon_encode.specs.Translates.{Translates, source}
 use Rattle.np_source_values.specs.Sources.{Agrees, IsSource, Names}
 use Rattle.np_things.specs.Desks.{Took, desk, server, takes_map}
@@ -43,17 +45,17 @@ pub record StandsFor (n from : ℕ) (named : Expr) (high low : Atom) : Type 0 wh
   pub called : eval named high.env ≡ Some (value.Agent high.agent)
 
 -- the atom of the high level is about to migrate, with this expression, process and translation
-pub record Migrates (n from : ℕ) (named : Expr) (high : Atom) : Type 0 where
+pub record Migrates (i : Infrastructure) (n from : ℕ) (named : Expr) (high : Atom) : Type 0 where
   pub tag : Tag
   pub at : ℕ
   pub to : Expr
   pub body : Proc
   pub low : Proc
   pub is : high.proc ≡ source tag at (form.Migrate to body)
-  pub translates : Translates n from named body low
+  pub translates : Translates i n from named body low
 
 -- it is about to make an agent, with these processes and their translations, and with binders that are none of the source's
-pub record Creates (n from : ℕ) (named : Expr) (high : Atom) : Type 0 where
+pub record Creates (i : Infrastructure) (n from : ℕ) (named : Expr) (high : Atom) : Type 0 where
   pub tag : Tag
   pub at : ℕ
   pub binder : ℕ
@@ -66,59 +68,61 @@ pub record Creates (n from : ℕ) (named : Expr) (high : Atom) : Type 0 where
   pub letter_above : from ≤ letter
   pub place_above : from ≤ place
   pub apart : letter ≡ place → ⊥
+  pub cache : ℕ
+  pub cache_above : from ≤ cache
   pub low_body : Proc
   pub low_rest : Proc
   pub is : high.proc ≡ source tag at (form.Agent binder body rest)
-  pub body_translates : Translates n from (variable binder) body low_body
-  pub rest_translates : Translates n from named rest low_rest
+  pub body_translates : Translates i n from (variable binder) body low_body
+  pub rest_translates : Translates i n from named rest low_rest
 
 -- ---- in agents
 
 -- the translation of its process
-pub record IsOfSource (n from : ℕ) (named : Expr) (high low : Atom) : Type 0 where
+pub record IsOfSource (i : Infrastructure) (n from : ℕ) (named : Expr) (high low : Atom) : Type 0 where
   pub stands : StandsFor n from named high low
-  pub translates : Translates n from named high.proc low.proc
+  pub translates : Translates i n from named high.proc low.proc
 
 -- ack?_ -> migrate to e -> ..
-pub record IsAsking (n from : ℕ) (named : Expr) (high low : Atom) : Type 0 where
+pub record IsAsking (i : Infrastructure) (n from : ℕ) (named : Expr) (high low : Atom) : Type 0 where
   pub stands : StandsFor n from named high low
-  pub migrates : Migrates n from named high
+  pub migrates : Migrates i n from named high
   pub is : low.proc ≡ takes migrates.tag.node (ack n) nothing (move_text n migrates.tag.node named migrates.to migrates.low)
 
 -- migrate to e -> (ack?_ -> ([[P]] | currentloc!e) | <D@SD>migrated![a e])
-pub record IsLeaving (n from : ℕ) (named : Expr) (high low : Atom) : Type 0 where
+pub record IsLeaving (i : Infrastructure) (n from : ℕ) (named : Expr) (high low : Atom) : Type 0 where
   pub stands : StandsFor n from named high low
-  pub migrates : Migrates n from named high
+  pub migrates : Migrates i n from named high
   pub is : low.proc ≡ move_text n migrates.tag.node named migrates.to migrates.low
 
 -- ack?_ -> ([[P]] | currentloc!e), where e is the site
-pub record IsSettling (n from : ℕ) (named : Expr) (high : Atom) (site : ℕ) (low : Atom) : Type 0 where
+pub record IsSettling (i : Infrastructure) (n from : ℕ) (named : Expr) (high : Atom) (site : ℕ) (low : Atom) : Type 0 where
   pub stands : StandsFor n from named high low
   pub node : ℕ
   pub at : Expr
   pub body : Proc
-  pub translates : Translates n from named high.proc body
+  pub translates : Translates i n from named high.proc body
   pub is : low.proc ≡ settles n node at body
   pub tells : eval at low.env ≡ Some (value.Site site)
 
 -- agent b = (..) in ack?_ -> ([[Q]] | currentloc!S), where S is the site
-pub record IsMaking (n from : ℕ) (named : Expr) (high : Atom) (site : ℕ) (low : Atom) : Type 0 where
+pub record IsMaking (i : Infrastructure) (n from : ℕ) (named : Expr) (high : Atom) (site : ℕ) (low : Atom) : Type 0 where
   pub stands : StandsFor n from named high low
-  pub creates : Creates n from named high
+  pub creates : Creates i n from named high
   pub is : low.proc
       ≡ process creates.tag.node role.Plain (form.Agent creates.binder
-      (child_text n creates.tag.node named creates.binder creates.site creates.letter creates.place creates.low_body)
+      (child_of i n creates.tag.node named creates.binder creates.site creates.letter creates.place creates.cache creates.low_body)
       (settles n creates.tag.node (variable creates.site) creates.low_rest))
   pub tells : map.get low.env creates.site ≡ Some (value.Site site)
 
 -- ack?_ -> ([[P]] | <a@S>ack![] | currentloc!S), where a is the parent and S the site
-pub record IsBeginning (n from : ℕ) (named : Expr) (high : Atom) (parent : Name) (site : ℕ) (low : Atom) : Type 0 where
+pub record IsBeginning (i : Infrastructure) (n from : ℕ) (named : Expr) (high : Atom) (parent : Name) (site : ℕ) (low : Atom) : Type 0 where
   pub stands : StandsFor n from named high low
   pub node : ℕ
   pub binder : ℕ
   pub maker : Expr
   pub body : Proc
-  pub translates : Translates n from named high.proc body
+  pub translates : Translates i n from named high.proc body
   pub is : low.proc ≡ begins n node maker binder body
   pub above : from ≤ binder
   pub calls : eval maker low.env ≡ Some (value.Agent parent)
@@ -221,31 +225,31 @@ pub record IsOpened (n : ℕ) (p : Posted) (low : Atom) : Type 0 where
   pub tag : Tag
   pub is : low ≡ output_in p.agent p.chan p.value tag
 
-abbrev pub Is : ℕ → ℕ → ℕ → Thing → Atom → Type 0
-Is n from first (Thing.source a h) low = IsOfSource n from a h low
-Is n from first (Thing.asking a h) low = IsAsking n from a h low
-Is n from first (Thing.leaving a h) low = IsLeaving n from a h low
-Is n from first (Thing.settling a h s) low = IsSettling n from a h s low
-Is n from first (Thing.making a h s) low = IsMaking n from a h s low
-Is n from first (Thing.beginning a h p s) low = IsBeginning n from a h p s low
-Is n from first (Thing.opened p) low = IsOpened n p low
-Is n from first (Thing.token a s) low = Gives a (own n 9) (value.Site s) low × IsAgents n a
-Is n from first (Thing.letters a) low = IsLetters n from a low
-Is n from first (Thing.opening p) low = Opens p low × IsAgents n p.agent
-Is n from first (Thing.mail m stage) low = IsMail n m stage low
-Is n from first (Thing.taken m) low = HasTaken n first m low
-Is n from first (Thing.looking m ps) low = IsLooking n first m ps low
-Is n from first (Thing.wanting m l) low = IsWanting n first m l low
-Is n from first (Thing.serving k) low = IsServing n first k low
-Is n from first (Thing.places ps) low = Gives (daemon_agent n) (own n 10) (value.Places ps) low
-Is n from first (Thing.free l s) low = Gives (daemon_agent n) l (value.Site s) low
-Is n from first (Thing.packet p) low = ⊥
+abbrev pub Is : Infrastructure → ℕ → ℕ → ℕ → Thing → Atom → Type 0
+Is i n from first (Thing.source a h) low = IsOfSource i n from a h low
+Is i n from first (Thing.asking a h) low = IsAsking i n from a h low
+Is i n from first (Thing.leaving a h) low = IsLeaving i n from a h low
+Is i n from first (Thing.settling a h s) low = IsSettling i n from a h s low
+Is i n from first (Thing.making a h s) low = IsMaking i n from a h s low
+Is i n from first (Thing.beginning a h p s) low = IsBeginning i n from a h p s low
+Is i n from first (Thing.opened p) low = IsOpened n p low
+Is i n from first (Thing.token a s) low = Gives a (own n 9) (value.Site s) low × IsAgents n a
+Is i n from first (Thing.letters a) low = IsLetters n from a low
+Is i n from first (Thing.opening p) low = Opens p low × IsAgents n p.agent
+Is i n from first (Thing.mail m stage) low = IsMail n m stage low
+Is i n from first (Thing.taken m) low = HasTaken n first m low
+Is i n from first (Thing.looking m ps) low = IsLooking n first m ps low
+Is i n from first (Thing.wanting m l) low = IsWanting n first m l low
+Is i n from first (Thing.serving k) low = IsServing n first k low
+Is i n from first (Thing.places ps) low = Gives (daemon_agent n) (own n 10) (value.Places ps) low
+Is i n from first (Thing.free l s) low = Gives (daemon_agent n) l (value.Site s) low
+Is i n from first (Thing.packet p) low = ⊥
 
 -- The things of an atom. A bracket of the infrastructure is no thing by itself: it has the things of its parts.
-pub data Are (n from first : ℕ) : Atom → List Thing → Type 0 where
-  one : {low : Atom} {t : Thing} → Is n from first t low → Are n from first low (t ∷ [])
-  both : {low : Atom} {k : ℕ} {p q : Proc} {ts us : List Thing} → low.proc ≡ beside k p q → Are n from first (goes low p) ts → Are n from first (goes low q) us
-      → Are n from first low (ts ++ us)
+pub data Are (i : Infrastructure) (n from first : ℕ) : Atom → List Thing → Type 0 where
+  one : {low : Atom} {t : Thing} → Is i n from first t low → Are i n from first low (t ∷ [])
+  both : {low : Atom} {k : ℕ} {p q : Proc} {ts us : List Thing} → low.proc ≡ beside k p q → Are i n from first (goes low p) ts → Are i n from first (goes low q) us
+      → Are i n from first low (ts ++ us)
 
 -- the thing of a packet: mail of the infrastructure, or a packet of the source
 abbrev pub IsUnderWay : ℕ → Thing → Packet → Type 0

@@ -1,3 +1,4 @@
+ghost use Rattle.daemon_encode.specs.Infrastructures.{Infrastructure};
 ghost use Rattle.np_things.specs.Acting.{BeginsByThing};
 ghost use Rattle.np_things.specs.Laws.{DaemonByServers, StartsWithThings};
 
@@ -15,5 +16,5 @@ pub fn law_start_things()
 /// An atom that begins an event of a kind is there for one thing, which begins events of this kind in this role; or it is a
 /// bracket of the infrastructure.
 pub fn law_begins()
-    ensures { BeginsByThing }
+    ensures { (i : Infrastructure) → BeginsByThing i }
 {}

@@ -4,16 +4,16 @@ use Rattle.np_levels.proofs.Takes.{communications-are-events, copies-are-events}
 use Rattle.np_levels.proofs.laws.law_meetings_are_events.Goals as goal
 
 pub returns-clause-forks : goal.returns-clause-forks
-returns-clause-forks c = forks-are-events
+returns-clause-forks c i = forks-are-events
 
 pub returns-clause-sends : goal.returns-clause-sends
-returns-clause-sends c = sends-are-events
+returns-clause-sends c i = sends-are-events
 
 pub returns-clause-lands : goal.returns-clause-lands
-returns-clause-lands c = lands-are-events
+returns-clause-lands c i = lands-are-events
 
 pub returns-clause-communications : goal.returns-clause-communications
-returns-clause-communications c = communications-are-events
+returns-clause-communications c i = communications-are-events
 
 pub returns-clause-copies : goal.returns-clause-copies
-returns-clause-copies c = copies-are-events
+returns-clause-copies c i = copies-are-events

@@ -7,7 +7,7 @@ pub returns-clause-creations : goal.returns-clause-creations
 returns-clause-creations c = creations-are-events
 
 pub returns-clause-departures : goal.returns-clause-departures
-returns-clause-departures c = departures-are-events
+returns-clause-departures c i = departures-are-events
 
 pub returns-clause-arrivals : goal.returns-clause-arrivals
-returns-clause-arrivals c = arrivals-are-events
+returns-clause-arrivals c i = arrivals-are-events

@@ -1,6 +1,6 @@
 -- The forms that are translated otherwise where agents have caches, and main's bracket (docs/LANGUAGE.md, "Translation and daemon").
 -- Here n is the number of sites, k that of the source node, and a the agent that the form stands in; P and Q are written for their
--- processes in the low program. The binders that a text makes are numbered on from one of them, in reading order.
+-- processes in the low program. The binders that a post makes are numbered on from m, in reading order, and those of K from c.
 use Rattle.std.specs.Prelude.{ℕ, ◌+◌, []}
 use Rattle.np_syntax.specs.declared.value.Value as value
 use Rattle.np_syntax.specs.declared.expression.Expr.{Expr}
@@ -107,22 +107,22 @@ abbrev pub registers : ℕ → ℕ → ℕ → ℕ → Proc
 registers n k b s = tells n k (register n) (pair (variable b) (variable s))
 
 -- (ack?_ -> (P | <a@S>ack![] | currentloc!S) | *deliver?[l t] -> (open l | <D@SD>dack![b t]) | K | <D@SD>register![b S])
-abbrev pub child_text : ℕ → ℕ → Expr → ℕ → ℕ → ℕ → Proc → Proc
-child_text n k a b s l p =
-    beside k (with_cache n k (l + 2) (beside k
+abbrev pub child_text : ℕ → ℕ → Expr → ℕ → ℕ → ℕ → ℕ → ℕ → Proc → Proc
+child_text n k a b s l t c p =
+    beside k (with_cache n k c (beside k
     (begins n k a s p)
-    (server_text n k (variable b) l (l + 1))))
+    (server_text n k (variable b) l t)))
     (registers n k b s)
 
 -- agent b = P in Q becomes
 -- currentloc?S -> agent b = (ack?_ -> (P | <a@S>ack![] | currentloc!S) | *deliver?[l t] -> (open l | <D@SD>dack![b t]) | K
 --     | <D@SD>register![b S]) in ack?_ -> (Q | currentloc!S)
-abbrev pub agent_text : ℕ → ℕ → Expr → ℕ → ℕ → ℕ → Proc → Proc → Proc
-agent_text n k a b s l p q =
+abbrev pub agent_text : ℕ → ℕ → Expr → ℕ → ℕ → ℕ → ℕ → ℕ → Proc → Proc → Proc
+agent_text n k a b s l t c p q =
     takes k (currentloc n) (name s) (process k role.Plain (form.Agent b
-    (child_text n k a b s l p)
+    (child_text n k a b s l t c p)
     (settles n k (variable s) q)))
 
 -- (P | currentloc!s | *deliver?[l t] -> (open l | <D@SD>dack![main t]) | K), where s is main's site
-abbrev pub main_text : ℕ → ℕ → ℕ → Proc → Proc
-main_text n s l p = with_cache n 0 (l + 2) (central.main_text n s l (l + 1) p)
+abbrev pub main_text : ℕ → ℕ → ℕ → ℕ → ℕ → Proc → Proc
+main_text n s l t c p = with_cache n 0 c (central.main_text n s l t p)

@@ -4,7 +4,7 @@ use Rattle.std.specs.Prelude.{ℕ, ◌+◌}
 use Rattle.np_syntax.specs.declared.process.Proc.{Proc}
 use Rattle.daemon_encode.specs.Pieces.{variable, name, pair, two_names, beside, gives, takes, sends, finds}
 use Rattle.daemon_encode.specs.Daemon.{frees, notes, daemon_text}
-use Rattle.cache_encode.specs.Texts.{asking, found}
+use Rattle.daemon_encode.specs.CacheTexts.{asking, found}
 
 -- (k!u | <a@u>found![b s])
 abbrev pub hints : ℕ → ℕ → ℕ → ℕ → ℕ → ℕ → Proc
