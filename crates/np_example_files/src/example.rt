@@ -1,3 +1,7 @@
+ghost use Rattle.std.specs.Prelude.{◌≡◌, [], IfOk};
+ghost use Rattle.std.specs.Option.{option_copied};
+ghost use Rattle.np_example_files.specs.Examples.{begun, outcome_said, said, text_of};
+
 use super::change::Change;
 use std::alloc::{AllocError, Global};
 
@@ -16,7 +20,10 @@ pub struct Outcome {
 }
 
 impl Outcome {
-    pub fn new(alloc: Global) -> Outcome {
+    /// Nothing may come on out.
+    pub fn new(alloc: Global) -> Outcome
+        ensures { outcome_said result ≡ ([], []) }
+    {
         Outcome {
             unordered: Vec::new(alloc),
             ordered: String::new(alloc),
@@ -41,6 +48,8 @@ pub struct Example {
     pub line: u32,
     /// The words of each call, with single blanks between them.
     pub calls: Vec<String>,
+    /// Whether the low program of each source, here and below, is that of the infrastructure with caches.
+    pub with_caches: bool,
     /// Whether the low program of each source is run as well.
     pub runs_low: bool,
     /// Whether that run has to print the lines that a run at the high level prints, in any order.
@@ -67,11 +76,15 @@ pub struct Example {
 const WHOLE: usize = 16_777_216;
 
 impl Example {
-    pub fn new(alloc: Global, title: &str, line: u32) -> Result<Example, AllocError> {
+    /// An example of that title and line, of which nothing else is said yet.
+    pub fn new(alloc: Global, title: &str, line: u32) -> Result<Example, AllocError>
+        ensures { IfOk result (λ example. said example ≡ begun title.now line) }
+    {
         Ok(Example {
             title: String::from_str(alloc, title)?,
             line,
             calls: Vec::new(alloc),
+            with_caches: false,
             runs_low: false,
             as_high: false,
             replays: Vec::new(alloc),
@@ -95,12 +108,12 @@ impl Example {
     }
 
     /// The bytes of the text of that name.
-    pub fn text(&self, name: &str) -> Option<&[u8]> {
-        for text in self.texts.iter() {
-            if text.name.as_str() == name {
-                return Some(text.bytes.as_slice());
-            }
-        }
-        None
+    pub fn text(&self, name: &str) -> Option<&[u8]>
+        ensures { option_copied result ≡ text_of self.now.texts.items name.now }
+    {
+        self.texts
+            .iter()
+            .find(|text| text.name.as_str() == name)
+            .map(|text| text.bytes.as_slice())
     }
 }

@@ -17,24 +17,44 @@ pub enum ExampleFail {
 }
 
 impl From<Memory> for ExampleFail {
+    ghost use Rattle.std.specs.Prelude.{◌≡◌};
+    ghost use Rattle.np_example_files.specs.declared.fail.ExampleFail.TheVariants as fail;
+
+    ghost from_gives = { λ memory gives. gives ≡ fail.Memory };
+
     fn from(_memory: Memory) -> ExampleFail {
         ExampleFail::Memory
     }
 }
 
 impl From<AllocError> for ExampleFail {
+    ghost use Rattle.std.specs.Prelude.{◌≡◌};
+    ghost use Rattle.np_example_files.specs.declared.fail.ExampleFail.TheVariants as fail;
+
+    ghost from_gives = { λ error gives. gives ≡ fail.Memory };
+
     fn from(_error: AllocError) -> ExampleFail {
         ExampleFail::Memory
     }
 }
 
 impl<T: Drop> From<AllocFailed<T>> for ExampleFail {
+    ghost use Rattle.std.specs.Prelude.{◌≡◌};
+    ghost use Rattle.np_example_files.specs.declared.fail.ExampleFail.TheVariants as fail;
+
+    ghost from_gives = { λ failed gives. gives ≡ fail.Memory };
+
     fn from(_failed: AllocFailed<T>) -> ExampleFail {
         ExampleFail::Memory
     }
 }
 
 impl From<io::Error> for ExampleFail {
+    ghost use Rattle.std.specs.Prelude.{◌≡◌};
+    ghost use Rattle.np_example_files.specs.declared.fail.ExampleFail.TheVariants as fail;
+
+    ghost from_gives = { λ error gives. gives ≡ fail.Device };
+
     fn from(_error: io::Error) -> ExampleFail {
         ExampleFail::Device
     }

@@ -4,6 +4,9 @@
 mod change;
 mod example;
 mod fail;
+mod form;
+mod key;
+mod line;
 mod number;
 mod pieces;
 mod reader;

@@ -1,0 +1,5 @@
+pub mod Numbers
+pub mod Changes
+pub mod Pieces
+pub mod Examples
+pub mod Reading
