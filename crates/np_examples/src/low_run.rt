@@ -4,7 +4,7 @@ use super::trial::{Came, sink_of};
 use history_text::write_history;
 use np_example_files::{Example, ExampleFail};
 use np_io::write_all;
-use np_run::{BUDGET_SPENT, DONE, Refusal, line, run_low, status};
+use np_run::{BUDGET_SPENT, DONE, Infrastructure, Refusal, line, run_low, status};
 use np_serial::SerialRun;
 use np_syntax::{End, Event, Kind, LARGEST_BUDGET, LONGEST_SOURCE, List, Memory, Text};
 use std::alloc::Global;
@@ -56,12 +56,30 @@ fn refused(alloc: Global, refusal: Refusal) -> Result<LowRun, Memory> {
     })
 }
 
+/// The infrastructure of the low programs of an example.
+pub(crate) fn infrastructure_of(example: &Example) -> Infrastructure {
+    if example.with_caches {
+        Infrastructure::Cache
+    } else {
+        Infrastructure::Central
+    }
+}
+
+/// The words that say so, behind those of a call.
+pub(crate) fn option_of(example: &Example) -> &'static str {
+    if example.with_caches {
+        " --infra cache"
+    } else {
+        ""
+    }
+}
+
 /// Runs the low program of a source within the greatest budget.
-fn run_of(alloc: Global, source: &[u8]) -> Result<LowRun, Memory> {
+fn run_of(alloc: Global, infrastructure: Infrastructure, source: &[u8]) -> Result<LowRun, Memory> {
     if source.len() > LONGEST_SOURCE {
         return refused(alloc, Refusal::TooLong);
     }
-    match run_low(alloc, LARGEST_BUDGET, source) {
+    match run_low(alloc, infrastructure, LARGEST_BUDGET, source) {
         Ok((made, text)) => Ok(ended(alloc, made, text)),
         Err(refusal) => refused(alloc, refusal),
     }
@@ -81,7 +99,7 @@ pub(crate) fn came_of_low(
     example: &Example,
     source: Option<&str>,
 ) -> Result<Came, ExampleFail> {
-    let run = run_of(alloc, bytes_of(example, source))?;
+    let run = run_of(alloc, infrastructure_of(example), bytes_of(example, source))?;
     let mut out = sink_of(alloc, example.devices.piece, &[])?;
     let mut err = sink_of(alloc, example.devices.piece, &[])?;
     let _ = write_all(&mut out, run.out.as_slice());
@@ -104,7 +122,11 @@ pub(crate) struct LowEvents {
 }
 
 /// The events of the run of the low program of these bytes.
-fn events_of(alloc: Global, source: &[u8]) -> Result<LowEvents, ExampleFail> {
+fn events_of(
+    alloc: Global,
+    infrastructure: Infrastructure,
+    source: &[u8],
+) -> Result<LowEvents, ExampleFail> {
     let empty = LowEvents {
         events: List::new(alloc),
         report: List::new(alloc),
@@ -112,7 +134,7 @@ fn events_of(alloc: Global, source: &[u8]) -> Result<LowEvents, ExampleFail> {
     if source.len() > LONGEST_SOURCE {
         return Ok(empty);
     }
-    match run_low(alloc, LARGEST_BUDGET, source) {
+    match run_low(alloc, infrastructure, LARGEST_BUDGET, source) {
         Ok((SerialRun { events, last, .. }, report)) => {
             drop(last);
             Ok(LowEvents { events, report })
@@ -128,7 +150,7 @@ pub(crate) fn events_of_low(
     example: &Example,
     source: Option<&str>,
 ) -> Result<LowEvents, ExampleFail> {
-    events_of(alloc, bytes_of(example, source))
+    events_of(alloc, infrastructure_of(example), bytes_of(example, source))
 }
 
 /// Prints the history of the run of the low program of the source in a file.
@@ -138,7 +160,7 @@ pub(crate) fn print_history<R: Files + Alloc + Print>(
     file: &str,
 ) -> Result<(), ExampleFail> {
     let source = fs::read(rt, file)?;
-    let made = events_of(alloc, source.as_slice())?;
+    let made = events_of(alloc, Infrastructure::Central, source.as_slice())?;
     let history = write_history(alloc, made.events.as_slice())?;
     let text = std::str::from_utf8(history.as_slice()).unwrap_or("");
     print!(rt; "{text}")?;

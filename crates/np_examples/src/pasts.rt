@@ -1,5 +1,6 @@
 //! The past of each line that the run of a low program prints.
 
+use super::low_run::option_of;
 use super::replays::LowRun;
 use super::trial::{Call, Came, came_of};
 use history_text::write_history;
@@ -46,7 +47,8 @@ fn past_of<R: Threads + Wait + Sync>(
     line: usize,
 ) -> Result<Came, ExampleFail> {
     let history = write_history(alloc, run.events)?;
-    let words = format!(in alloc; "past a h --line {line}")?;
+    let option = option_of(run.example);
+    let words = format!(in alloc; "past a h --line {line}{option}")?;
     called(rt, alloc, run, words.as_str(), history.as_slice())
 }
 
@@ -72,9 +74,12 @@ fn is_past<R: Threads + Wait + Sync>(
     let Some(count) = count_in(past) else {
         return Ok(false);
     };
-    let head = format!(in alloc; "{text}\nhistory 2\n")?;
+    let format = if run.example.with_caches { 1 } else { 2 };
+    let head = format!(in alloc; "{text}\nhistory {format}\n")?;
     let wanted = format!(in alloc; "{text}\na run of {count} events\n")?;
-    let again = called(rt, alloc, run, "replay a h", came.out.bytes())?;
+    let option = option_of(run.example);
+    let words = format!(in alloc; "replay a h{option}")?;
+    let again = called(rt, alloc, run, words.as_str(), came.out.bytes())?;
     Ok(
         came.status == DONE
             && past.starts_with(head.as_str())

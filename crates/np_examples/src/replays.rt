@@ -1,6 +1,6 @@
 //! Histories of low runs, replayed as they are and changed.
 
-use super::low_run::{LowEvents, events_of_low};
+use super::low_run::{LowEvents, events_of_low, option_of};
 use super::pasts::has_past;
 use super::report::tell_replay;
 use super::resumes::is_resumed;
@@ -138,8 +138,10 @@ fn replayed<R: Threads + Wait + Sync>(
     events: &[Event],
 ) -> Result<Came, ExampleFail> {
     let history = write_history(alloc, events)?;
+    let option = option_of(run.example);
+    let words = format!(in alloc; "replay a h{option}")?;
     let call = Call {
-        words: "replay a h",
+        words: words.as_str(),
         source: run.source,
         history: Some(history.as_slice()),
     };

@@ -9,13 +9,15 @@ use Rattle.np_calculus.specs.Starts.{start_low}
 use Rattle.history_text.specs.declared.fail.HistFail.{HistFail}
 use Rattle.history_text.specs.declared.fail.HistFail.TheVariants as history
 use Rattle.history_text.specs.declared.format.Format.{Format}
-use Rattle.history_text.specs.declared.format.Format.TheVariants.{Second}
+use Rattle.history_text.specs.declared.format.Format.TheVariants.{First, Second}
 use Rattle.history_text.specs.Spelling.{history_text}
 use Rattle.history_text.specs.Histories.{IsHistory, IsRefused}
 use Rattle.np_replay.specs.declared.fail.ReplayFail.{ReplayFail}
 use Rattle.np_replay.specs.declared.fail.ReplayFail.TheVariants as replay
 use Rattle.np_replay.specs.Replays.{StopsAt}
 use Rattle.np_report.specs.Report.{replay_text}
+use Rattle.np_words.specs.declared.modes.Infrastructure.{Infrastructure}
+use Rattle.np_words.specs.declared.modes.Infrastructure.TheVariants.{Cache, Central}
 use Rattle.np_words.specs.declared.planning.View.{View}
 use Rattle.np_words.specs.declared.planning.View.TheVariants as view
 use Rattle.np_verdict.specs.declared.refusal.Refusal.{Refusal}
@@ -59,6 +61,12 @@ pub record HasRun (low : LowProgram) (shown : View) (bytes : List ℕ) : Type 0 
 
 -- ---- what is made
 
+-- Histories are written in the second format, but those of an infrastructure with caches: what the ninth field tells of an event of the high level
+-- is so without caches alone.
+abbrev pub format_for : Infrastructure → Format
+format_for Central = Second
+format_for Cache = First
+
 -- the events are a run of the low program, and this is the report of their replay
 pub record Ends (low : LowProgram) (events : List Event) (text : List ℕ) : Type 0 where
   pub last : Config
@@ -66,15 +74,15 @@ pub record Ends (low : LowProgram) (events : List Event) (text : List ℕ) : Typ
   pub report : text ≡ replay_text low.sites last.said (length events)
 
 -- the events are a run of the low program, and this is the report of what is shown of it
-abbrev pub Shows : View → LowProgram → List Event → List ℕ → Type 0
-Shows view.Said low events text = Ends low events text
-Shows (view.Past line) low events text = TellsPast low events line text
+abbrev pub Shows : Infrastructure → View → LowProgram → List Event → List ℕ → Type 0
+Shows infrastructure view.Said low events text = Ends low events text
+Shows infrastructure (view.Past line) low events text = TellsPast (format_for infrastructure) low events line text
 
--- the bytes are a history, and this is the report of its replay
-pub record Replays (low : LowProgram) (shown : View) (bytes text : List ℕ) : Type 0 where
+-- the bytes are a history, and this is the report of its replay, with events as the infrastructure has them written
+pub record Replays (infrastructure : Infrastructure) (low : LowProgram) (shown : View) (bytes text : List ℕ) : Type 0 where
   pub events : List Event
   pub read : IsRead bytes events
-  pub shows : Shows shown low events text
+  pub shows : Shows infrastructure shown low events text
 
 -- the bytes are a history, and this is its text in the second format
 pub record Upgrades (bytes text : List ℕ) : Type 0 where

@@ -8,7 +8,7 @@ use Rattle.np_calculus.specs.Reductions.{run}
 use Rattle.np_calculus.specs.Starts.{start_low}
 use Rattle.np_views.specs.Saying.{prints}
 use Rattle.run_views.specs.Pasts.{IsPastRun, IsPrint}
-use Rattle.history_text.specs.declared.format.Format.TheVariants.{Second}
+use Rattle.history_text.specs.declared.format.Format.{Format}
 use Rattle.history_text.specs.Spelling.{history_text}
 use Rattle.np_report.specs.Report.{past_text}
 use Rattle.np_verdict.specs.declared.refusal.Refusal.{Refusal}
@@ -49,14 +49,14 @@ pub record IsPastOfLine (low : LowProgram) (events : List Event) (line : ℕ) (l
   pub print : IsPrintOf events line index
   pub past : IsPastRun low events index led
 
--- the report of it, with the line
-pub record TellsPast (low : LowProgram) (events : List Event) (line : ℕ) (text : List ℕ) : Type 0 where
+-- the report of it, with the line, whose events are written in a format
+pub record TellsPast (format : Format) (low : LowProgram) (events : List Event) (line : ℕ) (text : List ℕ) : Type 0 where
   pub led : List Event
   pub is : IsPastOfLine low events line led
   pub item : ℕ × Value
   pub its : IsLine low events line item
   pub value : is.past.item ≡ item
-  pub report : text ≡ past_text low.sites item (history_text Second led) (length led)
+  pub report : text ≡ past_text low.sites item (history_text format led) (length led)
 
 -- ---- no such line
 

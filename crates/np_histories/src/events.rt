@@ -20,7 +20,7 @@ fn of_history(fail: HistFail) -> Refusal
 }
 
 /// The events of a history.
-pub(crate) fn events_of(alloc: Global, bytes: &[u8]) -> Result<List<Event>, Refusal>
+pub fn events_of(alloc: Global, bytes: &[u8]) -> Result<List<Event>, Refusal>
     requires { length bytes.now ≤ LONGEST_HISTORY }
     ensures found { IfOk result (IsRead bytes.now) }
     ensures few { IfOk result (λ events. length events ≤ length bytes.now) }

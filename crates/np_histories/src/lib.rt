@@ -8,7 +8,7 @@ mod limits;
 mod pasts;
 mod replaying;
 
-pub use events::upgraded;
+pub use events::{events_of, upgraded};
 pub use laws::law_one_answer;
 pub use limits::LONGEST_HISTORY;
-pub use replaying::{replayed, run_in};
+pub use replaying::{check_run, replayed};

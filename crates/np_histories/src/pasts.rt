@@ -3,7 +3,6 @@
 ghost use Rattle.std.specs.Prelude.{◌≡◌, ◌≢◌, ◌<◌, ◌≤◌, ◌⊎◌, ◌^◌, length, IfOk, IfErr, MatchOption};
 ghost use Rattle.np_calculus.specs.Config.{Config};
 ghost use Rattle.np_calculus.specs.Starts.{start_low};
-ghost use Rattle.history_text.specs.declared.format.Format.TheVariants.{Second};
 ghost use Rattle.history_text.specs.Spelling.{history_text};
 ghost use Rattle.np_report.specs.Report.{past_text};
 ghost use Rattle.np_views.specs.Past.{is_print};
@@ -12,7 +11,7 @@ ghost use Rattle.np_histories.specs.Histories.{Stops};
 ghost use Rattle.np_histories.specs.Pasts.{HasPrinted, IsLine, IsPrintOf, IsPastOfLine, LacksLine, PrintsLine, TellsPast};
 
 use super::replaying::end_of;
-use history_text::write_history;
+use history_text::{Format, write_history, write_history_1};
 use np_report::past_report;
 use np_syntax::{Event, Kind, List, LowProgram, Memory, Text, Value};
 use np_verdict::Refusal;
@@ -63,23 +62,35 @@ fn past_of(
     }
 }
 
+/// The text of a history in a format.
+fn written_in(alloc: Global, format: Format, events: &[Event]) -> Result<Text, Memory>
+    ensures { IfOk result (λ text. text ≡ history_text format events.now) }
+{
+    match format {
+        Format::First => write_history_1(alloc, events),
+        Format::Second => write_history(alloc, events),
+    }
+}
+
 /// The report of the events that led to a value.
 fn report_of(
     alloc: Global,
+    format: Format,
     sites: &List<Text>,
     site: u32,
     value: &Value,
     led: &[Event],
 ) -> Result<Text, Memory>
-    ensures { IfOk result (λ text. text ≡ past_text sites.now (site, value.now) (history_text Second led.now) (length led.now)) }
+    ensures { IfOk result (λ text. text ≡ past_text sites.now (site, value.now) (history_text format led.now) (length led.now)) }
 {
-    let history = write_history(alloc, led)?;
+    let history = written_in(alloc, format, led)?;
     past_report(alloc, sites, site, value, history.as_slice(), led.len())
 }
 
 /// The report of the past of a line, which has this value.
 fn told(
     alloc: Global,
+    format: Format,
     low: &LowProgram,
     events: &[Event],
     line: u32,
@@ -89,16 +100,17 @@ fn told(
     requires sites { length low.now.sites < 2 ^ 32 }
     requires fits { length events.now < 2 ^ 32 }
     requires line { IsLine low.now events.now line (site, value.now) }
-    ensures { IfOk result (TellsPast low.now events.now line) }
+    ensures { IfOk result (TellsPast format low.now events.now line) }
 {
     law_said_by_prints();
     let led = past_of(alloc, low, events, line)?;
-    report_of(alloc, &low.sites, site, value, led.as_slice())
+    report_of(alloc, format, &low.sites, site, value, led.as_slice())
 }
 
 /// The report of the past of a line of what was said.
 fn told_of(
     alloc: Global,
+    format: Format,
     low: &LowProgram,
     events: &[Event],
     said: &[(u32, Value)],
@@ -108,21 +120,22 @@ fn told_of(
     requires fits { length events.now < 2 ^ 32 }
     requires some { 1 ≤ line }
     requires said { HasPrinted low.now events.now said.now }
-    ensures made { IfOk result (TellsPast low.now events.now line) }
+    ensures made { IfOk result (TellsPast format low.now events.now line) }
     ensures refused { IfErr result (λ refusal. refusal ≢ Refusal.Memory → LacksLine low.now events.now line refusal) }
 {
     let Some((site, value)) = said.get(line as usize - 1) else {
         return Err(Refusal::NoLine(said.len() as u32));
     };
-    match told(alloc, low, events, line, *site, value) {
+    match told(alloc, format, low, events, line, *site, value) {
         Ok(text) => Ok(text),
         Err(Memory) => Err(Refusal::Memory),
     }
 }
 
-/// The report of the past of a line that the events of a low program printed.
+/// The report of the past of a line that the events of a low program printed, with its events in a format.
 pub(crate) fn past_told(
     alloc: Global,
+    format: Format,
     low: &LowProgram,
     events: &[Event],
     line: u32,
@@ -130,10 +143,10 @@ pub(crate) fn past_told(
     requires sites { length low.now.sites < 2 ^ 32 }
     requires fits { length events.now < 2 ^ 32 }
     requires some { 1 ≤ line }
-    ensures made { IfOk result (TellsPast low.now events.now line) }
+    ensures made { IfOk result (TellsPast format low.now events.now line) }
     ensures refused { IfErr result (λ refusal. refusal ≢ Refusal.Memory
         → Stops (start_low low.now) events.now refusal ⊎ LacksLine low.now events.now line refusal) }
 {
     let last = end_of(alloc, low, events)?;
-    told_of(alloc, low, events, last.said(), line)
+    told_of(alloc, format, low, events, last.said(), line)
 }

@@ -1,21 +1,22 @@
 //! The replay of a history of a low program.
 
-ghost use Rattle.std.specs.Prelude.{◌≡◌, ◌≢◌, ◌<◌, ◌≤◌, ◌⊎◌, ◌^◌, length, Some, IsSome, IfOk, IfErr};
+ghost use Rattle.std.specs.Prelude.{◌≡◌, ◌≢◌, ◌<◌, ◌≤◌, ◌⊎◌, ◌^◌, length, Some, IsSome, IfOk, IfErr, OnOk};
 ghost use Rattle.np_calculus.specs.Reductions.{run};
 ghost use Rattle.np_calculus.specs.Starts.{start_low};
 ghost use Rattle.np_report.specs.Report.{replay_text};
 ghost use Rattle.np_words.specs.Plans.{HasLine};
-ghost use Rattle.np_histories.specs.Histories.{Replays, Ends, HasNoEvents, HasNoRun, IsRead, Lacks, Shows, Stops, IsFaulty, of_replay};
+ghost use Rattle.np_histories.specs.Histories.{Replays, Ends, Lacks, Shows, Stops, IsFaulty, format_for, of_replay};
 
 use super::events::events_of;
 use super::limits::LONGEST_HISTORY;
 use super::pasts::past_told;
+use history_text::Format;
 use np_configuration::Cfg;
 use np_replay::{ReplayFail, replay};
 use np_report::replay_report;
-use np_syntax::{Event, List, LowProgram, Memory, Text};
+use np_syntax::{Event, LowProgram, Memory, Text};
 use np_verdict::Refusal;
-use np_words::View;
+use np_words::{Infrastructure, View};
 use std::alloc::Global;
 
 /// The refusal of `replay` as a refusal of the program.
@@ -63,9 +64,20 @@ fn replayed_events(alloc: Global, low: &LowProgram, events: &[Event]) -> Result<
     report_of(alloc, low, &last, events.len())
 }
 
+/// The format in which the histories of an infrastructure are written.
+fn format_for(infrastructure: Infrastructure) -> Format
+    ensures { result ≡ format_for infrastructure }
+{
+    match infrastructure {
+        Infrastructure::Central => Format::Second,
+        Infrastructure::Cache => Format::First,
+    }
+}
+
 /// Replays the events of a low program, and makes the report of what is to be shown.
 fn shown_events(
     alloc: Global,
+    infrastructure: Infrastructure,
     low: &LowProgram,
     view: View,
     events: &[Event],
@@ -73,43 +85,42 @@ fn shown_events(
     requires sites { length low.now.sites < 2 ^ 32 }
     requires events { length events.now < 2 ^ 32 }
     requires line { HasLine view }
-    ensures made { IfOk result (Shows view low.now events.now) }
+    ensures made { IfOk result (Shows infrastructure view low.now events.now) }
     ensures refused { IfErr result (λ refusal. refusal ≢ Refusal.Memory
         → Stops (start_low low.now) events.now refusal ⊎ Lacks view low.now events.now refusal) }
 {
     match view {
         View::Said => replayed_events(alloc, low, events),
-        View::Past { line } => past_told(alloc, low, events, line),
+        View::Past { line } => past_told(alloc, format_for(infrastructure), low, events, line),
     }
 }
 
 /// Replays a history of a low program, and makes the report of what is to be shown.
-pub fn replayed(alloc: Global, low: &LowProgram, view: View, bytes: &[u8]) -> Result<Text, Refusal>
+pub fn replayed(
+    alloc: Global,
+    infrastructure: Infrastructure,
+    low: &LowProgram,
+    view: View,
+    bytes: &[u8],
+) -> Result<Text, Refusal>
     requires sites { length low.now.sites < 2 ^ 32 }
     requires short { length bytes.now ≤ LONGEST_HISTORY }
     requires line { HasLine view }
-    ensures made { IfOk result (Replays low.now view bytes.now) }
+    ensures made { IfOk result (Replays infrastructure low.now view bytes.now) }
     ensures refused { IfErr result (λ refusal. refusal ≢ Refusal.Memory → IsFaulty low.now view bytes.now refusal) }
 {
     let events = events_of(alloc, bytes)?;
-    shown_events(alloc, low, view, events.as_slice())
+    shown_events(alloc, infrastructure, low, view, events.as_slice())
 }
 
-/// The events of a history, where they are a run of a low program.
-pub fn run_in(alloc: Global, low: &LowProgram, bytes: &[u8]) -> Result<List<Event>, Refusal>
+/// Refuses events that are no run of a low program.
+pub fn check_run(alloc: Global, low: &LowProgram, events: &[Event]) -> Result<(), Refusal>
     requires sites { length low.now.sites < 2 ^ 32 }
-    requires short { length bytes.now ≤ LONGEST_HISTORY }
-    ensures read { IfOk result (IsRead bytes.now) }
-    ensures run { IfOk result (λ events. IsSome (run (start_low low.now) events)) }
-    ensures few { IfOk result (λ events. length events < 2 ^ 32) }
-    ensures refused { IfErr result (λ refusal. refusal ≢ Refusal.Memory → HasNoEvents bytes.now refusal ⊎ HasNoRun low.now bytes.now refusal) }
+    requires events { length events.now < 2 ^ 32 }
+    ensures run { OnOk result (IsSome (run (start_low low.now) events.now)) }
+    ensures refused { IfErr result (λ refusal. refusal ≢ Refusal.Memory → Stops (start_low low.now) events.now refusal) }
 {
-    let events = events_of(alloc, bytes)?;
-    match end_of(alloc, low, events.as_slice()) {
-        Ok(last) => {
-            drop(last);
-            Ok(events)
-        }
-        Err(refusal) => Err(refusal),
-    }
+    let last = end_of(alloc, low, events)?;
+    drop(last);
+    Ok(())
 }

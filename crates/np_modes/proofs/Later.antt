@@ -11,6 +11,8 @@ use Rattle.np_sources.specs.declared.job.Job.{Job}
 use Rattle.np_sources.specs.Reaches.{IsCompiled, Reach}
 use Rattle.np_sources.specs.declared.sites.Shown.{Shown}
 use Rattle.np_verdict.specs.Faults.{IsWellTyped}
+use Rattle.np_words.specs.declared.modes.Infrastructure.{Infrastructure}
+use Rattle.np_words.specs.declared.modes.Infrastructure.TheVariants.{Central}
 use Rattle.np_words.specs.declared.planning.View.{View}
 use Rattle.np_modes.specs.Readings.{IsRead, IsText, IsUnread, seen}
 use Rattle.np_modes.specs.Causes.{IsLowered, OfResume, OfRun, OfReplay, OfSaved, RefusesResume, RefusesSaved, RefusesSource, RefusesRun, RefusesReplay}
@@ -35,32 +37,34 @@ module _ (held-0 held-1 : Held) (count-0 count-1 count-2 : Counts) (taken-1 take
       inr (l.0, record { taken = l.1.taken; more = told_later name (λ bytes. limit < length bytes) l.1.more })
 
   -- the source was lowered before
-  lowered_before : (source : List ℕ) (low : LowProgram) → IsLowered (seen held-0 count-0 count-1 taken-1 begun-0 begun-1) source low
-      → IsLowered (seen held-0 count-0 count-2 taken-2 begun-0 begun-2) source low
-  lowered_before source low l = record { bytes = l.bytes; read = record { short = l.read.short; whole = l.read.whole }; lowers = l.lowers }
+  lowered_before : (source : List ℕ) (infrastructure : Infrastructure) (low : LowProgram) → IsLowered (seen held-0 count-0 count-1 taken-1 begun-0 begun-1) source infrastructure low
+      → IsLowered (seen held-0 count-0 count-2 taken-2 begun-0 begun-2) source infrastructure low
+  lowered_before source infrastructure low l = record { bytes = l.bytes; read = record { short = l.read.short; whole = l.read.whole }; lowers = l.lowers }
 
-  pub replay_made : (source history : List ℕ) (low : LowProgram) (view : View) → IsLowered (seen held-0 count-0 count-1 taken-1 begun-0 begun-1) source low → (r : Result Job Refusal)
-      → IfOk r (λ job. OfRun (seen held-1 count-1 count-2 taken-2 begun-1 begun-2) history low view job.kept job.high job.text)
-      → IfOk r (λ job. OfReplay (seen held-0 count-0 count-2 taken-2 begun-0 begun-2) source history view job.kept job.high job.text)
-  replay_made source history low view l (Ok job) run = record {
+  pub replay_made : (source history : List ℕ) (infrastructure : Infrastructure) (low : LowProgram) (view : View)
+      → IsLowered (seen held-0 count-0 count-1 taken-1 begun-0 begun-1) source infrastructure low → (r : Result Job Refusal)
+      → IfOk r (λ job. OfRun (seen held-1 count-1 count-2 taken-2 begun-1 begun-2) history infrastructure low view job.kept job.high job.text)
+      → IfOk r (λ job. OfReplay (seen held-0 count-0 count-2 taken-2 begun-0 begun-2) source history infrastructure view job.kept job.high job.text)
+  replay_made source history infrastructure low view l (Ok job) run = record {
     low = low;
-    lowered = lowered_before source low l;
+    lowered = lowered_before source infrastructure low l;
     run = record { bytes = run.bytes; read = read_later history _ run.bytes run.read; replays = run.replays; is_kept = run.is_kept; is_high = run.is_high };
   }
-  replay_made source history low view l (Err e) run = tt
+  replay_made source history infrastructure low view l (Err e) run = tt
 
   run_refused : (history : List ℕ) (low : LowProgram) (view : View) (refusal : Refusal) → RefusesRun (seen held-1 count-1 count-2 taken-2 begun-1 begun-2) history low view refusal
       → RefusesRun (seen held-0 count-0 count-2 taken-2 begun-0 begun-2) history low view refusal
   run_refused history low view refusal (inl u) = inl (unread_later history _ _ refusal u)
   run_refused history low view refusal (inr s) = inr (record { bytes = s.bytes; read = read_later history _ s.bytes s.read; faulty = s.faulty })
 
-  pub replay_refused : (source history : List ℕ) (low : LowProgram) (view : View) → IsLowered (seen held-0 count-0 count-1 taken-1 begun-0 begun-1) source low → (r : Result Job Refusal)
+  pub replay_refused : (source history : List ℕ) (infrastructure : Infrastructure) (low : LowProgram) (view : View)
+      → IsLowered (seen held-0 count-0 count-1 taken-1 begun-0 begun-1) source infrastructure low → (r : Result Job Refusal)
       → IfErr r (λ refusal. refusal ≢ Memory → RefusesRun (seen held-1 count-1 count-2 taken-2 begun-1 begun-2) history low view refusal)
-      → IfErr r (λ refusal. refusal ≢ Memory → RefusesSource (seen held-0 count-0 count-2 taken-2 begun-0 begun-2) source Reach.low refusal
-      ⊎ RefusesReplay (seen held-0 count-0 count-2 taken-2 begun-0 begun-2) source history view refusal)
-  replay_refused source history low view l (Ok job) h = tt
-  replay_refused source history low view l (Err e) h =
-      λ some. inr (record { low = low; lowered = lowered_before source low l; run = run_refused history low view e (h some) })
+      → IfErr r (λ refusal. refusal ≢ Memory → RefusesSource (seen held-0 count-0 count-2 taken-2 begun-0 begun-2) source (Reach.low infrastructure) refusal
+      ⊎ RefusesReplay (seen held-0 count-0 count-2 taken-2 begun-0 begun-2) source history infrastructure view refusal)
+  replay_refused source history infrastructure low view l (Ok job) h = tt
+  replay_refused source history infrastructure low view l (Err e) h =
+      λ some. inr (record { low = low; lowered = lowered_before source infrastructure low l; run = run_refused history low view e (h some) })
 
   -- ---- a run that goes on from a history
 
@@ -80,9 +84,9 @@ module _ (held-0 held-1 : Held) (count-0 count-1 count-2 : Counts) (taken-1 take
   saved_refused saved low budget refusal (inr s) = inr (record { bytes = s.bytes; read = read_later saved _ s.bytes s.read; unfit = s.unfit })
 
   pub resume_refused : (source saved : List ℕ) (budget : ℕ) (bytes : List ℕ) (p : Program) (low : LowProgram)
-      → IsText (seen held-0 count-0 count-1 taken-1 begun-0 begun-1) source LONGEST_SOURCE bytes → IsWellTyped bytes p → IsCompiled p low → (r : Result Job Refusal)
+      → IsText (seen held-0 count-0 count-1 taken-1 begun-0 begun-1) source LONGEST_SOURCE bytes → IsWellTyped bytes p → IsCompiled Central p low → (r : Result Job Refusal)
       → IfErr r (λ refusal. refusal ≢ Memory → RefusesSaved (seen held-1 count-1 count-2 taken-2 begun-1 begun-2) saved low budget refusal)
-      → IfErr r (λ refusal. refusal ≢ Memory → RefusesSource (seen held-0 count-0 count-2 taken-2 begun-0 begun-2) source Reach.low refusal
+      → IfErr r (λ refusal. refusal ≢ Memory → RefusesSource (seen held-0 count-0 count-2 taken-2 begun-0 begun-2) source (Reach.low Central) refusal
       ⊎ RefusesResume (seen held-0 count-0 count-2 taken-2 begun-0 begun-2) source saved budget refusal)
   resume_refused source saved budget bytes p low text typed is (Ok job) h = tt
   resume_refused source saved budget bytes p low text typed is (Err e) h =

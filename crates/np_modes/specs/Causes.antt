@@ -1,5 +1,5 @@
 -- What a call makes of its texts, and the cause of each refusal (docs/LANGUAGE.md, "Reports and refusals").
-use Rattle.std.specs.Prelude.{◌≡◌, ℕ, ◌+◌, ◌<◌, ◌≤◌, ◌⊎◌, List, length, Option, Some, None}
+use Rattle.std.specs.Prelude.{◌≡◌, ℕ, ◌+◌, ◌<◌, ◌≤◌, ◌⊎◌, List, length, Option, Some, None, IsSome}
 use Rattle.np_syntax.specs.declared.limits.TheConstants.{LONGEST_SOURCE, MOST_SITES}
 use Rattle.np_syntax.specs.declared.event.Event.{Event}
 use Rattle.np_syntax.specs.declared.program.LowProgram.{LowProgram}
@@ -8,12 +8,14 @@ use Rattle.np_calculus.specs.Reductions.{run}
 use Rattle.np_calculus.specs.Starts.{start_low}
 use Rattle.np_serial.specs.declared.serial.SerialRun.{SerialRun}
 use Rattle.np_generate.specs.Generated.{generated}
-use Rattle.np_histories.specs.Histories.{HasNoEvents, IsFaulty, Replays, Upgrades}
+use Rattle.np_histories.specs.Histories.{HasNoEvents, IsFaulty, Replays, Stops, Upgrades}
 use Rattle.np_histories.specs.Histories as histories
 use Rattle.np_histories.specs.declared.limits.TheConstants.{LONGEST_HISTORY}
 use Rattle.np_verdict.specs.declared.refusal.Refusal.{Refusal}
 use Rattle.np_verdict.specs.declared.refusal.Refusal.TheVariants.{Usage, TooLong, HistoryTooLong}
 use Rattle.np_words.specs.Plans.{plan}
+use Rattle.np_words.specs.declared.modes.Infrastructure.{Infrastructure}
+use Rattle.np_words.specs.declared.modes.Infrastructure.TheVariants.{Central}
 use Rattle.np_words.specs.declared.planning.Plan.{Plan}
 use Rattle.np_words.specs.declared.planning.Plan.TheVariants as plans
 use Rattle.np_words.specs.declared.planning.Task.{Task}
@@ -36,24 +38,24 @@ pub record OfSource (texts : Reading) (file : List ℕ) (task : Task) (kept : Op
   pub does : DoesTask task bytes kept high text
 
 -- the history was read and replayed, and this is the report of what is shown of it
-pub record OfRun (texts : Reading) (history : List ℕ) (low : LowProgram) (view : View) (kept : Option Record) (high : Option SerialRun) (text : List ℕ) : Type 0 where
+pub record OfRun (texts : Reading) (history : List ℕ) (infrastructure : Infrastructure) (low : LowProgram) (view : View) (kept : Option Record) (high : Option SerialRun) (text : List ℕ) : Type 0 where
   pub bytes : List ℕ
   pub read : IsRead texts history LONGEST_HISTORY bytes
-  pub replays : Replays low view bytes text
+  pub replays : Replays infrastructure low view bytes text
   pub is_kept : kept ≡ None
   pub is_high : high ≡ None
 
 -- the source has this low program
-pub record IsLowered (texts : Reading) (source : List ℕ) (low : LowProgram) : Type 0 where
+pub record IsLowered (texts : Reading) (source : List ℕ) (infrastructure : Infrastructure) (low : LowProgram) : Type 0 where
   pub bytes : List ℕ
   pub read : IsText texts source LONGEST_SOURCE bytes
-  pub lowers : IsLowOf bytes low
+  pub lowers : IsLowOf infrastructure bytes low
 
 -- both were read, and the history was replayed
-pub record OfReplay (texts : Reading) (source history : List ℕ) (view : View) (kept : Option Record) (high : Option SerialRun) (text : List ℕ) : Type 0 where
+pub record OfReplay (texts : Reading) (source history : List ℕ) (infrastructure : Infrastructure) (view : View) (kept : Option Record) (high : Option SerialRun) (text : List ℕ) : Type 0 where
   pub low : LowProgram
-  pub lowered : IsLowered texts source low
-  pub run : OfRun texts history low view kept high text
+  pub lowered : IsLowered texts source infrastructure low
+  pub run : OfRun texts history infrastructure low view kept high text
 
 -- the bytes are a history, and the run of the source of those bytes goes on from its events
 pub record GoesOnFrom (budget : ℕ) (how : Shown) (source bytes : List ℕ) (kept : Option Record) (high : Option SerialRun) (text : List ℕ) : Type 0 where
@@ -94,7 +96,7 @@ pub record OfLoad (agents : ℕ) (kept : Option Record) (high : Option SerialRun
 
 abbrev pub Does : Reading → Plan → Option Record → Option SerialRun → List ℕ → Type 0
 Does texts (plans.Source file task) kept high text = OfSource texts file task kept high text
-Does texts (plans.Replay source history view) kept high text = OfReplay texts source history view kept high text
+Does texts (plans.Replay source history infrastructure view) kept high text = OfReplay texts source history infrastructure view kept high text
 Does texts (plans.Resume source saved budget history shows serial links) kept high text =
     OfResume texts source saved budget (shown.Printed history (in_two_steps shows)) kept high text
 Does texts (plans.Upgrade history) kept high text = OfUpgrade texts history kept high text
@@ -130,9 +132,9 @@ abbrev pub RefusesRun : Reading → List ℕ → LowProgram → View → Refusal
 RefusesRun texts history low view refusal = IsUnread texts history LONGEST_HISTORY HistoryTooLong refusal ⊎ IsFaultyRun texts history low view refusal
 
 -- the source is accepted, and the history is refused
-pub record RefusesReplay (texts : Reading) (source history : List ℕ) (view : View) (refusal : Refusal) : Type 0 where
+pub record RefusesReplay (texts : Reading) (source history : List ℕ) (infrastructure : Infrastructure) (view : View) (refusal : Refusal) : Type 0 where
   pub low : LowProgram
-  pub lowered : IsLowered texts source low
+  pub lowered : IsLowered texts source infrastructure low
   pub run : RefusesRun texts history low view refusal
 
 -- there are few sites, and main's is one of them
@@ -147,6 +149,10 @@ pub record StopsThere (budget : ℕ) (low : LowProgram) (bytes : List ℕ) (refu
   pub last : Config
   pub reaches : run (start_low low) events ≡ Some last
   pub cannot : CannotGoOn budget low events refusal
+
+-- the events are no run of the low program, from the index of the refusal on, or one from which its sites do not go on
+abbrev pub StopsFrom : ℕ → LowProgram → List Event → Refusal → Type 0
+StopsFrom budget low events refusal = Stops (start_low low) events refusal ⊎ (IsSome (run (start_low low) events) × CannotGoOn budget low events refusal)
 
 -- the bytes are a history of a run of the low program from which its sites can go on
 pub record IsFit (budget : ℕ) (low : LowProgram) (bytes : List ℕ) : Type 0 where
@@ -172,7 +178,7 @@ RefusesSaved texts saved low budget refusal = IsUnread texts saved LONGEST_HISTO
 -- the source is accepted, and the history is refused
 pub record RefusesResume (texts : Reading) (source saved : List ℕ) (budget : ℕ) (refusal : Refusal) : Type 0 where
   pub low : LowProgram
-  pub lowered : IsLowered texts source low
+  pub lowered : IsLowered texts source Central low
   pub run : RefusesSaved texts saved low budget refusal
 
 -- the history was read, and it is none
@@ -192,9 +198,10 @@ pub record RefusesLoad (agents : ℕ) (refusal : Refusal) : Type 0 where
 -- what is asked for is refused so
 abbrev pub RefusesPlan : Reading → Plan → Refusal → Type 0
 RefusesPlan texts (plans.Source file task) refusal = RefusesSource texts file (reach_of task) refusal
-RefusesPlan texts (plans.Replay source history view) refusal = RefusesSource texts source Reach.low refusal ⊎ RefusesReplay texts source history view refusal
+RefusesPlan texts (plans.Replay source history infrastructure view) refusal =
+    RefusesSource texts source (Reach.low infrastructure) refusal ⊎ RefusesReplay texts source history infrastructure view refusal
 RefusesPlan texts (plans.Resume source saved budget history shows serial links) refusal =
-    RefusesSource texts source Reach.low refusal ⊎ RefusesResume texts source saved budget refusal
+    RefusesSource texts source (Reach.low Central) refusal ⊎ RefusesResume texts source saved budget refusal
 RefusesPlan texts (plans.Upgrade history) refusal = RefusesHistory texts history refusal
 RefusesPlan texts (plans.Generate agents) refusal = ⊥
 RefusesPlan texts (plans.Load agents serial links) refusal = RefusesLoad agents refusal
@@ -210,7 +217,7 @@ pub data Stands (words : List (List ℕ)) (texts : Reading) : Refusal → Type 0
 
 abbrev pub texts_of : Plan → ℕ
 texts_of (plans.Source file task) = 1
-texts_of (plans.Replay source history view) = 2
+texts_of (plans.Replay source history infrastructure view) = 2
 texts_of (plans.Resume source saved budget history shows serial links) = 2
 texts_of (plans.Upgrade history) = 1
 texts_of (plans.Generate agents) = 0

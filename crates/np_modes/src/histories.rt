@@ -14,7 +14,7 @@ use np_io::{Texts, Word};
 use np_sources::{Job, low_of, text_alone};
 use np_syntax::{LONGEST_SOURCE, LowProgram};
 use np_verdict::Refusal;
-use np_words::View;
+use np_words::{Infrastructure, View};
 use std::alloc::Global;
 
 /// Writes a history anew, in the second format.
@@ -46,41 +46,48 @@ pub(crate) fn replay<T: Texts>(
     texts: &mut T,
     source: &Word,
     history: &Word,
+    infrastructure: Infrastructure,
     view: View,
 ) -> Result<Job, Refusal>
     requires { HasLine view }
     ensures begins { T.begins texts.new ≤ T.begins texts.old + 2 }
     ensures made { let seen = seen (T.held texts.old) (T.faults texts.old) (T.faults texts.new) (T.taken texts.new) (T.begins texts.old) (T.begins texts.new)
-        in IfOk result (λ job. OfReplay seen source.now history.now view job.kept job.high job.text) }
+        in IfOk result (λ job. OfReplay seen source.now history.now infrastructure view job.kept job.high job.text) }
     ensures refused { let seen = seen (T.held texts.old) (T.faults texts.old) (T.faults texts.new) (T.taken texts.new) (T.begins texts.old) (T.begins texts.new)
         in IfErr result (λ refusal. refusal ≢ Refusal.Memory
-        → RefusesSource seen source.now Reach.low refusal ⊎ RefusesReplay seen source.now history.now view refusal) }
+        → RefusesSource seen source.now (Reach.low infrastructure) refusal ⊎ RefusesReplay seen source.now history.now infrastructure view refusal) }
 {
-    match read_low(alloc, texts, source) {
-        Ok(low) => replay_low(alloc, texts, &low, history, view),
+    match read_low(alloc, texts, infrastructure, source) {
+        Ok(low) => replay_low(alloc, texts, infrastructure, &low, history, view),
         Err(refusal) => Err(refusal),
     }
 }
 
 /// The low program of the source of this name.
-fn read_low<T: Texts>(alloc: Global, texts: &mut T, source: &Word) -> Result<LowProgram, Refusal>
+fn read_low<T: Texts>(
+    alloc: Global,
+    texts: &mut T,
+    infrastructure: Infrastructure,
+    source: &Word,
+) -> Result<LowProgram, Refusal>
     ensures held { StayHeld (T.held texts.old) (T.held texts.new) }
     ensures later { NoneFell (T.faults texts.old) (T.faults texts.new) }
     ensures begins { T.begins texts.new ≤ T.begins texts.old + 1 }
     ensures made { let seen = seen (T.held texts.old) (T.faults texts.old) (T.faults texts.new) (T.taken texts.new) (T.begins texts.old) (T.begins texts.new)
-        in IfOk result (IsLowered seen source.now) }
+        in IfOk result (IsLowered seen source.now infrastructure) }
     ensures few { IfOk result (λ low. length low.sites < 2 ^ 32) }
     ensures refused { let seen = seen (T.held texts.old) (T.faults texts.old) (T.faults texts.new) (T.taken texts.new) (T.begins texts.old) (T.begins texts.new)
-        in IfErr result (λ refusal. refusal ≢ Refusal.Memory → RefusesSource seen source.now Reach.low refusal) }
+        in IfErr result (λ refusal. refusal ≢ Refusal.Memory → RefusesSource seen source.now (Reach.low infrastructure) refusal) }
 {
     let bytes = read_text(alloc, texts, source, LONGEST_SOURCE, Refusal::TooLong)?;
-    low_of(alloc, bytes.as_slice())
+    low_of(alloc, infrastructure, bytes.as_slice())
 }
 
 /// Replays the history of this name from the start of the low program, and shows this of it.
 fn replay_low<T: Texts>(
     alloc: Global,
     texts: &mut T,
+    infrastructure: Infrastructure,
     low: &LowProgram,
     history: &Word,
     view: View,
@@ -89,7 +96,7 @@ fn replay_low<T: Texts>(
     requires line { HasLine view }
     ensures begins { T.begins texts.new ≤ T.begins texts.old + 1 }
     ensures made { let seen = seen (T.held texts.old) (T.faults texts.old) (T.faults texts.new) (T.taken texts.new) (T.begins texts.old) (T.begins texts.new)
-        in IfOk result (λ job. OfRun seen history.now low.now view job.kept job.high job.text) }
+        in IfOk result (λ job. OfRun seen history.now infrastructure low.now view job.kept job.high job.text) }
     ensures refused { let seen = seen (T.held texts.old) (T.faults texts.old) (T.faults texts.new) (T.taken texts.new) (T.begins texts.old) (T.begins texts.new)
         in IfErr result (λ refusal. refusal ≢ Refusal.Memory → RefusesRun seen history.now low.now view refusal) }
 {
@@ -100,6 +107,6 @@ fn replay_low<T: Texts>(
         LONGEST_HISTORY,
         Refusal::HistoryTooLong,
     )?;
-    let text = replayed(alloc, low, view, bytes.as_slice())?;
+    let text = replayed(alloc, infrastructure, low, view, bytes.as_slice())?;
     Ok(text_alone(text))
 }

@@ -61,8 +61,9 @@ fn done<R: Threads + Wait + Sync, G: Gate, T: Texts>(
         Plan::Replay {
             source,
             history,
+            infrastructure,
             view,
-        } => replay(alloc, texts, source, history, *view),
+        } => replay(alloc, texts, source, history, *infrastructure, *view),
         Plan::Resume {
             source,
             saved,

@@ -1,23 +1,24 @@
 //! The mode that goes on with a run from its history.
 
-ghost use Rattle.std.specs.Prelude.{◌≡◌, ◌≢◌, ◌+◌, ◌<◌, ◌≤◌, ◌⊎◌, length, IfOk, IfErr};
+ghost use Rattle.std.specs.Prelude.{◌≡◌, ◌≢◌, ◌+◌, ◌<◌, ◌≤◌, ◌⊎◌, ◌^◌, length, None, IfOk, IfErr};
 ghost use Rattle.np_io.specs.Causes.{NoneFell};
 ghost use Rattle.np_io.specs.Bytes.{StayHeld};
 ghost use Rattle.np_syntax.specs.declared.limits.TheConstants.{LARGEST_BUDGET, LONGEST_SOURCE, MOST_SITES};
-ghost use Rattle.np_sources.specs.Makes.{in_two_steps};
-ghost use Rattle.np_sources.specs.Reaches.{Reach, IsCompiled};
+ghost use Rattle.np_words.specs.declared.modes.Infrastructure.TheVariants.{Central};
+ghost use Rattle.np_sources.specs.Makes.{KeepsResumed, high_of, in_two_steps};
+ghost use Rattle.np_sources.specs.Reaches.{Reach, IsCompiled, barred};
 ghost use Rattle.np_sources.specs.declared.sites.Shown.TheVariants as shown;
 ghost use Rattle.np_verdict.specs.Faults.{IsWellTyped};
 ghost use Rattle.np_modes.specs.Readings.{IsText, seen};
-ghost use Rattle.np_modes.specs.Causes.{CanRun, GoesOnFrom, IsUnfit, OfResume, OfSaved, RefusesResume, RefusesSaved, RefusesSource};
+ghost use Rattle.np_modes.specs.Causes.{CanRun, GoesOnFrom, IsUnfit, OfResume, OfSaved, RefusesResume, RefusesSaved, RefusesSource, StopsFrom};
 
 use super::reading::read_text;
 use np_check::Checked;
-use np_histories::{LONGEST_HISTORY, run_in};
+use np_histories::{LONGEST_HISTORY, check_run, events_of};
 use np_io::{Texts, Word};
 use np_on_sites::Gate;
-use np_sources::{Compiled, Course, Job, Shown, compiled_of, job_resumed};
-use np_syntax::{LONGEST_SOURCE, List, LowProgram};
+use np_sources::{Compiled, Course, Job, Shown, compiled_of, job_redone, job_resumed};
+use np_syntax::{Event, LONGEST_SOURCE, List, LowProgram};
 use np_verdict::Refusal;
 use np_words::HighText;
 use std::alloc::Global;
@@ -68,7 +69,7 @@ pub(crate) fn resume<R: Threads + Wait + Sync, G: Gate, T: Texts>(
         in IfOk result (λ job. OfResume seen source.now saved.now course.budget (shown.Printed report.history (in_two_steps report.high)) job.kept job.high job.text) }
     ensures refused { let seen = seen (T.held texts.old) (T.faults texts.old) (T.faults texts.new) (T.taken texts.new) (T.begins texts.old) (T.begins texts.new)
         in IfErr result (λ refusal. refusal ≢ Refusal.Memory
-        → RefusesSource seen source.now Reach.low refusal ⊎ RefusesResume seen source.now saved.now course.budget refusal) }
+        → RefusesSource seen source.now (Reach.low Central) refusal ⊎ RefusesResume seen source.now saved.now course.budget refusal) }
 {
     match read_source(alloc, texts, source) {
         Ok(source) => {
@@ -88,10 +89,10 @@ fn read_source<T: Texts>(alloc: Global, texts: &mut T, name: &Word) -> Result<So
     ensures read { let seen = seen (T.held texts.old) (T.faults texts.old) (T.faults texts.new) (T.taken texts.new) (T.begins texts.old) (T.begins texts.new)
         in IfOk result (λ made. IsText seen name.now LONGEST_SOURCE made.bytes) }
     ensures typed { IfOk result (λ made. IsWellTyped made.bytes made.checked) }
-    ensures compiled { IfOk result (λ made. IsCompiled made.checked made.low) }
+    ensures compiled { IfOk result (λ made. IsCompiled Central made.checked made.low) }
     ensures runs { IfOk result (λ made. CanRun made.low) }
     ensures refused { let seen = seen (T.held texts.old) (T.faults texts.old) (T.faults texts.new) (T.taken texts.new) (T.begins texts.old) (T.begins texts.new)
-        in IfErr result (λ refusal. refusal ≢ Refusal.Memory → RefusesSource seen name.now Reach.low refusal) }
+        in IfErr result (λ refusal. refusal ≢ Refusal.Memory → RefusesSource seen name.now (Reach.low Central) refusal) }
 {
     let bytes = read_text(alloc, texts, name, LONGEST_SOURCE, Refusal::TooLong)?;
     match compiled_of(alloc, bytes.as_slice()) {
@@ -116,7 +117,7 @@ fn resume_source<R: Threads + Wait + Sync, G: Gate, T: Texts>(
     report: Report,
 ) -> Result<Job, Refusal>
     requires typed { IsWellTyped source.now.bytes source.now.checked }
-    requires compiled { IsCompiled source.now.checked source.now.low }
+    requires compiled { IsCompiled Central source.now.checked source.now.low }
     requires runs { CanRun source.now.low }
     requires some { 1 ≤ course.budget }
     requires within { course.budget ≤ LARGEST_BUDGET }
@@ -148,7 +149,7 @@ fn resume_from<R: Threads + Wait + Sync, G: Gate>(
 ) -> Result<Job, Refusal>
     requires short { length saved.now ≤ LONGEST_HISTORY }
     requires typed { IsWellTyped source.now.bytes source.now.checked }
-    requires compiled { IsCompiled source.now.checked source.now.low }
+    requires compiled { IsCompiled Central source.now.checked source.now.low }
     requires runs { CanRun source.now.low }
     requires some { 1 ≤ course.budget }
     requires within { course.budget ≤ LARGEST_BUDGET }
@@ -159,16 +160,38 @@ fn resume_from<R: Threads + Wait + Sync, G: Gate>(
         history: report.history,
         high: in_two_steps(report.high),
     };
-    let events = run_in(alloc, &source.low, saved)?;
-    job_resumed(
-        alloc,
-        rt,
-        gate,
-        course,
-        shown,
-        source.bytes.as_slice(),
-        &source.checked,
-        &source.low,
-        events.as_slice(),
-    )
+    let events = events_of(alloc, saved)?;
+    job_from(alloc, rt, gate, source, events.as_slice(), course, shown)
+}
+
+/// Goes on with the run of a source from events: the sites do them again by themselves. Where they cannot, it is told why; that takes a
+/// second, serial run of the events.
+fn job_from<R: Threads + Wait + Sync, G: Gate>(
+    alloc: Global,
+    rt: &R,
+    gate: &G,
+    source: &Source,
+    events: &[Event],
+    course: Course,
+    shown: Shown,
+) -> Result<Job, Refusal>
+    requires few { length events.now < 2 ^ 32 }
+    requires typed { IsWellTyped source.now.bytes source.now.checked }
+    requires compiled { IsCompiled Central source.now.checked source.now.low }
+    requires free { barred (high_of shown) source.now.checked ≡ None }
+    requires runs { CanRun source.now.low }
+    requires some { 1 ≤ course.budget }
+    requires within { course.budget ≤ LARGEST_BUDGET }
+    ensures made { IfOk result (λ job. KeepsResumed course.budget shown source.now.bytes events.now job.kept job.high job.text) }
+    ensures refused { IfErr result (λ refusal. refusal ≢ Refusal.Memory → StopsFrom course.budget source.now.low events.now refusal) }
+{
+    let bytes = source.bytes.as_slice();
+    let Source { checked, low, .. } = source;
+    match job_redone(alloc, rt, gate, course, shown, bytes, checked, low, events)? {
+        Some(job) => Ok(job),
+        None => {
+            check_run(alloc, low, events)?;
+            job_resumed(alloc, rt, gate, course, shown, bytes, checked, low, events)
+        }
+    }
 }

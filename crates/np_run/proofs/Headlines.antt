@@ -50,12 +50,12 @@ module _ (words : List (List ℕ)) (texts : Reading) (kept : Record) where
   of_task name (task.High budget history) o made text is planned d = not_kept o is d.does.is_kept
   of_task name task.Show o made text is planned d = not_kept o is d.does.is_kept
   of_task name task.Check o made text is planned d = not_kept o is d.does.is_kept
-  of_task name task.Low o made text is planned d = not_kept o is d.does.is_kept
+  of_task name (task.Low infra) o made text is planned d = not_kept o is d.does.is_kept
 
   of_plan : (asked : Plan) (o : Option Record) (high : Option SerialRun) (text : List ℕ) → o ≡ Some kept → plan words ≡ Some asked → Does texts asked o high text
       → Headline words texts kept text
   of_plan (plans.Source name asked) o high text is planned d = of_task name asked o high text is planned d
-  of_plan (plans.Replay source history view) o high text is planned d = not_kept o is d.run.is_kept
+  of_plan (plans.Replay source history infra view) o high text is planned d = not_kept o is d.run.is_kept
   of_plan (plans.Resume name saved budget history shows serial links) o high text is planned d =
       let keeps = d.run.goes_on.keeps.keeps in
       of_sites budget (run_report history (in_two_steps shows)) d.bytes o keeps.made text is keeps.is_kept

@@ -9,6 +9,8 @@ use Rattle.np_syntax.specs.declared.value.Value.{Value}
 use Rattle.np_calculus.specs.Config.{Config}
 use Rattle.np_calculus.specs.Reductions.{run}
 use Rattle.np_calculus.specs.Starts.{start_low}
+use Rattle.np_words.specs.declared.modes.Infrastructure.{Infrastructure}
+use Rattle.np_words.specs.declared.modes.Infrastructure.TheVariants.{Central}
 use Rattle.np_words.specs.declared.planning.Plan.{Plan}
 use Rattle.np_words.specs.declared.planning.View.{View}
 use Rattle.np_words.specs.declared.planning.View.TheVariants as views
@@ -131,27 +133,27 @@ says_faulty_history purpose bytes refusal short (inr s) = s.1
 -- ---- the source before it
 
 module _ (sources : source_laws.HaveOneAnswer) where
-  -- a source that is told has one low program
-  pub same_low : (call : Call) (source bytes : List ℕ) (low other : LowProgram) → IsTold call source bytes → IsLowOf bytes low
-      → IsLowered call.texts source other → other ≡ low
-  same_low call source bytes low other t is l =
+  -- a source that is told has one low program of each infrastructure
+  pub same_low : (infra : Infrastructure) (call : Call) (source bytes : List ℕ) (low other : LowProgram) → IsTold call source bytes → IsLowOf infra bytes low
+      → IsLowered call.texts source infra other → other ≡ low
+  same_low infra call source bytes low other t is l =
       let same : l.bytes ≡ bytes = same_text call source bytes l.bytes LONGEST_SOURCE t l.read in
-      sources.same_low bytes other low (subst (λ (b : List ℕ). IsLowOf b other) same l.lowers) is
+      sources.same_low infra bytes other low (subst (λ (b : List ℕ). IsLowOf infra b other) same l.lowers) is
 
   by_plan : (call : Call) (asked : Plan) (history : List ℕ) (purpose : Purpose) (bytes : List ℕ) (refusal : Refusal) → ReadsHistory call asked history purpose
       → IsTold call history bytes → RefusesPlan call.texts asked refusal → SaysHistory purpose bytes refusal
   by_plan call asked history purpose bytes refusal (ReadsHistory.alone h) t r = history_says call h bytes refusal t r
-  by_plan call asked history purpose bytes refusal (ReadsHistory.replayed source h b view one_low told_source short lowered) t (inl r) =
-      absurd (sources.not_both Reach.low b refusal (one_low, lowered)
-      (says_faulty Reach.low b refusal short (source_says call source Reach.low b refusal told_source r)))
-  by_plan call asked history purpose bytes refusal (ReadsHistory.replayed source h b view one_low told_source short lowered) t (inr r) =
-      subst (λ (q : LowProgram). SaysHistory (Purpose.replay q view) bytes refusal) (same_low call source b one_low r.low told_source lowered r.lowered)
+  by_plan call asked history purpose bytes refusal (ReadsHistory.replayed source h b infra view one_low told_source short lowered) t (inl r) =
+      absurd (sources.not_both (Reach.low infra) b refusal (one_low, lowered)
+      (says_faulty (Reach.low infra) b refusal short (source_says call source (Reach.low infra) b refusal told_source r)))
+  by_plan call asked history purpose bytes refusal (ReadsHistory.replayed source h b infra view one_low told_source short lowered) t (inr r) =
+      subst (λ (q : LowProgram). SaysHistory (Purpose.replay q view) bytes refusal) (same_low infra call source b one_low r.low told_source lowered r.lowered)
       (run_says call h r.low view bytes refusal t r.run)
   by_plan call asked history purpose bytes refusal (ReadsHistory.resumed source h b budget shows high serial links one_low told_source short lowered) t (inl r) =
-      absurd (sources.not_both Reach.low b refusal (one_low, lowered)
-      (says_faulty Reach.low b refusal short (source_says call source Reach.low b refusal told_source r)))
+      absurd (sources.not_both (Reach.low Central) b refusal (one_low, lowered)
+      (says_faulty (Reach.low Central) b refusal short (source_says call source (Reach.low Central) b refusal told_source r)))
   by_plan call asked history purpose bytes refusal (ReadsHistory.resumed source h b budget shows high serial links one_low told_source short lowered) t (inr r) =
-      subst (λ (q : LowProgram). SaysHistory (Purpose.resume q budget) bytes refusal) (same_low call source b one_low r.low told_source lowered r.lowered)
+      subst (λ (q : LowProgram). SaysHistory (Purpose.resume q budget) bytes refusal) (same_low Central call source b one_low r.low told_source lowered r.lowered)
       (saved_says call h r.low budget bytes refusal t r.run)
 
   pub stands_says : (call : Call) (purpose : Purpose) (bytes : List ℕ) (refusal : Refusal) → Follows call purpose bytes → Stands call.words call.texts refusal
@@ -165,9 +167,9 @@ abbrev IsTaken : Purpose → List ℕ → Type 0
 IsTaken purpose bytes = (length bytes ≤ LONGEST_HISTORY) × AcceptedHistory purpose bytes
 
 -- a run that was shown so has what was to be shown
-has_run : (low : LowProgram) (view : View) (bytes text : List ℕ) → Replayed low view bytes text → HasRun low view bytes
-has_run low views.Said bytes text r = record { events = r.events; read = r.read; last = r.shows.last; reaches = r.shows.reaches; has = tt }
-has_run low (views.Past line) bytes text r =
+has_run : (infra : Infrastructure) (low : LowProgram) (view : View) (bytes text : List ℕ) → Replayed infra low view bytes text → HasRun low view bytes
+has_run infra low views.Said bytes text r = record { events = r.events; read = r.read; last = r.shows.last; reaches = r.shows.reaches; has = tt }
+has_run infra low (views.Past line) bytes text r =
     let printed = r.shows.its.printed in
     record { events = r.events; read = r.read; last = printed.last; reaches = printed.reaches; has = has_line r.shows.its.said line r.shows.item printed.last.said r.shows.its.some r.shows.its.its printed.is }
   where
@@ -193,17 +195,17 @@ module _ (sources : source_laws.HaveOneAnswer) where
   made_plan call asked history purpose bytes kept high text (ReadsHistory.alone h) t d =
       subst (λ (b : List ℕ). IsTaken Purpose.events b) (same_text call h bytes d.bytes LONGEST_HISTORY t d.read.text)
       (d.read.text.short, record { events = d.upgrades.events; read = d.upgrades.read })
-  made_plan call asked history purpose bytes kept high text (ReadsHistory.replayed source h b view one_low told_source short lowered) t d =
-      let run : HasRun d.low view d.run.bytes = has_run d.low view d.run.bytes text d.run.replays in
+  made_plan call asked history purpose bytes kept high text (ReadsHistory.replayed source h b infra view one_low told_source short lowered) t d =
+      let run : HasRun d.low view d.run.bytes = has_run infra d.low view d.run.bytes text d.run.replays in
       let taken : IsTaken (Purpose.replay d.low view) bytes = subst (λ (b : List ℕ). IsTaken (Purpose.replay d.low view) b) (same_text call h bytes d.run.bytes LONGEST_HISTORY t d.run.read.text)
       (d.run.read.text.short, run) in
-      subst (λ (q : LowProgram). IsTaken (Purpose.replay q view) bytes) (same_low sources call source b one_low d.low told_source lowered d.lowered) taken
+      subst (λ (q : LowProgram). IsTaken (Purpose.replay q view) bytes) (same_low sources infra call source b one_low d.low told_source lowered d.lowered) taken
   made_plan call asked history purpose bytes kept high text (ReadsHistory.resumed source h b budget shows in_high serial links one_low told_source short lowered) t d =
       let promises = d.run.goes_on.keeps.keeps.promises in
       let taken : IsTaken (Purpose.resume promises.low budget) bytes = subst (λ (x : List ℕ). IsTaken (Purpose.resume promises.low budget) x) (same_text call h bytes d.run.bytes LONGEST_HISTORY t d.run.read.text)
       (d.run.read.text.short, is_fit call source h budget _ kept high text d) in
-      let typed : IsLowOf b promises.low = subst (λ (x : List ℕ). IsLowOf x promises.low) (same_text call source b d.bytes LONGEST_SOURCE told_source d.read) promises.lowered in
-      subst (λ (q : LowProgram). IsTaken (Purpose.resume q budget) bytes) (sources.same_low b promises.low one_low typed lowered) taken
+      let typed : IsLowOf Central b promises.low = subst (λ (x : List ℕ). IsLowOf Central x promises.low) (same_text call source b d.bytes LONGEST_SOURCE told_source d.read) promises.lowered in
+      subst (λ (q : LowProgram). IsTaken (Purpose.resume q budget) bytes) (sources.same_low Central b promises.low one_low typed lowered) taken
 
   -- what is made is made of an accepted history
   pub made_accepts : (call : Call) (purpose : Purpose) (bytes : List ℕ) (kept : Option Record) (high : Option SerialRun) (text : List ℕ) → Follows call purpose bytes

@@ -2,6 +2,8 @@
 use Rattle.std.proofs.Common.{◌≡◌, ℕ, ◌≤◌, ◌<◌, ◌⊎◌, List, length, Option, inl, inr, subst, ap, arith}
 use Rattle.np_syntax.specs.declared.limits.TheConstants.{LONGEST_SOURCE}
 use Rattle.np_syntax.specs.declared.program.LowProgram.{LowProgram}
+use Rattle.np_words.specs.declared.modes.Infrastructure.{Infrastructure}
+use Rattle.np_words.specs.declared.modes.Infrastructure.TheVariants.{Central}
 use Rattle.np_words.specs.declared.planning.Plan.{Plan}
 use Rattle.np_words.specs.declared.planning.View.{View}
 use Rattle.np_words.specs.declared.planning.View.TheVariants as views
@@ -74,18 +76,18 @@ module _ (sources : source_laws.HaveOneAnswer) (histories : history_laws.HaveOne
   by_plan : (call : Call) (asked : Plan) (reach : Reach) (bytes : List ℕ) (refusal : Refusal) → HasSource call asked reach bytes
       → RefusesPlan call.texts asked refusal → Cause asked reach bytes refusal
   by_plan call asked reach bytes refusal (HasSource.alone f b task t) r = Cause.of_source (source_says call f (reach_of task) b refusal t r)
-  by_plan call asked reach bytes refusal (HasSource.replayed source history b view t) (inl r) = Cause.of_source (source_says call source Reach.low b refusal t r)
-  by_plan call asked reach bytes refusal (HasSource.replayed source history b view t) (inr r) =
+  by_plan call asked reach bytes refusal (HasSource.replayed source history b infra view t) (inl r) = Cause.of_source (source_says call source (Reach.low infra) b refusal t r)
+  by_plan call asked reach bytes refusal (HasSource.replayed source history b infra view t) (inr r) =
       let same : r.lowered.bytes ≡ b = same_text call source b r.lowered.bytes LONGEST_SOURCE t r.lowered.read in
-      let accepted = subst (λ (x : List ℕ). TakenTo Reach.low x) same (r.low, r.lowered.lowers) in
-      Cause.of_later (record { both = ReadsBoth.replayed source history view; low = accepted.0; lowered = accepted.1 })
+      let accepted = subst (λ (x : List ℕ). TakenTo (Reach.low infra) x) same (r.low, r.lowered.lowers) in
+      Cause.of_later (record { both = ReadsBoth.replayed source history infra view; infrastructure = infra; low = accepted.0; lowered = accepted.1 })
       (subst (λ (x : List ℕ). length x ≤ LONGEST_SOURCE) same r.lowered.read.short) accepted (of_history histories call history r.low view refusal r.run)
   by_plan call asked reach bytes refusal (HasSource.resumed source saved b budget history high serial links t) (inl r) =
-      Cause.of_source (source_says call source Reach.low b refusal t r)
+      Cause.of_source (source_says call source (Reach.low Central) b refusal t r)
   by_plan call asked reach bytes refusal (HasSource.resumed source saved b budget history high serial links t) (inr r) =
       let same : r.lowered.bytes ≡ b = same_text call source b r.lowered.bytes LONGEST_SOURCE t r.lowered.read in
-      let accepted = subst (λ (x : List ℕ). TakenTo Reach.low x) same (r.low, r.lowered.lowers) in
-      Cause.of_later (record { both = ReadsBoth.resumed source saved budget history high serial links; low = accepted.0; lowered = accepted.1 })
+      let accepted = subst (λ (x : List ℕ). TakenTo (Reach.low Central) x) same (r.low, r.lowered.lowers) in
+      Cause.of_later (record { both = ReadsBoth.resumed source saved budget history high serial links; infrastructure = Central; low = accepted.0; lowered = accepted.1 })
       (subst (λ (x : List ℕ). length x ≤ LONGEST_SOURCE) same r.lowered.read.short) accepted (of_saved sources histories call saved r.low budget refusal r.run)
   by_plan call asked reach bytes refusal (HasSource.made agents serial links) r = Cause.of_source (inr (r.short, r.faulty))
 
@@ -102,7 +104,7 @@ does_accept (task.Run budget history high serial links) bytes kept made text d =
 does_accept (task.High budget history) bytes kept made text d = (d.runs.free, (d.runs.program, d.runs.accepted))
 does_accept task.Show bytes kept made text d = (d.tree, d.accepted)
 does_accept task.Check bytes kept made text d = (d.program, d.accepted)
-does_accept task.Low bytes kept made text d = (d.low, d.lowered)
+does_accept (task.Low infrastructure) bytes kept made text d = (d.low, d.lowered)
 
 abbrev IsTaken : Reach → List ℕ → Type 0
 IsTaken reach bytes = (length bytes ≤ LONGEST_SOURCE) × TakenTo reach bytes
@@ -112,12 +114,12 @@ made_plan : (call : Call) (asked : Plan) (reach : Reach) (bytes : List ℕ) (kep
 made_plan call asked reach bytes kept high text (HasSource.alone f b task t) d =
     subst (λ (x : List ℕ). IsTaken (reach_of task) x) (same_text call f b d.bytes LONGEST_SOURCE t d.read.text)
     (d.read.text.short, does_accept task d.bytes kept high text d.does)
-made_plan call asked reach bytes kept high text (HasSource.replayed source history b view t) d =
-    subst (λ (x : List ℕ). IsTaken Reach.low x) (same_text call source b d.lowered.bytes LONGEST_SOURCE t d.lowered.read)
+made_plan call asked reach bytes kept high text (HasSource.replayed source history b infra view t) d =
+    subst (λ (x : List ℕ). IsTaken (Reach.low infra) x) (same_text call source b d.lowered.bytes LONGEST_SOURCE t d.lowered.read)
     (d.lowered.read.short, (d.low, d.lowered.lowers))
 made_plan call asked reach bytes kept high text (HasSource.resumed source saved b budget history shows serial links t) d =
     let promises = d.run.goes_on.keeps.keeps.promises in
-    subst (λ (x : List ℕ). IsTaken Reach.low x) (same_text call source b d.bytes LONGEST_SOURCE t d.read) (d.read.short, (promises.low, promises.lowered))
+    subst (λ (x : List ℕ). IsTaken (Reach.low Central) x) (same_text call source b d.bytes LONGEST_SOURCE t d.read) (d.read.short, (promises.low, promises.lowered))
 made_plan call asked reach bytes kept high text (HasSource.made agents serial links) d =
     (d.short, record { low = d.does.promises.low; lowered = d.does.promises.lowered; few = d.does.promises.few })
 

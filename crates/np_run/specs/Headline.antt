@@ -13,6 +13,7 @@ use Rattle.np_generate.specs.Generated.{generated}
 use Rattle.np_lift.specs.Lift.{lift}
 use Rattle.np_lift.specs.Posts.{IsAllHanded}
 use Rattle.np_words.specs.Plans.{plan}
+use Rattle.np_words.specs.declared.modes.Infrastructure.TheVariants.{Central}
 use Rattle.np_words.specs.declared.modes.HighText.{HighText}
 use Rattle.np_words.specs.declared.modes.Links.{Links}
 use Rattle.np_words.specs.declared.planning.Plan.TheVariants as plans
@@ -44,7 +45,7 @@ pub record Headline (words : List (List ℕ)) (texts : Reading) (kept : Record) 
   pub asks : AsksForRun words texts budget report bytes
   -- the source is accepted, and this is its compiled program
   pub low : LowProgram
-  pub lowered : IsLowOf bytes low
+  pub lowered : IsLowOf Central bytes low
   -- the histories of the sites, in the order of their stamps, are a run of the compiled program in the low-level calculus
   pub last : Config
   pub runs : run (start_low low) (merged kept) ≡ Some last

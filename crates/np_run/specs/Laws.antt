@@ -8,6 +8,8 @@ use Rattle.np_words.specs.declared.planning.Plan.{Plan}
 use Rattle.np_words.specs.declared.planning.Plan.TheVariants as plans
 use Rattle.np_words.specs.declared.planning.Task.{Task}
 use Rattle.np_words.specs.declared.planning.View.{View}
+use Rattle.np_words.specs.declared.modes.Infrastructure.{Infrastructure}
+use Rattle.np_words.specs.declared.modes.Infrastructure.TheVariants.{Central}
 use Rattle.np_words.specs.declared.modes.Links.{Links}
 use Rattle.np_generate.specs.Generated.{generated}
 use Rattle.np_sources.specs.declared.limits.TheConstants.{LOAD_BUDGET}
@@ -32,9 +34,10 @@ pub record IsTold (call : Call) (name bytes : List ℕ) : Type 0 where
 -- The source that is read first or generated, how far it is taken, and its bytes; whether a history is read behind it.
 pub data HasSource (call : Call) : Plan → Reach → List ℕ → Type 0 where
   alone : (file bytes : List ℕ) (task : Task) → IsTold call file bytes → HasSource call (plans.Source file task) (reach_of task) bytes
-  replayed : (source history bytes : List ℕ) (view : View) → IsTold call source bytes → HasSource call (plans.Replay source history view) Reach.low bytes
+  replayed : (source history bytes : List ℕ) (infrastructure : Infrastructure) (view : View) → IsTold call source bytes
+      → HasSource call (plans.Replay source history infrastructure view) (Reach.low infrastructure) bytes
   resumed : (source saved bytes : List ℕ) (budget : ℕ) (history high serial : Bool) (links : Links) → IsTold call source bytes
-      → HasSource call (plans.Resume source saved budget history high serial links) Reach.low bytes
+      → HasSource call (plans.Resume source saved budget history high serial links) (Reach.low Central) bytes
   made : (agents : ℕ) (serial : Bool) (links : Links) → HasSource call (plans.Load agents serial links) (Reach.sites LOAD_BUDGET) (generated agents)
 
 -- the words ask for something of a source, and these are its bytes
@@ -44,14 +47,15 @@ pub record Reads (call : Call) (asked : Plan) (reach : Reach) (bytes : List ℕ)
 
 -- a history is read behind the source
 pub data ReadsBoth : Plan → Type 0 where
-  replayed : (source history : List ℕ) (view : View) → ReadsBoth (plans.Replay source history view)
+  replayed : (source history : List ℕ) (infrastructure : Infrastructure) (view : View) → ReadsBoth (plans.Replay source history infrastructure view)
   resumed : (source saved : List ℕ) (budget : ℕ) (history high serial : Bool) (links : Links) → ReadsBoth (plans.Resume source saved budget history high serial links)
 
 -- the source has a low program, and then the history is read
 pub record Replays (asked : Plan) (bytes : List ℕ) : Type 0 where
   pub both : ReadsBoth asked
+  pub infrastructure : Infrastructure
   pub low : LowProgram
-  pub lowered : IsLowOf bytes low
+  pub lowered : IsLowOf infrastructure bytes low
 
 -- ---- histories
 
@@ -65,10 +69,11 @@ pub data Purpose : Type 0 where
 -- the history that is read, and for what
 pub data ReadsHistory (call : Call) : Plan → List ℕ → Purpose → Type 0 where
   alone : (history : List ℕ) → ReadsHistory call (plans.Upgrade history) history Purpose.events
-  replayed : (source history bytes : List ℕ) (view : View) (low : LowProgram) → IsTold call source bytes → length bytes ≤ LONGEST_SOURCE → IsLowOf bytes low
-      → ReadsHistory call (plans.Replay source history view) history (Purpose.replay low view)
+  replayed : (source history bytes : List ℕ) (infrastructure : Infrastructure) (view : View) (low : LowProgram) → IsTold call source bytes
+      → length bytes ≤ LONGEST_SOURCE → IsLowOf infrastructure bytes low
+      → ReadsHistory call (plans.Replay source history infrastructure view) history (Purpose.replay low view)
   resumed : (source saved bytes : List ℕ) (budget : ℕ) (history high serial : Bool) (links : Links) (low : LowProgram) → IsTold call source bytes
-      → length bytes ≤ LONGEST_SOURCE → IsLowOf bytes low
+      → length bytes ≤ LONGEST_SOURCE → IsLowOf Central bytes low
       → ReadsHistory call (plans.Resume source saved budget history high serial links) saved (Purpose.resume low budget)
 
 -- the words ask for something of a history, and these are its bytes
@@ -93,12 +98,12 @@ pub record AcceptsSource (call : Call) (file : List ℕ) (reach : Reach) : Type 
   pub short : length bytes ≤ LONGEST_SOURCE
   pub accepted : TakenTo reach bytes
 
-pub record AcceptsReplay (call : Call) (source history : List ℕ) (view : View) : Type 0 where
+pub record AcceptsReplay (call : Call) (source history : List ℕ) (infrastructure : Infrastructure) (view : View) : Type 0 where
   pub bytes : List ℕ
   pub told : IsTold call source bytes
   pub short : length bytes ≤ LONGEST_SOURCE
   pub low : LowProgram
-  pub lowered : IsLowOf bytes low
+  pub lowered : IsLowOf infrastructure bytes low
   pub run : List ℕ
   pub told_run : IsTold call history run
   pub short_run : length run ≤ LONGEST_HISTORY
@@ -109,7 +114,7 @@ pub record AcceptsResume (call : Call) (source saved : List ℕ) (budget : ℕ) 
   pub told : IsTold call source bytes
   pub short : length bytes ≤ LONGEST_SOURCE
   pub low : LowProgram
-  pub lowered : IsLowOf bytes low
+  pub lowered : IsLowOf Central bytes low
   pub run : List ℕ
   pub told_run : IsTold call saved run
   pub short_run : length run ≤ LONGEST_HISTORY
@@ -124,7 +129,7 @@ pub record AcceptsHistory (call : Call) (history : List ℕ) : Type 0 where
 -- each text that is read is accepted, and no read of it failed; and so is a generated source that is run
 abbrev pub Accepts : Call → Plan → Type 0
 Accepts call (plans.Source file task) = AcceptsSource call file (reach_of task)
-Accepts call (plans.Replay source history view) = AcceptsReplay call source history view
+Accepts call (plans.Replay source history infrastructure view) = AcceptsReplay call source history infrastructure view
 Accepts call (plans.Resume source saved budget history high serial links) = AcceptsResume call source saved budget
 Accepts call (plans.Upgrade history) = AcceptsHistory call history
 Accepts call (plans.Generate agents) = Unit {0}

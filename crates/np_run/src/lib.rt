@@ -18,4 +18,5 @@ pub use np_verdict::{
     BAD_HISTORY, BAD_SOURCE, BAD_USAGE, BUDGET_SPENT, DONE, NO_MEMORY, READ_FAILED, Refusal,
     WRITE_FAILED, line, status,
 };
+pub use np_words::Infrastructure;
 pub use top::{np, np_gated};

@@ -7,34 +7,35 @@ use Rattle.np_calculus.specs.Config.{Config}
 use Rattle.np_calculus.specs.Starts.{start_low}
 use Rattle.np_code.specs.Sizes.{capped, program_nodes}
 use Rattle.np_code.specs.declared.limits.TheConstants.{MOST_CODE_NODES}
-use Rattle.daemon_encode.specs.Encoded.{encoded}
 use Rattle.np_verdict.specs.Faults.{Stage, Faulty}
 use Rattle.np_verdict.specs.Lines.{status_of}
 use Rattle.np_verdict.specs.declared.refusal.Refusal.{Refusal}
 use Rattle.np_verdict.specs.declared.refusal.Refusal.TheVariants.{Usage, TooLong, LocationTest, TooManyNodes, TooManyEvents, NotOurs, BudgetPast}
 use Rattle.np_words.specs.declared.modes.HighText.{HighText}
+use Rattle.np_words.specs.declared.modes.Infrastructure.{Infrastructure}
+use Rattle.np_words.specs.declared.modes.Infrastructure.TheVariants.{Central}
 use Rattle.np_verdict.proofs.Verdicts as verdicts
 use Rattle.run_save.specs.Ours.{PrefixIsOurs, StopsBeingOurs}
 use Rattle.site_crew.specs.Lists.{AreWithin, IsFirstPast}
-use Rattle.np_sources.specs.Reaches.{Reach, CanGoOn, CannotGoOn, HasFewEvents, HasManyEvents, HasNoLow, IsBarred, IsFree, IsLowOf, IsTooLarge, TakenTo, FaultyTo, barred}
+use Rattle.np_sources.specs.Reaches.{Reach, CanGoOn, CannotGoOn, HasFewEvents, HasManyEvents, HasNoLow, IsBarred, IsFree, IsLowOf, IsTooLarge, TakenTo, FaultyTo, barred, low_by}
 use Rattle.np_sources.specs.declared.limits.TheConstants.{MOST_EVENTS}
 
--- a source has one low program
-pub same_low : (bytes : List ℕ) (low other : LowProgram) → IsLowOf bytes low → IsLowOf bytes other → low ≡ other
-same_low bytes low other a b = a.is ∙ ap encoded (verdicts.well_typed_once bytes a.program b.program a.accepted b.accepted) ∙ sym b.is
+-- a source has one low program of each infrastructure
+pub same_low : (infrastructure : Infrastructure) (bytes : List ℕ) (low other : LowProgram) → IsLowOf infrastructure bytes low → IsLowOf infrastructure bytes other → low ≡ other
+same_low infrastructure bytes low other a b = a.is ∙ ap (low_by infrastructure) (verdicts.well_typed_once bytes a.program b.program a.accepted b.accepted) ∙ sym b.is
 
 -- the nodes of a low program are few or too many
 few_or_many : (n : ℕ) → n ≤ MOST_CODE_NODES → MOST_CODE_NODES < n → ⊥
 few_or_many n few many = omega (arith, few, many)
 
-not_too_large : (bytes : List ℕ) (low : LowProgram) (refusal : Refusal) → IsLowOf bytes low → IsTooLarge bytes refusal → ⊥
-not_too_large bytes low refusal a f =
-    let same : low ≡ encoded f.program = a.is ∙ ap encoded (verdicts.well_typed_once bytes a.program f.program a.accepted f.accepted) in
-    few_or_many (program_nodes (encoded f.program)) (subst (λ (p : LowProgram). program_nodes p ≤ MOST_CODE_NODES) same a.few) f.large.many
+not_too_large : (infrastructure : Infrastructure) (bytes : List ℕ) (low : LowProgram) (refusal : Refusal) → IsLowOf infrastructure bytes low → IsTooLarge infrastructure bytes refusal → ⊥
+not_too_large infrastructure bytes low refusal a f =
+    let same : low ≡ low_by infrastructure f.program = a.is ∙ ap (low_by infrastructure) (verdicts.well_typed_once bytes a.program f.program a.accepted f.accepted) in
+    few_or_many (program_nodes (low_by infrastructure f.program)) (subst (λ (p : LowProgram). program_nodes p ≤ MOST_CODE_NODES) same a.few) f.large.many
 
-low_not_both : (bytes : List ℕ) (refusal : Refusal) (low : LowProgram) → IsLowOf bytes low → HasNoLow bytes refusal → ⊥
-low_not_both bytes refusal low is (inl f) = verdicts.not_both Stage.program bytes refusal (is.program, is.accepted) f
-low_not_both bytes refusal low is (inr f) = not_too_large bytes low refusal is f
+low_not_both : (infrastructure : Infrastructure) (bytes : List ℕ) (refusal : Refusal) (low : LowProgram) → IsLowOf infrastructure bytes low → HasNoLow infrastructure bytes refusal → ⊥
+low_not_both infrastructure bytes refusal low is (inl f) = verdicts.not_both Stage.program bytes refusal (is.program, is.accepted) f
+low_not_both infrastructure bytes refusal low is (inr f) = not_too_large infrastructure bytes low refusal is f
 
 -- the events within a budget are few or too many
 few_events : (n : ℕ) → n ≤ MOST_EVENTS → MOST_EVENTS < n → ⊥
@@ -42,7 +43,7 @@ few_events n few many = omega (arith, few, many)
 
 not_many : (budget : ℕ) (bytes : List ℕ) (refusal : Refusal) → HasFewEvents budget bytes → HasManyEvents budget bytes refusal → ⊥
 not_many budget bytes refusal a f =
-    let same : a.low ≡ f.low = same_low bytes a.low f.low a.lowered f.lowered in
+    let same : a.low ≡ f.low = same_low Central bytes a.low f.low a.lowered f.lowered in
     few_events (length f.low.sites * budget) (subst (λ (p : LowProgram). length p.sites * budget ≤ MOST_EVENTS) same a.few) f.many
 
 -- nothing bars it, or something does
@@ -60,35 +61,35 @@ barred_once high bytes a b f g =
 pub not_both : (reach : Reach) (bytes : List ℕ) (refusal : Refusal) → TakenTo reach bytes → FaultyTo reach bytes refusal → ⊥
 not_both Reach.tree bytes refusal a f = verdicts.not_both Stage.tree bytes refusal a f
 not_both Reach.program bytes refusal a f = verdicts.not_both Stage.program bytes refusal a f
-not_both Reach.low bytes refusal a f = low_not_both bytes refusal a.0 a.1 f
-not_both (Reach.sites budget) bytes refusal a (inl f) = low_not_both bytes refusal a.low a.lowered f
+not_both (Reach.low infrastructure) bytes refusal a f = low_not_both infrastructure bytes refusal a.0 a.1 f
+not_both (Reach.sites budget) bytes refusal a (inl f) = low_not_both Central bytes refusal a.low a.lowered f
 not_both (Reach.sites budget) bytes refusal a (inr f) = not_many budget bytes refusal a f
 not_both (Reach.shown high reach) bytes refusal a (inl f) = free_not_barred high bytes refusal a.0 f
 not_both (Reach.shown high reach) bytes refusal a (inr f) = not_both reach bytes refusal a.1 f.1
 
-large_once : (bytes : List ℕ) (a b : Refusal) → IsTooLarge bytes a → IsTooLarge bytes b → a ≡ b
-large_once bytes a b f g =
+large_once : (infrastructure : Infrastructure) (bytes : List ℕ) (a b : Refusal) → IsTooLarge infrastructure bytes a → IsTooLarge infrastructure bytes b → a ≡ b
+large_once infrastructure bytes a b f g =
     let same : f.program ≡ g.program = verdicts.well_typed_once bytes f.program g.program f.accepted g.accepted in
-    f.large.is ∙ ap (λ (p : Program). TooManyNodes (capped (program_nodes (encoded p)))) same ∙ sym g.large.is
+    f.large.is ∙ ap (λ (p : Program). TooManyNodes (capped (program_nodes (low_by infrastructure p)))) same ∙ sym g.large.is
 
 -- a source that is too large is well typed
-not_faulty : (bytes : List ℕ) (a b : Refusal) → IsTooLarge bytes a → Faulty Stage.program bytes b → ⊥
-not_faulty bytes a b f g = verdicts.not_both Stage.program bytes b (f.program, f.accepted) g
+not_faulty : (infrastructure : Infrastructure) (bytes : List ℕ) (a b : Refusal) → IsTooLarge infrastructure bytes a → Faulty Stage.program bytes b → ⊥
+not_faulty infrastructure bytes a b f g = verdicts.not_both Stage.program bytes b (f.program, f.accepted) g
 
-low_fault : (bytes : List ℕ) (a b : Refusal) → HasNoLow bytes a → HasNoLow bytes b → a ≡ b
-low_fault bytes a b (inl f) (inl g) = verdicts.same_fault Stage.program bytes a b f g
-low_fault bytes a b (inl f) (inr g) = absurd (not_faulty bytes b a g f)
-low_fault bytes a b (inr f) (inl g) = absurd (not_faulty bytes a b f g)
-low_fault bytes a b (inr f) (inr g) = large_once bytes a b f g
+low_fault : (infrastructure : Infrastructure) (bytes : List ℕ) (a b : Refusal) → HasNoLow infrastructure bytes a → HasNoLow infrastructure bytes b → a ≡ b
+low_fault infrastructure bytes a b (inl f) (inl g) = verdicts.same_fault Stage.program bytes a b f g
+low_fault infrastructure bytes a b (inl f) (inr g) = absurd (not_faulty infrastructure bytes b a g f)
+low_fault infrastructure bytes a b (inr f) (inl g) = absurd (not_faulty infrastructure bytes a b f g)
+low_fault infrastructure bytes a b (inr f) (inr g) = large_once infrastructure bytes a b f g
 
 -- a source is refused in one way
 pub same_fault : (reach : Reach) (bytes : List ℕ) (a b : Refusal) → FaultyTo reach bytes a → FaultyTo reach bytes b → a ≡ b
 same_fault Reach.tree bytes a b f g = verdicts.same_fault Stage.tree bytes a b f g
 same_fault Reach.program bytes a b f g = verdicts.same_fault Stage.program bytes a b f g
-same_fault Reach.low bytes a b f g = low_fault bytes a b f g
-same_fault (Reach.sites budget) bytes a b (inl f) (inl g) = low_fault bytes a b f g
-same_fault (Reach.sites budget) bytes a b (inl f) (inr g) = absurd (low_not_both bytes a g.low g.lowered f)
-same_fault (Reach.sites budget) bytes a b (inr f) (inl g) = absurd (low_not_both bytes b f.low f.lowered g)
+same_fault (Reach.low infrastructure) bytes a b f g = low_fault infrastructure bytes a b f g
+same_fault (Reach.sites budget) bytes a b (inl f) (inl g) = low_fault Central bytes a b f g
+same_fault (Reach.sites budget) bytes a b (inl f) (inr g) = absurd (low_not_both Central bytes a g.low g.lowered f)
+same_fault (Reach.sites budget) bytes a b (inr f) (inl g) = absurd (low_not_both Central bytes b f.low f.lowered g)
 same_fault (Reach.sites budget) bytes a b (inr f) (inr g) = f.is ∙ sym g.is
 same_fault (Reach.shown high reach) bytes a b (inl f) (inl g) = barred_once high bytes a b f g
 same_fault (Reach.shown high reach) bytes a b (inl f) (inr g) = absurd (free_not_barred high bytes a g.0 f)
@@ -97,28 +98,28 @@ same_fault (Reach.shown high reach) bytes a b (inr f) (inr g) = same_fault reach
 
 -- ---- refusals that are of no source
 
-low_not_long : (bytes : List ℕ) → HasNoLow bytes TooLong → ⊥
-low_not_long bytes (inl f) = verdicts.not_long Stage.program bytes f
-low_not_long bytes (inr f) = let is = f.large.is in cc
+low_not_long : (infrastructure : Infrastructure) (bytes : List ℕ) → HasNoLow infrastructure bytes TooLong → ⊥
+low_not_long infrastructure bytes (inl f) = verdicts.not_long Stage.program bytes f
+low_not_long infrastructure bytes (inr f) = let is = f.large.is in cc
 
 pub not_long : (reach : Reach) (bytes : List ℕ) → FaultyTo reach bytes TooLong → ⊥
 not_long Reach.tree bytes f = verdicts.not_long Stage.tree bytes f
 not_long Reach.program bytes f = verdicts.not_long Stage.program bytes f
-not_long Reach.low bytes f = low_not_long bytes f
-not_long (Reach.sites budget) bytes (inl f) = low_not_long bytes f
+not_long (Reach.low infrastructure) bytes f = low_not_long infrastructure bytes f
+not_long (Reach.sites budget) bytes (inl f) = low_not_long Central bytes f
 not_long (Reach.sites budget) bytes (inr f) = let is = f.is in cc
 not_long (Reach.shown high reach) bytes (inl f) = let is = f.is in cc
 not_long (Reach.shown high reach) bytes (inr f) = not_long reach bytes f.1
 
-low_not_usage : (bytes : List ℕ) → HasNoLow bytes Usage → ⊥
-low_not_usage bytes (inl f) = verdicts.not_usage Stage.program bytes f
-low_not_usage bytes (inr f) = let is = f.large.is in cc
+low_not_usage : (infrastructure : Infrastructure) (bytes : List ℕ) → HasNoLow infrastructure bytes Usage → ⊥
+low_not_usage infrastructure bytes (inl f) = verdicts.not_usage Stage.program bytes f
+low_not_usage infrastructure bytes (inr f) = let is = f.large.is in cc
 
 pub not_usage : (reach : Reach) (bytes : List ℕ) → FaultyTo reach bytes Usage → ⊥
 not_usage Reach.tree bytes f = verdicts.not_usage Stage.tree bytes f
 not_usage Reach.program bytes f = verdicts.not_usage Stage.program bytes f
-not_usage Reach.low bytes f = low_not_usage bytes f
-not_usage (Reach.sites budget) bytes (inl f) = low_not_usage bytes f
+not_usage (Reach.low infrastructure) bytes f = low_not_usage infrastructure bytes f
+not_usage (Reach.sites budget) bytes (inl f) = low_not_usage Central bytes f
 not_usage (Reach.sites budget) bytes (inr f) = let is = f.is in cc
 not_usage (Reach.shown high reach) bytes (inl f) = let is = f.is in cc
 not_usage (Reach.shown high reach) bytes (inr f) = not_usage reach bytes f.1
@@ -126,16 +127,16 @@ not_usage (Reach.shown high reach) bytes (inr f) = not_usage reach bytes f.1
 abbrev IsOfSource : Refusal → Type 0
 IsOfSource refusal = (status_of refusal ≡ 3) ⊎ (status_of refusal ≡ 6)
 
-low_status : (bytes : List ℕ) (refusal : Refusal) → HasNoLow bytes refusal → IsOfSource refusal
-low_status bytes refusal (inl f) = verdicts.faulty_status Stage.program bytes refusal f
-low_status bytes refusal (inr f) = inl (ap status_of f.large.is)
+low_status : (infrastructure : Infrastructure) (bytes : List ℕ) (refusal : Refusal) → HasNoLow infrastructure bytes refusal → IsOfSource refusal
+low_status infrastructure bytes refusal (inl f) = verdicts.faulty_status Stage.program bytes refusal f
+low_status infrastructure bytes refusal (inr f) = inl (ap status_of f.large.is)
 
 -- the status of such a refusal is 3, but for want of memory
 pub faulty_status : (reach : Reach) (bytes : List ℕ) (refusal : Refusal) → FaultyTo reach bytes refusal → (status_of refusal ≡ 3) ⊎ (status_of refusal ≡ 6)
 faulty_status Reach.tree bytes refusal f = verdicts.faulty_status Stage.tree bytes refusal f
 faulty_status Reach.program bytes refusal f = verdicts.faulty_status Stage.program bytes refusal f
-faulty_status Reach.low bytes refusal f = low_status bytes refusal f
-faulty_status (Reach.sites budget) bytes refusal (inl f) = low_status bytes refusal f
+faulty_status (Reach.low infrastructure) bytes refusal f = low_status infrastructure bytes refusal f
+faulty_status (Reach.sites budget) bytes refusal (inl f) = low_status Central bytes refusal f
 faulty_status (Reach.sites budget) bytes refusal (inr f) = inl (ap status_of f.is)
 faulty_status (Reach.shown high reach) bytes refusal (inl f) = inl (ap status_of f.is)
 faulty_status (Reach.shown high reach) bytes refusal (inr f) = faulty_status reach bytes refusal f.1

@@ -18,6 +18,7 @@ use Rattle.history_text.specs.Spelling.{high_text, history_text}
 use Rattle.np_views.specs.OneStep.{one_step}
 use Rattle.run_views.specs.Stepped.{IsStepped}
 use Rattle.run_merge.specs.Merged as histories
+use Rattle.np_words.specs.declared.modes.Infrastructure.TheVariants.{Central}
 use Rattle.np_words.specs.declared.modes.HighText.{HighText}
 use Rattle.np_words.specs.declared.modes.HighText.TheVariants.{Absent, TwoSteps, OneStep}
 use Rattle.np_report.specs.Report.{load_text, report_text}
@@ -38,7 +39,7 @@ said kept = histories.said (histories.past kept.histories)
 pub record KeepsPromises (budget : ℕ) (report : Program → Record → List ℕ) (bytes : List ℕ) (kept : Record) (text : List ℕ) : Type 0 where
   -- the source is accepted, and this is its low program
   pub low : LowProgram
-  pub lowered : IsLowOf bytes low
+  pub lowered : IsLowOf Central bytes low
   -- its sites make few events together
   pub few : length low.sites * budget ≤ MOST_EVENTS
   -- the histories of its sites, each within the budget, are merged a run of it that printed what they have; it is at rest exactly where the record

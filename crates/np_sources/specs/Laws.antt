@@ -2,14 +2,15 @@
 use Rattle.std.specs.Prelude.{◌≡◌, ℕ, ◌⊎◌, List}
 use Rattle.np_syntax.specs.declared.event.Event.{Event}
 use Rattle.np_syntax.specs.declared.program.LowProgram.{LowProgram}
+use Rattle.np_words.specs.declared.modes.Infrastructure.{Infrastructure}
 use Rattle.np_verdict.specs.Lines.{status_of}
 use Rattle.np_verdict.specs.declared.refusal.Refusal.{Refusal}
 use Rattle.np_verdict.specs.declared.refusal.Refusal.TheVariants.{Usage, TooLong, TooManyEvents}
 use Rattle.np_sources.specs.Reaches.{CanGoOn, CannotGoOn, FaultyTo, IsLowOf, Reach, TakenTo}
 
 pub record HaveOneAnswer : Type 0 where
-  -- a source has one low program
-  pub same_low : (bytes : List ℕ) (low other : LowProgram) → IsLowOf bytes low → IsLowOf bytes other → low ≡ other
+  -- a source has one low program of each infrastructure
+  pub same_low : (infrastructure : Infrastructure) (bytes : List ℕ) (low other : LowProgram) → IsLowOf infrastructure bytes low → IsLowOf infrastructure bytes other → low ≡ other
   -- no source is both taken so far and refused
   pub not_both : (reach : Reach) (bytes : List ℕ) (refusal : Refusal) → TakenTo reach bytes → FaultyTo reach bytes refusal → ⊥
   -- a source is refused in one way

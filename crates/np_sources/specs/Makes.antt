@@ -17,6 +17,8 @@ use Rattle.np_words.specs.declared.planning.Task.TheVariants as task
 use Rattle.np_generate.specs.Generated.{generated}
 use Rattle.np_lift.specs.Lift.{lift}
 use Rattle.run_merge.specs.Merged.{past}
+use Rattle.np_words.specs.declared.modes.Infrastructure.{Infrastructure}
+use Rattle.np_words.specs.declared.modes.Infrastructure.TheVariants.{Central}
 use Rattle.np_words.specs.declared.modes.HighText.{HighText}
 use Rattle.np_words.specs.declared.modes.HighText.TheVariants.{Absent, TwoSteps}
 use Rattle.np_following.specs.Following.{IsResumed}
@@ -52,17 +54,17 @@ pub record Runs (budget : ℕ) (high : HighText) (bytes : List ℕ) (made : Seri
   pub run : IsRunOf budget high program made text
 
 -- the source has this low program, which was run
-pub record RunsLow (budget : ℕ) (bytes : List ℕ) (made : SerialRun) (text : List ℕ) : Type 0 where
+pub record RunsLow (infrastructure : Infrastructure) (budget : ℕ) (bytes : List ℕ) (made : SerialRun) (text : List ℕ) : Type 0 where
   pub low : LowProgram
-  pub lowered : IsLowOf bytes low
+  pub lowered : IsLowOf infrastructure bytes low
   pub run : IsSerialRun (start_low low) budget made.events made.last made.end
   pub report : text ≡ report_text low.sites made.last.said [] made.end
 
 -- ---- modes
 
--- the program has this low program, which was run on its sites, and this was kept
+-- the program has this low program of the central infrastructure, which was run on its sites, and this was kept
 pub record RunsOnSites (budget : ℕ) (p : Program) (low : LowProgram) (kept : Record) : Type 0 where
-  pub compiled : IsCompiled p low
+  pub compiled : IsCompiled Central p low
   pub few : length low.sites * budget ≤ MOST_EVENTS
   pub ran : IsSitesRun low budget (past kept.histories) kept.end
 
@@ -131,9 +133,9 @@ pub record Checks (bytes : List ℕ) (kept : Option Record) (high : Option Seria
   pub is_high : high ≡ None
 
 -- the source has a low program, and this is its low text
-pub record Lowers (bytes : List ℕ) (kept : Option Record) (high : Option SerialRun) (text : List ℕ) : Type 0 where
+pub record Lowers (infrastructure : Infrastructure) (bytes : List ℕ) (kept : Option Record) (high : Option SerialRun) (text : List ℕ) : Type 0 where
   pub low : LowProgram
-  pub lowered : IsLowOf bytes low
+  pub lowered : IsLowOf infrastructure bytes low
   pub lowers : text ≡ low_text low
   pub is_kept : kept ≡ None
   pub is_high : high ≡ None
@@ -144,7 +146,7 @@ DoesTask (task.Run budget history high serial links) bytes kept made text = Keep
 DoesTask (task.High budget history) bytes kept made text = KeepsHigh budget history bytes kept made text
 DoesTask task.Show bytes kept made text = Shows bytes kept made text
 DoesTask task.Check bytes kept made text = Checks bytes kept made text
-DoesTask task.Low bytes kept made text = Lowers bytes kept made text
+DoesTask (task.Low infrastructure) bytes kept made text = Lowers infrastructure bytes kept made text
 
 -- the generated source of so many agents was run
 abbrev pub DoesLoad : ℕ → Option Record → Option SerialRun → List ℕ → Type 0

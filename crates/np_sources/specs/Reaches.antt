@@ -8,6 +8,7 @@ use Rattle.np_calculus.specs.Starts.{start_low}
 use Rattle.np_code.specs.Sizes.{capped, program_nodes}
 use Rattle.np_code.specs.declared.limits.TheConstants.{MOST_CODE_NODES}
 use Rattle.daemon_encode.specs.Encoded.{encoded}
+use Rattle.cache_encode.specs.Encoded.{encoded_cached}
 use Rattle.np_check.specs.Faults.{IsAccepted}
 use Rattle.np_verdict.specs.Faults.{Stage, Accepted, Faulty, IsWellTyped}
 use Rattle.np_verdict.specs.declared.refusal.Refusal.{Refusal}
@@ -15,17 +16,19 @@ use Rattle.np_verdict.specs.declared.refusal.Refusal.TheVariants.{LocationTest, 
 use Rattle.np_views.specs.Tests.{tests}
 use Rattle.run_save.specs.Ours.{IsOurs, StopsBeingOurs}
 use Rattle.site_crew.specs.Lists.{AreWithin, IsFirstPast}
+use Rattle.np_words.specs.declared.modes.Infrastructure.{Infrastructure}
+use Rattle.np_words.specs.declared.modes.Infrastructure.TheVariants.{Cache, Central}
 use Rattle.np_words.specs.declared.modes.HighText.{HighText}
 use Rattle.np_words.specs.declared.modes.HighText.TheVariants.{OneStep}
 use Rattle.np_words.specs.declared.planning.Task.{Task}
 use Rattle.np_words.specs.declared.planning.Task.TheVariants as task
 use Rattle.np_sources.specs.declared.limits.TheConstants.{MOST_EVENTS}
 
--- to its tree, to its program, to a low program that has a code, to a run of that on its sites within a budget, or so far that a high text can be shown of it
+-- to its tree, to its program, to a low program that has a code, to a run of the central one on its sites within a budget, or so far that a high text can be shown of it
 pub data Reach : Type 0 where
   tree : Reach
   program : Reach
-  low : Reach
+  low : Infrastructure → Reach
   sites : ℕ → Reach
   shown : HighText → Reach → Reach
 
@@ -35,27 +38,32 @@ reach_of (task.Run budget history high serial links) = Reach.shown high (Reach.s
 reach_of (task.High budget history) = Reach.shown history Reach.program
 reach_of task.Show = Reach.tree
 reach_of task.Check = Reach.program
-reach_of task.Low = Reach.low
+reach_of (task.Low infrastructure) = Reach.low infrastructure
 
 -- ---- what is accepted
 
+-- the low program of a program, by its infrastructure
+abbrev pub low_by : Infrastructure → Program → LowProgram
+low_by Central p = encoded p
+low_by Cache p = encoded_cached p
+
 -- the source is well typed, this is the low program of its program, and its nodes are not too many
-pub record IsLowOf (bytes : List ℕ) (low : LowProgram) : Type 0 where
+pub record IsLowOf (infrastructure : Infrastructure) (bytes : List ℕ) (low : LowProgram) : Type 0 where
   pub program : Program
   pub accepted : IsWellTyped bytes program
-  pub is : low ≡ encoded program
+  pub is : low ≡ low_by infrastructure program
   pub few : program_nodes low ≤ MOST_CODE_NODES
 
 -- the program is accepted, and this is its low program, whose nodes are not too many
-pub record IsCompiled (p : Program) (low : LowProgram) : Type 0 where
+pub record IsCompiled (infrastructure : Infrastructure) (p : Program) (low : LowProgram) : Type 0 where
   pub accepted : IsAccepted p
-  pub is : low ≡ encoded p
+  pub is : low ≡ low_by infrastructure p
   pub few : program_nodes low ≤ MOST_CODE_NODES
 
--- the source has a low program, whose sites make few events within the budget
+-- the source has a low program of the central infrastructure, whose sites make few events within the budget
 pub record HasFewEvents (budget : ℕ) (bytes : List ℕ) : Type 0 where
   pub low : LowProgram
-  pub lowered : IsLowOf bytes low
+  pub lowered : IsLowOf Central bytes low
   pub few : length low.sites * budget ≤ MOST_EVENTS
 
 -- the offset of what bars a program from being shown by such a high text: where migration is one step, its first location test
@@ -71,7 +79,7 @@ IsFree high bytes = (p : Program) → IsWellTyped bytes p → barred high p ≡ 
 abbrev pub TakenTo : Reach → List ℕ → Type 0
 TakenTo Reach.tree bytes = Accepted Stage.tree bytes
 TakenTo Reach.program bytes = Accepted Stage.program bytes
-TakenTo Reach.low bytes = (low : LowProgram) × IsLowOf bytes low
+TakenTo (Reach.low infrastructure) bytes = (low : LowProgram) × IsLowOf infrastructure bytes low
 TakenTo (Reach.sites budget) bytes = HasFewEvents budget bytes
 TakenTo (Reach.shown high reach) bytes = IsFree high bytes × TakenTo reach bytes
 
@@ -83,15 +91,15 @@ pub record HasManyNodes (low : LowProgram) (refusal : Refusal) : Type 0 where
   pub is : refusal ≡ TooManyNodes (capped (program_nodes low))
 
 -- the source is well typed, and the nodes of its low program are too many
-pub record IsTooLarge (bytes : List ℕ) (refusal : Refusal) : Type 0 where
+pub record IsTooLarge (infrastructure : Infrastructure) (bytes : List ℕ) (refusal : Refusal) : Type 0 where
   pub program : Program
   pub accepted : IsWellTyped bytes program
-  pub large : HasManyNodes (encoded program) refusal
+  pub large : HasManyNodes (low_by infrastructure program) refusal
 
 -- the source is well typed, and nothing is wrong with its low program but that its sites could make too many events within the budget
 pub record HasManyEvents (budget : ℕ) (bytes : List ℕ) (refusal : Refusal) : Type 0 where
   pub low : LowProgram
-  pub lowered : IsLowOf bytes low
+  pub lowered : IsLowOf Central bytes low
   pub many : MOST_EVENTS < length low.sites * budget
   pub is : refusal ≡ TooManyEvents
 
@@ -104,15 +112,15 @@ pub record IsBarred (high : HighText) (bytes : List ℕ) (refusal : Refusal) : T
   pub is : refusal ≡ LocationTest at
 
 -- the source has no low program
-abbrev pub HasNoLow : List ℕ → Refusal → Type 0
-HasNoLow bytes refusal = Faulty Stage.program bytes refusal ⊎ IsTooLarge bytes refusal
+abbrev pub HasNoLow : Infrastructure → List ℕ → Refusal → Type 0
+HasNoLow infrastructure bytes refusal = Faulty Stage.program bytes refusal ⊎ IsTooLarge infrastructure bytes refusal
 
 -- the source is refused so, where it is to be taken so far
 abbrev pub FaultyTo : Reach → List ℕ → Refusal → Type 0
 FaultyTo Reach.tree bytes refusal = Faulty Stage.tree bytes refusal
 FaultyTo Reach.program bytes refusal = Faulty Stage.program bytes refusal
-FaultyTo Reach.low bytes refusal = HasNoLow bytes refusal
-FaultyTo (Reach.sites budget) bytes refusal = HasNoLow bytes refusal ⊎ HasManyEvents budget bytes refusal
+FaultyTo (Reach.low infrastructure) bytes refusal = HasNoLow infrastructure bytes refusal
+FaultyTo (Reach.sites budget) bytes refusal = HasNoLow Central bytes refusal ⊎ HasManyEvents budget bytes refusal
 FaultyTo (Reach.shown high reach) bytes refusal = IsBarred high bytes refusal ⊎ (IsFree high bytes × FaultyTo reach bytes refusal)
 
 -- an accepted program is refused so, where it is to be run on its sites: its low program has too many nodes, or these could make too many events

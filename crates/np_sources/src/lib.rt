@@ -18,7 +18,7 @@ pub use limits::{LOAD_BUDGET, MOST_EVENTS};
 pub use loads::load_of;
 pub use lowering::{Compiled, compiled_of, low_of};
 pub use np_on_sites::Record;
-pub use resuming::job_resumed;
+pub use resuming::{job_redone, job_resumed};
 pub use runs::run_low;
 pub use sites::{Course, Shown};
 pub use sources::job_of;

@@ -7,15 +7,17 @@ ghost use Rattle.np_check.specs.Faults.{IsAccepted};
 ghost use Rattle.np_code.specs.Programs.{program};
 ghost use Rattle.np_code.specs.Sizes.{program_nodes};
 ghost use Rattle.np_code.specs.declared.limits.TheConstants.{MOST_CODE_NODES};
-ghost use Rattle.daemon_encode.specs.Encoded.{encoded};
 ghost use Rattle.np_verdict.specs.Faults.{IsWellTyped};
-ghost use Rattle.np_sources.specs.Reaches.{Reach, FaultyTo, HasManyNodes, IsCompiled, IsLowOf};
+ghost use Rattle.np_words.specs.declared.modes.Infrastructure.TheVariants.{Central};
+ghost use Rattle.np_sources.specs.Reaches.{Reach, FaultyTo, HasManyNodes, IsCompiled, IsLowOf, low_by};
 
+use cache_encode::{encode_cached, law_cached_runs_well};
 use daemon_encode::{encode, law_low_runs_well};
 use np_check::Checked;
 use np_code::{Code, CodeFail, flatten};
 use np_syntax::{LONGEST_SOURCE, LowProgram, Memory};
 use np_verdict::{Refusal, checked_source};
+use np_words::Infrastructure;
 use std::alloc::Global;
 
 /// A low program, and the table of its process nodes.
@@ -32,16 +34,16 @@ pub struct Compiled {
     pub low: LowProgram,
 }
 
-/// A source with its low program, or the first refusal of a mode that translates it.
+/// A source with its low program of the central infrastructure, or the first refusal of a mode that runs it from there.
 pub fn compiled_of(alloc: Global, bytes: &[u8]) -> Result<Compiled, Refusal>
     requires { length bytes.now ≤ LONGEST_SOURCE }
     ensures found { IfOk result (λ made. IsWellTyped bytes.now made.checked) }
-    ensures compiled { IfOk result (λ made. IsCompiled made.checked made.low) }
+    ensures compiled { IfOk result (λ made. IsCompiled Central made.checked made.low) }
     ensures runs { IfOk result (λ made. RunsWell (start_low made.low) made.low.at) }
-    ensures refused { IfErr result (λ refusal. refusal ≢ Refusal.Memory → FaultyTo Reach.low bytes.now refusal) }
+    ensures refused { IfErr result (λ refusal. refusal ≢ Refusal.Memory → FaultyTo (Reach.low Central) bytes.now refusal) }
 {
     let checked = checked_source(alloc, bytes)?;
-    match low_alone(alloc, &checked) {
+    match low_alone(alloc, Infrastructure::Central, &checked) {
         Ok(low) => Ok(Compiled { checked, low }),
         Err(refusal) => {
             drop(checked);
@@ -51,51 +53,71 @@ pub fn compiled_of(alloc: Global, bytes: &[u8]) -> Result<Compiled, Refusal>
 }
 
 /// The low program of a source, or the first refusal of a mode that translates it.
-pub fn low_of(alloc: Global, bytes: &[u8]) -> Result<LowProgram, Refusal>
+pub fn low_of(
+    alloc: Global,
+    infrastructure: Infrastructure,
+    bytes: &[u8],
+) -> Result<LowProgram, Refusal>
     requires { length bytes.now ≤ LONGEST_SOURCE }
-    ensures made { IfOk result (IsLowOf bytes.now) }
+    ensures made { IfOk result (IsLowOf infrastructure bytes.now) }
     ensures runs { IfOk result (λ low. RunsWell (start_low low) low.at) }
-    ensures refused { IfErr result (λ refusal. refusal ≢ Refusal.Memory → FaultyTo Reach.low bytes.now refusal) }
+    ensures refused { IfErr result (λ refusal. refusal ≢ Refusal.Memory → FaultyTo (Reach.low infrastructure) bytes.now refusal) }
 {
     let checked = checked_source(alloc, bytes)?;
-    let made = low_alone(alloc, &checked);
+    let made = low_alone(alloc, infrastructure, &checked);
     drop(checked);
     made
 }
 
 /// The low program of a checked program, where its nodes are not too many.
-fn low_alone(alloc: Global, checked: &Checked) -> Result<LowProgram, Refusal>
-    ensures made { IfOk result (IsCompiled checked.now) }
+fn low_alone(
+    alloc: Global,
+    infrastructure: Infrastructure,
+    checked: &Checked,
+) -> Result<LowProgram, Refusal>
+    ensures made { IfOk result (IsCompiled infrastructure checked.now) }
     ensures runs { IfOk result (λ low. RunsWell (start_low low) low.at) }
-    ensures refused { IfErr result (λ refusal. refusal ≢ Refusal.Memory → HasManyNodes (encoded checked.now) refusal) }
+    ensures refused { IfErr result (λ refusal. refusal ≢ Refusal.Memory → HasManyNodes (low_by infrastructure checked.now) refusal) }
 {
-    let Lowered { low, code } = low_with_code(alloc, checked)?;
+    let Lowered { low, code } = low_with_code(alloc, infrastructure, checked)?;
     drop(code);
     Ok(low)
 }
 
 /// The low program of a checked program with its table, where its nodes are not too many.
-pub(crate) fn low_with_code(alloc: Global, checked: &Checked) -> Result<Lowered, Refusal>
-    ensures made { IfOk result (λ made. IsCompiled checked.now made.low) }
+pub(crate) fn low_with_code(
+    alloc: Global,
+    infrastructure: Infrastructure,
+    checked: &Checked,
+) -> Result<Lowered, Refusal>
+    ensures made { IfOk result (λ made. IsCompiled infrastructure checked.now made.low) }
     ensures code { IfOk result (λ made. program made.code ≡ made.low) }
     ensures runs { IfOk result (λ made. RunsWell (start_low made.low) made.low.at) }
-    ensures refused { IfErr result (λ refusal. refusal ≢ Refusal.Memory → HasManyNodes (encoded checked.now) refusal) }
+    ensures refused { IfErr result (λ refusal. refusal ≢ Refusal.Memory → HasManyNodes (low_by infrastructure checked.now) refusal) }
 {
-    match translated(alloc, checked) {
+    match translated(alloc, infrastructure, checked) {
         Ok(low) => coded(alloc, low),
         Err(Memory) => Err(Refusal::Memory),
     }
 }
 
 /// The low program of a checked program.
-fn translated(alloc: Global, checked: &Checked) -> Result<LowProgram, Memory>
-    ensures gives { IfOk result (λ low. low ≡ encoded checked.now) }
+fn translated(
+    alloc: Global,
+    infrastructure: Infrastructure,
+    checked: &Checked,
+) -> Result<LowProgram, Memory>
+    ensures gives { IfOk result (λ low. low ≡ low_by infrastructure checked.now) }
     ensures accepted { IsAccepted checked.now }
     ensures runs { IfOk result (λ low. RunsWell (start_low low) low.at) }
 {
     law_low_runs_well();
+    law_cached_runs_well();
     let _ = checked.program();
-    encode(alloc, checked)
+    match infrastructure {
+        Infrastructure::Central => encode(alloc, checked),
+        Infrastructure::Cache => encode_cached(alloc, checked),
+    }
 }
 
 /// The low program itself with its table, where it has one.

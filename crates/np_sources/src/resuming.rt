@@ -1,12 +1,13 @@
 //! Runs of the low program of a source on its sites that go on from saved events.
 
-ghost use Rattle.std.specs.Prelude.{◌≡◌, ◌≢◌, ◌<◌, ◌≤◌, length, None, IsSome, IfOk, IfErr, OnOk};
+ghost use Rattle.std.specs.Prelude.{◌≡◌, ◌≢◌, ◌<◌, ◌≤◌, length, None, IfSome, IsSome, IfOk, IfErr, OnOk};
 ghost use Rattle.np_syntax.specs.declared.limits.TheConstants.{LARGEST_BUDGET, MOST_SITES};
 ghost use Rattle.np_calculus.specs.Reductions.{run};
 ghost use Rattle.np_calculus.specs.Starts.{start_low};
 ghost use Rattle.run_merge.specs.Merged.{past};
 ghost use Rattle.np_following.specs.Following.{IsResumed};
 ghost use Rattle.np_verdict.specs.Faults.{IsWellTyped};
+ghost use Rattle.np_words.specs.declared.modes.Infrastructure.TheVariants.{Central};
 ghost use Rattle.np_sources.specs.Makes.{KeepsResumed, RunsOnSites, high_of};
 ghost use Rattle.np_sources.specs.Reaches.{CanGoOn, CannotGoOn, IsCompiled, barred};
 
@@ -14,12 +15,81 @@ use super::job::Job;
 use super::lowering::code_of;
 use super::sites::{Course, Shown, are_many, job_of_kept};
 use np_check::Checked;
-use np_on_sites::{FollowFail, Gate, Record, law_source_runs, resume_on_sites};
-use np_syntax::{Event, LowProgram};
+use np_on_sites::{FollowFail, Gate, Record, law_source_runs, redo_on_sites, resume_on_sites};
+use np_syntax::{Event, LowProgram, Memory};
 use np_verdict::Refusal;
 use std::alloc::Global;
 use std::sync::Wait;
 use std::thread::Threads;
+
+/// The run of the low program of a source on its sites goes on from events, whatever they are, if the sites can do them all again: so they
+/// are a run, and it need not be known before. The report is made. None where the sites cannot; `job_resumed` tells why.
+pub fn job_redone<R: Threads + Wait + Sync, G: Gate>(
+    alloc: Global,
+    rt: &R,
+    gate: &G,
+    course: Course,
+    shown: Shown,
+    _bytes: &[u8],
+    checked: &Checked,
+    low: &LowProgram,
+    events: &[Event],
+) -> Result<Option<Job>, Refusal>
+    requires typed { IsWellTyped _bytes.now checked.now }
+    requires compiled { IsCompiled Central checked.now low.now }
+    requires free { barred (high_of shown) checked.now ≡ None }
+    requires sites { length low.now.sites ≤ MOST_SITES }
+    requires site { low.now.at < length low.now.sites }
+    requires some { 1 ≤ course.budget }
+    requires within { course.budget ≤ LARGEST_BUDGET }
+    ensures made { IfOk result (λ made. IfSome made (λ job. KeepsResumed course.budget shown _bytes.now events.now job.kept job.high job.text)) }
+    ensures refused { IfErr result (λ refusal. refusal ≡ Refusal.Memory) }
+{
+    law_source_runs();
+    match redone(alloc, rt, gate, course, checked, low, events)? {
+        Some(kept) => match job_of_kept(alloc, shown, checked, kept) {
+            Ok(job) => Ok(Some(job)),
+            Err(refusal) => Err(refusal),
+        },
+        None => Ok(None),
+    }
+}
+
+/// What is kept of the run of a low program that goes on from events that its sites can do again.
+fn redone<R: Threads + Wait + Sync, G: Gate>(
+    alloc: Global,
+    rt: &R,
+    gate: &G,
+    course: Course,
+    _checked: &Checked,
+    low: &LowProgram,
+    events: &[Event],
+) -> Result<Option<Record>, Refusal>
+    requires compiled { IsCompiled Central _checked.now low.now }
+    requires sites { length low.now.sites ≤ MOST_SITES }
+    requires site { low.now.at < length low.now.sites }
+    requires some { 1 ≤ course.budget }
+    requires within { course.budget ≤ LARGEST_BUDGET }
+    ensures made { IfOk result (λ made. IfSome made (λ kept. RunsOnSites course.budget _checked.now low.now kept)) }
+    ensures resumed { IfOk result (λ made. IfSome made (λ kept. IsResumed events.now (past kept.histories))) }
+    ensures run { IfOk result (λ made. IfSome made (λ _. IsSome (run (start_low low.now) events.now))) }
+    ensures can { IfOk result (λ made. IfSome made (λ _. CanGoOn course.budget low.now events.now)) }
+    ensures refused { IfErr result (λ refusal. refusal ≡ Refusal.Memory) }
+{
+    let Course {
+        budget,
+        serial,
+        links,
+    } = course;
+    if are_many(low.sites.len(), budget) {
+        return Ok(None);
+    }
+    let code = code_of(alloc, low)?;
+    match redo_on_sites(alloc, rt, gate, low, code, events, budget, serial, links) {
+        Ok(made) => Ok(made),
+        Err(Memory) => Err(Refusal::Memory),
+    }
+}
 
 /// The run of the low program of a source on its sites goes on from saved events, and the report is made.
 pub fn job_resumed<R: Threads + Wait + Sync, G: Gate>(
@@ -34,7 +104,7 @@ pub fn job_resumed<R: Threads + Wait + Sync, G: Gate>(
     events: &[Event],
 ) -> Result<Job, Refusal>
     requires typed { IsWellTyped _bytes.now checked.now }
-    requires compiled { IsCompiled checked.now low.now }
+    requires compiled { IsCompiled Central checked.now low.now }
     requires free { barred (high_of shown) checked.now ≡ None }
     requires sites { length low.now.sites ≤ MOST_SITES }
     requires site { low.now.at < length low.now.sites }
@@ -59,7 +129,7 @@ fn resumed<R: Threads + Wait + Sync, G: Gate>(
     low: &LowProgram,
     events: &[Event],
 ) -> Result<Record, Refusal>
-    requires compiled { IsCompiled _checked.now low.now }
+    requires compiled { IsCompiled Central _checked.now low.now }
     requires sites { length low.now.sites ≤ MOST_SITES }
     requires site { low.now.at < length low.now.sites }
     requires some { 1 ≤ course.budget }

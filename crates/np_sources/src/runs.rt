@@ -16,7 +16,7 @@ use np_safety::law_runs_well;
 use np_serial::{SerialRun, run_serial, run_serial_low};
 use np_syntax::{LONGEST_SOURCE, LowProgram, Memory, Text};
 use np_verdict::Refusal;
-use np_words::HighText;
+use np_words::{HighText, Infrastructure};
 use std::alloc::Global;
 
 /// The run of a source at the high level, with the text of its report, which has such a high text.
@@ -73,12 +73,17 @@ fn report_of(
 
 /// Runs the low program of a source in one thread, one event after another, for at most so many events, and makes the
 /// report. It is the plain run with which other ways to run a low program can be compared.
-pub fn run_low(alloc: Global, budget: u32, bytes: &[u8]) -> Result<(SerialRun, Text), Refusal>
+pub fn run_low(
+    alloc: Global,
+    infrastructure: Infrastructure,
+    budget: u32,
+    bytes: &[u8],
+) -> Result<(SerialRun, Text), Refusal>
     requires { length bytes.now ≤ LONGEST_SOURCE }
-    ensures made { IfOk result (λ made. RunsLow budget bytes.now made.0 made.1) }
-    ensures refused { IfErr result (λ refusal. refusal ≢ Refusal.Memory → FaultyTo Reach.low bytes.now refusal) }
+    ensures made { IfOk result (λ made. RunsLow infrastructure budget bytes.now made.0 made.1) }
+    ensures refused { IfErr result (λ refusal. refusal ≢ Refusal.Memory → FaultyTo (Reach.low infrastructure) bytes.now refusal) }
 {
-    let low = low_of(alloc, bytes)?;
+    let low = low_of(alloc, infrastructure, bytes)?;
     match run_encoded(alloc, budget, &low) {
         Ok(made) => Ok(made),
         Err(Memory) => Err(Refusal::Memory),

@@ -10,6 +10,7 @@ ghost use Rattle.daemon_encode.specs.Encoded.{encoded};
 ghost use Rattle.np_verdict.specs.Faults.{IsWellTyped};
 ghost use Rattle.np_report.specs.Report.{load_text};
 ghost use Rattle.np_sources.specs.declared.limits.TheConstants.{MOST_EVENTS};
+ghost use Rattle.np_words.specs.declared.modes.Infrastructure.TheVariants.{Central};
 ghost use Rattle.np_sources.specs.Reaches.{Reach, CannotRun, FaultyTo, IsCompiled, barred};
 ghost use Rattle.np_sources.specs.Kept.{IsShownSo, high_part, history_part, merged, run_report, said};
 ghost use Rattle.np_sources.specs.Makes.{KeepsRun, KeepsSites, RunsOnSites, high_of, report_of};
@@ -24,7 +25,7 @@ use np_on_sites::{Gate, Record, law_source_runs, run_on_sites};
 use np_report::{load_report, report};
 use np_syntax::{Event, LARGEST_BUDGET, LONGEST_SOURCE, List, Memory, Text};
 use np_verdict::Refusal;
-use np_words::{HighText, Links};
+use np_words::{HighText, Infrastructure, Links};
 use run_merge::{lift, merge, said};
 use std::alloc::Global;
 use std::sync::Wait;
@@ -172,14 +173,14 @@ fn run_of<R: Threads + Wait + Sync, G: Gate>(
 /// The low program of a checked program with its table, where its sites make few events within the budget.
 fn lowered_within(alloc: Global, budget: u32, checked: &Checked) -> Result<Lowered, Refusal>
     requires within { budget ≤ LARGEST_BUDGET }
-    ensures compiled { IfOk result (λ made. IsCompiled checked.now made.low) }
+    ensures compiled { IfOk result (λ made. IsCompiled Central checked.now made.low) }
     ensures code { IfOk result (λ made. program made.code ≡ made.low) }
     ensures sites { IfOk result (λ made. length made.low.sites ≤ MOST_SITES) }
     ensures site { IfOk result (λ made. made.low.at < length made.low.sites) }
     ensures few { IfOk result (λ made. length made.low.sites * budget ≤ MOST_EVENTS) }
     ensures refused { IfErr result (λ refusal. refusal ≢ Refusal.Memory → CannotRun budget checked.now refusal) }
 {
-    let made = low_with_code(alloc, checked)?;
+    let made = low_with_code(alloc, Infrastructure::Central, checked)?;
     if are_many(made.low.sites.len(), budget) {
         drop(made);
         return Err(Refusal::TooManyEvents);

@@ -15,7 +15,7 @@ use np_on_sites::Gate;
 use np_show::show;
 use np_syntax::{LONGEST_SOURCE, List, Memory};
 use np_verdict::{Refusal, checked_source, tokens_of, tree_of};
-use np_words::{HighText, Task};
+use np_words::{HighText, Infrastructure, Task};
 use std::alloc::Global;
 use std::sync::Wait;
 use std::thread::Threads;
@@ -58,7 +58,7 @@ pub fn job_of<R: Threads + Wait + Sync, G: Gate>(
         Task::High { budget, history } => high_source(alloc, budget, history, bytes),
         Task::Show => show_source(alloc, bytes),
         Task::Check => check_source(alloc, bytes),
-        Task::Low => low_source(alloc, bytes),
+        Task::Low { infrastructure } => low_source(alloc, infrastructure, bytes),
     }
 }
 
@@ -109,12 +109,12 @@ fn check_source(alloc: Global, bytes: &[u8]) -> Result<Job, Refusal>
 }
 
 /// The low text of a source.
-fn low_source(alloc: Global, bytes: &[u8]) -> Result<Job, Refusal>
+fn low_source(alloc: Global, infrastructure: Infrastructure, bytes: &[u8]) -> Result<Job, Refusal>
     requires { length bytes.now ≤ LONGEST_SOURCE }
-    ensures made { IfOk result (λ job. Lowers bytes.now job.kept job.high job.text) }
-    ensures refused { IfErr result (λ refusal. refusal ≢ Refusal.Memory → FaultyTo Reach.low bytes.now refusal) }
+    ensures made { IfOk result (λ job. Lowers infrastructure bytes.now job.kept job.high job.text) }
+    ensures refused { IfErr result (λ refusal. refusal ≢ Refusal.Memory → FaultyTo (Reach.low infrastructure) bytes.now refusal) }
 {
-    let low = low_of(alloc, bytes)?;
+    let low = low_of(alloc, infrastructure, bytes)?;
     match print_low(alloc, &low) {
         Ok(text) => Ok(text_alone(text)),
         Err(Memory) => Err(Refusal::Memory),

@@ -30,7 +30,7 @@ rule_text rule.Wide = codes "Wide"
 -- what a refusal writes
 abbrev pub line_of : Refusal → List ℕ
 line_of Memory = []
-line_of Usage = codes "np: 22 Usage\nusage: np MODE FILE [SECOND] [--budget N] [--history] [--high] [--serial] [--links KIND] [--line K] [--one]\n"
+line_of Usage = codes "np: 22 Usage\nusage: np MODE FILE [SECOND] [--budget N] [--history] [--high] [--serial] [--links KIND] [--infra KIND] [--line K] [--one]\n"
 line_of ReadFault = codes "np: 4 ReadFault\n"
 line_of TooLong = codes "np: 5 TooLong\n"
 line_of (BadChar at) = placed_line (codes "np: 7 BadChar at ") at

@@ -122,7 +122,7 @@ pub fn line(alloc: Global, refusal: Refusal) -> Result<Text, Memory>
         Refusal::Memory => Ok(List::new(alloc)),
         Refusal::Usage => List::from_slice(
             alloc,
-            b"np: 22 Usage\nusage: np MODE FILE [SECOND] [--budget N] [--history] [--high] [--serial] [--links KIND] [--line K] [--one]\n",
+            b"np: 22 Usage\nusage: np MODE FILE [SECOND] [--budget N] [--history] [--high] [--serial] [--links KIND] [--infra KIND] [--line K] [--one]\n",
         ),
         Refusal::ReadFault => List::from_slice(alloc, b"np: 4 ReadFault\n"),
         Refusal::TooLong => List::from_slice(alloc, b"np: 5 TooLong\n"),

@@ -16,12 +16,12 @@ pub if_ok : {A E : Type 0} {P Q : A → Type 0} (r : Result A E) → ((x : A) �
 if_ok (Ok x) f h = f x h
 if_ok (Err e) f h = h
 
-pub chained : {a b c d e f g h i j k : App} → a ≡ start → b ≡ with_rule a (operand (codes "mode")) → c ≡ with_rule b (operand (codes "file"))
+pub chained : {a b c d e f g h i j k l : App} → a ≡ start → b ≡ with_rule a (operand (codes "mode")) → c ≡ with_rule b (operand (codes "file"))
     → d ≡ with_rule c (further (codes "second")) → e ≡ with_rule d (valued (codes "budget")) → f ≡ with_rule e (flag (codes "history"))
     → g ≡ with_rule f (flag (codes "high")) → h ≡ with_rule g (flag (codes "serial")) → i ≡ with_rule h (valued (codes "links"))
-    → j ≡ with_rule i (valued (codes "line")) → k ≡ with_rule j (flag (codes "one")) → k ≡ command
+    → j ≡ with_rule i (valued (codes "infra")) → k ≡ with_rule j (valued (codes "line")) → l ≡ with_rule k (flag (codes "one")) → l ≡ command
 unfolding command
-chained a b c d e f g h i j k = rw (k, j, i, h, g, f, e, d, c, b, a) refl
+chained a b c d e f g h i j k l = rw (l, k, j, i, h, g, f, e, d, c, b, a) refl
 
 pub simple : is_simple command ≡ true
 unfolding command clap_on_literals

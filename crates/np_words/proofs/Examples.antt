@@ -5,11 +5,12 @@ use Rattle.np_words.specs.Arguments.{command, taken}
 use Rattle.np_words.specs.Plans.{plan}
 use Rattle.np_words.specs.declared.modes.HighText.{HighText}
 use Rattle.np_words.specs.declared.modes.HighText.TheVariants.{Absent, TwoSteps, OneStep}
+use Rattle.np_words.specs.declared.modes.Infrastructure.TheVariants.{Cache, Central}
 use Rattle.np_words.specs.declared.modes.Links.TheVariants.{Tray, Rings, Inbox}
 use Rattle.np_words.specs.declared.planning.Plan.{Plan}
 use Rattle.np_words.specs.declared.planning.Plan.TheVariants.{Source, Replay, Resume, Upgrade, Generate, Load}
 use Rattle.np_words.specs.declared.planning.View.TheVariants.{Said, Past}
-use Rattle.np_words.specs.declared.planning.Task.TheVariants.{Run, High, Show}
+use Rattle.np_words.specs.declared.planning.Task.TheVariants.{Run, High, Low, Show}
 
 abbrev runs : List ℕ → ℕ → Option Plan
 runs file budget = Some (Source file (Run budget false Absent false Rings))
@@ -53,7 +54,7 @@ history_of_high : plan (codes "high" ∷ a ∷ codes "--history" ∷ []) ≡ run
 unfolding plan taken command clap_on_literals
 history_of_high = refl
 
-replay_two : plan (codes "replay" ∷ a ∷ codes "b" ∷ []) ≡ Some (Replay a (codes "b") Said)
+replay_two : plan (codes "replay" ∷ a ∷ codes "b" ∷ []) ≡ Some (Replay a (codes "b") Central Said)
 unfolding plan taken command clap_on_literals
 replay_two = refl
 
@@ -65,13 +66,29 @@ one_step_of_run : plan (codes "run" ∷ a ∷ codes "--one" ∷ codes "--high" �
 unfolding plan taken command clap_on_literals
 one_step_of_run = refl
 
-past_first : plan (codes "past" ∷ a ∷ codes "b" ∷ []) ≡ Some (Replay a (codes "b") (Past 1))
+past_first : plan (codes "past" ∷ a ∷ codes "b" ∷ []) ≡ Some (Replay a (codes "b") Central (Past 1))
 unfolding plan taken command clap_on_literals
 past_first = refl
 
-last_line : plan (codes "past" ∷ a ∷ codes "b" ∷ codes "--line" ∷ codes "6400000" ∷ []) ≡ Some (Replay a (codes "b") (Past 6400000))
+last_line : plan (codes "past" ∷ a ∷ codes "b" ∷ codes "--line" ∷ codes "6400000" ∷ []) ≡ Some (Replay a (codes "b") Central (Past 6400000))
 unfolding plan taken command clap_on_literals
 last_line = refl
+
+low_central : plan (codes "low" ∷ a ∷ []) ≡ Some (Source a (Low Central))
+unfolding plan taken command clap_on_literals
+low_central = refl
+
+low_of_caches : plan (codes "low" ∷ a ∷ codes "--infra" ∷ codes "cache" ∷ []) ≡ Some (Source a (Low Cache))
+unfolding plan taken command clap_on_literals
+low_of_caches = refl
+
+replay_of_caches : plan (codes "replay" ∷ a ∷ codes "b" ∷ codes "--infra=cache" ∷ []) ≡ Some (Replay a (codes "b") Cache Said)
+unfolding plan taken command clap_on_literals
+replay_of_caches = refl
+
+past_of_caches : plan (codes "past" ∷ a ∷ codes "b" ∷ codes "--line=2" ∷ codes "--infra=cache" ∷ []) ≡ Some (Replay a (codes "b") Cache (Past 2))
+unfolding plan taken command clap_on_literals
+past_of_caches = refl
 
 resume_two : plan (codes "resume" ∷ a ∷ codes "b" ∷ []) ≡ Some (Resume a (codes "b") 10000 false false false Rings)
 unfolding plan taken command clap_on_literals
@@ -226,6 +243,15 @@ long_line = refl
 other_links : plan (codes "run" ∷ a ∷ codes "--links" ∷ codes "ring" ∷ []) ≡ None
 unfolding plan taken command clap_on_literals
 other_links = refl
+
+-- no infrastructure, and a mode that has no choice of it
+other_infrastructure : plan (codes "low" ∷ a ∷ codes "--infra" ∷ codes "caches" ∷ []) ≡ None
+unfolding plan taken command clap_on_literals
+other_infrastructure = refl
+
+infrastructure_of_run : plan (codes "run" ∷ a ∷ codes "--infra" ∷ codes "central" ∷ []) ≡ None
+unfolding plan taken command clap_on_literals
+infrastructure_of_run = refl
 
 unknown_option : plan (codes "run" ∷ a ∷ codes "--fast" ∷ []) ≡ None
 unfolding plan taken command clap_on_literals

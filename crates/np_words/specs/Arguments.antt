@@ -28,7 +28,7 @@ abbrev pub arguments : List Rule
 arguments =
     operand (codes "mode") ∷ operand (codes "file") ∷ further (codes "second")
     ∷ valued (codes "budget") ∷ flag (codes "history") ∷ flag (codes "high") ∷ flag (codes "serial") ∷ valued (codes "links")
-    ∷ valued (codes "line") ∷ flag (codes "one") ∷ []
+    ∷ valued (codes "infra") ∷ valued (codes "line") ∷ flag (codes "one") ∷ []
 
 -- the words leave out the program's name
 abbrev pub start : App
@@ -49,6 +49,7 @@ pub record Given : Type 0 where
   pub high : Bool
   pub serial : Bool
   pub links : Option Text
+  pub infrastructure : Option Text
   pub line : Option Text
   pub one : Bool
 
@@ -68,6 +69,7 @@ seen held = record {
   high = held.high;
   serial = held.serial;
   links = option_map (λ text. text.now) held.links;
+  infrastructure = option_map (λ text. text.now) held.infrastructure;
   line = option_map (λ text. text.now) held.line;
   one = held.one;
 }
@@ -82,6 +84,7 @@ given rows = record {
   high = is_set (first_of (codes "high") rows);
   serial = is_set (first_of (codes "serial") rows);
   links = first_of (codes "links") rows;
+  infrastructure = first_of (codes "infra") rows;
   line = first_of (codes "line") rows;
   one = is_set (first_of (codes "one") rows);
 }

@@ -22,6 +22,7 @@ two_words mode file = record {
   high = false;
   serial = false;
   links = None;
+  infrastructure = None;
   line = None;
   one = false;
 }

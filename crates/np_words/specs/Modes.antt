@@ -10,6 +10,8 @@ use Rattle.np_words.specs.declared.modes.Options.{Options}
 use Rattle.np_words.specs.declared.modes.Entry.{Entry}
 use Rattle.np_words.specs.declared.modes.Links.{Links}
 use Rattle.np_words.specs.declared.modes.Links.TheVariants as links
+use Rattle.np_words.specs.declared.modes.Infrastructure.{Infrastructure}
+use Rattle.np_words.specs.declared.modes.Infrastructure.TheVariants as infrastructures
 
 -- ---- modes
 
@@ -27,7 +29,7 @@ mode_word mode.Gen = codes "gen"
 mode_word mode.Load = codes "load"
 
 abbrev pub no_options : Options
-no_options = record { budget = false; history = false; high = false; serial = false; links = false; line = false; one = false }
+no_options = record { budget = false; history = false; high = false; serial = false; links = false; infrastructure = false; line = false; one = false }
 
 abbrev pub run_options : Options
 run_options = record no_options { budget = true; history = true; high = true; serial = true; links = true; one = true }
@@ -35,8 +37,12 @@ run_options = record no_options { budget = true; history = true; high = true; se
 abbrev pub high_options : Options
 high_options = record no_options { budget = true; history = true; one = true }
 
+-- of the modes that make or follow the low program alone
+abbrev pub low_options : Options
+low_options = record no_options { infrastructure = true }
+
 abbrev pub past_options : Options
-past_options = record no_options { line = true }
+past_options = record no_options { infrastructure = true; line = true }
 
 abbrev pub resume_options : Options
 resume_options = record no_options { budget = true; history = true; high = true; serial = true; links = true }
@@ -52,8 +58,8 @@ alone m options = record { mode = m; second = false; options = options }
 abbrev pub modes : List Entry
 modes =
     alone mode.Run run_options ∷ alone mode.High high_options
-    ∷ alone mode.Show no_options ∷ alone mode.Check no_options ∷ alone mode.Low no_options
-    ∷ record { mode = mode.Replay; second = true; options = no_options }
+    ∷ alone mode.Show no_options ∷ alone mode.Check no_options ∷ alone mode.Low low_options
+    ∷ record { mode = mode.Replay; second = true; options = low_options }
     ∷ record { mode = mode.Past; second = true; options = past_options }
     ∷ record { mode = mode.Resume; second = true; options = resume_options }
     ∷ alone mode.Upgrade no_options ∷ alone mode.Gen no_options ∷ alone mode.Load load_options ∷ []
@@ -87,3 +93,16 @@ kinds = links.Tray ∷ links.Rings ∷ links.Inbox ∷ []
 
 abbrev pub links_of : List ℕ → Option Links
 links_of word = find (λ kind. bytes_eq (links_word kind) word) kinds
+
+-- ---- infrastructures
+
+abbrev pub infrastructure_word : Infrastructure → List ℕ
+infrastructure_word infrastructures.Central = codes "central"
+infrastructure_word infrastructures.Cache = codes "cache"
+
+-- those that are built
+abbrev pub all_infrastructures : List Infrastructure
+all_infrastructures = infrastructures.Central ∷ infrastructures.Cache ∷ []
+
+abbrev pub infrastructure_of : List ℕ → Option Infrastructure
+infrastructure_of word = find (λ infrastructure. bytes_eq (infrastructure_word infrastructure) word) all_infrastructures

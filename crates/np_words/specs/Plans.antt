@@ -5,11 +5,13 @@ use Rattle.np_syntax.specs.Options.{◌>>=◌, ◌>>◌, need}
 use Rattle.np_syntax.specs.declared.limits.TheConstants.{LARGEST_BUDGET, USUAL_BUDGET}
 use Rattle.np_generate.specs.declared.source.TheConstants.{MOST_AGENTS}
 use Rattle.np_words.specs.Arguments.{Given, taken}
-use Rattle.np_words.specs.Modes.{entry_of, number_of, links_of}
+use Rattle.np_words.specs.Modes.{entry_of, infrastructure_of, number_of, links_of}
 use Rattle.np_words.specs.declared.modes.Entry.{Entry}
 use Rattle.np_words.specs.declared.modes.Options.{Options}
 use Rattle.np_words.specs.declared.modes.Links.{Links}
 use Rattle.np_words.specs.declared.modes.Links.TheVariants.{Rings}
+use Rattle.np_words.specs.declared.modes.Infrastructure.{Infrastructure}
+use Rattle.np_words.specs.declared.modes.Infrastructure.TheVariants.{Central}
 use Rattle.np_words.specs.declared.modes.HighText.{HighText}
 use Rattle.np_words.specs.declared.modes.HighText.TheVariants.{Absent, TwoSteps, OneStep}
 use Rattle.np_words.specs.declared.numerals.TheConstants.{FIRST_LINE, LAST_LINE, LINE_DIGITS, MOST_DIGITS}
@@ -34,7 +36,9 @@ same false b = not b
 
 -- no option on how a run goes stands there that the mode does not have, and none on what is shown
 abbrev pub runs_so : Options → Given → Bool
-runs_so options given = only options.budget (is_some given.budget) && only options.serial given.serial && only options.links (is_some given.links)
+runs_so options given =
+    only options.budget (is_some given.budget) && only options.serial given.serial && only options.links (is_some given.links)
+    && only options.infrastructure (is_some given.infrastructure)
 
 abbrev pub shows_so : Options → Given → Bool
 shows_so options given = only options.history given.history && only options.high given.high && only options.line (is_some given.line) && only options.one given.one
@@ -65,6 +69,10 @@ abbrev pub kind_of : Option Text → Option Links
 kind_of None = Some Rings
 kind_of (Some word) = links_of word
 
+abbrev pub infrastructure_given : Option Text → Option Infrastructure
+infrastructure_given None = Some Central
+infrastructure_given (Some word) = infrastructure_of word
+
 -- ---- the options of a mode that reads one source
 
 abbrev pub run_of : Given → Option Task
@@ -80,6 +88,11 @@ high_of given = do
   history ← high_text given.history given.one
   Some (tasks.High budget history)
 
+abbrev pub low_of : Given → Option Task
+low_of given = do
+  infrastructure ← infrastructure_given given.infrastructure
+  Some (tasks.Low infrastructure)
+
 -- ---- what FILE and SECOND are
 
 -- FILE is a source
@@ -89,11 +102,12 @@ on_source file what = do
   Some (plans.Source file task)
 
 -- FILE is a source, SECOND a history
-abbrev pub on_history : Text → Option Text → Option View → Option Plan
-on_history file second shown = do
-  history ← second
+abbrev pub on_history : Text → Given → Option View → Option Plan
+on_history file given shown = do
+  history ← given.second
+  infrastructure ← infrastructure_given given.infrastructure
   view ← shown
-  Some (plans.Replay file history view)
+  Some (plans.Replay file history infrastructure view)
 
 -- FILE is a source, SECOND a saved history from which on it is run
 abbrev pub resume_of : Text → Given → Option Plan
@@ -131,9 +145,9 @@ plan_for modes.Run file given = on_source file (run_of given)
 plan_for modes.High file given = on_source file (high_of given)
 plan_for modes.Show file given = on_source file (Some tasks.Show)
 plan_for modes.Check file given = on_source file (Some tasks.Check)
-plan_for modes.Low file given = on_source file (Some tasks.Low)
-plan_for modes.Replay file given = on_history file given.second (Some views.Said)
-plan_for modes.Past file given = on_history file given.second (past_of given)
+plan_for modes.Low file given = on_source file (low_of given)
+plan_for modes.Replay file given = on_history file given (Some views.Said)
+plan_for modes.Past file given = on_history file given (past_of given)
 plan_for modes.Resume file given = resume_of file given
 plan_for modes.Upgrade file given = upgrade_of file
 plan_for modes.Gen file given = generate_of file
@@ -165,7 +179,7 @@ HasLine (views.Past line) = 1 ≤ line
 -- agents as it may have
 abbrev pub IsWithinLimits : Plan → Type 0
 IsWithinLimits (plans.Source file task) = HasBudget task
-IsWithinLimits (plans.Replay source history view) = HasLine view
+IsWithinLimits (plans.Replay source history infrastructure view) = HasLine view
 IsWithinLimits (plans.Resume source saved budget history high serial links) = (1 ≤ budget) × (budget ≤ LARGEST_BUDGET)
 IsWithinLimits (plans.Generate agents) = (1 ≤ agents) × (agents ≤ MOST_AGENTS)
 IsWithinLimits (plans.Load agents serial links) = (1 ≤ agents) × (agents ≤ MOST_AGENTS)

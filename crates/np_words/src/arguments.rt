@@ -70,6 +70,7 @@ pub fn command<'a>(alloc: Global) -> Result<Command<'a>, AllocError>
     let command = with_flag(alloc, command, "high")?;
     let command = with_flag(alloc, command, "serial")?;
     let command = with_valued(alloc, command, "links")?;
+    let command = with_valued(alloc, command, "infra")?;
     let command = with_valued(alloc, command, "line")?;
     with_flag(alloc, command, "one")
 }
@@ -85,6 +86,7 @@ pub struct Given<'a> {
     pub high: bool,
     pub serial: bool,
     pub links: Option<&'a str>,
+    pub infrastructure: Option<&'a str>,
     pub line: Option<&'a str>,
     pub one: bool,
 }
@@ -118,6 +120,7 @@ pub fn given_by<'a>(matches: &ArgMatches<'a>) -> Given<'a>
         high: is_set(matches, "high"),
         serial: is_set(matches, "serial"),
         links: value(matches, "links"),
+        infrastructure: value(matches, "infra"),
         line: value(matches, "line"),
         one: is_set(matches, "one"),
     }

@@ -11,6 +11,6 @@ mod planning;
 
 pub use fail::PlanFail;
 pub use laws::law_taken;
-pub use modes::{HighText, Links};
+pub use modes::{HighText, Infrastructure, Links};
 pub use numerals::LAST_LINE;
 pub use planning::{Plan, Task, View, plan_of};

@@ -28,6 +28,14 @@ pub enum Links {
     Inbox,
 }
 
+/// What passes on the messages that are for an agent wherever it is: a daemon alone, or beside it a cache in each agent, of where others
+/// were last found, and a messenger that goes there.
+#[derive(Clone, Copy, Debug, PartialEq, Eq)]
+pub enum Infrastructure {
+    Central,
+    Cache,
+}
+
 /// The text of the events of the high level that a report has: none, or one in which a migration is a Depart and later an
 /// Arrive, or one in which the Arrive stands directly behind the Depart.
 #[derive(Clone, Copy, Debug, PartialEq, Eq)]
@@ -45,6 +53,7 @@ pub struct Options {
     pub high: bool,
     pub serial: bool,
     pub links: bool,
+    pub infrastructure: bool,
     pub line: bool,
     pub one: bool,
 }
@@ -63,6 +72,7 @@ const NO_OPTIONS: Options = Options {
     high: false,
     serial: false,
     links: false,
+    infrastructure: false,
     line: false,
     one: false,
 };
@@ -84,7 +94,14 @@ const HIGH_OPTIONS: Options = Options {
     ..NO_OPTIONS
 };
 
+/// Those of the modes that make or follow the low program alone.
+const LOW_OPTIONS: Options = Options {
+    infrastructure: true,
+    ..NO_OPTIONS
+};
+
 const PAST_OPTIONS: Options = Options {
+    infrastructure: true,
     line: true,
     ..NO_OPTIONS
 };
@@ -129,12 +146,12 @@ const MODES: [Entry; 11] = [
     Entry {
         mode: Mode::Low,
         second: false,
-        options: NO_OPTIONS,
+        options: LOW_OPTIONS,
     },
     Entry {
         mode: Mode::Replay,
         second: true,
-        options: NO_OPTIONS,
+        options: LOW_OPTIONS,
     },
     Entry {
         mode: Mode::Past,
@@ -165,6 +182,9 @@ const MODES: [Entry; 11] = [
 
 /// The kinds of links that are built.
 const KINDS: [Links; 3] = [Links::Tray, Links::Rings, Links::Inbox];
+
+/// The infrastructures that are built.
+const INFRASTRUCTURES: [Infrastructure; 2] = [Infrastructure::Central, Infrastructure::Cache];
 
 fn mode_word(mode: Mode) -> &'static str
     ensures { result.now ≡ spec.mode_word mode }
@@ -209,4 +229,21 @@ pub fn links_of(word: &str) -> Option<Links>
     ensures { result ≡ spec.links_of word.now }
 {
     KINDS.iter().copied().find(|kind| links_word(*kind) == word)
+}
+
+fn infrastructure_word(infrastructure: Infrastructure) -> &'static str
+    ensures { result.now ≡ spec.infrastructure_word infrastructure }
+{
+    match infrastructure {
+        Infrastructure::Central => "central",
+        Infrastructure::Cache => "cache",
+    }
+}
+
+/// The infrastructure that a word names.
+pub fn infrastructure_of(word: &str) -> Option<Infrastructure>
+    ensures { result ≡ spec.infrastructure_of word.now }
+{
+    INFRASTRUCTURES.iter().copied().find(|infrastructure| infrastructure_word(*infrastructure)
+        == word)
 }

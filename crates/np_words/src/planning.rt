@@ -7,7 +7,9 @@ ghost use Rattle.np_words.specs.Plans as spec;
 
 use super::arguments::{Given, command, given_by};
 use super::fail::PlanFail;
-use super::modes::{Entry, HighText, Links, Mode, Options, entry_of, links_of};
+use super::modes::{
+    Entry, HighText, Infrastructure, Links, Mode, Options, entry_of, infrastructure_of, links_of,
+};
 use super::numerals::{FIRST_LINE, LAST_LINE, LINE_DIGITS, MOST_DIGITS, number_of};
 use clap::error::ErrorKind;
 use np_generate::MOST_AGENTS;
@@ -35,7 +37,9 @@ pub enum Task {
     },
     Show,
     Check,
-    Low,
+    Low {
+        infrastructure: Infrastructure,
+    },
 }
 
 /// What is shown of a history that is replayed.
@@ -59,6 +63,7 @@ pub enum Plan {
     Replay {
         source: Word,
         history: Word,
+        infrastructure: Infrastructure,
         view: View,
     },
     /// The low program of a source is run on the sites, from a saved history on, whose events count for the budget too. The
@@ -100,6 +105,7 @@ fn runs_so(options: &Options, given: &Given<'_>) -> bool
     only(options.budget, given.budget.is_some())
         && only(options.serial, given.serial)
         && only(options.links, given.links.is_some())
+        && only(options.infrastructure, given.infrastructure.is_some())
 }
 
 /// Whether no option on what is shown stands there that the mode does not have.
@@ -162,6 +168,15 @@ fn kind_of(word: Option<&str>) -> Option<Links>
     }
 }
 
+fn infrastructure_given(word: Option<&str>) -> Option<Infrastructure>
+    ensures { result ≡ spec.infrastructure_given (option_map (λ text. text.now) word.entry) }
+{
+    match word {
+        Some(word) => infrastructure_of(word),
+        None => Some(Infrastructure::Central),
+    }
+}
+
 fn run_of(given: &Given<'_>) -> Option<Task>
     ensures is { result ≡ spec.run_of (seen given.now) }
     ensures limits { IfSome result spec.HasBudget }
@@ -185,6 +200,14 @@ fn high_of(given: &Given<'_>) -> Option<Task>
     })
 }
 
+fn low_of(given: &Given<'_>) -> Option<Task>
+    ensures is { result ≡ spec.low_of (seen given.now) }
+    ensures limits { IfSome result spec.HasBudget }
+{
+    let infrastructure = infrastructure_given(given.infrastructure)?;
+    Some(Task::Low { infrastructure })
+}
+
 /// The plan where FILE is a source.
 fn on_source(alloc: Global, file: &str, task: Option<Task>) -> Result<Plan, PlanFail>
     requires { IfSome task spec.HasBudget }
@@ -202,18 +225,20 @@ fn on_source(alloc: Global, file: &str, task: Option<Task>) -> Result<Plan, Plan
 fn on_history(
     alloc: Global,
     file: &str,
-    second: Option<&str>,
+    given: &Given<'_>,
     view: Option<View>,
 ) -> Result<Plan, PlanFail>
     requires { IfSome view spec.HasLine }
-    ensures plans { spec.Plans (spec.on_history file.now (option_map (λ text. text.now) second.entry) view) result }
+    ensures plans { spec.Plans (spec.on_history file.now (seen given.now) view) result }
     ensures limits { IfOk result spec.IsWithinLimits }
 {
-    let second = second.ok_or(PlanFail::Usage)?;
+    let second = given.second.ok_or(PlanFail::Usage)?;
+    let infrastructure = infrastructure_given(given.infrastructure).ok_or(PlanFail::Usage)?;
     let view = view.ok_or(PlanFail::Usage)?;
     Ok(Plan::Replay {
         source: Word::new(alloc, file)?,
         history: Word::new(alloc, second)?,
+        infrastructure,
         view,
     })
 }
@@ -290,9 +315,9 @@ fn plan_for(alloc: Global, mode: Mode, file: &str, given: &Given<'_>) -> Result<
         Mode::High => on_source(alloc, file, high_of(given)),
         Mode::Show => on_source(alloc, file, Some(Task::Show)),
         Mode::Check => on_source(alloc, file, Some(Task::Check)),
-        Mode::Low => on_source(alloc, file, Some(Task::Low)),
-        Mode::Replay => on_history(alloc, file, given.second, Some(View::Said)),
-        Mode::Past => on_history(alloc, file, given.second, past_of(given)),
+        Mode::Low => on_source(alloc, file, low_of(given)),
+        Mode::Replay => on_history(alloc, file, given, Some(View::Said)),
+        Mode::Past => on_history(alloc, file, given, past_of(given)),
         Mode::Resume => resume_of(alloc, file, given),
         Mode::Upgrade => upgrade_of(alloc, file),
         Mode::Gen => generate_of(file),

@@ -6,5 +6,5 @@ past_of-requires-clause-line c = prints_line c.law_said_by_prints.ensures.low_ru
 
 pub returns : goal.returns
 returns c =
-    tells_past c.law_said_by_prints.ensures.low_run c.args.low.now c.args.events.now c.args.line _ c.requires.line c.in_ok-led.led c.in_ok-led.ensures
+    tells_past c.law_said_by_prints.ensures.low_run c.args.format c.args.low.now c.args.events.now c.args.line _ c.requires.line c.in_ok-led.led c.in_ok-led.ensures
     _ c.as_slice.ensures c.report_of.result c.report_of.ensures

@@ -4,12 +4,12 @@ use Rattle.np_modes.proofs.histories.replay.Goals as goal
 
 pub returns-in-Ok-clause-made : goal.returns-in-Ok-clause-made
 returns-in-Ok-clause-made g c =
-    replay_made _ _ _ _ _ _ _ _ _ _ c.read_low.ensures.held c.read_low.ensures.later c.args.source.now c.args.history.now c.in-Ok.low c.args.view c.in-Ok.ensures.made
+    replay_made _ _ _ _ _ _ _ _ _ _ c.read_low.ensures.held c.read_low.ensures.later c.args.source.now c.args.history.now c.args.infrastructure c.in-Ok.low c.args.view c.in-Ok.ensures.made
     c.replay_low.result c.replay_low.ensures.made
 
 pub returns-in-Ok-clause-refused : goal.returns-in-Ok-clause-refused
 returns-in-Ok-clause-refused g c =
-    replay_refused _ _ _ _ _ _ _ _ _ _ c.read_low.ensures.held c.read_low.ensures.later c.args.source.now c.args.history.now c.in-Ok.low c.args.view c.in-Ok.ensures.made
+    replay_refused _ _ _ _ _ _ _ _ _ _ c.read_low.ensures.held c.read_low.ensures.later c.args.source.now c.args.history.now c.args.infrastructure c.in-Ok.low c.args.view c.in-Ok.ensures.made
     c.replay_low.result c.replay_low.ensures.refused
 
 pub returns-in-Err-clause-refused : goal.returns-in-Err-clause-refused
