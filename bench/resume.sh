@@ -7,7 +7,7 @@
 # that of `gen 100`, a ring of 100 agents that pass one token, whose run on sites has 68,215 events. The script looks for the least budget
 # with which the run has half of them or more, and keeps the history of that run.
 #
-# `resume` reads this history, follows it, has the sites do its events again, and then does the rest of the run. The whole run does all
+# `resume` reads this history, has the sites do its events again, and then does the rest of the run. The whole run does all
 # events once and reads and writes no history. The last column says how many times as long it takes to stop and to resume. The rows are one
 # site after another, and on threads over each kind of links.
 set -euo pipefail
