@@ -1,7 +1,7 @@
 //! Histories of low runs, replayed as they are and changed.
 
 use super::low_run::{LowEvents, events_of_low, option_of};
-use super::pasts::has_past;
+use super::pasts::{called, has_past};
 use super::report::tell_replay;
 use super::resumes::is_resumed;
 use super::tally::Tally;
@@ -140,12 +140,7 @@ fn replayed<R: Threads + Wait + Sync>(
     let history = write_history(alloc, events)?;
     let option = option_of(run.example);
     let words = format!(in alloc; "replay a h{option}")?;
-    let call = Call {
-        words: words.as_str(),
-        source: run.source,
-        history: Some(history.as_slice()),
-    };
-    came_of(rt, alloc, run.example, &call)
+    called(rt, alloc, run, words.as_str(), history.as_slice())
 }
 
 /// Whether the first events are a run, which prints the first lines.
