@@ -1,5 +1,6 @@
 -- Where no mark comes to stand for another, the list is that of the infrastructure without caches.
 use Rattle.std.proofs.Common.{◌≡◌, false, Option, None, Some, List, [], ◌∷◌, refl, ap, ◌∙◌}
+use Rattle.std.specs.List.{All}
 use Rattle.std.specs.Option.{option_map}
 use Rattle.std.proofs.lemmas.List.Elements.{All-head, All-tail}
 use Rattle.np_syntax.specs.declared.value.Name.{Name}
@@ -13,7 +14,7 @@ use Rattle.np_syntax.specs.declared.event.Made.TheVariants as made
 use Rattle.np_tables.proofs.Tables.{contains-none}
 use Rattle.np_lift.specs.Lift as plain
 use Rattle.np_lift.specs.Posts.{prepended}
-use Rattle.cache_lift.specs.Lift.{Lifted, at_first, is_dropped, lift_from, lifted, lifted_by, posted, renamed, stands_for}
+use Rattle.cache_lift.specs.Lift.{Lifted, at_first, is_dropped, lift_from, lifted, lifted_by, posted, renamed, standing_after, stands_for}
 use Rattle.cache_lift.specs.Laws.{AddsNoMark, LiftWithoutMessengers, adds_mark}
 use Rattle.cache_lift.proofs.Standings.{stands-itself}
 
@@ -57,3 +58,9 @@ lift-without-messengers [] none = refl
 lift-without-messengers (e ∷ h) none =
     ap (λ l. prepended l.event (lift_from l.standing h)) (same-lifted e (All-head AddsNoMark e h none))
     ∙ ap (prepended (plain.lifted e)) (lift-without-messengers h (All-tail AddsNoMark e h none)) ∙ one-more (plain.lifted e) e h refl
+
+-- and each mark stands for itself after it
+pub standing-without-messengers : (h : List Event) → All AddsNoMark h → standing_after at_first h ≡ at_first
+standing-without-messengers [] none = refl
+standing-without-messengers (e ∷ h) none =
+    ap (λ l. standing_after l.standing h) (same-lifted e (All-head AddsNoMark e h none)) ∙ standing-without-messengers h (All-tail AddsNoMark e h none)

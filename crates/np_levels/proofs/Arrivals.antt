@@ -1,5 +1,5 @@
 -- An agent arrives at both levels.
-use Rattle.std.proofs.Common.{◌≡◌, inl, ℕ, true, false, cond, nat_eq, None, Some, [], ◌∷◌, refl, sym, ap, subst, ◌∙◌}
+use Rattle.std.proofs.Common.{◌≡◌, inl, ℕ, true, false, cond, nat_eq, None, Some, [], ◌∷◌, refl, sym, ap, subst, ◌∙◌, is_some, Option}
 use Rattle.std.proofs.lemmas.Bool.{eqb-true}
 use Rattle.std.proofs.lemmas.List.Sorted.{IsPermutation-refl}
 use Rattle.std.specs.FinMap as map
@@ -35,21 +35,24 @@ use Rattle.np_levels.proofs.Marks.{reshape}
 use Rattle.np_levels.proofs.Plains.{none-other}
 use Rattle.np_levels.proofs.Scenes.{scene_put}
 use Rattle.np_levels.proofs.Together.{together}
+use Rattle.np_levels.proofs.Caches.{by_step, reordered, same_agents}
+use Rattle.np_levels.proofs.Orders.{kept}
 use Rattle.np_levels.specs.Letters.{SameLetters}
+use Rattle.cache_rule.specs.Steps.{CacheStep}
 
 -- what an Arrive does
-record IsArriving (low : Config) (e : Event) (next : Config) : Type 0 where
-  there : map.get low.places e.actor ≡ Some (place.Way e.site)
-  tag : same_tag e.tag (record { node = 0; role = role.Plain }) ≡ true
-  made_none : e.made ≡ made.Nothing
-  other_none : e.other ≡ None
-  is : next ≡ effect low e (record still { places = put e.actor (place.At e.site) ∷ [] })
+pub record IsArriving (low : Config) (e : Event) (next : Config) : Type 0 where
+  pub there : map.get low.places e.actor ≡ Some (place.Way e.site)
+  pub tag : same_tag e.tag (record { node = 0; role = role.Plain }) ≡ true
+  pub made_none : e.made ≡ made.Nothing
+  pub other_none : e.other ≡ None
+  pub is : next ≡ effect low e (record still { places = put e.actor (place.At e.site) ∷ [] })
 
 way-is : (p : Place) (s : ℕ) → way p ≡ Some s → p ≡ place.Way s
 way-is (place.Way t) s h = ap place.Way (sym (done h))
 way-is (place.At t) s h = absurd cc
 
-arriving : (low : Config) (e : Event) (next : Config) → row kind.Arrive low e ≡ Some next → IsArriving low e next
+pub arriving : (low : Config) (e : Event) (next : Config) → row kind.Arrive low e ≡ Some next → IsArriving low e next
 unfolding arrive_row
 arriving low e next h =
     let r = row-step low e next kind.Arrive h in
@@ -116,9 +119,11 @@ module _ {i : Infrastructure} {n from first : ℕ} {low high : Config} {v : View
     shaped = λ q. reshape q (ap (λ (d : Config). map.get d.atoms q) s.is) (ap (λ (d : Config). map.get d.packets q) s.is) refl (c.shaped q);
     mirrored = c.mirrored;
     mirrored_packets = c.mirrored_packets;
-    old_or_new = λ q ts j. inl (ts, j);
+    old_or_new = λ q ts j t. inl (ts, j, t);
     protocol = protocol.1;
     known = λ q ts j. known_on v.lock (chips v.things) (chips v.things) n from high.born e.made (λ a b any. any) ts (c.known q ts j);
+    hints = by_step low high next then_high v.things v.things (reordered kept) (λ is. CacheStep.still (same_agents high.places e.actor (place.At e.site) (ap (λ (o : Option Place). is_some o) high_there)));
+    carriers = c.carriers;
   })
 
   arrived : (then : Config) × (apply high e ≡ Some then) × (w : View) × (w.standing ≡ v.standing) × Coupled i n from first next then w × SameLetters v w

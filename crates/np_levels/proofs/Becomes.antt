@@ -39,13 +39,15 @@ use Rattle.daemon_encode.specs.Infrastructures.{Infrastructure}
 use Rattle.np_things.specs.Acting.{begins}
 use Rattle.np_things.specs.Mail.{Posted}
 use Rattle.np_things.specs.Shapes.{Are, Is, IsAgents, Opens}
-use Rattle.np_things.specs.Things.{IsHeaded, Stage, Thing, first_atom_of, first_packet_of, high_atom, show_all}
-use Rattle.np_levels.specs.Coupled.{Coupled, IsShaped, KnowsOnly, View, chips, is_channel, is_child_of, may_know, scene}
+use Rattle.np_things.specs.Things.{IsHeaded, Stage, Thing, first_atom_of, first_packet_of, high_atom, show_all, shows, show_all_caches}
+use Rattle.np_levels.specs.Coupled.{Coupled, IsShaped, KnowsOnly, View, chips, is_channel, is_child_of, may_know, scene, IsCarrier, levels}
 use Rattle.np_levels.proofs.Letters.{letter-put, same-letters}
 use Rattle.np_levels.proofs.Marks.{at_mark, step_at}
 use Rattle.np_levels.proofs.Quiet.{any_kept, quiet}
 use Rattle.np_levels.proofs.Shapes.{of_actor, same_role}
+use Rattle.np_levels.proofs.Caches.{handed_on}
 use Rattle.np_levels.specs.Letters.{IsHanding, OtherLetter, SameLetters, first_letter_of}
+use Rattle.cache_rule.specs.Steps.{CacheStep}
 
 -- a step without what is both taken and given
 pub cancel : {A : Type 0} {before after take give : List A} (took gave both : List A) → Step before after take give → IsPermutation take (took ++ both) → IsPermutation give (gave ++ both) → Step before after took gave
@@ -70,19 +72,21 @@ module _ {i : Infrastructure} {n from first : ℕ} {low high : Config} {v : View
     pub children : (a b : Name) → list_any (is_child_of a b) (show_all ts) ≡ true → list_any (is_child_of a b) (show_all us) ≡ true
     pub known : AllByRecursion (λ t. KnowsOnly (may_know v.lock (chips v.things) t) (is_channel n high.born) from t) ts
         → AllByRecursion (λ t. KnowsOnly (may_know v.lock (chips (map.insert v.things m us)) t) (is_channel n high.born) from t) us
+    pub hints : i ≡ Infrastructure.cached → CacheStep (levels low high) (levels next high) (show_all_caches ts) (show_all_caches us)
+    pub carriers : AllByRecursion (IsCarrier v.standing.messengers) ts → AllByRecursion (IsCarrier v.standing.messengers) us
 
   pub becomes_other : (next : Config) (e : Event) (m : Name) (x : Atom) (ts us : List Thing) → Becomes next e m x ts us
       → (w : View) × (w.standing ≡ v.standing) × Coupled i n from first next high w × OtherLetter v w m (first_letter_of us)
   becomes_other next e m x ts us b =
       let things : NameMap (List Thing) = map.insert v.things m us in
-      let step = step_at v.things m ts us b.there in
+      let step = step_at shows v.things m ts us b.there in
       let protocol = b.protocol step in (
         record v { things = things; phase = protocol.0 },
         refl,
         quiet c next things protocol.0 (at_mark c next e m ts us protocol.0 (record {
           applies = b.applies;
           sites = ap (λ (d : Config). d.sites) b.is;
-          places = ap (λ (d : Config). d.places) b.is;
+          places = λ q _. ap (λ (d : Config). map.get d.places q) b.is;
           said = ap (λ (d : Config). d.said) b.is;
           born = ap (λ (d : Config). d.born) b.is;
           there = b.there;
@@ -94,6 +98,9 @@ module _ {i : Infrastructure} {n from first : ℕ} {low high : Config} {v : View
           children = λ a d. any_kept (is_child_of a d) step (b.children a d);
           known = All-from_recursion (λ t. KnowsOnly (may_know v.lock (chips things) t) (is_channel n high.born) from t) us
               (b.known (recursion_from_All (λ t. KnowsOnly (may_know v.lock (chips v.things) t) (is_channel n high.born) from t) ts (c.known m ts b.there)));
+          hints = b.hints;
+          carriers = All-from_recursion (IsCarrier v.standing.messengers) us
+              (b.carriers (recursion_from_All (IsCarrier v.standing.messengers) ts (c.carriers m ts b.there)));
         })),
         letter-put v.things m us,
       )
@@ -157,6 +164,8 @@ module _ {i : Infrastructure} {n from first : ℕ} {low high : Config} {v : View
             (Rule.knows (All-from_recursion IsKnowledge (Chip.knows p.agent ∷ []) (tt, tt)) (All-nil (IsLearnt (scene v high)))) step c.protocol;
         children = λ a b any. any;
         known = λ k. k;
+        hints = handed_on low high next;
+        carriers = λ k. (tt, tt);
       }) in (
         w.0,
         w.1,

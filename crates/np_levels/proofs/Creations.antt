@@ -37,7 +37,9 @@ use Rattle.np_calculus.proofs.OwnNames.{not_true}
 use Rattle.np_calculus.proofs.Rows.{parts}
 use Rattle.np_calculus.proofs.Steps.{Acts, acting-step, is-two, row-step, step-acting}
 use Rattle.cache_lift.specs.Lift.{stands_for}
-use Rattle.np_eval.specs.Eval.{Env, eval}
+use Rattle.cache_rule.specs.Levels.{OneMore}
+use Rattle.cache_rule.specs.Steps.{CacheStep}
+use Rattle.np_eval.specs.Eval.{Env, eval, find_place}
 use Rattle.np_eval.specs.Forms.{Layer, layer}
 use Rattle.np_protocol.specs.Chips.{Chip}
 use Rattle.np_protocol.specs.Phases.{Phase}
@@ -47,18 +49,21 @@ use Rattle.np_protocol.specs.Scenes.{Whereabouts, with_place}
 use Rattle.np_protocol.specs.Steps.{Step}
 use Rattle.np_protocol.proofs.Keeps.{keeps-protocol}
 use Rattle.np_protocol.proofs.Steps.{all_taken}
-use Rattle.daemon_encode.specs.Pieces.{beside, daemon, pair, register, site, tells, variable}
-use Rattle.daemon_encode.specs.Texts.{begins as begins_text, child_text, server_text, settles}
+use Rattle.daemon_encode.specs.Pieces.{beside, daemon, pair, register, site, variable}
+use Rattle.daemon_encode.specs.Texts.{begins as begins_text, server_text, settles}
 use Rattle.daemon_encode.specs.Infrastructures.{Infrastructure}
+use Rattle.daemon_encode.specs.InfrastructureTexts.{child_of}
+use Rattle.daemon_encode.specs.CacheTexts.{empty_cache, found_server, registers, with_cache}
 use Rattle.np_source_values.specs.Known.{IsKnown, Knows}
 use Rattle.np_source_values.specs.Sources.{Agrees, Names}
 use Rattle.np_things.specs.Acting.{begins}
 use Rattle.np_things.specs.Mail.{Mail}
 use Rattle.np_things.specs.Shapes.{Are, Is, IsAgents, IsMaking}
-use Rattle.np_things.specs.Things.{Stage, Thing, first_atom_of, first_packet_of, high_atom, show_all}
+use Rattle.np_things.specs.Starts.{first_cache}
+use Rattle.np_things.specs.Things.{Stage, Thing, first_atom_of, first_packet_of, high_atom, show_all, shows, shows_caches, show_all_caches}
 use Rattle.np_things.proofs.Acting.{source-plain}
-use Rattle.np_things.proofs.Starts.{constant-is}
-use Rattle.np_levels.specs.Coupled.{Coupled, IsShaped, KnowsOnly, View, chips, is_channel, is_child_of, may_know, scene, whereabouts}
+use Rattle.np_things.proofs.Starts.{constant-is, gives-own, caching_holds}
+use Rattle.np_levels.specs.Coupled.{Coupled, IsShaped, KnowsOnly, View, chips, is_channel, is_child_of, may_know, scene, whereabouts, IsCarrier, cache_chips, levels, is_high}
 use Rattle.np_levels.specs.Laws.{IsEvent, event_of}
 use Rattle.np_levels.specs.Letters.{SameLetters, first_letter_of, letter_under}
 use Rattle.np_levels.specs.Mirrors.{Mirrors}
@@ -74,11 +79,12 @@ use Rattle.np_levels.proofs.Quiet.{any_in, any_kept, or_second, things_born}
 use Rattle.np_levels.proofs.Scenes.{scene_put}
 use Rattle.np_levels.proofs.Shapes.{of_actor, same_role}
 use Rattle.np_levels.proofs.Sounds.{AgentParts, agent_parts, agrees_put, knows_put, named_same}
-use Rattle.np_levels.proofs.Together.{IsOldOrNew, knows_wider, more_channels, one_mark, together}
+use Rattle.np_levels.proofs.Together.{IsOldOrNew, knows_wider, more_channels, one_mark, together, high_by_atom}
 use Rattle.np_levels.proofs.Values.{agent-is, channel-is, here_is, pair-is, there_is, variable-is}
+use Rattle.np_levels.proofs.Caches.{carry_put, KeepsHints, by_step}
 
 -- what an Agent changes: the new agent at its site, its first atom, and the one that made it
-abbrev created : Event → Atom → ℕ → Proc → Proc → Name → Name → Change
+abbrev pub created : Event → Atom → ℕ → Proc → Proc → Name → Name → Change
 created e a x body rest b m = record still {
   places = put b (place.At e.site) ∷ [];
   atoms = put m (record { agent = b; proc = body; env = map.insert a.env x (value.Agent b) }) ∷ put e.actor
@@ -86,21 +92,21 @@ created e a x body rest b m = record still {
 }
 
 -- what an Agent does, by the parts of its atom
-record IsCreating (low : Config) (e : Event) (next : Config) : Type 0 where
-  atom : Atom
-  acts : Acts low e atom
-  binder : ℕ
-  body : Proc
-  rest : Proc
-  form : layer atom.proc ≡ ProcForm-F.Agent binder body rest
-  agent : Name
-  mark : Name
-  made_two : e.made ≡ made.Two agent mark
-  other_none : e.other ≡ None
-  differ : same_name agent mark ≡ false
-  agent_new : set.contains low.born agent ≡ false
-  mark_new : set.contains low.born mark ≡ false
-  is : next ≡ effect low e (created e atom binder body rest agent mark)
+pub record IsCreating (low : Config) (e : Event) (next : Config) : Type 0 where
+  pub atom : Atom
+  pub acts : Acts low e atom
+  pub binder : ℕ
+  pub body : Proc
+  pub rest : Proc
+  pub form : layer atom.proc ≡ ProcForm-F.Agent binder body rest
+  pub agent : Name
+  pub mark : Name
+  pub made_two : e.made ≡ made.Two agent mark
+  pub other_none : e.other ≡ None
+  pub differ : same_name agent mark ≡ false
+  pub agent_new : set.contains low.born agent ≡ false
+  pub mark_new : set.contains low.born mark ≡ false
+  pub is : next ≡ effect low e (created e atom binder body rest agent mark)
 
 not_so : (t : Bool) → not t ≡ true → t ≡ false
 not_so true h = absurd cc
@@ -113,7 +119,7 @@ two_new born b m h =
     let y = and-out (not (set.contains born b)) (not (set.contains born m)) x.1 in
     (not_so (same_name b m) x.0, not_so (set.contains born b) y.0, not_so (set.contains born m) y.1)
 
-creating : (low : Config) (e : Event) (next : Config) → row kind.Agent low e ≡ Some next → IsCreating low e next
+pub creating : (low : Config) (e : Event) (next : Config) → row kind.Agent low e ≡ Some next → IsCreating low e next
 unfolding act
 creating low e next h =
     let r = row-step low e next kind.Agent h in
@@ -145,7 +151,7 @@ creates_so : (c : Config) (e : Event) (a : Atom) (x : ℕ) (body rest : Proc) (b
 unfolding act
 creates_so c e a x body rest b m acts form two other differ agent_new mark_new = rw (step-acting c e a acts, form, two, other, differ, agent_new, mark_new) refl
 
-same_parts : (x y : ℕ) (p q r s : Proc) → ◌≡◌ {A = Layer} (ProcForm-F.Agent x p r) (ProcForm-F.Agent y q s) → (x ≡ y) × (p ≡ q) × (r ≡ s)
+pub same_parts : (x y : ℕ) (p q r s : Proc) → ◌≡◌ {A = Layer} (ProcForm-F.Agent x p r) (ProcForm-F.Agent y q s) → (x ≡ y) × (p ≡ q) × (r ≡ s)
 same_parts x y p q r s same = (cc, cc, cc)
 
 -- who makes an agent with the role Plain was about to make it
@@ -160,10 +166,38 @@ makes_by _ n from first _ a i b begun r = absurd cc
 same_site : (s t : ℕ) → Whereabouts.at s ≡ Whereabouts.at t → s ≡ t
 same_site s t e = cc
 
-module _ {n from first : ℕ} {low high : Config} {v : View} (c : Coupled Infrastructure.central n from first low high v) (lodged : IsLodged (inside high)) (e : Event) (next : Config) (is_agent : e.kind ≡ kind.Agent)
+-- the things of a new agent, with those of the parts that it has by each infrastructure
+child_are : (j : Infrastructure) (n from first k : ℕ) (x : Expr) (binder site letter place cache : ℕ) (body : Proc) (b : Name) (env : Env) (t u w : Thing) → IsAgents n b → from ≤ cache
+    → Is j n from first t (record { agent = b; proc = begins_text n k x site body; env = env })
+    → Is j n from first u (record { agent = b; proc = server_text n k (variable binder) letter place; env = env })
+    → Is j n from first w (record { agent = b; proc = registers n k binder site; env = env })
+    → Are j n from first (record { agent = b; proc = child_of j n k x binder site letter place cache body; env = env }) (t ∷ u ∷ (first_cache j b ++ w ∷ []))
+child_are Infrastructure.central n from first k x binder site letter place ca body b env t u w apart above is_t is_u is_w =
+    let starting : Proc = begins_text n k x site body in
+    let serving : Proc = server_text n k (variable binder) letter place in
+    Are.both {k = k} {p = beside k starting serving} {q = registers n k binder site} refl
+    (Are.both {k = k} {p = starting} {q = serving} refl (Are.one is_t) (Are.one is_u)) (Are.one is_w)
+child_are Infrastructure.cached n from first k x binder site letter place ca body b env t u w apart above is_t is_u is_w =
+    let starting : Proc = begins_text n k x site body in
+    let serving : Proc = server_text n k (variable binder) letter place in
+    let parts : Proc = beside k starting serving in
+    Are.both {k = k} {p = with_cache n k ca parts} {q = registers n k binder site} refl
+    (Are.both {k = k} {p = beside k parts (empty_cache n k)} {q = found_server n k ca} refl
+    (Are.both {k = k} {p = parts} {q = empty_cache n k} refl
+    (Are.both {k = k} {p = starting} {q = serving} refl (Are.one is_t) (Are.one is_u))
+    (Are.one (refl, record { agent = refl; gives = gives-own n 14 k b (value.Places []) env }, apart)))
+    (Are.one (refl, record { agent = refl; node = k; x = ca; above = above; is = refl }, apart)))
+    (Are.one is_w)
+
+-- what keeps its cache shows no chips of the protocol
+cache_shows : (j : Infrastructure) (b : Name) (ts : List Thing) → show_all (first_cache j b ++ ts) ≡ show_all ts
+cache_shows Infrastructure.central b ts = refl
+cache_shows Infrastructure.cached b ts = refl
+
+module _ {structure : Infrastructure} {n from first : ℕ} {low high : Config} {v : View} (c : Coupled structure n from first low high v) (lodged : IsLodged (inside high)) (e : Event) (next : Config) (is_agent : e.kind ≡ kind.Agent)
     (h : apply low e ≡ Some next) (s : IsCreating low e next)
     (no_packet : map.get low.packets e.actor ≡ None) (x : Expr) (hi : Atom) (at : ℕ) (there : map.get v.things e.actor ≡ Some (Thing.making x hi at ∷ []))
-    (i : IsMaking Infrastructure.central n from x hi at s.atom) where
+    (i : IsMaking structure n from x hi at s.atom) where
   abbrev node : ℕ
   node = i.creates.tag.node
 
@@ -185,7 +219,7 @@ module _ {n from first : ℕ} {low high : Config} {v : View} (c : Coupled Infras
   -- ---- the texts of the two atoms
 
   abbrev child : Proc
-  child = child_text n node x binder i.creates.site i.creates.letter i.creates.place i.creates.low_body
+  child = child_of structure n node x binder i.creates.site i.creates.letter i.creates.place i.creates.cache i.creates.low_body
 
   abbrev parent : Proc
   parent = settles n node (variable i.creates.site) i.creates.low_rest
@@ -262,7 +296,7 @@ module _ {n from first : ℕ} {low high : Config} {v : View} (c : Coupled Infras
   its_site : at ≡ e.site
   its_site =
       let told = recursion_from_All (IsTrueOf (scene v high) v.phase) (Chip.maker hi.agent at ∷ [])
-      (all_taken (step_at v.things e.actor (Thing.making x hi at ∷ []) [] there) (IsTrueOf (scene v high) v.phase) c.protocol.true_chips) in
+      (all_taken (step_at shows v.things e.actor (Thing.making x hi at ∷ []) [] there) (IsTrueOf (scene v high) v.phase) c.protocol.true_chips) in
       same_site at e.site (sym told.0 ∙ ap whereabouts acts.stands)
 
   -- ---- the things of the two marks
@@ -271,7 +305,7 @@ module _ {n from first : ℕ} {low high : Config} {v : View} (c : Coupled Infras
   us = Thing.settling x high_parent at ∷ []
 
   abbrev ws : List Thing
-  ws = Thing.beginning (variable binder) high_child hi.agent at ∷ Thing.letters b ∷ Thing.mail (Mail.register b at) (Stage.in_agent b) ∷ []
+  ws = Thing.beginning (variable binder) high_child hi.agent at ∷ Thing.letters b ∷ (first_cache structure b ++ Thing.mail (Mail.register b at) (Stage.in_agent b) ∷ [])
 
   abbrev half : NameMap (List Thing)
   half = map.insert v.things e.actor us
@@ -296,7 +330,7 @@ module _ {n from first : ℕ} {low high : Config} {v : View} (c : Coupled Infras
   parent_called : eval x high_env ≡ Some (value.Agent hi.agent)
   parent_called = going.stays hi.env (value.Agent b) ∙ i.stands.called
 
-  are_parent : Are Infrastructure.central n from first low_parent us
+  are_parent : Are structure n from first low_parent us
   are_parent = Are.one (record {
     stands = record { agent = i.stands.agent; apart = i.stands.apart; source = going.rest_source; agrees = agrees; called = parent_called };
     node = node;
@@ -307,19 +341,10 @@ module _ {n from first : ℕ} {low high : Config} {v : View} (c : Coupled Infras
     tells = site_is;
   })
 
-  abbrev starting : Proc
-  starting = begins_text n node x i.creates.site i.creates.low_body
-
-  abbrev serving : Proc
-  serving = server_text n node (variable binder) i.creates.letter i.creates.place
-
-  abbrev telling : Proc
-  telling = tells n node (register n) (pair (variable binder) (variable i.creates.site))
-
-  are_child : Are Infrastructure.central n from first low_child ws
-  are_child = Are.both {k = node} {p = beside node starting serving} {q = telling} refl
-      (Are.both {k = node} {p = starting} {q = serving} refl
-      (Are.one (record {
+  are_child : Are structure n from first low_child ws
+  are_child = child_are structure n from first node x binder i.creates.site i.creates.letter i.creates.place i.creates.cache i.creates.low_body b low_env
+      (Thing.beginning (variable binder) high_child hi.agent at) (Thing.letters b) (Thing.mail (Mail.register b at) (Stage.in_agent b)) apart i.creates.cache_above
+      (record {
         stands = record {
           agent = refl;
           apart = apart;
@@ -337,8 +362,8 @@ module _ {n from first : ℕ} {low high : Config} {v : View} (c : Coupled Infras
         above = i.creates.site_above;
         calls = named_same n from i.stands.source.bound x low_env high_env i.stands.source.named agrees ∙ parent_called;
         tells = site_there;
-      }))
-      (Are.one (record {
+      })
+      (record {
         agent = refl;
         apart = apart;
         node = node;
@@ -351,8 +376,7 @@ module _ {n from first : ℕ} {low high : Config} {v : View} (c : Coupled Infras
         names = Names.as_binder going.binder_below (λ q. q);
         calls = child_is;
         is = refl;
-      })))
-      (Are.one (
+      }) (
         record {
           agent = refl;
           receiver = daemon n;
@@ -367,7 +391,7 @@ module _ {n from first : ℕ} {low high : Config} {v : View} (c : Coupled Infras
           holds = pair-is (variable binder) (variable i.creates.site) (value.Agent b) (value.Site at) low_env child_is site_is;
         },
         tt,
-      ))
+      )
 
   -- ---- the marks
 
@@ -386,8 +410,15 @@ module _ {n from first : ℕ} {low high : Config} {v : View} (c : Coupled Infras
   absent : map.get half m ≡ None
   absent = get-put v.things e.actor us m ∙ ap (λ z. cond z (Some us) (map.get v.things m)) other ∙ no_things (map.get v.things m) refl
 
-  step : Step (chips v.things) (chips things) (show_all (Thing.making x hi at ∷ [])) (show_all ws ++ show_all us)
-  step = step_new v.things e.actor m (Thing.making x hi at ∷ []) us ws there absent
+  abbrev its_chips : List Chip
+  its_chips = Chip.child b hi.agent at ∷ Chip.takes_letters b ∷ Chip.registration b at ∷ []
+
+  shown_child : show_all ws ≡ its_chips
+  shown_child = ap (λ l. Chip.child b hi.agent at ∷ Chip.takes_letters b ∷ l) (cache_shows structure b (Thing.mail (Mail.register b at) (Stage.in_agent b) ∷ []))
+
+  step : Step (chips v.things) (chips things) (Chip.maker hi.agent at ∷ []) (its_chips ++ show_all us)
+  step = subst (λ l. Step (chips v.things) (chips things) (Chip.maker hi.agent at ∷ []) (l ++ show_all us)) shown_child
+      (step_new shows v.things e.actor m (Thing.making x hi at ∷ []) us ws there absent)
 
   protocol : (then : Name → Phase) × Protocol (scene v then_high) then (chips things)
   protocol =
@@ -425,12 +456,13 @@ module _ {n from first : ℕ} {low high : Config} {v : View} (c : Coupled Infras
   not_both : (q : Name) → same_name q m ≡ true → same_name q e.actor ≡ false
   not_both q f = ap (λ z. same_name z e.actor) (same_name-is q m f) ∙ other
 
-  shaped : (q : Name) (t u : Bool) → same_name q m ≡ t → same_name q e.actor ≡ u → IsShaped Infrastructure.central n from first next things q
+  shaped : (q : Name) (t u : Bool) → same_name q m ≡ t → same_name q e.actor ≡ u → IsShaped structure n from first next things q
   shaped q true u f g =
       IsShaped.atom (at_atoms q ∙ ap (λ z. cond z (Some low_parent) (cond (same_name q m) (Some low_child) (map.get low.atoms q))) (not_both q f)
       ∙ ap (λ z. cond z (Some low_child) (map.get low.atoms q)) f)
       (at_packets q ∙ ap (map.get low.packets) (same_name-is q m f) ∙ no_new_packet (map.get low.packets m) refl) (new_at q f)
-      (All-from_recursion (λ u. high_atom u ≡ None) (Thing.letters b ∷ Thing.mail (Mail.register b at) (Stage.in_agent b) ∷ []) (refl, (refl, tt))) are_child
+      (All-from_recursion (λ u. high_atom u ≡ None) (Thing.letters b ∷ (first_cache structure b ++ Thing.mail (Mail.register b at) (Stage.in_agent b) ∷ []))
+      (refl, caching_holds structure b (λ u. high_atom u ≡ None) refl refl (Thing.mail (Mail.register b at) (Stage.in_agent b) ∷ []) (refl, tt))) are_child
   shaped q false true f g =
       IsShaped.atom (at_atoms q ∙ ap (λ z. cond z (Some low_parent) (cond (same_name q m) (Some low_child) (map.get low.atoms q))) g)
       (at_packets q ∙ ap (map.get low.packets) (same_name-is q e.actor g) ∙ no_packet) (its_at q f g) (All-nil (λ u. high_atom u ≡ None)) are_parent
@@ -453,10 +485,10 @@ module _ {n from first : ℕ} {low high : Config} {v : View} (c : Coupled Infras
       ∙ sym (ap (λ o. o >>= first_letter_of) (ap (map.get v.things) (same_name-is q e.actor g) ∙ there))
   letters q false false f g = ap (λ o. o >>= first_letter_of) (unchanged q f g)
 
-  old_or_new : (q : Name) (ts : List Thing) (t u : Bool) → same_name q m ≡ t → same_name q e.actor ≡ u → map.get things q ≡ Some ts → IsOldOrNew c q
-  old_or_new q ts true u f g j = inr (ap (set.contains low.born) (same_name-is q m f) ∙ s.mark_new)
-  old_or_new q ts false true f g j = inl (Thing.making x hi at ∷ [], ap (map.get v.things) (same_name-is q e.actor g) ∙ there)
-  old_or_new q ts false false f g j = inl (ts, sym (unchanged q f g) ∙ j)
+  old_or_new : (q : Name) (ts : List Thing) (t u : Bool) → same_name q m ≡ t → same_name q e.actor ≡ u → map.get things q ≡ Some ts → is_high ts ≡ true → IsOldOrNew c q
+  old_or_new q ts true u f g j k = inr (ap (set.contains low.born) (same_name-is q m f) ∙ s.mark_new)
+  old_or_new q ts false true f g j k = inl (Thing.making x hi at ∷ [], ap (map.get v.things) (same_name-is q e.actor g) ∙ there, refl)
+  old_or_new q ts false false f g j k = inl (ts, sym (unchanged q f g) ∙ j, k)
 
   -- ---- what the high level has
 
@@ -468,7 +500,7 @@ module _ {n from first : ℕ} {low high : Config} {v : View} (c : Coupled Infras
       (map.get (map.insert high.atoms m high_child)) m high_child c.mirrored
       (λ q. first_put first_atom_of v.things m ws q)
       (λ k. get-put high.atoms m high_child k ∙ ap (λ z. cond (same_name k z) (Some high_child) (map.get high.atoms k)) (sym (c.new_marks m s.mark_new)))
-      (only_at c first_atom_of m (inr s.mark_new))
+      (only_at c first_atom_of high_by_atom m (inr s.mark_new))
 
   swapped_things : things ≡ map.insert with_child e.actor us
   swapped_things = put-swap v.things e.actor m us ws (same_name-swap e.actor m ∙ other)
@@ -478,7 +510,7 @@ module _ {n from first : ℕ} {low high : Config} {v : View} (c : Coupled Infras
     where
       its : (o : Option (List Thing)) → map.get v.things q ≡ o → (o >>= first_atom_of) ≡ Some y → IsOldOrNew c q
       its None g k = absurd cc
-      its (Some ts) g k = inl (ts, g)
+      its (Some ts) g k = inl (ts, g, high_by_atom ts y k)
 
       go : (t : Bool) → same_name q m ≡ t → cond t (Some high_child) (map.get v.things q >>= first_atom_of) ≡ Some y → IsOldOrNew c q
       go true f k = inr (ap (set.contains low.born) (same_name-is q m f) ∙ s.mark_new)
@@ -489,7 +521,7 @@ module _ {n from first : ℕ} {low high : Config} {v : View} (c : Coupled Infras
       (λ q. map.get things q >>= first_atom_of) (map.get then_high.atoms) e.actor high_parent mirrors_child
       (λ q. ap (λ (z : NameMap (List Thing)). map.get z q >>= first_atom_of) swapped_things ∙ first_put first_atom_of with_child e.actor us q)
       (λ k. get-put (map.insert high.atoms m high_child) (stands_for v.standing e.actor) high_parent k)
-      (λ q y j same. one_mark c q e.actor same (child_or_old q y j) (inl (Thing.making x hi at ∷ [], there)))
+      (λ q y j same. one_mark c q e.actor same (child_or_old q y j) (inl (Thing.making x hi at ∷ [], there, refl)))
 
   -- ---- what is known
 
@@ -506,8 +538,8 @@ module _ {n from first : ℕ} {low high : Config} {v : View} (c : Coupled Infras
 
   -- the new agent waits, and is its parent's
   is_told : list_any (is_child_of hi.agent b) (chips things) ≡ true
-  is_told = list_any-IsPermutation (is_child_of hi.agent b) (chips things) ((show_all ws ++ show_all us) ++ step.rest) step.given
-      ∙ any_in (is_child_of hi.agent b) (show_all ws ++ show_all us) step.rest
+  is_told = list_any-IsPermutation (is_child_of hi.agent b) (chips things) ((its_chips ++ show_all us) ++ step.rest) step.given
+      ∙ any_in (is_child_of hi.agent b) (its_chips ++ show_all us) step.rest
       (inl (ap (λ z. z || false) (and-in (same_name-itself b) (same_name-itself hi.agent))))
 
   known_parent : KnowsOnly (may_know v.lock (chips things) (Thing.settling x high_parent at)) (is_channel n then_high.born) from
@@ -524,7 +556,14 @@ module _ {n from first : ℕ} {low high : Config} {v : View} (c : Coupled Infras
       → All (λ t. KnowsOnly (may_know v.lock (chips things) t) (is_channel n then_high.born) from t) ts
   known q ts true u f g j = subst (All (λ t. KnowsOnly (may_know v.lock (chips things) t) (is_channel n then_high.born) from t))
       (sym (done (sym (new_at q f) ∙ j)))
-      (All-from_recursion (λ t. KnowsOnly (may_know v.lock (chips things) t) (is_channel n then_high.born) from t) ws (known_child, (tt, (tt, tt))))
+      (All-from_recursion (λ t. KnowsOnly (may_know v.lock (chips things) t) (is_channel n then_high.born) from t) ws (
+        known_child,
+        (
+          tt,
+          caching_holds structure b (λ t. KnowsOnly (may_know v.lock (chips things) t) (is_channel n then_high.born) from t) tt tt
+              (Thing.mail (Mail.register b at) (Stage.in_agent b) ∷ []) (tt, tt),
+        ),
+      ))
   known q ts false true f g j = subst (All (λ t. KnowsOnly (may_know v.lock (chips things) t) (is_channel n then_high.born) from t))
       (sym (done (sym (its_at q f g) ∙ j)))
       (All-from_recursion (λ t. KnowsOnly (may_know v.lock (chips things) t) (is_channel n then_high.born) from t) us (known_parent, tt))
@@ -540,7 +579,21 @@ module _ {n from first : ℕ} {low high : Config} {v : View} (c : Coupled Infras
   no_other_place p = get-put p b (place.At e.site) (daemon_agent n)
       ∙ ap (λ z. cond z (Some (place.At e.site)) (map.get p (daemon_agent n))) (same_name-swap (daemon_agent n) b ∙ apart)
 
-  coupled : Coupled Infrastructure.central n from first next then_high (record v { things = things; phase = protocol.0 })
+  -- there is one agent more, with an empty cache
+  one_more : OneMore (levels low high) b (levels next then_high)
+  one_more q = ap (λ (o : Option Place). is_some o) (get-put high.places b (place.At e.site) q) ∙ go (same_name q b)
+    where
+      go : (t : Bool) → is_some (cond t (Some (place.At e.site)) (map.get high.places q)) ≡ cond t true (is_some (map.get high.places q))
+      go true = refl
+      go false = refl
+
+  keeps_hints : KeepsHints structure low high next then_high v.things things
+  keeps_hints cached = by_step low high next then_high v.things things
+      (subst (λ l. Step (cache_chips v.things) (cache_chips things) [] (l ++ [])) (ap (λ k. show_all_caches (first_cache k b ++ Thing.mail (Mail.register b at) (Stage.in_agent b) ∷ [])) cached)
+      (step_new shows_caches v.things e.actor m (Thing.making x hi at ∷ []) us ws there absent))
+      (λ is. CacheStep.creates {n = find_place []} one_more (λ q. refl)) cached
+
+  coupled : Coupled structure n from first next then_high (record v { things = things; phase = protocol.0 })
   coupled = together c next then_high e things protocol.0 (record {
     applies = h;
     sites = ap (λ (d : Config). d.sites) is;
@@ -559,12 +612,23 @@ module _ {n from first : ℕ} {low high : Config} {v : View} (c : Coupled Infras
       up = λ q k j. c.mirrored_packets.up q k (sym (packets q (same_name q m) (same_name q e.actor) refl refl) ∙ j);
       down = λ k y j. let d = c.mirrored_packets.down k y j in (d.0, d.1, packets d.0 (same_name d.0 m) (same_name d.0 e.actor) refl refl ∙ d.2);
     };
-    old_or_new = λ q ts j. old_or_new q ts (same_name q m) (same_name q e.actor) refl refl j;
+    old_or_new = λ q ts j k. old_or_new q ts (same_name q m) (same_name q e.actor) refl refl j k;
     protocol = protocol.1;
     known = λ q ts j. known q ts (same_name q m) (same_name q e.actor) refl refl j;
+    hints = keeps_hints;
+    carriers = carry_put v.standing.messengers (map.insert v.things e.actor us) m
+        (carry_put v.standing.messengers v.things e.actor c.carriers us (All-from_recursion (IsCarrier v.standing.messengers) us (tt, tt))) ws
+        (All-from_recursion (IsCarrier v.standing.messengers) ws (
+          tt,
+          (
+            tt,
+            caching_holds structure b (IsCarrier v.standing.messengers) tt tt
+                (Thing.mail (Mail.register b at) (Stage.in_agent b) ∷ []) (tt, tt),
+          ),
+        ));
   })
 
-  made_one : (then : Config) × (apply high (event_of v e) ≡ Some then) × (w : View) × (w.standing ≡ v.standing) × Coupled Infrastructure.central n from first next then w
+  made_one : (then : Config) × (apply high (event_of v e) ≡ Some then) × (w : View) × (w.standing ≡ v.standing) × Coupled structure n from first next then w
       × SameLetters v w
   made_one = (
     then_high,
@@ -575,7 +639,7 @@ module _ {n from first : ℕ} {low high : Config} {v : View} (c : Coupled Infras
     λ q. letters q (same_name q m) (same_name q e.actor) refl refl,
   )
 
-pub creations-are-events : IsEvent Infrastructure.central kind.Agent
+pub creations-are-events : {i : Infrastructure} → IsEvent i kind.Agent
 creations-are-events n from first low high v c well lodged e next is_agent plain h =
     let s = creating low e next (ap (λ k. row k low e) (sym is_agent) ∙ h) in
     let o = of_actor c e.actor s.atom kind.Agent role.Plain s.acts.there (ap begun_by s.form) (same_role s.atom.proc.tag e.tag s.acts.tag ∙ plain)

@@ -34,6 +34,7 @@ unfoldable use Rattle.np_calculus.proofs.Common.{act}
 use Rattle.np_calculus.proofs.Rows.{parts}
 use Rattle.np_calculus.proofs.Steps.{Acts, acting-step, is-none, row-step, step-acting}
 use Rattle.cache_lift.specs.Lift.{stands_for}
+use Rattle.cache_rule.specs.Steps.{CacheStep}
 use Rattle.np_eval.specs.Eval.{Env, as_site, eval}
 use Rattle.np_eval.specs.Forms.{Layer, layer}
 use Rattle.np_protocol.specs.Chips.{Chip}
@@ -50,10 +51,10 @@ use Rattle.np_source_values.proofs.Values.{same-value}
 use Rattle.np_things.specs.Acting.{begins}
 use Rattle.np_things.specs.Mail.{Mail}
 use Rattle.np_things.specs.Shapes.{Are, Is, IsLeaving, StandsFor}
-use Rattle.np_things.specs.Things.{Stage, Thing, first_atom_of, first_packet_of, high_atom}
+use Rattle.np_things.specs.Things.{Stage, Thing, first_atom_of, first_packet_of, high_atom, shows, shows_caches}
 use Rattle.np_things.proofs.Acting.{source-plain}
 use Rattle.np_things.proofs.Starts.{constant-is}
-use Rattle.np_levels.specs.Coupled.{Coupled, IsShaped, KnowsOnly, View, chips, is_channel, is_child_of, may_know, scene}
+use Rattle.np_levels.specs.Coupled.{Coupled, IsShaped, KnowsOnly, View, chips, is_channel, is_child_of, may_know, scene, IsCarrier, is_high}
 use Rattle.np_levels.specs.Laws.{IsEvent, event_of}
 use Rattle.np_levels.proofs.Places.{no_messenger, put_another, same_place}
 use Rattle.np_levels.proofs.Keeping.{first_put, known_on, only_at}
@@ -65,8 +66,9 @@ use Rattle.np_levels.proofs.Quiet.{any_kept}
 use Rattle.np_levels.proofs.Scenes.{scene_put}
 use Rattle.np_levels.proofs.Shapes.{of_actor, same_role}
 use Rattle.np_levels.proofs.Sounds.{MigrateParts, migrate_parts, named_same}
-use Rattle.np_levels.proofs.Together.{IsOldOrNew, knows_wider, more_channels, together}
+use Rattle.np_levels.proofs.Together.{IsOldOrNew, knows_wider, more_channels, together, high_by_atom}
 use Rattle.np_levels.proofs.Values.{agent-is, channel-is, pair-is}
+use Rattle.np_levels.proofs.Caches.{by_step, carry_put, same_agents}
 use Rattle.np_levels.specs.Letters.{SameLetters}
 
 site-value : (u : Value) (s : ℕ) → as_site (out-Value u) ≡ Some s → u ≡ value.Site s
@@ -86,20 +88,20 @@ named-site : (sites : ℕ) (x : Expr) (env : Env) (t : ℕ) → eval x env ≡ S
 named-site sites x env t is below = rw (is, outs.outs-Site t, below) refl
 
 -- what a Depart does, by the parts of its atom
-record IsDeparting (low : Config) (e : Event) (next : Config) : Type 0 where
-  atom : Atom
-  acts : Acts low e atom
-  to : Expr
-  body : Proc
-  form : layer atom.proc ≡ ProcForm-F.Migrate to body
-  to_site : ℕ
-  its_site : eval to atom.env ≡ Some (value.Site to_site)
-  below : nat_lt to_site low.sites ≡ true
-  made_none : e.made ≡ made.Nothing
-  other_none : e.other ≡ None
-  is : next ≡ effect low e (record (becomes e (goes atom body)) { places = put atom.agent (place.Way to_site) ∷ [] })
+pub record IsDeparting (low : Config) (e : Event) (next : Config) : Type 0 where
+  pub atom : Atom
+  pub acts : Acts low e atom
+  pub to : Expr
+  pub body : Proc
+  pub form : layer atom.proc ≡ ProcForm-F.Migrate to body
+  pub to_site : ℕ
+  pub its_site : eval to atom.env ≡ Some (value.Site to_site)
+  pub below : nat_lt to_site low.sites ≡ true
+  pub made_none : e.made ≡ made.Nothing
+  pub other_none : e.other ≡ None
+  pub is : next ≡ effect low e (record (becomes e (goes atom body)) { places = put atom.agent (place.Way to_site) ∷ [] })
 
-departing : (low : Config) (e : Event) (next : Config) → row kind.Depart low e ≡ Some next → IsDeparting low e next
+pub departing : (low : Config) (e : Event) (next : Config) → row kind.Depart low e ≡ Some next → IsDeparting low e next
 unfolding act
 departing low e next h =
     let r = row-step low e next kind.Depart h in
@@ -204,7 +206,7 @@ module _ {j : Infrastructure} {n from first : ℕ} {low high : Config} {v : View
   things = map.insert v.things e.actor us
 
   step : Step (chips v.things) (chips things) (Chip.leaver hi.agent ∷ []) (Chip.waiter hi.agent s.to_site ∷ Chip.report hi.agent s.to_site false ∷ [])
-  step = step_at v.things e.actor (Thing.leaving x hi ∷ []) us there
+  step = step_at shows v.things e.actor (Thing.leaving x hi ∷ []) us there
 
   protocol : (then : Name → Phase) × Protocol (scene v then_high) then (chips things)
   protocol =
@@ -264,9 +266,9 @@ module _ {j : Infrastructure} {n from first : ℕ} {low high : Config} {v : View
       ∙ sym (ap (λ o. o >>= first_packet_of) (ap (map.get v.things) (same_name-is q e.actor f) ∙ there))
   its_packets q false f = ap (λ o. o >>= first_packet_of) (unchanged q f)
 
-  old : (q : Name) (ts : List Thing) (t : Bool) → same_name q e.actor ≡ t → map.get things q ≡ Some ts → IsOldOrNew c q
-  old q ts true f j = inl (Thing.leaving x hi ∷ [], ap (map.get v.things) (same_name-is q e.actor f) ∙ there)
-  old q ts false f j = inl (ts, sym (unchanged q f) ∙ j)
+  old : (q : Name) (ts : List Thing) (t : Bool) → same_name q e.actor ≡ t → map.get things q ≡ Some ts → is_high ts ≡ true → IsOldOrNew c q
+  old q ts true f j k = inl (Thing.leaving x hi ∷ [], ap (map.get v.things) (same_name-is q e.actor f) ∙ there, refl)
+  old q ts false f j k = inl (ts, sym (unchanged q f) ∙ j, k)
 
   -- who settles knows what it knew
   settled : KnowsOnly (may_know v.lock (chips things) (Thing.settling x went s.to_site)) (is_channel n then_high.born) from (Thing.settling x went s.to_site)
@@ -303,14 +305,17 @@ module _ {j : Infrastructure} {n from first : ℕ} {low high : Config} {v : View
     mirrored = mirrors_put (stands_for v.standing) (λ q. map.get v.things q >>= first_atom_of) (map.get high.atoms) (λ q. map.get things q >>= first_atom_of)
         (map.get then_high.atoms) e.actor went c.mirrored
         (λ q. first_put first_atom_of v.things e.actor us q) (λ k. get-put high.atoms (stands_for v.standing e.actor) went k)
-        (only_at c first_atom_of e.actor (inl (Thing.leaving x hi ∷ [], there)));
+        (only_at c first_atom_of high_by_atom e.actor (inl (Thing.leaving x hi ∷ [], there, refl)));
     mirrored_packets = record {
       up = λ q k j. c.mirrored_packets.up q k (sym (its_packets q (same_name q e.actor) refl) ∙ j);
       down = λ k y j. let d = c.mirrored_packets.down k y j in (d.0, d.1, its_packets d.0 (same_name d.0 e.actor) refl ∙ d.2);
     };
-    old_or_new = λ q ts j. old q ts (same_name q e.actor) refl j;
+    old_or_new = λ q ts j k. old q ts (same_name q e.actor) refl j k;
     protocol = protocol.1;
     known = λ q ts j. known q ts (same_name q e.actor) refl j;
+    hints = by_step low high next then_high v.things things (step_at shows_caches v.things e.actor (Thing.leaving x hi ∷ []) us there)
+        (λ is. CacheStep.still (same_agents high.places hi.agent (place.Way s.to_site) its_place));
+    carriers = carry_put v.standing.messengers v.things e.actor c.carriers us (All-from_recursion (IsCarrier v.standing.messengers) us (tt, (tt, tt)));
   })
 
   departed : (then : Config) × (apply high (event_of v e) ≡ Some then) × (w : View) × (w.standing ≡ v.standing) × Coupled j n from first next then w

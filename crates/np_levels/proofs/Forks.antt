@@ -1,6 +1,6 @@
 -- A bracket of the infrastructure is split: its things are those of its parts.
-use Rattle.std.proofs.Common.{◌≡◌, ◌⊎◌, inl, inr, ℕ, Bool, true, false, not, cond, Option, None, Some, List, [], ◌∷◌, ◌++◌, refl, sym, ap, subst, ◌∙◌}
-use Rattle.std.specs.List.{All}
+use Rattle.std.proofs.Common.{◌≡◌, inr, ℕ, Bool, true, false, not, cond, Option, None, Some, List, [], ◌∷◌, ◌++◌, refl, sym, ap, subst, ◌∙◌}
+use Rattle.std.specs.List.{All, flat_map}
 use Rattle.std.proofs.lemmas.List.Concat.{flat_map-append}
 use Rattle.std.proofs.lemmas.List.Elements.{All-head, All-tail, All-weaker}
 use Rattle.std.proofs.lemmas.List.Sorted.{list_any-IsPermutation}
@@ -34,9 +34,9 @@ use Rattle.np_eval.specs.Forms.{layer}
 use Rattle.daemon_encode.specs.Infrastructures.{Infrastructure}
 use Rattle.np_things.specs.Acting.{begins}
 use Rattle.np_things.specs.Shapes.{Are, Is}
-use Rattle.np_things.specs.Things.{IsHeaded, Stage, Thing, first_atom_of, first_packet_of, high_atom, high_packet, show_all, shows}
+use Rattle.np_things.specs.Things.{IsHeaded, Stage, Thing, first_atom_of, first_packet_of, high_atom, high_packet, shows, shows_caches}
 use Rattle.np_things.proofs.Acting.{thing-begins}
-use Rattle.np_levels.specs.Coupled.{Coupled, IsShaped, KnowsOnly, View, chips, is_channel, is_child_of, may_know, scene}
+use Rattle.np_levels.specs.Coupled.{Coupled, IsShaped, KnowsOnly, View, chips, is_channel, is_child_of, may_know, scene, IsCarrier, shown}
 use Rattle.np_levels.proofs.Applies.{takes_nothing}
 use Rattle.np_levels.proofs.Born.{born-kept, made-kept}
 use Rattle.np_protocol.specs.Phases.{Phase}
@@ -48,6 +48,7 @@ use Rattle.np_levels.proofs.Orders.{Reordered, and_then, backwards, behind, entr
 use Rattle.np_levels.proofs.Quiet.{knows_more, quiet, things_born}
 use Rattle.np_levels.proofs.Starts.{any_order}
 use Rattle.np_levels.proofs.Shapes.{of_atom, same_role}
+use Rattle.np_levels.proofs.Caches.{handed_on, by_step, carry_put, reordered}
 use Rattle.np_levels.specs.Letters.{SameLetters, first_letter_of, letter_under}
 
 pub record IsForking (low : Config) (e : Event) (next : Config) : Type 0 where
@@ -178,16 +179,21 @@ module _ {i : Infrastructure} {n from first : ℕ} {low high : Config} {v : View
         refl,
         quiet c next things protocol.0 (record {
           sites = ap (λ (d : Config). d.sites) s.is;
-          places = ap (λ (d : Config). d.places) s.is;
+          places = λ q _. ap (λ (d : Config). map.get d.places q) s.is;
           said = ap (λ (d : Config). d.said) s.is;
           born = λ q b. ap (λ (d : Config). set.contains d.born q) s.is ∙ made-kept low.born e.made q b;
           stand_born = born-kept low next e c.stand_born h;
           shaped = λ q. shaped q (same_name q s.new) (same_name q e.actor) refl refl;
           atoms = λ q. atoms q (same_name q s.new) (same_name q e.actor) refl refl;
           packets = λ q. packets q (same_name q s.new) (same_name q e.actor) refl refl;
-          old_or_new = λ q ts i. old q ts (same_name q s.new) (same_name q e.actor) refl refl i;
           protocol = protocol.1;
           known = λ q ts i. known q ts (same_name q s.new) (same_name q e.actor) refl refl i;
+          hints = by_step low high next high v.things things (reordered (split_shown shows_caches)) (handed_on low high next);
+          carriers =
+              let its = c.carriers e.actor (left ++ right) there in
+              carry_put v.standing.messengers half s.new
+              (carry_put v.standing.messengers v.things e.actor c.carriers left (all_left (IsCarrier v.standing.messengers) left right its)) right
+              (all_right (IsCarrier v.standing.messengers) left right its);
         }),
         λ q. letters q (same_name q s.new) (same_name q e.actor) refl refl,
       )
@@ -228,14 +234,20 @@ module _ {i : Infrastructure} {n from first : ℕ} {low high : Config} {v : View
               none None i = refl
               none (Some k) i = absurd (let bad : false ≡ true = sym s.is_new ∙ c.stand_born.marks s.new (inr (some_of _ k i)) in cc)
 
+          -- what is shown stays, in another order
+          split_shown : {X : Type 0} (show : Thing → List X) → Reordered (shown show things) (shown show v.things)
+          split_shown show =
+              let rest = shown show (map.remove v.things e.actor) in
+              let new = flat (λ (e : Name × List Thing). flat_map show e.1) (and_then (entries_new half s.new right (get-put v.things e.actor left s.new ∙ ap (λ t. cond t (Some left) (map.get v.things s.new)) other ∙ absent)) (behind (entries_put v.things e.actor left))) in
+              let old = flat (λ (e : Name × List Thing). flat_map show e.1) (entries_at v.things e.actor (left ++ right) there) in
+              let middle : Reordered (flat_map show right ++ (flat_map show left ++ rest)) (flat_map show left ++ (flat_map show right ++ rest)) =
+              past (flat_map show right) (flat_map show left) rest in
+              let joined : flat_map show left ++ (flat_map show right ++ rest) ≡ flat_map show (left ++ right) ++ rest =
+              sym (append_assoc (flat_map show left) (flat_map show right) rest) ∙ ap (λ l. l ++ rest) (sym (flat_map-append show left right)) in
+              and_then new (and_then middle (subst (λ l. Reordered l (shown show v.things)) (sym joined) (backwards old)))
+
           step_order : Reordered (chips things) (chips v.things)
-          step_order =
-              let new = flat (λ (e : Name × List Thing). show_all e.1) (and_then (entries_new half s.new right (get-put v.things e.actor left s.new ∙ ap (λ t. cond t (Some left) (map.get v.things s.new)) other ∙ absent)) (behind (entries_put v.things e.actor left))) in
-              let old = flat (λ (e : Name × List Thing). show_all e.1) (entries_at v.things e.actor (left ++ right) there) in
-              let middle : Reordered (show_all right ++ (show_all left ++ chips (map.remove v.things e.actor))) (show_all left ++ (show_all right ++ chips (map.remove v.things e.actor))) = past (show_all right) (show_all left) (chips (map.remove v.things e.actor)) in
-              let joined : show_all left ++ (show_all right ++ chips (map.remove v.things e.actor)) ≡ show_all (left ++ right) ++ chips (map.remove v.things e.actor) =
-              sym (append_assoc (show_all left) (show_all right) (chips (map.remove v.things e.actor))) ∙ ap (λ l. l ++ chips (map.remove v.things e.actor)) (sym (flat_map-append shows left right)) in
-              and_then new (and_then middle (subst (λ l. Reordered l (chips v.things)) (sym joined) (backwards old)))
+          step_order = split_shown shows
 
           protocol : (then : Name → Phase) × Protocol (scene v high) then (chips things)
           protocol = any_order (scene v high) v.phase (chips v.things) (chips things) (permuted step_order) c.protocol
@@ -287,11 +299,6 @@ module _ {i : Infrastructure} {n from first : ℕ} {low high : Config} {v : View
           letters q false true a b = ap (λ o. o >>= first_letter_of) (left_at q a b) ∙ headed.letter
               ∙ sym (ap (λ o. o >>= first_letter_of) (ap (map.get v.things) (same_name-is q e.actor b) ∙ there))
           letters q false false a b = ap (λ o. o >>= first_letter_of) (unchanged q a b)
-
-          old : (q : Name) (ts : List Thing) (t u : Bool) → same_name q s.new ≡ t → same_name q e.actor ≡ u → map.get things q ≡ Some ts → ((us : List Thing) × (map.get v.things q ≡ Some us)) ⊎ (set.contains low.born q ≡ false)
-          old q ts true u a b i = inr (ap (set.contains low.born) (same_name-is q s.new a) ∙ s.is_new)
-          old q ts false true a b i = inl (left ++ right, ap (map.get v.things) (same_name-is q e.actor b) ∙ there)
-          old q ts false false a b i = inl (ts, sym (unchanged q a b) ∙ i)
 
           known : (q : Name) (ts : List Thing) (t u : Bool) → same_name q s.new ≡ t → same_name q e.actor ≡ u → map.get things q ≡ Some ts → All (λ t. KnowsOnly (may_know v.lock (chips things) t) (is_channel n high.born) from t) ts
           known q ts true u a b i = subst (All (λ t. KnowsOnly (may_know v.lock (chips things) t) (is_channel n high.born) from t)) (some_is (sym (new_at q a) ∙ i)) (all_right (λ t. KnowsOnly (may_know v.lock (chips things) t) (is_channel n high.born) from t) left right (weaker (left ++ right) (c.known e.actor (left ++ right) there)))

@@ -38,14 +38,14 @@ module _ {i : Infrastructure} {n from first : ℕ} {low high : Config} {v : View
         → (w : View) × (w.standing ≡ v.standing) × Coupled i n from first next (effect high (event_of v e) (becomes (event_of v e) goes_high)) w
         × SameLetters v w
     goes_on_both goes_low goes_high is its knows =
-        let s = put_atom c e (stands c e) e.actor (Free.old {ts = Thing.source o.named o.atom ∷ []} o.there refl refl) goes_low
-        (Thing.source o.named goes_high) goes_high its refl refl (refl, refl) knows o.no_packet (ap (λ t. t >>= first_packet_of) o.there) in
+        let s = put_atom c e (stands c e) e.actor (Free.old {ts = Thing.source o.named o.atom ∷ []} o.there refl refl refl refl) goes_low
+        (Thing.source o.named goes_high) goes_high its refl refl (refl, refl, refl) knows o.no_packet (ap (λ t. t >>= first_packet_of) o.there) in
         leave c e s next low.said high.said applies is c.said
 
     pub ends_both : (said : Option Value) → next ≡ effect low e (record still { atoms = cut e.actor ∷ []; said = said })
         → (w : View) × (w.standing ≡ v.standing) × Coupled i n from first next
         (effect high (event_of v e) (record still { atoms = cut (stands_for v.standing e.actor) ∷ []; said = said })) w × SameLetters v w
     ends_both said is =
-        let s = cut_atom c e (stands c e) e.actor (Free.old {ts = Thing.source o.named o.atom ∷ []} o.there refl refl) o.no_packet
+        let s = cut_atom c e (stands c e) e.actor (Free.old {ts = Thing.source o.named o.atom ∷ []} o.there refl refl refl refl) o.no_packet
         (ap (λ t. t >>= first_packet_of) o.there) in
         leave c e s next (with_said low.said e.site said) (with_said high.said e.site said) applies is (ap (λ s. with_said s e.site said) c.said)

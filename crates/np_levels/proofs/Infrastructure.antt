@@ -19,13 +19,15 @@ use Rattle.np_eval.specs.Forms.{layer}
 use Rattle.daemon_encode.specs.Infrastructures.{Infrastructure}
 use Rattle.np_things.specs.Acting.{begins}
 use Rattle.np_things.specs.Things.{Stage, Thing}
+use Rattle.np_things.specs.Shapes.{Is}
 use Rattle.np_levels.specs.Coupled.{Coupled, View}
 use Rattle.np_levels.specs.Laws.{IsQuiet}
 use Rattle.np_levels.proofs.Becomes.{opens}
 use Rattle.np_levels.proofs.Comms.{communicates}
 use Rattle.np_levels.proofs.Forks.{forks}
 use Rattle.np_levels.proofs.Lands.{lands}
-use Rattle.np_levels.proofs.Lookups.{looks_up}
+use Rattle.np_levels.proofs.Messengers.{ended, leaves}
+use Rattle.np_levels.proofs.CacheLookups.{looks_up}
 use Rattle.np_levels.proofs.Registers.{registers}
 use Rattle.np_levels.proofs.Sends.{sends}
 use Rattle.np_levels.proofs.Serves.{serves}
@@ -34,42 +36,36 @@ use Rattle.np_levels.specs.Letters.{LettersAfter}
 
 -- the kinds of event that the infrastructure never has, but for arrivals
 data IsOthers : Kind → Type 0 where
-  stop : IsOthers kind.Stop
   bind : IsOthers kind.Let
   test : IsOthers kind.If
   agent : IsOthers kind.Agent
-  depart : IsOthers kind.Depart
-  local_test : IsOthers kind.Local
   print : IsOthers kind.Print
   post : IsOthers kind.Post
 
 none_begins : (k : Kind) → IsOthers k → (t : Thing) → begins t role.Infra k ≡ true → ⊥
-none_begins k IsOthers.stop (Thing.mail m (Stage.in_agent x)) h = cc
-none_begins k IsOthers.stop _ h = cc
 none_begins k IsOthers.bind (Thing.mail m (Stage.in_agent x)) h = cc
 none_begins k IsOthers.bind _ h = cc
 none_begins k IsOthers.test (Thing.mail m (Stage.in_agent x)) h = cc
 none_begins k IsOthers.test _ h = cc
 none_begins k IsOthers.agent (Thing.mail m (Stage.in_agent x)) h = cc
 none_begins k IsOthers.agent _ h = cc
-none_begins k IsOthers.depart (Thing.mail m (Stage.in_agent x)) h = cc
-none_begins k IsOthers.depart _ h = cc
-none_begins k IsOthers.local_test (Thing.mail m (Stage.in_agent x)) h = cc
-none_begins k IsOthers.local_test _ h = cc
 none_begins k IsOthers.print (Thing.mail m (Stage.in_agent x)) h = cc
 none_begins k IsOthers.print _ h = cc
 none_begins k IsOthers.post (Thing.mail m (Stage.in_agent x)) h = cc
 none_begins k IsOthers.post _ h = cc
 
 no_fork : (k : Kind) → IsOthers k → k ≡ kind.Fork → ⊥
-no_fork k IsOthers.stop e = cc
 no_fork k IsOthers.bind e = cc
 no_fork k IsOthers.test e = cc
 no_fork k IsOthers.agent e = cc
-no_fork k IsOthers.depart e = cc
-no_fork k IsOthers.local_test e = cc
 no_fork k IsOthers.print e = cc
 no_fork k IsOthers.post e = cc
+
+-- without caches it tests for no agent: there is no messenger
+no_test : (n from first : ℕ) (t : Thing) (a : Atom) → Is Infrastructure.central n from first t a → begins t role.Infra kind.Local ≡ true → ⊥
+no_test n from first (Thing.trying p t a) x i b = absurd (let bad = i.0 in cc)
+no_test n from first (Thing.mail m (Stage.in_agent y)) x i b = cc
+no_test n from first _ x i b = cc
 
 module _ {i : Infrastructure} {n from first : ℕ} {low high : Config} {v : View} (c : Coupled i n from first low high v) (e : Event) (next : Config) (infra : e.tag.role ≡ role.Infra) where
   no_actor : {A : Type 0} (k : Kind) → IsOthers k → (a : Atom) → acting low e ≡ Some a → begun_by (layer a.proc) ≡ Some k → A
@@ -81,32 +77,41 @@ module _ {i : Infrastructure} {n from first : ℕ} {low high : Config} {v : View
   abbrev Done : Kind → Type 0
   Done k = (w : View) × (w.standing ≡ v.standing) × Coupled i n from first next high w × LettersAfter k role.Infra low next e v w
 
-  -- where it is told what the taking of an output is
-  by_kind : (e.kind ≡ kind.Comm → Done kind.Comm) → (k : Kind) → e.kind ≡ k → row k low e ≡ Some next → Done k
+  -- where it is told what a test for an agent is
+  by_kind : (e.kind ≡ kind.Local → Done kind.Local) → (k : Kind) → e.kind ≡ k → row k low e ≡ Some next → Done k
   unfolding act arrive_row
-  by_kind comm kind.Send is h = sends c e next is infra (ap (λ j. row j low e) is ∙ h)
-  by_kind comm kind.Land is h = lands c e next is (λ plain. let bad : role.Plain ≡ role.Infra = sym plain ∙ infra in cc) (ap (λ j. row j low e) is ∙ h)
-  by_kind comm kind.Open is h = opens c e next is infra (ap (λ j. row j low e) is ∙ h)
-  by_kind comm kind.Fork is h = forks c e next is infra (ap (λ j. row j low e) is ∙ h)
-  by_kind comm kind.Rep is h = serves c e next is infra (ap (λ j. row j low e) is ∙ h)
-  by_kind comm kind.Lookup is h = looks_up c e next is infra (ap (λ j. row j low e) is ∙ h)
-  by_kind comm kind.Comm is h = comm is
-  by_kind comm kind.New is h = registers c e next is infra (ap (λ j. row j low e) is ∙ h)
-  by_kind comm kind.Arrive is h =
+  by_kind located kind.Send is h = sends c e next is infra (ap (λ j. row j low e) is ∙ h)
+  by_kind located kind.Land is h = lands c e next is (λ plain. let bad : role.Plain ≡ role.Infra = sym plain ∙ infra in cc) (ap (λ j. row j low e) is ∙ h)
+  by_kind located kind.Open is h = opens c e next is infra (ap (λ j. row j low e) is ∙ h)
+  by_kind located kind.Fork is h = forks c e next is infra (ap (λ j. row j low e) is ∙ h)
+  by_kind located kind.Rep is h = serves c e next is infra (ap (λ j. row j low e) is ∙ h)
+  by_kind located kind.Lookup is h = looks_up c e next is infra (ap (λ j. row j low e) is ∙ h)
+  by_kind located kind.Comm is h = communicates c e next is infra (ap (λ j. row j low e) is ∙ h)
+  by_kind located kind.New is h = registers c e next is infra (ap (λ j. row j low e) is ∙ h)
+  by_kind located kind.Stop is h = ended c e next is infra (ap (λ j. row j low e) is ∙ h)
+  by_kind located kind.Depart is h = leaves c e next is infra (ap (λ j. row j low e) is ∙ h)
+  by_kind located kind.Local is h = located is
+  by_kind located kind.Arrive is h =
       then (map.get low.places e.actor) _ (row-step low e next kind.Arrive h).gives λ p there g. then (way p) _ g λ s comes g. when (nat_eq s e.site) _ g λ here g.
       when (same_tag e.tag (record { node = 0; role = role.Plain })) _ g λ tag g. absurd (let bad : role.Infra ≡ role.Plain = sym infra ∙ same_role e.tag (record { node = 0; role = role.Plain }) tag in cc)
-  by_kind comm kind.Stop is h = then (acting low e) _ (row-step low e next kind.Stop h).gives λ a acts g. parts kind.Stop (sight low.sites (inside low) e.site) e a g λ p form g. no_actor kind.Stop IsOthers.stop a acts (ap begun_by form)
-  by_kind comm kind.Let is h = then (acting low e) _ (row-step low e next kind.Let h).gives λ a acts g. parts kind.Let (sight low.sites (inside low) e.site) e a g λ p form g. no_actor kind.Let IsOthers.bind a acts (ap begun_by form)
-  by_kind comm kind.If is h = then (acting low e) _ (row-step low e next kind.If h).gives λ a acts g. parts kind.If (sight low.sites (inside low) e.site) e a g λ p form g. no_actor kind.If IsOthers.test a acts (ap begun_by form)
-  by_kind comm kind.Agent is h = then (acting low e) _ (row-step low e next kind.Agent h).gives λ a acts g. parts kind.Agent (sight low.sites (inside low) e.site) e a g λ p form g. no_actor kind.Agent IsOthers.agent a acts (ap begun_by form)
-  by_kind comm kind.Depart is h = then (acting low e) _ (row-step low e next kind.Depart h).gives λ a acts g. parts kind.Depart (sight low.sites (inside low) e.site) e a g λ p form g. no_actor kind.Depart IsOthers.depart a acts (ap begun_by form)
-  by_kind comm kind.Local is h = then (acting low e) _ (row-step low e next kind.Local h).gives λ a acts g. parts kind.Local (sight low.sites (inside low) e.site) e a g λ p form g. no_actor kind.Local IsOthers.local_test a acts (ap begun_by form)
-  by_kind comm kind.Print is h = then (acting low e) _ (row-step low e next kind.Print h).gives λ a acts g. parts kind.Print (sight low.sites (inside low) e.site) e a g λ p form g. no_actor kind.Print IsOthers.print a acts (ap begun_by form)
-  by_kind comm kind.Post is h = then (acting low e) _ (row-step low e next kind.Post h).gives λ a acts g. parts kind.Post (sight low.sites (inside low) e.site) e a g λ p form g. no_actor kind.Post IsOthers.post a acts (ap begun_by form)
+  by_kind located kind.Let is h = then (acting low e) _ (row-step low e next kind.Let h).gives λ a acts g. parts kind.Let (sight low.sites (inside low) e.site) e a g λ p form g. no_actor kind.Let IsOthers.bind a acts (ap begun_by form)
+  by_kind located kind.If is h = then (acting low e) _ (row-step low e next kind.If h).gives λ a acts g. parts kind.If (sight low.sites (inside low) e.site) e a g λ p form g. no_actor kind.If IsOthers.test a acts (ap begun_by form)
+  by_kind located kind.Agent is h = then (acting low e) _ (row-step low e next kind.Agent h).gives λ a acts g. parts kind.Agent (sight low.sites (inside low) e.site) e a g λ p form g. no_actor kind.Agent IsOthers.agent a acts (ap begun_by form)
+  by_kind located kind.Print is h = then (acting low e) _ (row-step low e next kind.Print h).gives λ a acts g. parts kind.Print (sight low.sites (inside low) e.site) e a g λ p form g. no_actor kind.Print IsOthers.print a acts (ap begun_by form)
+  by_kind located kind.Post is h = then (acting low e) _ (row-step low e next kind.Post h).gives λ a acts g. parts kind.Post (sight low.sites (inside low) e.site) e a g λ p form g. no_actor kind.Post IsOthers.post a acts (ap begun_by form)
 
--- but for the taking of outputs, of each infrastructure
-pub others : (i : Infrastructure) (k : Kind) → (k ≡ kind.Comm → ⊥) → IsQuiet i k role.Infra
-others i k other n from first low high v c e next is infra h = by_kind c e next infra (λ comm. absurd (other (sym is ∙ comm))) k is (ap (λ j. row j low e) (sym is) ∙ h)
+-- but for tests for agents, of each infrastructure
+pub others : (i : Infrastructure) (k : Kind) → (k ≡ kind.Local → ⊥) → IsQuiet i k role.Infra
+others i k other n from first low high v c e next is infra h = by_kind c e next infra (λ test. absurd (other (sym is ∙ test))) k is (ap (λ j. row j low e) (sym is) ∙ h)
 
 pub infrastructure : (k : Kind) → IsQuiet Infrastructure.central k role.Infra
-infrastructure k n from first low high v c e next is infra h = by_kind c e next infra (λ comm. communicates c e next comm infra h) k is (ap (λ j. row j low e) (sym is) ∙ h)
+unfolding act
+infrastructure k n from first low high v c e next is infra h = by_kind c e next infra none k is (ap (λ j. row j low e) (sym is) ∙ h)
+  where
+    none : e.kind ≡ kind.Local → (w : View) × (w.standing ≡ v.standing) × Coupled Infrastructure.central n from first next high w × LettersAfter kind.Local role.Infra low next e v w
+    none local_test =
+        then (acting low e) _ (row-step low e next kind.Local (ap (λ j. row j low e) (sym local_test) ∙ h)).gives λ a acts g.
+        parts kind.Local (sight low.sites (inside low) e.site) e a g λ p form g.
+        let s = acting-step low e a acts in
+        let o = of_actor c e.actor a kind.Local role.Infra s.there (ap begun_by form) (same_role a.proc.tag e.tag s.tag ∙ infra) (λ k r. cc) in
+        absurd (no_test n from first o.thing a o.is o.its_kind)

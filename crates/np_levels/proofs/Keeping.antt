@@ -1,6 +1,6 @@
 -- What stays where both levels make an event: the marks of the high level, and what is known.
 use Rattle.std.proofs.Common.{◌≡◌, inl, ℕ, Bool, true, false, cond, Option, None, Some, List, ◌++◌, refl, sym, ap, subst, ◌∙◌, append_assoc}
-use Rattle.std.specs.List.{All, list_any}
+use Rattle.std.specs.List.{All, flat_map, list_any}
 use Rattle.std.specs.List.Sorted.{IsPermutation}
 use Rattle.std.proofs.lemmas.List.Elements.{All-weaker}
 use Rattle.std.specs.FinMap as map
@@ -16,8 +16,8 @@ use Rattle.np_protocol.specs.Chips.{Chip}
 use Rattle.np_protocol.specs.Scenes.{Locks}
 use Rattle.np_protocol.specs.Steps.{Step}
 use Rattle.daemon_encode.specs.Infrastructures.{Infrastructure}
-use Rattle.np_things.specs.Things.{Thing, show_all}
-use Rattle.np_levels.specs.Coupled.{Coupled, KnowsOnly, View, chips, is_channel, is_child_of, may_know}
+use Rattle.np_things.specs.Things.{Thing}
+use Rattle.np_levels.specs.Coupled.{Coupled, KnowsOnly, View, is_channel, is_child_of, may_know, shown, is_high}
 use Rattle.np_levels.proofs.Marks.{may_know_more}
 use Rattle.np_levels.proofs.Orders.{and_then, behind, entries_at, entries_new, entries_put, flat, permuted}
 use Rattle.np_levels.proofs.Together.{IsOldOrNew, knows_wider, more_channels, one_mark}
@@ -31,15 +31,16 @@ first_put {X} f things m us q = ap (λ o. o >>= f) (get-put things m us q) ∙ g
     go true = refl
     go false = refl
 
--- the chips where one mark has other things, and a new mark has some
-pub step_new : (things : NameMap (List Thing)) (m k : Name) (ts us ws : List Thing) → map.get things m ≡ Some ts → map.get (map.insert things m us) k ≡ None
-    → Step (chips things) (chips (map.insert (map.insert things m us) k ws)) (show_all ts) (show_all ws ++ show_all us)
-step_new things m k ts us ws there absent = record {
-  rest = chips (map.remove things m);
-  taken = permuted (flat (λ (e : Name × List Thing). show_all e.1) (entries_at things m ts there));
-  given = subst (IsPermutation (chips (map.insert (map.insert things m us) k ws)))
-      (sym (append_assoc (show_all ws) (show_all us) (chips (map.remove things m))))
-      (permuted (flat (λ (e : Name × List Thing). show_all e.1)
+-- what is shown where one mark has other things, and a new mark has some
+pub step_new : {X : Type 0} (show : Thing → List X) (things : NameMap (List Thing)) (m k : Name) (ts us ws : List Thing) → map.get things m ≡ Some ts
+    → map.get (map.insert things m us) k ≡ None
+    → Step (shown show things) (shown show (map.insert (map.insert things m us) k ws)) (flat_map show ts) (flat_map show ws ++ flat_map show us)
+step_new show things m k ts us ws there absent = record {
+  rest = shown show (map.remove things m);
+  taken = permuted (flat (λ (e : Name × List Thing). flat_map show e.1) (entries_at things m ts there));
+  given = subst (IsPermutation (shown show (map.insert (map.insert things m us) k ws)))
+      (sym (append_assoc (flat_map show ws) (flat_map show us) (shown show (map.remove things m))))
+      (permuted (flat (λ (e : Name × List Thing). flat_map show e.1)
       (and_then (entries_new (map.insert things m us) k ws absent) (behind (entries_put things m us)))));
 }
 
@@ -55,10 +56,11 @@ known_on lock cs ds n from born x children ts k = All-weaker (λ t. KnowsOnly (m
 
 module _ {i : Infrastructure} {n from first : ℕ} {low high : Config} {v : View} (c : Coupled i n from first low high v) where
   -- a mark that has things, or is new, is the only one that stands for what it does
-  pub only_at : {X : Type 0} (f : List Thing → Option X) (m : Name) → IsOldOrNew c m → (q : Name) (y : X) → (map.get v.things q >>= f) ≡ Some y
+  pub only_at : {X : Type 0} (f : List Thing → Option X) → ((ts : List Thing) (y : X) → f ts ≡ Some y → is_high ts ≡ true) → (m : Name) → IsOldOrNew c m → (q : Name) (y : X)
+      → (map.get v.things q >>= f) ≡ Some y
       → stands_for v.standing q ≡ stands_for v.standing m → q ≡ m
-  only_at {X} f m is q y j same = go (map.get v.things q) refl j
+  only_at {X} f high m is q y j same = go (map.get v.things q) refl j
     where
       go : (o : Option (List Thing)) → map.get v.things q ≡ o → (o >>= f) ≡ Some y → q ≡ m
       go None g k = absurd cc
-      go (Some ts) g k = one_mark c q m same (inl (ts, g)) is
+      go (Some ts) g k = one_mark c q m same (inl (ts, g, high ts y k)) is

@@ -16,6 +16,8 @@ no-letter (Some p) h = absurd cc
 -- a thing that is nothing of the high level carries no letter
 pub low-carries-none : (t : Thing) → high_atom t ≡ None → carried t ≡ None
 low-carries-none (Thing.opening p) h = absurd cc
+low-carries-none (Thing.carrying p t a) h = absurd cc
+low-carries-none (Thing.trying p t a) h = absurd cc
 low-carries-none (Thing.mail m stage) h = no-letter (carried (Thing.mail m stage)) h
 low-carries-none (Thing.taken m) h = no-letter (carried (Thing.taken m)) h
 low-carries-none (Thing.looking m ps) h = no-letter (carried (Thing.looking m ps)) h

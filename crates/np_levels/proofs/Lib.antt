@@ -4,12 +4,15 @@ pub mod Arrivals
 pub mod Becomes
 pub mod Bodies
 pub mod Born
+pub mod CacheLookups
+pub mod Caches
 pub mod Comms
 pub mod Creations
 pub mod Departures
 pub mod Forks
 pub mod Forms
 pub mod Goes
+pub mod Hirings
 pub mod Ifs
 pub mod Infrastructure
 pub mod Keeping
@@ -21,12 +24,14 @@ pub mod Lookups
 pub mod Makes
 pub mod Marks
 pub mod Meets
+pub mod Messengers
 pub mod News
 pub mod Orders
 pub mod Outputs
 pub mod Packets
 pub mod Places
 pub mod Plains
+pub mod Posting
 pub mod Posts
 pub mod Prints
 pub mod Quiet
@@ -36,6 +41,7 @@ pub mod Scenes
 pub mod Sends
 pub mod Serves
 pub mod Shapes
+pub mod Shifts
 pub mod Sounds
 pub mod Splits
 pub mod Stands
@@ -43,5 +49,6 @@ pub mod Starts
 pub mod Stops
 pub mod Takes
 pub mod Together
+pub mod Tries
 pub mod Values
 pub mod Writes

@@ -43,35 +43,35 @@ use Rattle.np_levels.proofs.Stands.{new_mark}
 use Rattle.np_levels.proofs.Together.{knows_wider, more_channels}
 
 -- what a test that finds its agent leaves, and one that does not
-record FindsIt (low : Config) (e : Event) (next : Config) (a : Atom) (met : Proc) (agent chan : Name) (what : Value) : Type 0 where
-  here : is_at low agent e.site ≡ true
-  new : Name
-  made_one : e.made ≡ made.One new
-  is_new : set.contains low.born new ≡ false
-  is : next ≡ effect low e (record still { atoms = put new (output_in agent chan what e.tag) ∷ put e.actor (goes a met) ∷ [] })
+pub record FindsIt (low : Config) (e : Event) (next : Config) (a : Atom) (met : Proc) (agent chan : Name) (what : Value) : Type 0 where
+  pub here : is_at low agent e.site ≡ true
+  pub new : Name
+  pub made_one : e.made ≡ made.One new
+  pub is_new : set.contains low.born new ≡ false
+  pub is : next ≡ effect low e (record still { atoms = put new (output_in agent chan what e.tag) ∷ put e.actor (goes a met) ∷ [] })
 
-record Misses (low : Config) (e : Event) (next : Config) (a : Atom) (unmet : Proc) (agent : Name) : Type 0 where
-  away : is_at low agent e.site ≡ false
-  made_none : e.made ≡ made.Nothing
-  is : next ≡ effect low e (becomes e (goes a unmet))
+pub record Misses (low : Config) (e : Event) (next : Config) (a : Atom) (unmet : Proc) (agent : Name) : Type 0 where
+  pub away : is_at low agent e.site ≡ false
+  pub made_none : e.made ≡ made.Nothing
+  pub is : next ≡ effect low e (becomes e (goes a unmet))
 
-record IsLocating (low : Config) (e : Event) (next : Config) : Type 0 where
-  atom : Atom
-  acts : Acts low e atom
-  agent_named : Expr
-  chan_named : Expr
-  sent : Expr
-  met : Proc
-  unmet : Proc
-  form : layer atom.proc ≡ ProcForm-F.IfLocal agent_named chan_named sent met unmet
-  agent : Name
-  chan : Name
-  what : Value
-  its_agent : agent_of agent_named atom.env ≡ Some agent
-  its_chan : chan_of chan_named atom.env ≡ Some chan
-  its_value : eval sent atom.env ≡ Some what
-  other_none : e.other ≡ None
-  ends : FindsIt low e next atom met agent chan what ⊎ Misses low e next atom unmet agent
+pub record IsLocating (low : Config) (e : Event) (next : Config) : Type 0 where
+  pub atom : Atom
+  pub acts : Acts low e atom
+  pub agent_named : Expr
+  pub chan_named : Expr
+  pub sent : Expr
+  pub met : Proc
+  pub unmet : Proc
+  pub form : layer atom.proc ≡ ProcForm-F.IfLocal agent_named chan_named sent met unmet
+  pub agent : Name
+  pub chan : Name
+  pub what : Value
+  pub its_agent : agent_of agent_named atom.env ≡ Some agent
+  pub its_chan : chan_of chan_named atom.env ≡ Some chan
+  pub its_value : eval sent atom.env ≡ Some what
+  pub other_none : e.other ≡ None
+  pub ends : FindsIt low e next atom met agent chan what ⊎ Misses low e next atom unmet agent
 
 module _ (low : Config) (e : Event) (next : Config) (a : Atom) (met unmet : Proc) (agent chan : Name) (what : Value) where
   ends_so : (d : Change) (t : Bool) → is_at low agent e.site ≡ t → cond t (here_row e a met agent chan what) (away_row e a unmet) ≡ Some d
@@ -89,7 +89,7 @@ module _ (low : Config) (e : Event) (next : Config) (a : Atom) (met unmet : Proc
   ends_so d false at h new is =
       then (none_made e.made) _ h λ u none last. inr (record { away = at; made_none = is-none e.made u none; is = is ∙ ap (effect low e) (done last) })
 
-locating : (low : Config) (e : Event) (next : Config) → row kind.Local low e ≡ Some next → IsLocating low e next
+pub locating : (low : Config) (e : Event) (next : Config) → row kind.Local low e ≡ Some next → IsLocating low e next
 unfolding act
 locating low e next h =
     let r = row-step low e next kind.Local h in
@@ -166,7 +166,7 @@ module _ {i : Infrastructure} {n from first : ℕ} {low high : Config} {v : View
       (more_channels n high.born e.made) (Thing.opened p)
       (known_channel c e o s.chan_named s.chan sound_parts.1 chan_is, known_here c e o s.sent s.what sound_parts.2 value_is) in
       let w = made_both c e next o h it.new (as_output p) (as_output p) (Thing.opened p) it.is_new
-      (record { apart = apart; tag = p.tag; is = refl }) refl refl (refl, refl) knows (goes s.atom s.met) (goes o.atom form.0) part
+      (record { apart = apart; tag = p.tag; is = refl }) refl refl (refl, refl, refl) knows (goes s.atom s.met) (goes o.atom form.0) part
       (still_knows c e o.knows) it.is in (
         effect high (event_of v e) (record still { atoms = put it.new (as_output p) ∷ put (stands_for v.standing e.actor) (goes o.atom form.0) ∷ [] }),
         ap (λ k. row k high (event_of v e)) is

@@ -37,8 +37,8 @@ module _ {i : Infrastructure} {n from first : ℕ} {low high : Config} {v : View
       let new : IsNewMark c e m = new_mark c e m is_new in
       let s = put_atom c e (stands c e) m (Free.new new.no_things is_new) x t y its atom packet silent knows new.no_packet
       (ap (λ l. l >>= first_packet_of) new.no_things) in
-      let r = put_atom c e s e.actor (Free.old {ts = Thing.source o.named o.atom ∷ []} there refl refl) goes_low
-      (Thing.source o.named goes_high) goes_high goes refl refl (refl, refl) knows_on o.no_packet (ap (λ l. l >>= first_packet_of) there) in
+      let r = put_atom c e s e.actor (Free.old {ts = Thing.source o.named o.atom ∷ []} there refl refl refl refl) goes_low
+      (Thing.source o.named goes_high) goes_high goes refl refl (refl, refl, refl) knows_on o.no_packet (ap (λ l. l >>= first_packet_of) there) in
       let w = leave c e r next low.said high.said applies is c.said in
       subst (λ (k : Name). (w : View) × (w.standing ≡ v.standing) × Coupled i n from first next
       (effect high (event_of v e) (record still { atoms = put k y ∷ put (stands_for v.standing e.actor) goes_high ∷ [] })) w × SameLetters v w) new.itself w

@@ -1,6 +1,6 @@
 -- An input of the infrastructure takes an output: the output's mark is gone, and the input goes on.
 use Rattle.std.proofs.Common.{◌≡◌, ◌⊎◌, inl, inr, ℕ, Bool, true, false, cond, ◌||◌, is_some, None, Some, List, [], ◌∷◌, ◌++◌, refl, sym, ap, subst, ◌∙◌, append_assoc}
-use Rattle.std.specs.List.{All, AllByRecursion, list_any}
+use Rattle.std.specs.List.{All, AllByRecursion, list_any, flat_map}
 use Rattle.std.specs.List.Sorted.{IsPermutation}
 use Rattle.std.proofs.lemmas.List.Elements.{All-from_recursion, All-weaker, recursion_from_All}
 use Rattle.std.specs.FinMap as map
@@ -37,8 +37,8 @@ use Rattle.np_protocol.specs.Scenes.{Locks}
 use Rattle.np_protocol.specs.Steps.{Step}
 use Rattle.daemon_encode.specs.Infrastructures.{Infrastructure}
 use Rattle.np_things.specs.Shapes.{Are}
-use Rattle.np_things.specs.Things.{IsHeaded, Thing, first_atom_of, first_packet_of, show_all}
-use Rattle.np_levels.specs.Coupled.{Coupled, IsShaped, KnowsOnly, View, chips, is_channel, is_child_of, may_know, scene}
+use Rattle.np_things.specs.Things.{IsHeaded, Thing, first_atom_of, first_packet_of, show_all, show_all_caches, shows, shows_caches}
+use Rattle.np_levels.specs.Coupled.{Coupled, IsShaped, KnowsOnly, View, chips, is_channel, is_child_of, may_know, scene, IsCarrier, levels, shown}
 use Rattle.np_levels.proofs.Applies.{takes}
 use Rattle.np_levels.proofs.Born.{born-kept, made-kept}
 use Rattle.np_levels.proofs.Letters.{low-carries-none}
@@ -46,7 +46,9 @@ use Rattle.np_levels.proofs.Marks.{reshape}
 use Rattle.np_levels.proofs.Orders.{and_then, behind, entries_at, entries_put, flat, permuted}
 use Rattle.np_levels.proofs.Outputs.{is_output}
 use Rattle.np_levels.proofs.Quiet.{knows_more, or_cases, or_second, quiet}
+use Rattle.np_levels.proofs.Caches.{by_step, carry_cut, carry_put}
 use Rattle.np_levels.specs.Letters.{SameLetters, first_letter_of, letter_under}
+use Rattle.cache_rule.specs.Steps.{CacheStep}
 
 -- what a communication does
 pub record IsMeeting (low : Config) (e : Event) (next : Config) : Type 0 where
@@ -102,14 +104,15 @@ may_know_on lock cs ds f (Thing.settling a h s) b k = elim (or_cases _ (list_any
 ]
 may_know_on lock cs ds f _ b k = k
 
--- the chips where a mark is gone and another has other things
-pub step_of_two : (things : NameMap (List Thing)) (m o : Name) (ts gone us : List Thing) → map.get things o ≡ Some gone → map.get (map.remove things o) m ≡ Some ts
-    → Step (chips things) (chips (map.insert (map.remove things o) m us)) (show_all gone ++ show_all ts) (show_all us)
-step_of_two things m o ts gone us h k = record {
-  rest = chips (map.remove (map.remove things o) m);
-  taken = subst (IsPermutation (chips things)) (sym (append_assoc (show_all gone) (show_all ts) (chips (map.remove (map.remove things o) m))))
-      (permuted (flat (λ (e : Name × List Thing). show_all e.1) (and_then (entries_at things o gone h) (behind (entries_at (map.remove things o) m ts k)))));
-  given = permuted (flat (λ (e : Name × List Thing). show_all e.1) (entries_put (map.remove things o) m us));
+-- what is shown where a mark is gone and another has other things
+pub step_of_two : {X : Type 0} (show : Thing → List X) (things : NameMap (List Thing)) (m o : Name) (ts gone us : List Thing) → map.get things o ≡ Some gone
+    → map.get (map.remove things o) m ≡ Some ts
+    → Step (shown show things) (shown show (map.insert (map.remove things o) m us)) (flat_map show gone ++ flat_map show ts) (flat_map show us)
+step_of_two show things m o ts gone us h k = record {
+  rest = shown show (map.remove (map.remove things o) m);
+  taken = subst (IsPermutation (shown show things)) (sym (append_assoc (flat_map show gone) (flat_map show ts) (shown show (map.remove (map.remove things o) m))))
+      (permuted (flat (λ (e : Name × List Thing). flat_map show e.1) (and_then (entries_at things o gone h) (behind (entries_at (map.remove things o) m ts k)))));
+  given = permuted (flat (λ (e : Name × List Thing). flat_map show e.1) (entries_put (map.remove things o) m us));
 }
 
 module _ {i : Infrastructure} {n from first : ℕ} {low high : Config} {v : View} (c : Coupled i n from first low high v) where
@@ -134,6 +137,9 @@ module _ {i : Infrastructure} {n from first : ℕ} {low high : Config} {v : View
         → (list_any (is_child_of a b) (chips (left_things e.actor s.other us)) ≡ true) ⊎ (is_some (v.lock b) ≡ true)
     pub known : Step (chips v.things) (chips (left_things e.actor s.other us)) (show_all (u ∷ []) ++ show_all ts) (show_all us) → AllByRecursion (λ t. KnowsOnly (may_know v.lock (chips v.things) t) (is_channel n high.born) from t) ts
         → AllByRecursion (λ t. KnowsOnly (may_know v.lock (chips (left_things e.actor s.other us)) t) (is_channel n high.born) from t) us
+    pub hints : i ≡ Infrastructure.cached
+        → CacheStep (levels low high) (levels next high) (show_all_caches (u ∷ []) ++ show_all_caches ts) (show_all_caches us)
+    pub carriers : AllByRecursion (IsCarrier v.standing.messengers) ts → AllByRecursion (IsCarrier v.standing.messengers) us
 
   pub meets : (next : Config) (e : Event) (s : IsMeeting low e next) (ts us : List Thing) (u : Thing) → Meets next e s ts us u
       → (w : View) × (w.standing ≡ v.standing) × Coupled i n from first next high w × SameLetters v w
@@ -142,16 +148,19 @@ module _ {i : Infrastructure} {n from first : ℕ} {low high : Config} {v : View
     refl,
     quiet c next things protocol.0 (record {
       sites = ap (λ (d : Config). d.sites) s.is;
-      places = ap (λ (d : Config). d.places) s.is;
+      places = λ q _. ap (λ (d : Config). map.get d.places q) s.is;
       said = ap (λ (d : Config). d.said) s.is;
       born = λ q h. ap (λ (d : Config). set.contains d.born q) s.is ∙ made-kept low.born e.made q h;
       stand_born = born-kept low next e c.stand_born b.applies;
       shaped = λ q. shaped q (same_name q s.other) (same_name q e.actor) refl refl;
       atoms = λ q. atoms q (same_name q s.other) (same_name q e.actor) refl refl;
       packets = λ q. packets q (same_name q s.other) (same_name q e.actor) refl refl;
-      old_or_new = λ q vs h. inl (old q vs (same_name q s.other) (same_name q e.actor) refl refl h);
       protocol = protocol.1;
       known = λ q vs h. known q vs (same_name q s.other) (same_name q e.actor) refl refl h;
+      hints = by_step low high next high v.things things (step_of_two shows_caches v.things e.actor s.other ts (u ∷ []) us b.other_there still_there) b.hints;
+      carriers = carry_put v.standing.messengers (map.remove v.things s.other) e.actor (carry_cut v.standing.messengers v.things s.other c.carriers) us
+          (All-from_recursion (IsCarrier v.standing.messengers) us
+          (b.carriers (recursion_from_All (IsCarrier v.standing.messengers) ts (c.carriers e.actor ts b.there))));
     }),
     λ q. letters q (same_name q s.other) (same_name q e.actor) refl refl,
   )
@@ -170,7 +179,7 @@ module _ {i : Infrastructure} {n from first : ℕ} {low high : Config} {v : View
       still_there = get-cut v.things s.other e.actor ∙ ap (λ t. cond t None (map.get v.things e.actor)) actor_other ∙ b.there
 
       step : Step (chips v.things) (chips things) (show_all (u ∷ []) ++ show_all ts) (show_all us)
-      step = step_of_two v.things e.actor s.other ts (u ∷ []) us b.other_there still_there
+      step = step_of_two shows v.things e.actor s.other ts (u ∷ []) us b.other_there still_there
 
       protocol : (then : Name → Phase) × Protocol (scene v high) then (chips things)
       protocol = b.protocol step
@@ -224,11 +233,6 @@ module _ {i : Infrastructure} {n from first : ℕ} {low high : Config} {v : View
 
       no_value : {A B : Type 0} {x : A} → None ≡ Some x → B
       no_value h = absurd cc
-
-      old : (q : Name) (vs : List Thing) (t r : Bool) → same_name q s.other ≡ t → same_name q e.actor ≡ r → map.get things q ≡ Some vs → (ws : List Thing) × (map.get v.things q ≡ Some ws)
-      old q vs true r x y h = no_value (sym (gone q x) ∙ h)
-      old q vs false true x y h = (ts, ap (map.get v.things) (same_name-is q e.actor y) ∙ b.there)
-      old q vs false false x y h = (vs, sym (unchanged q x y) ∙ h)
 
       known : (q : Name) (vs : List Thing) (t r : Bool) → same_name q s.other ≡ t → same_name q e.actor ≡ r → map.get things q ≡ Some vs → All (λ t. KnowsOnly (may_know v.lock (chips things) t) (is_channel n high.born) from t) vs
       known q vs true r x y h = no_value (sym (gone q x) ∙ h)

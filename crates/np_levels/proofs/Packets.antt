@@ -75,8 +75,8 @@ module _ {i : Infrastructure} {n from first : ℕ} {low high : Config} {v : View
 
   sends_both : IsSame c e next
   sends_both =
-      let r = write c e (stands c e) e.actor (Free.old {ts = Thing.source o.named o.atom ∷ []} o.there refl refl) None (Some s.packet)
-      (Some (Thing.packet s.packet)) (Holds.packet flies) (refl, refl) knows_packet in
+      let r = write c e (stands c e) e.actor (Free.old {ts = Thing.source o.named o.atom ∷ []} o.there refl refl refl refl) None (Some s.packet)
+      (Some (Thing.packet s.packet)) (Holds.packet flies) (refl, refl, refl) knows_packet in
       let w = leave c e r next low.said high.said h s.is c.said in (
         effect high (event_of v e) (record still { atoms = cut (stands_for v.standing e.actor) ∷ []; packets = put (stands_for v.standing e.actor) s.packet ∷ [] }),
         ap (λ k. row k high (event_of v e)) is ∙ send_applies high (event_of v e) o.atom o.acts s.receiver s.to s.chan s.sent s.packet form agent site chan sent
@@ -175,13 +175,13 @@ module _ {i : Infrastructure} {n from first : ℕ} {low high : Config} {v : View
       let on : Knowing c e (Thing.opened output) =
       knows_wider (agents c e) (agents c e) (is_channel n high.born) (is_channel n (with_made high.born e.made)) from (λ a k. k)
       (more_channels n high.born e.made) (Thing.opened output) opens in
-      let w = leave c e (write c e (stands c e) e.actor (Free.old {ts = Thing.packet s.packet ∷ []} there refl refl) (Some (as_output output)) None
-      (Some (Thing.opened output)) (Holds.atom (record { apart = apart; tag = e.tag; is = refl })) (refl, refl) on) next low.said high.said h
+      let w = leave c e (write c e (stands c e) e.actor (Free.old {ts = Thing.packet s.packet ∷ []} there refl refl refl refl) (Some (as_output output)) None
+      (Some (Thing.opened output)) (Holds.atom (record { apart = apart; tag = e.tag; is = refl })) (refl, refl, refl) on) next low.said high.said h
       (leaves true at) c.said in
       (_, applies true at, w.0, w.1, w.2, w.3)
   -- it has left: the packet is gone
   comes_down false at =
-      let w = leave c e (cut_packet c e (stands c e) e.actor (Free.old {ts = Thing.packet s.packet ∷ []} there refl refl) no_atom
+      let w = leave c e (cut_packet c e (stands c e) e.actor (Free.old {ts = Thing.packet s.packet ∷ []} there refl refl refl refl) no_atom
       (ap (λ o. o >>= first_atom_of) there)) next low.said high.said h (leaves false at) c.said in
       (_, applies false at, w.0, w.1, w.2, w.3)
 

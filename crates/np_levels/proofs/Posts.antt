@@ -1,60 +1,43 @@
 -- A post leaves for the daemon: it is a post of the high level.
-use Rattle.std.proofs.Common.{◌≡◌, ℕ, Bool, true, false, cond, is_some, nat_eq, Option, None, Some, List, [], ◌∷◌, refl, sym, ap, subst, ◌∙◌}
+use Rattle.std.proofs.Common.{◌≡◌, ℕ, Bool, true, false, cond, is_some, Option, None, Some, List, [], ◌∷◌, refl, sym, ap, subst, ◌∙◌, ◌++◌}
 use Rattle.std.specs.List.{All}
-use Rattle.std.proofs.lemmas.List.Elements.{All-from_recursion, All-nil, All-weaker, recursion_from_All}
+use Rattle.std.proofs.lemmas.List.Elements.{All-from_recursion, All-nil, All-weaker}
 use Rattle.std.specs.FinMap as map
 use Rattle.std.specs.FinSet as set
 use Rattle.np_syntax.specs.declared.value.Name.{Name}
-use Rattle.np_syntax.specs.declared.value.Value.{Value, out-Value}
 use Rattle.np_syntax.specs.declared.value.Value as value
 use Rattle.np_syntax.specs.declared.value.Value.TheVariants as outs
 use Rattle.np_syntax.specs.declared.expression.Expr.{Expr}
 use Rattle.np_syntax.specs.declared.process.Tag.{Tag}
 use Rattle.np_syntax.specs.declared.process.Proc.{Proc}
 use Rattle.np_syntax.specs.declared.process.Role.TheVariants as role
-use Rattle.np_syntax.specs.declared.process.ProcForm.{ProcForm-F}
 use Rattle.np_syntax.specs.declared.process.ProcForm as form
 use Rattle.np_syntax.specs.declared.process.ProcForm.TheVariants as forms
 use Rattle.np_syntax.specs.declared.event.Event.{Event}
 use Rattle.np_syntax.specs.declared.event.Kind.TheVariants as kind
 use Rattle.np_syntax.specs.Options.{◌>>=◌}
-use Rattle.np_syntax.proofs.Bools.{and-out}
-use Rattle.np_syntax.proofs.Options.{then, done}
+use Rattle.np_syntax.proofs.Options.{done}
 use Rattle.np_tables.specs.Names.{NameMap, same_name}
 use Rattle.np_tables.proofs.Tables.{get-put, put_here, same_name-is}
 use Rattle.np_calculus.specs.declared.config.Atom.{Atom}
 use Rattle.np_calculus.specs.Begins.{begun_by}
 use Rattle.np_calculus.specs.Config.{Config}
-use Rattle.np_calculus.specs.Parts.{IsLodged}
-use Rattle.np_calculus.specs.Sight.{inside}
-use Rattle.np_calculus.specs.Reductions.{apply, row, same_tag}
+use Rattle.np_calculus.specs.Reductions.{apply, row}
 use Rattle.np_calculus.specs.Starts.{daemon_agent, own}
-use Rattle.np_calculus.specs.Well.{Well}
-use Rattle.np_eval.specs.Eval.{Env, agent_of, as_agent, as_chan, chan_of, eval}
+use Rattle.np_eval.specs.Eval.{eval}
 use Rattle.np_eval.specs.Forms.{layer}
-use Rattle.np_eval.proofs.Evals.{eval-form, eval-pack}
-use Rattle.np_scope.specs.Sound.{IsSoundExpr}
-use Rattle.np_scope.proofs.SoundParts.{ProcParts, proc-parts}
 use Rattle.daemon_encode.specs.Pieces.{daemon, message, pair, site}
 use Rattle.daemon_encode.specs.Texts.{letter, post_text}
 use Rattle.daemon_encode.specs.Infrastructures.{Infrastructure}
 use Rattle.daemon_encode.specs.Translates.{Translates, source}
-use Rattle.np_source_values.specs.Known.{IsKnown}
-use Rattle.np_source_values.proofs.Known.{value-is-known}
-use Rattle.np_source_values.proofs.Values.{same-value}
 use Rattle.np_things.specs.Acting.{begins}
-use Rattle.np_things.specs.Shapes.{Is, IsOfSource}
-use Rattle.np_things.specs.Things.{Stage, Thing}
+use Rattle.np_things.specs.Shapes.{Is, StandsFor}
+use Rattle.np_things.specs.Things.{Stage, Thing, shows, shows_caches}
 use Rattle.np_things.proofs.Acting.{source-plain}
-use Rattle.np_syntax.specs.declared.value.Value.{Value-F, roll-Value, roll-out-Value}
 use Rattle.np_calculus.specs.Changes.{effect, put, still, with_made}
-use Rattle.np_calculus.specs.Reductions.{role_index}
-use Rattle.np_calculus.specs.Well.{Has, Ready}
-use Rattle.np_calculus.proofs.Steps.{Acts, step-acting}
-unfoldable use Rattle.np_calculus.proofs.Common.{act}
-use Rattle.np_syntax.proofs.Bools.{and-in}
 use Rattle.np_lift.specs.Posts.{letter_at, letter_sent}
 use Rattle.cache_lift.specs.Lift.{stands_for}
+use Rattle.cache_rule.specs.Steps.{CacheStep}
 use Rattle.np_protocol.specs.Chips.{Chip}
 use Rattle.np_protocol.specs.Phases.{Phase}
 use Rattle.np_protocol.specs.Protocol.{Protocol}
@@ -62,23 +45,23 @@ use Rattle.np_protocol.specs.Rules.{IsKnowledge, IsLearnt, Rule}
 use Rattle.np_protocol.specs.Steps.{Step}
 use Rattle.np_protocol.proofs.Keeps.{keeps-protocol}
 use Rattle.np_things.specs.Mail.{Mail, Posted, as_output, packet_of}
-use Rattle.np_things.specs.Things.{first_atom_of, first_packet_of, show_all}
+use Rattle.np_things.specs.Things.{first_atom_of, first_packet_of}
 use Rattle.np_things.proofs.Starts.{constant-is}
-use Rattle.np_levels.specs.Coupled.{Coupled, IsShaped, KnowsOnly, View, chips, is_channel, is_child_of, may_know, scene}
+use Rattle.np_levels.specs.Coupled.{Coupled, IsShaped, KnowsOnly, View, chips, is_channel, is_child_of, may_know, scene, IsCarrier, cache_chips, is_high}
 use Rattle.np_levels.specs.Laws.{PostsAreEvents, post_of}
 use Rattle.np_levels.specs.Letters.{IsPosting, as_letter, first_letter_of}
 use Rattle.np_levels.specs.Mirrors.{Mirrors}
-use Rattle.np_levels.proofs.Places.{same_place}
-use Rattle.np_levels.proofs.Actors.{agent_known}
+use Rattle.np_levels.proofs.Posting.{IsPosted, PostAbove, post_above}
 use Rattle.np_levels.proofs.Born.{born-kept, made-kept}
 use Rattle.np_levels.proofs.Letters.{letter-put}
 use Rattle.np_levels.proofs.Marks.{may_know_more, reshape, step_at}
-use Rattle.np_levels.proofs.Outputs.{chan-known}
 use Rattle.np_levels.proofs.Quiet.{any_kept, knows_more}
 use Rattle.np_levels.proofs.Sends.{IsSending, packet_is, sending}
 use Rattle.np_levels.proofs.Shapes.{of_actor, same_role}
-use Rattle.np_levels.proofs.Values.{agent-is, channel-is, pair-is}
+use Rattle.np_levels.proofs.Values.{agent-is, channel-is, letter-is}
 use Rattle.np_levels.proofs.Writes.{mirrors_write}
+use Rattle.np_levels.proofs.Caches.{by_step, carry_put, low_grows}
+use Rattle.np_levels.proofs.Together.{high_by_atom}
 use Rattle.np_tables.proofs.Tables.{cut_here, get-cut}
 
 -- what a mark of the low level stands for is changed at both levels
@@ -96,84 +79,33 @@ post_by n from a p q (Translates.agent f g w x u y z) plain post r = absurd (let
 post_by n from a p q (Translates.migrate t) plain post r = absurd (let bad : role.Infra ≡ role.Post = post in cc)
 post_by n from a p q _ plain post r = absurd (let bad : role.Plain ≡ role.Post = sym plain ∙ post in cc)
 
-posts_source : {R : Type 0} (i : Infrastructure) (n from first : ℕ) (t : Thing) (a : Atom) → Is i n from first t a → begins t role.Post kind.Send ≡ true → ((x : Expr) (h : Atom) → t ≡ Thing.source x h → IsOfSource i n from x h a → R) → R
-posts_source _ n from first (Thing.source x h) a i b r = r x h refl i
-posts_source _ n from first (Thing.mail m (Stage.in_agent x)) a i b r = absurd cc
-posts_source _ n from first _ a i b r = absurd cc
+-- without caches that is the atom as it stands there, and with caches one that found no hint
+posts_by : {R : Type 0} (i : Infrastructure) (n from first : ℕ) (t : Thing) (a : Atom) → Is i n from first t a → begins t role.Post kind.Send ≡ true → a.proc.tag.role ≡ role.Post
+    → ((x : Expr) (hi : Atom) → IsPosted t hi → StandsFor n from x hi a → (tag : Tag) (at : ℕ) (b c v : Expr) → hi.proc ≡ source tag at (form.Post b c v)
+    → a.proc ≡ post_text n tag.node b c v → R) → R
+posts_by _ n from first (Thing.source x h) a i begun post r =
+    post_by n from x h.proc a.proc i.translates (source-plain i.stands.source.sound) post λ tag at b c v source_is text_is.
+    r x h (record { silent = (refl, refl, refl); atom = refl; packet = refl; knows = λ lock cs chans from k. k }) i.stands tag at b c v source_is text_is
+posts_by _ n from first (Thing.passing x h) a i begun post r =
+    r x h (record { silent = (refl, refl, refl); atom = refl; packet = refl; knows = λ lock cs chans from k. k }) i.1
+    i.2.posts.tag i.2.posts.at i.2.posts.to i.2.posts.on i.2.posts.sent i.2.posts.is i.2.is
+posts_by _ n from first (Thing.mail m (Stage.in_agent x)) a i begun post r = absurd cc
+posts_by _ n from first _ a i begun post r = absurd cc
 
-agent-value : (u : Value) (a : Name) → as_agent (out-Value u) ≡ Some a → u ≡ value.Agent a
-agent-value u a h = sym (roll-out-Value u) ∙ ap roll-Value (layer_is (out-Value u) h) ∙ outs.rolls-Agent a
-  where
-    layer_is : (l : Value-F Value) → as_agent l ≡ Some a → l ≡ Value-F.Agent a
-    layer_is (Value-F.Agent b) k = ap Value-F.Agent (sym (done k))
-    layer_is _ k = absurd cc
-
--- what a post sends
-letter-is : (b x e : Expr) (env : Env) (a n : Name) (u : Value) → agent_of b env ≡ Some a → chan_of x env ≡ Some n → eval e env ≡ Some u → eval (pair b (letter x e)) env ≡ Some (value.Tuple (value.Agent a ∷ value.Letter n u ∷ []))
-letter-is b x e env a n u ab xn eu =
-    then (eval b env) _ ab λ vb at_b is_b. then (eval x env) _ xn λ vx at_x is_x.
-    let packed : eval (letter x e) env ≡ Some (value.Letter n u) = rw (eval-form (letter x e) env, eval-pack x e env, at_x, eu, is_x) refl in
-    pair-is b (letter x e) (value.Agent a) (value.Letter n u) env (at_b ∙ ap Some (agent-value vb a is_b)) packed
-
-module _ {j : Infrastructure} {n from first : ℕ} {low high : Config} {v : View} (c : Coupled j n from first low high v) (well : Well high) (lodged : IsLodged (inside high)) (e : Event) (next : Config) (post : e.tag.role ≡ role.Post) (h : apply low e ≡ Some next) (s : IsSending low e next)
-    (no_packet : map.get low.packets e.actor ≡ None) (x : Expr) (hi : Atom) (there : map.get v.things e.actor ≡ Some (Thing.source x hi ∷ [])) (i : IsOfSource j n from x hi s.atom)
-    (tag : Tag) (at : ℕ) (b ch va : Expr) (source_is : hi.proc ≡ source tag at (form.Post b ch va)) (text_is : s.atom.proc ≡ post_text n tag.node b ch va) where
-  high_there : map.get high.atoms (stands_for v.standing e.actor) ≡ Some hi
-  high_there = c.mirrored.up e.actor hi (ap (λ o. o >>= first_atom_of) there)
-
-  form_is : layer hi.proc ≡ ProcForm-F.Post b ch va
-  form_is = ap layer source_is ∙ forms.outs-Post b ch va
-
-  abbrev ready : Has (agent_of b hi.env) × Has (chan_of ch hi.env) × Has (eval va hi.env)
-  ready = subst (Ready high hi.env) form_is (well.ready (stands_for v.standing e.actor) hi high_there)
-
-  abbrev plain : Tag
-  plain = record { node = e.tag.node; role = role.Plain }
-
+module _ {j : Infrastructure} {n from first : ℕ} {low high : Config} {v : View} (c : Coupled j n from first low high v) (e : Event) (next : Config) (post : e.tag.role ≡ role.Post)
+    (h : apply low e ≡ Some next) (s : IsSending low e next)
+    (no_packet : map.get low.packets e.actor ≡ None) (t : Thing) (x : Expr) (hi : Atom) (there : map.get v.things e.actor ≡ Some (t ∷ [])) (posted : IsPosted t hi) (stands : StandsFor n from x hi s.atom)
+    (tag : Tag) (b ch va : Expr) (text_is : s.atom.proc ≡ post_text n tag.node b ch va) (above : PostAbove c e hi b ch va) where
   abbrev p : Posted
-  p = record { agent = ready.0.0; chan = ready.1.0; value = ready.2.0; tag = plain }
-
-  acts : Acts high (post_of v e) hi
-  acts = record {
-    there = high_there;
-    stands = sym (same_place c hi.agent (lodged.each (stands_for v.standing e.actor) hi high_there)) ∙ ap (map.get low.places) (sym i.stands.agent) ∙ s.acts.stands;
-    tag = and-in (ap (λ (t : Tag). nat_eq t.node e.tag.node) (ap (λ (q : Proc). q.tag) source_is) ∙ (and-out _ _ (ap (λ (q : Proc). same_tag q.tag e.tag) (sym text_is) ∙ s.acts.tag)).0)
-        (ap (λ r. nat_eq (role_index r) 0) (source-plain i.stands.source.sound));
-  }
+  p = above.letter
 
   abbrev then_high : Config
   then_high = effect high (post_of v e) (record still { atoms = put (stands_for v.standing e.actor) (as_output p) ∷ [] })
 
-  applies : apply high (post_of v e) ≡ Some then_high
-  unfolding act
-  applies = rw (step-acting high (post_of v e) hi acts, form_is, ready.0.1, ready.1.1, ready.2.1) refl
-
-  -- ---- what the post knows
-
-  agents : Name → Bool
-  agents a = is_some (v.lock a)
-
-  known_parts : (agents ready.0.0 ≡ true) × (is_channel n high.born ready.1.0 ≡ true) × IsKnown agents (is_channel n high.born) ready.2.0
-  unfolding agents
-  known_parts =
-      let src = i.stands.source in
-      let parts = subst (ProcParts n src.scope src.node src.after src.bound) form_is (proc-parts n src.sound) in
-      let knows = (recursion_from_All (λ t. KnowsOnly (may_know v.lock (chips v.things) t) (is_channel n high.born) from t) (Thing.source x hi ∷ []) (c.known e.actor (Thing.source x hi ∷ []) there)).0 in
-      let good = λ (y : Expr) (u : Value) (is : IsSoundExpr n src.scope y) (k : eval y hi.env ≡ Some u). value-is-known agents (is_channel n high.born) n from src.scope y hi.env u c.main is src.in_scope knows k in
-      then (eval b hi.env) _ ready.0.1 λ vb at_b is_b. then (eval ch hi.env) _ ready.1.1 λ vc at_c is_c.
-      (agent_known agents (is_channel n high.born) vb (good b vb parts.1 at_b) ready.0.0 is_b, chan-known agents (is_channel n high.born) vc (good ch vc parts.2 at_c) ready.1.0 is_c, good va ready.2.0 parts.3 ready.2.1)
-
   -- ---- the packet
 
-  low_same : (y : Expr) → IsSoundExpr n i.stands.source.scope y → eval y s.atom.env ≡ eval y hi.env
-  low_same y is = same-value n from i.stands.source.scope y s.atom.env hi.env is i.stands.source.in_scope i.stands.agrees
-
   content_is : eval (pair b (letter ch va)) s.atom.env ≡ Some (value.Tuple (value.Agent p.agent ∷ value.Letter p.chan p.value ∷ []))
-  content_is =
-      let src = i.stands.source in
-      let parts = subst (ProcParts n src.scope src.node src.after src.bound) form_is (proc-parts n src.sound) in
-      letter-is b ch va s.atom.env ready.0.0 ready.1.0 ready.2.0 (ap (λ o. o >>= λ u. as_agent (out-Value u)) (low_same b parts.1) ∙ ready.0.1)
-      (ap (λ o. o >>= λ u. as_chan (out-Value u)) (low_same ch parts.2) ∙ ready.1.1) (low_same va parts.3 ∙ ready.2.1)
+  content_is = let values = above.values s.atom.env stands.agrees in letter-is b ch va s.atom.env p.agent p.chan p.value values.0 values.1 values.2
 
   packet : s.packet ≡ packet_of n (Mail.message p) s.packet.tag
   packet =
@@ -186,19 +118,23 @@ module _ {j : Infrastructure} {n from first : ℕ} {low high : Config} {v : View
   abbrev things : NameMap (List Thing)
   things = map.insert v.things e.actor (Thing.mail (Mail.message p) Stage.on_the_way ∷ [])
 
-  step : Step (chips v.things) (chips things) (show_all (Thing.source x hi ∷ [])) (show_all (Thing.mail (Mail.message p) Stage.on_the_way ∷ []))
-  step = step_at v.things e.actor (Thing.source x hi ∷ []) (Thing.mail (Mail.message p) Stage.on_the_way ∷ []) there
+  step : Step (chips v.things) (chips things) [] (Chip.knows p.agent ∷ [])
+  step = subst (λ l. Step (chips v.things) (chips things) (l ++ []) (Chip.knows p.agent ∷ [])) posted.silent.0
+      (step_at shows v.things e.actor (t ∷ []) (Thing.mail (Mail.message p) Stage.on_the_way ∷ []) there)
+
+  cache_step : Step (cache_chips v.things) (cache_chips things) [] []
+  cache_step = subst (λ l. Step (cache_chips v.things) (cache_chips things) (l ++ []) []) posted.silent.1
+      (step_at shows_caches v.things e.actor (t ∷ []) (Thing.mail (Mail.message p) Stage.on_the_way ∷ []) there)
 
   abbrev Ordered : Type 0
   Ordered = (then : Name → Phase) × Protocol (scene v high) then (chips things)
 
   protocol : Ordered
-  unfolding agents
   protocol = keeps-protocol (scene v high) (scene v high) v.phase (chips v.things) (chips things) [] (Chip.knows p.agent ∷ [])
       (Rule.knows (All-nil IsKnowledge) (All-from_recursion (IsLearnt (scene v high)) (Chip.knows p.agent ∷ []) (registered, tt))) step c.protocol
     where
       registered : is_some (v.lock p.agent) ≡ true
-      registered = known_parts.0
+      registered = above.its_agent
 
   unchanged : (q : Name) → same_name q e.actor ≡ false → map.get things q ≡ map.get v.things q
   unchanged q f = get-put v.things e.actor (Thing.mail (Mail.message p) Stage.on_the_way ∷ []) q ∙ ap (λ z. cond z (Some (Thing.mail (Mail.message p) Stage.on_the_way ∷ [])) (map.get v.things q)) f
@@ -230,27 +166,26 @@ module _ {j : Infrastructure} {n from first : ℕ} {low high : Config} {v : View
   its_packets q = go (same_name q e.actor) refl
     where
       go : (t : Bool) → same_name q e.actor ≡ t → (map.get things q >>= first_packet_of) ≡ (map.get v.things q >>= first_packet_of)
-      go true f = ap (λ o. o >>= first_packet_of) (its q f) ∙ sym (ap (λ o. o >>= first_packet_of) (ap (map.get v.things) (same_name-is q e.actor f) ∙ there))
+      go true f = ap (λ o. o >>= first_packet_of) (its q f) ∙ sym (ap (λ o. o >>= first_packet_of) (ap (map.get v.things) (same_name-is q e.actor f) ∙ there) ∙ posted.packet)
       go false f = ap (λ o. o >>= first_packet_of) (unchanged q f)
 
-  was : (q : Name) (ts : List Thing) → map.get things q ≡ Some ts → (ws : List Thing) × (map.get v.things q ≡ Some ws)
-  was q ts j = go (same_name q e.actor) refl
+  was : (q : Name) (ts : List Thing) → map.get things q ≡ Some ts → is_high ts ≡ true → (ws : List Thing) × (map.get v.things q ≡ Some ws) × (is_high ws ≡ true)
+  was q ts j k = go (same_name q e.actor) refl
     where
-      go : (t : Bool) → same_name q e.actor ≡ t → (ws : List Thing) × (map.get v.things q ≡ Some ws)
-      go true f = (Thing.source x hi ∷ [], ap (map.get v.things) (same_name-is q e.actor f) ∙ there)
-      go false f = (ts, sym (unchanged q f) ∙ j)
+      go : (b : Bool) → same_name q e.actor ≡ b → (ws : List Thing) × (map.get v.things q ≡ Some ws) × (is_high ws ≡ true)
+      go true f = (t ∷ [], ap (map.get v.things) (same_name-is q e.actor f) ∙ there, high_by_atom (t ∷ []) hi posted.atom)
+      go false f = (ts, sym (unchanged q f) ∙ j, k)
 
   one_mark : (q : Name) (y : Atom) → (map.get v.things q >>= first_atom_of) ≡ Some y → stands_for v.standing q ≡ stands_for v.standing e.actor → q ≡ e.actor
   one_mark q y j same = go (map.get v.things q) refl j
     where
       go : (o : Option (List Thing)) → map.get v.things q ≡ o → (o >>= first_atom_of) ≡ Some y → q ≡ e.actor
       go None f k = absurd cc
-      go (Some ts) f k = c.distinct q e.actor ts (Thing.source x hi ∷ []) f there same
+      go (Some ts) f k = c.distinct q e.actor ts (t ∷ []) f there (high_by_atom ts y k) (high_by_atom (t ∷ []) hi posted.atom) same
 
   known : (q : Name) (ts : List Thing) (t : Bool) → same_name q e.actor ≡ t → map.get things q ≡ Some ts → All (λ t. KnowsOnly (may_know v.lock (chips things) t) (is_channel n high.born) from t) ts
-  unfolding agents
   known q ts true f j = subst (All (λ t. KnowsOnly (may_know v.lock (chips things) t) (is_channel n high.born) from t)) (sym (done (sym (its q f) ∙ j)))
-      (All-from_recursion (λ t. KnowsOnly (may_know v.lock (chips things) t) (is_channel n high.born) from t) (Thing.mail (Mail.message p) Stage.on_the_way ∷ []) ((known_parts.1, known_parts.2), tt))
+      (All-from_recursion (λ t. KnowsOnly (may_know v.lock (chips things) t) (is_channel n high.born) from t) (Thing.mail (Mail.message p) Stage.on_the_way ∷ []) ((above.its_chan, above.its_value), tt))
   known q ts false f j = All-weaker (λ t. KnowsOnly (may_know v.lock (chips v.things) t) (is_channel n high.born) from t) (λ t. KnowsOnly (may_know v.lock (chips things) t) (is_channel n high.born) from t)
       (λ z k. knows_more (may_know v.lock (chips v.things) z) (may_know v.lock (chips things) z) (is_channel n high.born) from (may_know_more v.lock (chips v.things) (chips things) (λ a d any. any_kept (is_child_of a d) step (λ w. absurd cc) any) z) z k)
       ts (c.known q ts (sym (unchanged q f) ∙ j))
@@ -274,12 +209,15 @@ module _ {j : Infrastructure} {n from first : ℕ} {low high : Config} {v : View
     mirrored_packets = record { up = λ q k j. c.mirrored_packets.up q k (sym (its_packets q) ∙ j); down = λ k y j. let d = c.mirrored_packets.down k y j in (d.0, d.1, its_packets d.0 ∙ d.2) };
     new_marks = λ q j. c.new_marks q (ap (λ b. set.contains b q) (sym same_born) ∙ j);
     old_marks = λ q j. born (stands_for v.standing q) (c.old_marks q (ap (λ b. set.contains b q) (sym same_born) ∙ j));
-    distinct = λ q k ts ws j l f. let a = was q ts j in let d = was k ws l in c.distinct q k a.0 d.0 a.1 d.1 f;
+    distinct = λ q k ts ws j l y z f. let a = was q ts j y in let d = was k ws l z in c.distinct q k a.0 d.0 a.1 d.1 a.2 d.2 f;
     protocol = protocol.1;
     locks_born = λ a l j. born l (c.locks_born a l j);
     locks_apart = c.locks_apart;
     main = c.main;
     known = λ q ts j. known q ts (same_name q e.actor) refl j;
+    hints = λ is. by_step low high next then_high v.things things cache_step (λ is. CacheStep.still (λ q. refl)) is (low_grows low then_high next born) (c.hints is);
+    carriers = carry_put v.standing.messengers v.things e.actor c.carriers (Thing.mail (Mail.message p) Stage.on_the_way ∷ [])
+        (All-from_recursion (IsCarrier v.standing.messengers) (Thing.mail (Mail.message p) Stage.on_the_way ∷ []) (tt, tt));
   }
 
   -- its letter is what the text sends
@@ -297,7 +235,7 @@ module _ {j : Infrastructure} {n from first : ℕ} {low high : Config} {v : View
     record {
       letter = p;
       sent = sent;
-      none = ap (λ o. o >>= first_letter_of) there;
+      none = ap (λ o. o >>= first_letter_of) there ∙ posted.silent.2;
       after = letter-put v.things e.actor (Thing.mail (Mail.message p) Stage.on_the_way ∷ []);
     },
   )
@@ -306,8 +244,14 @@ pub posts-are-events : {i : Infrastructure} → PostsAreEvents i
 posts-are-events n from first low high v c well lodged e next is_send post h =
     let s = sending low e next (ap (λ k. row k low e) (sym is_send) ∙ h) in
     let o = of_actor c e.actor s.atom kind.Send role.Post s.acts.there (ap begun_by s.form) (same_role s.atom.proc.tag e.tag s.acts.tag ∙ post) (λ k r. cc) in
-    posts_source _ n from first o.thing s.atom o.is o.its_kind λ x hi thing i.
-    post_by n from x hi.proc s.atom.proc i.translates (source-plain i.stands.source.sound) (same_role s.atom.proc.tag e.tag s.acts.tag ∙ post) λ tag at b ch va source_is text_is.
-    let there : map.get v.things e.actor ≡ Some (Thing.source x hi ∷ []) = o.there ∙ ap (λ t. Some (t ∷ [])) thing in
-    let w = still_coupled c well lodged e next post h s o.no_packet x hi there i tag at b ch va source_is text_is in
-    (then_high c well lodged e next post h s o.no_packet x hi there i tag at b ch va source_is text_is, applies c well lodged e next post h s o.no_packet x hi there i tag at b ch va source_is text_is, w.0, w.1, w.2, w.3)
+    let its_role = same_role s.atom.proc.tag e.tag s.acts.tag ∙ post in
+    posts_by _ n from first o.thing s.atom o.is o.its_kind its_role λ x hi posted stands tag at b ch va source_is text_is.
+    let above = post_above c well lodged e s.atom s.acts o.thing x hi o.there posted stands tag at b ch va source_is (ap (λ (q : Proc). q.tag.node) text_is) in
+    let w = still_coupled c e next post h s o.no_packet o.thing x hi o.there posted stands tag b ch va text_is above in (
+      then_high c e next post h s o.no_packet o.thing x hi o.there posted stands tag b ch va text_is above,
+      above.applies,
+      w.0,
+      w.1,
+      w.2,
+      w.3,
+    )

@@ -6,7 +6,8 @@ use Rattle.std.specs.FinMap as map
 use Rattle.std.specs.FinSet as set
 use Rattle.np_syntax.specs.declared.value.Name.{Name}
 use Rattle.np_syntax.specs.Options.{◌>>=◌}
-use Rattle.np_tables.specs.Names.{NameMap}
+use Rattle.np_tables.specs.Names.{NameMap, same_name}
+use Rattle.np_tables.proofs.Tables.{same_name-itself}
 use Rattle.np_calculus.specs.Config.{Config}
 use Rattle.np_calculus.specs.Parts.{AreBorn}
 use Rattle.np_calculus.specs.Starts.{daemon_agent, main_agent, own, own_names}
@@ -19,7 +20,8 @@ use Rattle.np_protocol.specs.Steps.{Step}
 use Rattle.daemon_encode.specs.Infrastructures.{Infrastructure}
 use Rattle.np_source_values.proofs.Known.{more_known}
 use Rattle.np_things.specs.Things.{Thing, carried, first_atom_of, first_packet_of}
-use Rattle.np_levels.specs.Coupled.{Coupled, IsShaped, KnowsLetter, KnowsOnly, View, chips, is_channel, may_know, scene, whereabouts}
+use Rattle.np_levels.specs.Coupled.{Coupled, IsCarrier, IsShaped, KnowsLetter, KnowsOnly, View, chips, is_channel, is_high, may_know, scene, whereabouts}
+use Rattle.np_levels.proofs.Caches.{KeepsHints, low_grows}
 
 no_value : {A : Type 0} {x : A} → None ≡ Some x → ⊥
 no_value e = cc
@@ -39,6 +41,10 @@ module _ (agents more chans : Name → Bool) (from : ℕ) (f : (a : Name) → ag
   knows_more (Thing.settling a h s) k = record { each = λ x v b e. more_known agents chans more chans f (λ c e. e) (k.each x v b e) }
   knows_more (Thing.making a h s) k = record { each = λ x v b e. more_known agents chans more chans f (λ c e. e) (k.each x v b e) }
   knows_more (Thing.beginning a h p s) k = record { each = λ x v b e. more_known agents chans more chans f (λ c e. e) (k.each x v b e) }
+  knows_more (Thing.calling a h ps) k = record { each = λ x v b e. more_known agents chans more chans f (λ c e. e) (k.each x v b e) }
+  knows_more (Thing.hoping a h l) k = record { each = λ x v b e. more_known agents chans more chans f (λ c e. e) (k.each x v b e) }
+  knows_more (Thing.hiring a h) k = record { each = λ x v b e. more_known agents chans more chans f (λ c e. e) (k.each x v b e) }
+  knows_more (Thing.passing a h) k = record { each = λ x v b e. more_known agents chans more chans f (λ c e. e) (k.each x v b e) }
   knows_more (Thing.opened p) k = (k.0, more_known agents chans more chans f (λ c e. e) k.1)
   knows_more (Thing.packet p) k = (f p.agent k.0, k.1, more_known agents chans more chans f (λ c e. e) k.2)
   knows_more (Thing.token a s) k = tt
@@ -51,6 +57,19 @@ module _ (agents more chans : Name → Bool) (from : ℕ) (f : (a : Name) → ag
   knows_more (Thing.serving s) k = tt
   knows_more (Thing.places ps) k = tt
   knows_more (Thing.free l s) k = tt
+  knows_more (Thing.cache a ps) k = tt
+  knows_more (Thing.hint a l) k = tt
+  knows_more (Thing.keeping a) k = tt
+  knows_more (Thing.told a) k = tt
+  knows_more (Thing.telling a ps) k = tt
+  knows_more (Thing.replacing a l) k = tt
+  knows_more (Thing.adding a ps b) k = tt
+  knows_more Thing.ended k = tt
+  knows_more (Thing.looking_back a b l ps) k = tt
+  knows_more (Thing.reading a b l m) k = tt
+  knows_more (Thing.reading_back a l) k = tt
+  knows_more (Thing.carrying p t a) k = knows_letter agents more chans f (Some p) k
+  knows_more (Thing.trying p t a) k = knows_letter agents more chans f (Some p) k
 
 -- ---- what any of the chips is
 
@@ -97,22 +116,27 @@ module _ {i : Infrastructure} {n from first : ℕ} {low high : Config} {v : View
       go (IsShaped.atom a k t u r) = c.stand_born.marks m (inl (some_of _ _ a))
       go (IsShaped.packet a k t r) = c.stand_born.marks m (inr (some_of _ _ k))
 
+  -- the low level has the same places, but for those of messengers
+  abbrev pub SamePlaces : Config → Type 0
+  SamePlaces next = (q : Name) → (set.contains v.standing.messengers q ≡ true → same_name q (daemon_agent n) ≡ true) → map.get next.places q ≡ map.get low.places q
+
   -- the next configuration of the low level, with things, locks and phases
   pub record NextWith (next : Config) (things : NameMap (List Thing)) (lock : Locks) (phase : Name → Phase) : Type 0 where
     pub sites : next.sites ≡ low.sites
-    pub places : next.places ≡ low.places
+    pub places : SamePlaces next
     pub said : next.said ≡ low.said
     pub born : (q : Name) → set.contains low.born q ≡ true → set.contains next.born q ≡ true
     pub stand_born : AreBorn next
     pub shaped : (m : Name) → IsShaped i n from first next things m
     pub atoms : (m : Name) → (map.get things m >>= first_atom_of) ≡ (map.get v.things m >>= first_atom_of)
     pub packets : (m : Name) → (map.get things m >>= first_packet_of) ≡ (map.get v.things m >>= first_packet_of)
-    pub old_or_new : (m : Name) (ts : List Thing) → map.get things m ≡ Some ts → ((us : List Thing) × (map.get v.things m ≡ Some us)) ⊎ (set.contains low.born m ≡ false)
     pub protocol : Protocol (record { place = λ q. whereabouts (map.get high.places q); lock = lock }) phase (chips things)
     pub locks_born : (a l : Name) → lock a ≡ Some l → set.contains next.born l ≡ true
     pub locks_apart : (a l : Name) → lock a ≡ Some l → set.contains (own_names n) l ≡ true → l ≡ own n 13
     pub main : is_some (lock (main_agent n)) ≡ true
     pub known : (m : Name) (ts : List Thing) → map.get things m ≡ Some ts → All (λ t. KnowsOnly (may_know lock (chips things) t) (is_channel n high.born) from t) ts
+    pub hints : KeepsHints i low high next high v.things things
+    pub carriers : (m : Name) (ts : List Thing) → map.get things m ≡ Some ts → All (IsCarrier v.standing.messengers) ts
 
   truth : (t : Bool) → (t ≡ true) ⊎ (t ≡ false)
   truth true = inl refl
@@ -122,9 +146,9 @@ module _ {i : Infrastructure} {n from first : ℕ} {low high : Config} {v : View
   quiet_with next things lock phase x = record {
     low_sites = x.sites ∙ c.low_sites;
     high_sites = c.high_sites;
-    daemon = ap (λ (p : NameMap _). map.get p (daemon_agent n)) x.places ∙ c.daemon;
+    daemon = x.places (daemon_agent n) (λ is. same_name-itself (daemon_agent n)) ∙ c.daemon;
     no_daemon = c.no_daemon;
-    places = λ q e f. ap (λ (p : NameMap _). map.get p q) x.places ∙ c.places q e f;
+    places = λ q e f. x.places q (λ is. absurd (let bad : false ≡ true = sym f ∙ is in cc)) ∙ c.places q e f;
     messengers = c.messengers;
     messengers_born = λ q is. x.born q (c.messengers_born q is);
     said = x.said ∙ c.said;
@@ -136,12 +160,14 @@ module _ {i : Infrastructure} {n from first : ℕ} {low high : Config} {v : View
     mirrored_packets = record { up = λ m a h. c.mirrored_packets.up m a (sym (x.packets m) ∙ h); down = λ k a h. let d = c.mirrored_packets.down k a h in (d.0, d.1, x.packets d.0 ∙ d.2) };
     new_marks = λ m h. c.new_marks m (still_new m h);
     old_marks = λ m h. old m h (truth (set.contains low.born m));
-    distinct = λ m k ts us h i e. one m k e (x.old_or_new m ts h) (x.old_or_new k us i);
+    distinct = λ m k ts us h i t u e. let a = was m ts h t in let b = was k us i u in c.distinct m k a.0 b.0 a.1 b.1 a.2 b.2 e;
     protocol = x.protocol;
     locks_born = x.locks_born;
     locks_apart = x.locks_apart;
     main = x.main;
     known = x.known;
+    hints = λ is. x.hints is (low_grows low high next x.born) (c.hints is);
+    carriers = x.carriers;
   }
     where
       still_new : (m : Name) → set.contains next.born m ≡ false → set.contains low.born m ≡ false
@@ -151,30 +177,34 @@ module _ {i : Infrastructure} {n from first : ℕ} {low high : Config} {v : View
       old m h (inl t) = x.born (stands_for v.standing m) (c.old_marks m t)
       old m h (inr f) = ap (set.contains next.born) (c.new_marks m f) ∙ h
 
-      -- a new mark stands for no old one
-      apart : (m k : Name) → set.contains low.born m ≡ false → set.contains low.born k ≡ true → stands_for v.standing m ≡ stands_for v.standing k → ⊥
-      apart m k f t e = let bad : false ≡ true = sym f ∙ ap (set.contains low.born) (sym (c.new_marks m f) ∙ e) ∙ c.old_marks k t in cc
+      -- what is of the high level was so
+      was : (m : Name) (ts : List Thing) → map.get things m ≡ Some ts → is_high ts ≡ true → (us : List Thing) × (map.get v.things m ≡ Some us) × (is_high us ≡ true)
+      was m ts h t = go (map.get v.things m) refl (same ∙ ap (λ o. is_some (o >>= first_atom_of) || is_some (o >>= first_packet_of)) h ∙ t)
+        where
+          same : (is_some (map.get v.things m >>= first_atom_of) || is_some (map.get v.things m >>= first_packet_of))
+              ≡ (is_some (map.get things m >>= first_atom_of) || is_some (map.get things m >>= first_packet_of))
+          same = ap (λ o. is_some o || is_some (map.get v.things m >>= first_packet_of)) (sym (x.atoms m))
+              ∙ ap (λ o. is_some (map.get things m >>= first_atom_of) || is_some o) (sym (x.packets m))
 
-      one : (m k : Name) → stands_for v.standing m ≡ stands_for v.standing k → ((ts : List Thing) × (map.get v.things m ≡ Some ts)) ⊎ (set.contains low.born m ≡ false)
-          → ((us : List Thing) × (map.get v.things k ≡ Some us)) ⊎ (set.contains low.born k ≡ false) → m ≡ k
-      one m k e (inl a) (inl b) = c.distinct m k a.0 b.0 a.1 b.1 e
-      one m k e (inl a) (inr g) = absurd (apart k m g (things_born m a.0 a.1) (sym e))
-      one m k e (inr f) (inl b) = absurd (apart m k f (things_born k b.0 b.1) e)
-      one m k e (inr f) (inr g) = sym (c.new_marks m f) ∙ e ∙ c.new_marks k g
+          go : (o : Option (List Thing)) → map.get v.things m ≡ o → (is_some (o >>= first_atom_of) || is_some (o >>= first_packet_of)) ≡ true
+              → (us : List Thing) × (map.get v.things m ≡ Some us) × (is_high us ≡ true)
+          go None i k = absurd cc
+          go (Some us) i k = (us, i, k)
 
   -- the next configuration of the low level, with things and phases
   pub record Next (next : Config) (things : NameMap (List Thing)) (phase : Name → Phase) : Type 0 where
     pub sites : next.sites ≡ low.sites
-    pub places : next.places ≡ low.places
+    pub places : SamePlaces next
     pub said : next.said ≡ low.said
     pub born : (q : Name) → set.contains low.born q ≡ true → set.contains next.born q ≡ true
     pub stand_born : AreBorn next
     pub shaped : (m : Name) → IsShaped i n from first next things m
     pub atoms : (m : Name) → (map.get things m >>= first_atom_of) ≡ (map.get v.things m >>= first_atom_of)
     pub packets : (m : Name) → (map.get things m >>= first_packet_of) ≡ (map.get v.things m >>= first_packet_of)
-    pub old_or_new : (m : Name) (ts : List Thing) → map.get things m ≡ Some ts → ((us : List Thing) × (map.get v.things m ≡ Some us)) ⊎ (set.contains low.born m ≡ false)
     pub protocol : Protocol (scene v high) phase (chips things)
     pub known : (m : Name) (ts : List Thing) → map.get things m ≡ Some ts → All (λ t. KnowsOnly (may_know v.lock (chips things) t) (is_channel n high.born) from t) ts
+    pub hints : KeepsHints i low high next high v.things things
+    pub carriers : (m : Name) (ts : List Thing) → map.get things m ≡ Some ts → All (IsCarrier v.standing.messengers) ts
 
   pub quiet : (next : Config) (things : NameMap (List Thing)) (phase : Name → Phase) → Next next things phase → Coupled i n from first next high (record v { things = things; phase = phase })
   quiet next things phase x = quiet_with next things v.lock phase (record {
@@ -186,10 +216,11 @@ module _ {i : Infrastructure} {n from first : ℕ} {low high : Config} {v : View
     shaped = x.shaped;
     atoms = x.atoms;
     packets = x.packets;
-    old_or_new = x.old_or_new;
     protocol = x.protocol;
     locks_born = λ a l h. x.born l (c.locks_born a l h);
     locks_apart = c.locks_apart;
     main = c.main;
     known = x.known;
+    hints = x.hints;
+    carriers = x.carriers;
   })

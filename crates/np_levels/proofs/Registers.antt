@@ -5,7 +5,6 @@ use Rattle.std.proofs.lemmas.List.Elements.{All-from_recursion, All-weaker, recu
 use Rattle.std.specs.FinMap as map
 use Rattle.std.specs.FinSet as set
 use Rattle.np_syntax.specs.declared.value.Name.{Name}
-use Rattle.np_syntax.specs.declared.value.Value.{Value}
 use Rattle.np_syntax.specs.declared.value.Value as value
 use Rattle.np_syntax.specs.declared.value.Value.TheVariants as outs
 use Rattle.np_syntax.specs.declared.types.Ty.{Ty}
@@ -32,6 +31,7 @@ use Rattle.np_calculus.specs.Starts.{main_agent, own, own_names}
 unfoldable use Rattle.np_calculus.proofs.Common.{act}
 use Rattle.np_calculus.proofs.Rows.{parts}
 use Rattle.np_calculus.proofs.Steps.{Acts, acting-step, is-one, one-new, row-step}
+use Rattle.np_calculus.proofs.OwnNames.{not_true}
 use Rattle.np_eval.specs.Eval.{Env, eval, find_place, put_place}
 use Rattle.np_eval.specs.Forms.{Layer, layer}
 use Rattle.np_eval.proofs.Evals.{eval-form, eval-with}
@@ -47,22 +47,25 @@ use Rattle.np_protocol.proofs.Steps.{all_taken}
 use Rattle.daemon_encode.specs.Pieces.{ack, beside, gives, lock, unit, variable}
 use Rattle.daemon_encode.specs.Daemon.{acks, enters, with_lock as with_text}
 use Rattle.daemon_encode.specs.Infrastructures.{Infrastructure}
+use Rattle.daemon_encode.specs.CacheTexts.{cache}
 use Rattle.np_things.specs.Acting.{begins}
 use Rattle.np_things.specs.Desks.{Took, desk}
 use Rattle.np_things.specs.Mail.{Mail}
-use Rattle.np_things.specs.Shapes.{Are, Is, IsLooking}
-use Rattle.np_things.specs.Things.{Stage, Thing, first_atom_of, first_packet_of, high_atom, show_all}
-use Rattle.np_levels.specs.Coupled.{Coupled, IsShaped, KnowsOnly, View, chips, is_channel, is_child_of, may_know, scene}
-use Rattle.np_levels.proofs.Becomes.{cancel}
+use Rattle.np_things.specs.Shapes.{Are, Is, IsLooking, IsAgents}
+use Rattle.np_things.specs.Things.{Stage, Thing, first_atom_of, first_packet_of, high_atom, show_all, shows, shows_caches}
+use Rattle.np_things.specs.CacheShapes.{IsAdding}
+use Rattle.np_levels.specs.Coupled.{Coupled, IsShaped, KnowsOnly, View, chips, is_channel, is_child_of, may_know, scene, IsCarrier}
+use Rattle.np_levels.proofs.Becomes.{cancel, becomes}
 use Rattle.np_levels.proofs.Born.{born-kept, made-kept}
 use Rattle.np_levels.proofs.Letters.{same-letters}
-use Rattle.np_levels.proofs.Lookups.{gives_two}
-use Rattle.np_levels.proofs.Marks.{may_know_more, reshape, step_at}
+use Rattle.np_levels.proofs.Marks.{may_know_more, reshape, step_at, same_chips}
 use Rattle.np_levels.proofs.Orders.{and_then, behind, permuted, swapped}
 use Rattle.np_levels.proofs.Quiet.{any_kept, knows_more, or_cases, or_second, quiet_with}
 use Rattle.np_levels.proofs.Shapes.{of_actor, same_role}
-use Rattle.np_levels.proofs.Values.{channel-is, here_is, there_is, unit-is, variable-is}
+use Rattle.np_levels.proofs.Values.{channel-is, here_is, there_is, unit-is, variable-is, gives_two}
+use Rattle.np_levels.proofs.Caches.{handed_on, by_step, carry_put}
 use Rattle.np_levels.specs.Letters.{SameLetters}
+use Rattle.cache_rule.specs.Steps.{CacheStep}
 
 record IsNaming (low : Config) (e : Event) (next : Config) : Type 0 where
   atom : Atom
@@ -127,11 +130,6 @@ with-is : (m a l : ℕ) (env : Env) (ps : List (Name × Name)) (b k : Name) → 
 with-is m a l env ps b k x y z =
     rw (eval-form (with_text m a l) env, eval-with (variable m) (variable a) (variable l) env, variable-is m env, x, variable-is a env, y, variable-is l env, z, outs.outs-Places ps, outs.outs-Agent b, outs.outs-Chan k) refl
 
-names_by : {R : Type 0} (i : Infrastructure) (n from first : ℕ) (t : Thing) (a : Atom) → Is i n from first t a → begins t role.Infra kind.New ≡ true → ((m : Mail) (ps : List (Name × Name)) → t ≡ Thing.looking m ps → IsLooking n first m ps a → R) → R
-names_by _ n from first (Thing.looking m ps) a i h f = f m ps refl i
-names_by _ n from first (Thing.mail m (Stage.in_agent x)) a i h f = absurd cc
-names_by _ n from first _ a i h f = absurd cc
-
 module _ {i : Infrastructure} {n from first : ℕ} {low high : Config} {v : View} (c : Coupled i n from first low high v) where
   entered : (e : Event) (next : Config) (s : IsNaming low e next) (b : Name) (t : ℕ) (ps : List (Name × Name)) → IsLooking n first (Mail.register b t) ps s.atom → s.atom.proc ≡ (desk n first Service.registers).body → Took first Service.registers (Mail.register b t) s.atom.env
       → map.get s.atom.env (first + 2) ≡ Some (value.Places ps) → map.get low.packets e.actor ≡ None → map.get v.things e.actor ≡ Some (Thing.looking (Mail.register b t) ps ∷ []) → apply low e ≡ Some next
@@ -141,19 +139,21 @@ module _ {i : Infrastructure} {n from first : ℕ} {low high : Config} {v : View
     refl,
     quiet_with c next things lock_now protocol.0 (record {
       sites = ap (λ (d : Config). d.sites) s.is;
-      places = ap (λ (d : Config). d.places) s.is;
+      places = λ q _. ap (λ (d : Config). map.get d.places q) s.is;
       said = ap (λ (d : Config). d.said) s.is;
       born = still_born;
       stand_born = born-kept low next e c.stand_born h;
       shaped = λ q. shaped q (same_name q e.actor) refl;
       atoms = λ q. atoms q (same_name q e.actor) refl;
       packets = λ q. packets q (same_name q e.actor) refl;
-      old_or_new = λ q vs j. inl (old q vs (same_name q e.actor) refl j);
       protocol = protocol.1;
       locks_born = λ a k j. lock_born a k (same_name a b) j;
       locks_apart = λ a k j o. lock_apart a k (same_name a b) j o;
       main = entered_some (main_agent n) c.main;
       known = λ q vs j. known q vs (same_name q e.actor) refl j;
+      hints = by_step low high next high v.things things
+          (step_at shows_caches v.things e.actor (Thing.looking (Mail.register b t) ps ∷ []) us there) (handed_on low high next);
+      carriers = carry_put v.standing.messengers v.things e.actor c.carriers us (All-from_recursion (IsCarrier v.standing.messengers) us (tt, (tt, (tt, tt))));
     }),
     same-letters v.things e.actor us (Thing.looking (Mail.register b t) ps ∷ []) there refl,
   )
@@ -187,7 +187,7 @@ module _ {i : Infrastructure} {n from first : ℕ} {low high : Config} {v : View
       lock_now = changed v.lock b (Some s.new)
 
       step : Step (chips v.things) (chips things) (show_all (Thing.looking (Mail.register b t) ps ∷ [])) (show_all us)
-      step = step_at v.things e.actor (Thing.looking (Mail.register b t) ps ∷ []) us there
+      step = step_at shows v.things e.actor (Thing.looking (Mail.register b t) ps ∷ []) us there
 
       told : AllByRecursion (IsTrueOf (scene v high) v.phase) (Chip.locks (find_place ps) ∷ Chip.registration b t ∷ [])
       told = recursion_from_All (IsTrueOf (scene v high) v.phase) (Chip.locks (find_place ps) ∷ Chip.registration b t ∷ []) (all_taken step (IsTrueOf (scene v high) v.phase) c.protocol.true_chips)
@@ -278,10 +278,6 @@ module _ {i : Infrastructure} {n from first : ℕ} {low high : Config} {v : View
       packets q true f = ap (λ o. o >>= first_packet_of) (its q f) ∙ sym (ap (λ o. o >>= first_packet_of) (was q f))
       packets q false f = ap (λ o. o >>= first_packet_of) (unchanged q f)
 
-      old : (q : Name) (vs : List Thing) (u : Bool) → same_name q e.actor ≡ u → map.get things q ≡ Some vs → (ws : List Thing) × (map.get v.things q ≡ Some ws)
-      old q vs true f j = (Thing.looking (Mail.register b t) ps ∷ [], was q f)
-      old q vs false f j = (vs, sym (unchanged q f) ∙ j)
-
       lock_more : (x : Thing) (a : Name) → may_know v.lock (chips things) x a ≡ true → may_know lock_now (chips things) x a ≡ true
       lock_more (Thing.settling y hi u) a k = elim (or_cases _ (list_any (is_child_of hi.agent a) (chips things)) k) [ inl j ↦ ap (λ o. o || list_any (is_child_of hi.agent a) (chips things)) (entered_some a j) | inr j ↦ or_second _ _ j ]
       lock_more (Thing.beginning y hi p u) a k = elim (or_cases _ (same_name a hi.agent) k) [ inl j ↦ ap (λ o. o || same_name a hi.agent) (entered_some a j) | inr j ↦ or_second _ _ j ]
@@ -295,13 +291,74 @@ module _ {i : Infrastructure} {n from first : ℕ} {low high : Config} {v : View
           (λ a m. lock_more x a (may_know_more v.lock (chips v.things) (chips things) (λ y z any. any_kept (is_child_of y z) step (λ w. w) any) x a m)) x k)
           vs (c.known q vs (sym (unchanged q f) ∙ j))
 
+  -- a hint is added to an agent's cache
+  added : (e : Event) (next : Config) (s : IsNaming low e next) → i ≡ Infrastructure.cached → (a : Name) (ps : List (Name × Name)) (b : Name) → IsAdding n a ps b s.atom → IsAgents n a
+      → map.get low.packets e.actor ≡ None → map.get v.things e.actor ≡ Some (Thing.adding a ps b ∷ []) → apply low e ≡ Some next
+      → (w : View) × (w.standing ≡ v.standing) × Coupled i n from first next high w × SameLetters v w
+  added e next s cached a ps b j apart no_packet there h =
+      let left : Proc = gives j.node (cache n) (with_text (j.x + 2) j.x (j.x + 4)) in
+      let right : Proc = gives j.node (variable (j.x + 4)) (variable (j.x + 1)) in
+      let parts = new_parts s.binder (j.x + 4) s.type lock_type s.body (beside j.node left right)
+      (sym s.form ∙ ap layer j.is ∙ forms.outs-New (j.x + 4) lock_type (beside j.node left right)) in
+      let env : Env = map.insert s.atom.env (j.x + 4) (value.Chan s.new) in
+      let goes_as : goes_under s.atom s.body (map.insert s.atom.env s.binder (value.Chan s.new)) ≡ goes_under s.atom (beside j.node left right) env =
+      ap (λ (p : Proc). goes_under s.atom p (map.insert s.atom.env s.binder (value.Chan s.new))) parts.0
+      ∙ ap (λ x. goes_under s.atom (beside j.node left right) (map.insert s.atom.env x (value.Chan s.new))) parts.1 in
+      let kept = λ (y : ℕ) (other : y ≡ j.x + 4 → ⊥). there_is s.atom.env (j.x + 4) y (value.Chan s.new) other in
+      let lock_is = here_is s.atom.env (j.x + 4) (value.Chan s.new) in
+      becomes c next e e.actor (goes_under s.atom (beside j.node left right) env) (Thing.adding a ps b ∷ []) (Thing.cache a (put_place ps b s.new) ∷ Thing.hint a s.new ∷ []) refl (record {
+        applies = h;
+        is = s.is ∙ ap (λ x. effect low e (record still { atoms = put e.actor x ∷ [] })) goes_as;
+        no_packet = no_packet;
+        there = there;
+        headed = All-from_recursion (λ u. high_atom u ≡ None) (Thing.hint a s.new ∷ []) (refl, tt);
+        are = Are.both {k = j.node} {p = left} {q = right} refl
+            (Are.one (
+              cached,
+              record {
+                agent = j.answer.agent;
+                gives = rw (
+                  forms.outs-Out (cache n) (with_text (j.x + 2) j.x (j.x + 4)),
+                  channel-is (own n 14) env,
+                  with-is (j.x + 2) j.x (j.x + 4) env ps b s.new
+                      (kept (j.x + 2) (λ e. let bad : ⊥ = omega arith in bad) ∙ j.holds) (kept j.x (λ e. let bad : ⊥ = omega arith in bad) ∙ j.other) lock_is,
+                ) refl;
+              },
+              apart,
+            ))
+            (Are.one (
+              cached,
+              (
+                j.answer.site,
+                record {
+                  agent = j.answer.agent;
+                  gives = gives_two s.atom.agent j.node (j.x + 4) (j.x + 1) env s.new j.answer.site lock_is
+                      (kept (j.x + 1) (λ e. let bad : ⊥ = omega arith in bad) ∙ j.answer.its_site);
+                },
+              ),
+              apart,
+            ));
+        atoms = refl;
+        packets = refl;
+        protocol = λ step. same_chips step c.protocol;
+        children = λ a b any. any;
+        known = λ k. (tt, (tt, tt));
+        hints = λ is. CacheStep.adds (λ q. refl) (new_born, high_new) b (λ q. find-put ps b s.new q);
+        carriers = λ k. (tt, (tt, tt));
+      })
+    where
+      new_born : set.contains next.born s.new ≡ true
+      new_born = ap (λ (d : Config). set.contains d.born s.new) s.is ∙ ap (λ m. set.contains (with_made low.born m) s.new) s.made_one ∙ born_here low.born s.new
+
+      high_new : set.contains high.born s.new ≡ false
+      high_new = not_true (set.contains high.born s.new) (λ t. let bad : false ≡ true = sym s.is_new ∙ c.born s.new t in cc)
+
   pub registers : (e : Event) (next : Config) → e.kind ≡ kind.New → e.tag.role ≡ role.Infra → apply low e ≡ Some next
       → (w : View) × (w.standing ≡ v.standing) × Coupled i n from first next high w × SameLetters v w
   registers e next is_new infra h =
       let s = naming low e next (ap (λ k. row k low e) (sym is_new) ∙ h) in
       let o = of_actor c e.actor s.atom kind.New role.Infra s.acts.there (ap begun_by s.form) (same_role s.atom.proc.tag e.tag s.acts.tag ∙ infra) (λ k r. cc) in
-      names_by _ n from first o.thing s.atom o.is o.its_kind λ m ps thing i.
-      by_service e next s m ps i i.service i.took i.map i.is o.no_packet (o.there ∙ ap (λ t. Some (t ∷ [])) thing) h
+      by_thing s o.thing o.is o.its_kind o.no_packet o.there
     where
       no_new : {A : Type 0} (e : Event) (next : Config) (s : IsNaming low e next) (a m : Expr) (x : ℕ) (p q : Proc) → layer s.atom.proc ≡ ProcForm-F.Lookup a m x p q → A
       no_new e next s a m x p q j = absurd (let bad = sym s.form ∙ j in cc)
@@ -313,5 +370,13 @@ module _ {i : Infrastructure} {n from first : ℕ} {low high : Config} {v : View
       by_service e next s m ps i Service.grants took map_is text no_packet there h = no_new e next s _ _ _ _ _ (ap layer text ∙ forms.outs-Lookup _ _ _ _ _)
       by_service e next s m ps i Service.notes_moves took map_is text no_packet there h = no_new e next s _ _ _ _ _ (ap layer text ∙ forms.outs-Lookup _ _ _ _ _)
       by_service e next s m ps i Service.passes_on took map_is text no_packet there h = no_new e next s _ _ _ _ _ (ap layer text ∙ forms.outs-Lookup _ _ _ _ _)
+      by_service e next s m ps i Service.tells took map_is text no_packet there h = no_new e next s _ _ _ _ _ (ap layer text ∙ forms.outs-Lookup _ _ _ _ _)
       by_service e next s m ps i Service.ends_deliveries took map_is text no_packet there h = no_new e next s _ _ _ _ _ (ap layer text ∙ forms.outs-Lookup _ _ _ _ _)
       by_service e next s _ ps i Service.registers took map_is text no_packet there h = absurd took
+
+      by_thing : (s : IsNaming low e next) (t : Thing) → Is i n from first t s.atom → begins t role.Infra kind.New ≡ true → map.get low.packets e.actor ≡ None
+          → map.get v.things e.actor ≡ Some (t ∷ []) → (w : View) × (w.standing ≡ v.standing) × Coupled i n from first next high w × SameLetters v w
+      by_thing s (Thing.looking m ps) j b no_packet there = by_service e next s m ps j j.service j.took j.map j.is no_packet there h
+      by_thing s (Thing.adding a ps y) j b no_packet there = added e next s j.0 a ps y j.1 j.2 no_packet there h
+      by_thing s (Thing.mail m (Stage.in_agent x)) j b no_packet there = absurd cc
+      by_thing s _ j b no_packet there = absurd cc

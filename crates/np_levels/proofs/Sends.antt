@@ -44,14 +44,15 @@ use Rattle.daemon_encode.specs.Infrastructures.{Infrastructure}
 use Rattle.np_things.specs.Acting.{begins}
 use Rattle.np_things.specs.Mail.{Mail, content, on_channel, packet_of, receiver as receiver_of, to_site}
 use Rattle.np_things.specs.Shapes.{Is, IsSender, Mails}
-use Rattle.np_things.specs.Things.{Stage, Thing, show_all}
-use Rattle.np_levels.specs.Coupled.{Coupled, IsShaped, KnowsOnly, View, chips, is_channel, is_child_of, may_know, scene, whereabouts}
+use Rattle.np_things.specs.Things.{Stage, Thing, show_all, shows}
+use Rattle.np_levels.specs.Coupled.{Coupled, IsShaped, KnowsOnly, View, chips, is_channel, is_child_of, may_know, scene, whereabouts, IsCarrier}
 use Rattle.np_levels.proofs.Places.{same_place, some_there}
 use Rattle.np_levels.proofs.Applies.{takes_nothing}
 use Rattle.np_levels.proofs.Letters.{same-letters}
 use Rattle.np_levels.proofs.Marks.{at_mark, same_chips, step_at}
 use Rattle.np_levels.proofs.Quiet.{any_kept, quiet}
 use Rattle.np_levels.proofs.Shapes.{of_actor, same_role}
+use Rattle.np_levels.proofs.Caches.{handed_on}
 use Rattle.np_levels.specs.Letters.{SameLetters}
 
 -- what a Send does, by the parts of its atom
@@ -134,6 +135,8 @@ no_child a b (Mail.message p) x = refl
 no_child a b (Mail.dack y s) x = refl
 no_child a b (Mail.ack y s) x = refl
 no_child a b (Mail.deliver p s) x = refl
+no_child a b (Mail.asks y z) x = refl
+no_child a b (Mail.found y u z s) x = refl
 
 -- on its way mail shows the same chips; but a report is sent then
 mail_leaves : {w : Scene} {phase : Name → Phase} {before after : List Chip} (m : Mail) (x : Name) (s : ℕ) → IsSender m x → Step before after (show_all (Thing.mail m (Stage.in_agent x) ∷ [])) (show_all (Thing.mail m Stage.on_the_way ∷ []))
@@ -148,6 +151,8 @@ mail_leaves (Mail.message q) x s own step there p = same_chips step p
 mail_leaves (Mail.dack y t) x s own step there p = same_chips step p
 mail_leaves (Mail.ack y t) x s own step there p = same_chips step p
 mail_leaves (Mail.deliver q t) x s own step there p = same_chips step p
+mail_leaves (Mail.asks y z) x s own step there p = same_chips step p
+mail_leaves (Mail.found y u z t) x s own step there p = same_chips step p
 
 module _ {i : Infrastructure} {n from first : ℕ} {low high : Config} {v : View} (c : Coupled i n from first low high v) where
   -- an agent that reports is where the low level has it
@@ -162,7 +167,7 @@ module _ {i : Infrastructure} {n from first : ℕ} {low high : Config} {v : View
       sends_mail _ n from first o.thing s.atom o.is o.its_kind λ m x thing mails own.
       let there : map.get v.things e.actor ≡ Some (Thing.mail m (Stage.in_agent x) ∷ []) = o.there ∙ ap (λ t. Some (t ∷ [])) thing in
       let us : List Thing = Thing.mail m Stage.on_the_way ∷ [] in
-      let step = step_at v.things e.actor (Thing.mail m (Stage.in_agent x) ∷ []) us there in
+      let step = step_at shows v.things e.actor (Thing.mail m (Stage.in_agent x) ∷ []) us there in
       let protocol = mail_leaves m x e.site own step (λ t r. at_site_of x e.site t r (ap (map.get low.places) (sym mails.agent) ∙ s.acts.stands)) c.protocol in
       let packet = packet_is n m low e next s mails.receiver mails.to mails.chan mails.sent mails.is mails.for_agent mails.for_site mails.on mails.holds in
       let known = recursion_from_All (λ t. KnowsOnly (may_know v.lock (chips v.things) t) (is_channel n high.born) from t) (Thing.mail m (Stage.in_agent x) ∷ []) (c.known e.actor (Thing.mail m (Stage.in_agent x) ∷ []) there) in
@@ -172,7 +177,7 @@ module _ {i : Infrastructure} {n from first : ℕ} {low high : Config} {v : View
         quiet c next things protocol.0 (at_mark c next e e.actor (Thing.mail m (Stage.in_agent x) ∷ []) us protocol.0 (record {
           applies = h;
           sites = ap (λ (d : Config). d.sites) s.is;
-          places = ap (λ (d : Config). d.places) s.is;
+          places = λ q _. ap (λ (d : Config). map.get d.places q) s.is;
           said = ap (λ (d : Config). d.said) s.is;
           born = ap (λ (d : Config). d.born) s.is;
           there = there;
@@ -184,6 +189,8 @@ module _ {i : Infrastructure} {n from first : ℕ} {low high : Config} {v : View
           protocol = protocol.1;
           children = λ a b. any_kept (is_child_of a b) step (λ any. absurd (let none = no_child a b m x in cc));
           known = All-from_recursion (λ t. KnowsOnly (may_know v.lock (chips things) t) (is_channel n high.born) from t) us (known.0, tt);
+          hints = handed_on low high next;
+          carriers = All-from_recursion (IsCarrier v.standing.messengers) us (tt, tt);
         })),
         same-letters v.things e.actor us (Thing.mail m (Stage.in_agent x) ∷ []) there refl,
       )

@@ -36,23 +36,28 @@ use Rattle.np_syntax.specs.declared.expression.ExprForm as expr
 use Rattle.np_calculus.specs.Starts.{daemon_agent, own, own_numbers}
 use Rattle.np_protocol.specs.Chips.{Chip, Service}
 use Rattle.np_protocol.specs.Protocol.{IsTrueOf}
+use Rattle.np_protocol.specs.Rules.{IsKnowledge, IsLearnt, Rule}
 use Rattle.np_protocol.proofs.Steps.{all_taken}
-use Rattle.daemon_encode.specs.Pieces.{beside, daemon, dack, deliver, expression, infra, name, pair, site, tells, two_names, variable}
+use Rattle.np_protocol.proofs.Keeps.{keeps-protocol}
+use Rattle.daemon_encode.specs.Pieces.{beside, daemon, dack, deliver, expression, infra, name, pair, site, tells, two_names, variable, takes as takes_text}
 use Rattle.daemon_encode.specs.Infrastructures.{Infrastructure}
+use Rattle.daemon_encode.specs.CacheTexts.{cache, found}
 use Rattle.np_syntax.specs.declared.process.ProcForm as form
 use Rattle.np_things.proofs.Starts.{constant-is}
 use Rattle.np_things.specs.Acting.{begins}
 use Rattle.np_things.specs.Desks.{Took, desk, takes_map}
 use Rattle.np_things.specs.Mail.{Mail, Posted, content as content_of, on_channel, receiver}
-use Rattle.np_things.specs.Shapes.{Are, Is, IsLetters, IsServing}
-use Rattle.np_things.specs.Things.{Stage, Thing, high_atom}
-use Rattle.np_levels.specs.Coupled.{Coupled, View, scene}
+use Rattle.np_things.specs.Shapes.{Are, Is, IsLetters, IsServing, IsAgents}
+use Rattle.np_things.specs.Things.{Stage, Thing, high_atom, shows}
+use Rattle.np_things.specs.CacheShapes.{IsKeeping, changes}
+use Rattle.np_levels.specs.Coupled.{Coupled, View, scene, chips}
 use Rattle.np_levels.proofs.Applies.{takes}
 use Rattle.np_levels.proofs.Becomes.{becomes, cancel}
 use Rattle.np_levels.proofs.Marks.{same_chips, step_at}
 use Rattle.np_levels.proofs.Outputs.{by_number, given_by, is-own, number-of}
 use Rattle.np_levels.proofs.Shapes.{of_actor, of_atom, same_role}
 use Rattle.np_levels.proofs.Values.{agent-is, bind-one, bind-two, channel-is, here_is, named_kept, pair-is, there_is, variable-is}
+use Rattle.np_levels.proofs.Caches.{handed_on}
 use Rattle.np_levels.specs.Letters.{SameLetters}
 
 -- what a server's event does
@@ -108,6 +113,7 @@ number_of Service.grants = 3
 number_of Service.notes_moves = 4
 number_of Service.passes_on = 5
 number_of Service.ends_deliveries = 8
+number_of Service.tells = 15
 
 desk-chan : (n x : ℕ) (k : Service) → (desk n x k).chan ≡ expression (expr.Val (value.Chan (own n (number_of k))))
 desk-chan n x Service.registers = refl
@@ -115,6 +121,7 @@ desk-chan n x Service.grants = refl
 desk-chan n x Service.notes_moves = refl
 desk-chan n x Service.passes_on = refl
 desk-chan n x Service.ends_deliveries = refl
+desk-chan n x Service.tells = refl
 
 -- what two binders of the daemon have
 two_there : (x d : ℕ) (u w : Value) (env next : Env) → bind (two_names (x + d) (x + (d + 1))) (value.Tuple (u ∷ w ∷ [])) env ≡ Some next → (map.get next (x + d) ≡ Some u) × (map.get next (x + (d + 1)) ≡ Some w)
@@ -134,21 +141,15 @@ took n x Service.grants (Mail.migrating a) v env next same is h =
 took n x Service.notes_moves (Mail.migrated a t) v env next same is h = two_there x 8 (value.Agent a) (value.Site t) env next (ap (λ u. bind (two_names (x + 8) (x + 9)) u env) (sym is) ∙ h)
 took n x Service.passes_on (Mail.message p) v env next same is h = two_there x 12 (value.Agent p.agent) (value.Letter p.chan p.value) env next (ap (λ u. bind (two_names (x + 12) (x + 13)) u env) (sym is) ∙ h)
 took n x Service.ends_deliveries (Mail.dack b s) v env next same is h = two_there x 17 (value.Agent b) (value.Site s) env next (ap (λ u. bind (two_names (x + 17) (x + 18)) u env) (sym is) ∙ h)
+took n x Service.tells (Mail.asks a b) v env next same is h = two_there x 21 (value.Agent a) (value.Agent b) env next (ap (λ u. bind (two_names (x + 21) (x + 22)) u env) (sym is) ∙ h)
 took n x _ _ v env next same is h = absurd (let bad : ⊥ = omega arith in bad)
-
--- what a replicated input of the infrastructure is
-serves_by : {R : Type 0} (i : Infrastructure) (n from first : ℕ) (t : Thing) (a : Atom) → Is i n from first t a → begins t role.Infra kind.Rep ≡ true → ((x : Name) → t ≡ Thing.letters x → IsLetters n from x a → R) → ((k : Service) → t ≡ Thing.serving k → IsServing n first k a → R) → R
-serves_by _ n from first (Thing.letters x) a i h f g = f x refl i
-serves_by _ n from first (Thing.serving k) a i h f g = g k refl i
-serves_by _ n from first (Thing.mail m (Stage.in_agent x)) a i h f g = absurd cc
-serves_by _ n from first _ a i h f g = absurd cc
 
 module _ {i : Infrastructure} {n from first : ℕ} {low high : Config} {v : View} (c : Coupled i n from first low high v) where
   -- a lock of an agent is no name of the infrastructure but main's
   pub no_lock_at : (m : Name) (i : ℕ) (t : Thing) → list_any (nat_eq i) own_numbers ≡ true → (i ≡ 13 → ⊥) → map.get v.things m ≡ Some (t ∷ []) → (l : Name) (s : ℕ) → t ≡ Thing.free l s → l ≡ own n i → ⊥
   no_lock_at m i t own_one other there l s is on =
       let at : map.get v.things m ≡ Some (Thing.free l s ∷ []) = there ∙ ap (λ t. Some (t ∷ [])) is in
-      let claim = (recursion_from_All (IsTrueOf (scene v high) v.phase) (Chip.free l s ∷ []) (all_taken (step_at v.things m (Thing.free l s ∷ []) [] at) (IsTrueOf (scene v high) v.phase) c.protocol.true_chips)).0 in
+      let claim = (recursion_from_All (IsTrueOf (scene v high) v.phase) (Chip.free l s ∷ []) (all_taken (step_at shows v.things m (Thing.free l s ∷ []) [] at) (IsTrueOf (scene v high) v.phase) c.protocol.true_chips)).0 in
       other (number-of n i 13 (c.locks_apart claim.0 (own n i) (claim.1 ∙ ap Some on) (is-own n i own_one)))
 
   served : (e : Event) (next : Config) (s : IsRepeating low e next) (k : Service) → IsServing n first k s.atom → apply low e ≡ Some next
@@ -163,7 +164,8 @@ module _ {i : Infrastructure} {n from first : ℕ} {low high : Config} {v : View
       let g = given_by c s.other s.offers.mate s.offers.sent s.offers.waits s.offers.sends_it o.things o.there o.are in
       let there : map.get v.things s.other ≡ Some (g.thing ∷ []) = o.there ∙ ap Some g.alone in
       let chan : s.chan ≡ own n (number_of k) = done (sym (ap (λ x. chan_of x s.atom.env) (on ∙ desk-chan n first k) ∙ channel-is (own n (number_of k)) s.atom.env) ∙ s.its_chan) in
-      by_number n (number_of k) s.offers.mate s.offers.sent.0 s.offers.sent.1 g.thing (listed k) (not_nine k) (not_ten k) (no_lock_at s.other (number_of k) g.thing (listed k) (not_thirteen k) there)
+      by_number n (number_of k) high.born s.offers.mate s.offers.sent.0 s.offers.sent.1 g.thing (listed k) (not_nine k) (not_ten k) (not_fourteen k)
+      (no_lock_at s.other (number_of k) g.thing (listed k) (not_thirteen k) there)
       (sym (same_name-is s.chan s.offers.sent.0 s.offers.agree) ∙ chan) g.gift λ m thing number content for.
       becomes c next e s.other (goes_under s.atom s.body s.env) (Thing.mail m Stage.there ∷ []) (Thing.taken m ∷ []) refl (record {
         applies = h;
@@ -177,6 +179,8 @@ module _ {i : Infrastructure} {n from first : ℕ} {low high : Config} {v : View
         protocol = λ step. same_chips step c.protocol;
         children = λ a b any. any;
         known = λ k. k;
+        hints = handed_on low high next;
+        carriers = λ k. (tt, tt);
       })
     where
       listed : (k : Service) → list_any (nat_eq (number_of k)) own_numbers ≡ true
@@ -185,6 +189,7 @@ module _ {i : Infrastructure} {n from first : ℕ} {low high : Config} {v : View
       listed Service.notes_moves = refl
       listed Service.passes_on = refl
       listed Service.ends_deliveries = refl
+      listed Service.tells = refl
 
       not_nine : (k : Service) → number_of k ≡ 9 → ⊥
       not_nine Service.registers e = omega arith
@@ -192,6 +197,7 @@ module _ {i : Infrastructure} {n from first : ℕ} {low high : Config} {v : View
       not_nine Service.notes_moves e = omega arith
       not_nine Service.passes_on e = omega arith
       not_nine Service.ends_deliveries e = omega arith
+      not_nine Service.tells e = omega arith
 
       not_ten : (k : Service) → number_of k ≡ 10 → ⊥
       not_ten Service.registers e = omega arith
@@ -199,6 +205,7 @@ module _ {i : Infrastructure} {n from first : ℕ} {low high : Config} {v : View
       not_ten Service.notes_moves e = omega arith
       not_ten Service.passes_on e = omega arith
       not_ten Service.ends_deliveries e = omega arith
+      not_ten Service.tells e = omega arith
 
       not_thirteen : (k : Service) → number_of k ≡ 13 → ⊥
       not_thirteen Service.registers e = omega arith
@@ -206,12 +213,25 @@ module _ {i : Infrastructure} {n from first : ℕ} {low high : Config} {v : View
       not_thirteen Service.notes_moves e = omega arith
       not_thirteen Service.passes_on e = omega arith
       not_thirteen Service.ends_deliveries e = omega arith
+      not_thirteen Service.tells e = omega arith
+
+      not_fourteen : (k : Service) → number_of k ≡ 14 → ⊥
+      not_fourteen Service.registers e = omega arith
+      not_fourteen Service.grants e = omega arith
+      not_fourteen Service.notes_moves e = omega arith
+      not_fourteen Service.passes_on e = omega arith
+      not_fourteen Service.ends_deliveries e = omega arith
+      not_fourteen Service.tells e = omega arith
 
 -- ---- an agent's server takes a letter
 
 letter_mail : {R : Type 0} (m : Mail) → on_channel m ≡ 6 → ((p : Posted) (s : ℕ) → m ≡ Mail.deliver p s → R) → R
 letter_mail (Mail.deliver p s) e r = r p s refl
 letter_mail _ e r = absurd (let bad : ⊥ = omega arith in bad)
+
+answer_mail : {R : Type 0} (m : Mail) → on_channel m ≡ 16 → ((a : Name) (u : ℕ) (b : Name) (s : ℕ) → m ≡ Mail.found a u b s → R) → R
+answer_mail (Mail.found a u b s) e r = r a u b s refl
+answer_mail _ e r = absurd (let bad : ⊥ = omega arith in bad)
 
 module _ {i : Infrastructure} {n from first : ℕ} {low high : Config} {v : View} (c : Coupled i n from first low high v) where
   handed : (e : Event) (next : Config) (s : IsRepeating low e next) (x : Name) → IsLetters n from x s.atom → apply low e ≡ Some next
@@ -228,7 +248,8 @@ module _ {i : Infrastructure} {n from first : ℕ} {low high : Config} {v : View
       let g = given_by c s.other s.offers.mate s.offers.sent s.offers.waits s.offers.sends_it o.things o.there o.are in
       let there : map.get v.things s.other ≡ Some (g.thing ∷ []) = o.there ∙ ap Some g.alone in
       let chan : s.chan ≡ own n 6 = done (sym (ap (λ x. chan_of x s.atom.env) on ∙ channel-is (own n 6) s.atom.env) ∙ s.its_chan) in
-      by_number n 6 s.offers.mate s.offers.sent.0 s.offers.sent.1 g.thing refl (λ e. let bad : ⊥ = omega arith in bad) (λ e. let bad : ⊥ = omega arith in bad)
+      by_number n 6 high.born s.offers.mate s.offers.sent.0 s.offers.sent.1 g.thing refl (λ e. let bad : ⊥ = omega arith in bad) (λ e. let bad : ⊥ = omega arith in bad)
+      (λ e. let bad : ⊥ = omega arith in bad)
       (no_lock_at c s.other 6 g.thing refl (λ e. let bad : ⊥ = omega arith in bad) there)
       (sym (same_name-is s.chan s.offers.sent.0 s.offers.agree) ∙ chan) g.gift λ m thing number content for.
       letter_mail m number λ p t mail.
@@ -281,6 +302,59 @@ module _ {i : Infrastructure} {n from first : ℕ} {low high : Config} {v : View
             (IsPermutation-middle (Chip.knows p.agent ∷ []) (Chip.delivery p.agent t) [])) c.protocol;
         children = λ a b any. any;
         known = λ k. (k.0, (tt, tt));
+        hints = handed_on low high next;
+        carriers = λ k. (tt, (tt, tt));
+      })
+
+  -- an agent's server takes an answer of the daemon
+  answered : (e : Event) (next : Config) (s : IsRepeating low e next) → i ≡ Infrastructure.cached → (x : Name) → IsKeeping n from x s.atom → IsAgents n x → apply low e ≡ Some next
+      → (w : View) × (w.standing ≡ v.standing) × Coupled i n from first next high w × SameLetters v w
+  answered e next s cached x j apart h =
+      let text : Proc = takes_text j.node (cache n) (name (j.x + 2)) (changes n j.node j.x) in
+      let forms_are : ProcForm-F.Rep s.on s.pattern s.body ≡ ProcForm-F.Rep (found n) (two_names j.x (j.x + 1)) text =
+      sym s.form ∙ ap layer j.is ∙ forms.outs-Rep (found n) (two_names j.x (j.x + 1)) text in
+      let on : s.on ≡ found n = cc in
+      let pattern : s.pattern ≡ two_names j.x (j.x + 1) = cc in
+      let body : s.body ≡ text = cc in
+      let o = of_atom c s.other s.offers.mate s.offers.waits in
+      let g = given_by c s.other s.offers.mate s.offers.sent s.offers.waits s.offers.sends_it o.things o.there o.are in
+      let there : map.get v.things s.other ≡ Some (g.thing ∷ []) = o.there ∙ ap Some g.alone in
+      let chan : s.chan ≡ own n 16 = done (sym (ap (λ x. chan_of x s.atom.env) on ∙ channel-is (own n 16) s.atom.env) ∙ s.its_chan) in
+      by_number n 16 high.born s.offers.mate s.offers.sent.0 s.offers.sent.1 g.thing refl (λ e. let bad : ⊥ = omega arith in bad) (λ e. let bad : ⊥ = omega arith in bad)
+      (λ e. let bad : ⊥ = omega arith in bad) (no_lock_at c s.other 16 g.thing refl (λ e. let bad : ⊥ = omega arith in bad) there)
+      (sym (same_name-is s.chan s.offers.sent.0 s.offers.agree) ∙ chan) g.gift λ m thing number content for.
+      answer_mail m number λ a u b t mail.
+      let what : s.value ≡ value.Tuple (value.Agent b ∷ value.Site t ∷ []) = s.offers.is ∙ content ∙ ap content_of mail in
+      let env : s.env ≡ map.insert (map.insert s.atom.env j.x (value.Agent b)) (j.x + 1) (value.Site t) =
+      done (sym (ap (λ q. bind q s.value s.atom.env) pattern ∙ ap (λ u. bind (two_names j.x (j.x + 1)) u s.atom.env) what ∙ bind-two j.x (j.x + 1) (value.Agent b) (value.Site t) s.atom.env) ∙ s.binds) in
+      becomes c next e s.other (goes_under s.atom s.body s.env) (Thing.mail (Mail.found a u b t) Stage.there ∷ []) (Thing.told x ∷ []) refl (record {
+        applies = h;
+        is = s.is;
+        no_packet = o.no_packet;
+        there = there ∙ ap (λ t. Some (t ∷ [])) (thing ∙ ap (λ m. Thing.mail m Stage.there) mail);
+        headed = All-nil (λ u. high_atom u ≡ None);
+        are = Are.one (
+          cached,
+          record {
+            node = j.node;
+            x = j.x;
+            answer = record {
+              agent = j.agent;
+              site = value.Site t;
+              its_site = ap (λ (e : Env). map.get e (j.x + 1)) env ∙ here_is (map.insert s.atom.env j.x (value.Agent b)) (j.x + 1) (value.Site t);
+            };
+            is = body;
+          },
+          apart,
+        );
+        atoms = refl;
+        packets = refl;
+        protocol = λ step. keeps-protocol (scene v high) (scene v high) v.phase (chips v.things) _ (Chip.knows a ∷ []) []
+            (Rule.knows (All-from_recursion IsKnowledge (Chip.knows a ∷ []) (tt, tt)) (All-nil (IsLearnt (scene v high)))) step c.protocol;
+        children = λ a b any. absurd cc;
+        known = λ k. (tt, tt);
+        hints = handed_on low high next;
+        carriers = λ k. (tt, tt);
       })
 
   pub serves : (e : Event) (next : Config) → e.kind ≡ kind.Rep → e.tag.role ≡ role.Infra → apply low e ≡ Some next
@@ -288,4 +362,12 @@ module _ {i : Infrastructure} {n from first : ℕ} {low high : Config} {v : View
   serves e next is_rep infra h =
       let s = repeating low e next (ap (λ k. row k low e) (sym is_rep) ∙ h) in
       let o = of_actor c e.actor s.atom kind.Rep role.Infra s.acts.there (ap begun_by s.form) (same_role s.atom.proc.tag e.tag s.acts.tag ∙ infra) (λ k r. cc) in
-      serves_by _ n from first o.thing s.atom o.is o.its_kind (λ x thing i. handed e next s x i h) (λ k thing i. served c e next s k i h)
+      by_thing s o.thing o.is o.its_kind
+    where
+      by_thing : (s : IsRepeating low e next) (t : Thing) → Is i n from first t s.atom → begins t role.Infra kind.Rep ≡ true
+          → (w : View) × (w.standing ≡ v.standing) × Coupled i n from first next high w × SameLetters v w
+      by_thing s (Thing.letters x) j b = handed e next s x j h
+      by_thing s (Thing.keeping x) j b = answered e next s j.0 x j.1 j.2 h
+      by_thing s (Thing.serving k) j b = served c e next s k j h
+      by_thing s (Thing.mail m (Stage.in_agent x)) j b = absurd cc
+      by_thing s _ j b = absurd cc

@@ -42,7 +42,7 @@ module _ {i : Infrastructure} {n from first : ℕ} {low high : Config} {v : View
   forks_both =
       let knows = still_knows c e o.knows in
       let w = made_both c e next o h s.new (goes s.atom s.right) (goes o.atom q) (Thing.source o.named (goes o.atom q)) s.is_new right_is refl refl
-      (refl, refl) knows (goes s.atom s.left) (goes o.atom p) left_is knows s.is in (
+      (refl, refl, refl) knows (goes s.atom s.left) (goes o.atom p) left_is knows s.is in (
         effect high (event_of v e) (record still { atoms = put s.new (goes o.atom q) ∷ put (stands_for v.standing e.actor) (goes o.atom p) ∷ [] }),
         ap (λ k. row k high (event_of v e)) is ∙ fork_applies high (event_of v e) o.atom o.acts p q s.new form s.made_one
             (ap (option_map (stands_for v.standing)) s.other_none) (new_mark c e s.new s.is_new).high_new,

@@ -24,7 +24,7 @@ use Rattle.std.proofs.Common.{
   subst,
   ◌∙◌,
 }
-use Rattle.std.specs.List.{All}
+use Rattle.std.specs.List.{All, flat_map}
 use Rattle.std.proofs.lemmas.List.Elements.{All-from_recursion, All-nil, All-weaker}
 use Rattle.std.proofs.lemmas.List.Sorted.{list_any-IsPermutation}
 use Rattle.std.specs.FinMap as map
@@ -43,27 +43,29 @@ use Rattle.np_calculus.specs.Config.{Config}
 use Rattle.np_calculus.specs.Reductions.{apply}
 use Rattle.np_calculus.specs.Starts.{daemon_agent}
 use Rattle.cache_lift.specs.Lift.{stands_for}
+use Rattle.cache_rule.specs.Steps.{CacheStep}
 use Rattle.np_protocol.specs.Phases.{Phase}
 use Rattle.np_protocol.specs.Protocol.{Protocol}
 use Rattle.daemon_encode.specs.Infrastructures.{Infrastructure}
 use Rattle.np_things.specs.Shapes.{Are, Is, IsUnderWay}
-use Rattle.np_things.specs.Things.{Thing, carried, first_atom_of, first_packet_of, high_atom, high_packet, show_all, shows}
-use Rattle.np_levels.specs.Coupled.{Coupled, IsShaped, KnowsOnly, View, chips, is_channel, is_child_of, may_know, scene}
+use Rattle.np_things.specs.Things.{Thing, carried, first_atom_of, first_packet_of, high_atom, high_packet, show_all, shows, show_all_caches, shows_caches}
+use Rattle.np_levels.specs.Coupled.{Coupled, IsShaped, KnowsOnly, View, chips, is_channel, is_child_of, may_know, scene, IsCarrier, cache_chips, shown, is_high}
 use Rattle.np_levels.specs.Letters.{SameLetters, first_letter_of, letter_under}
 use Rattle.np_levels.specs.Mirrors.{Mirrors}
 use Rattle.np_levels.proofs.Marks.{may_know_more, reshape}
 use Rattle.np_levels.proofs.Orders.{Reordered, and_then, backwards, entries_at, entries_put, flat, kept, permuted}
 use Rattle.np_levels.proofs.Quiet.{knows_more, things_born}
 use Rattle.np_levels.proofs.Starts.{any_order}
-use Rattle.np_levels.proofs.Together.{IsOldOrNew, knows_wider, more_channels, one_mark, together, true_or_false}
+use Rattle.np_levels.proofs.Together.{IsOldOrNew, knows_wider, more_channels, one_mark, together, true_or_false, high_by_atom, high_by_packet}
 use Rattle.np_levels.proofs.Writes.{IsOnly, get-rewritten, mirror_at, mirrors_write, rewritten_here, rewritten_there, uncut}
+use Rattle.np_levels.proofs.Caches.{AllCarry, by_step, carry_cut, carry_put, no_carrier, reordered}
 
 no_value : {A B : Type 0} {x : A} → None ≡ Some x → B
 no_value e = absurd cc
 
 -- a thing that shows no chips and carries no letter
 abbrev pub IsSilent : Thing → Type 0
-IsSilent t = (shows t ≡ []) × (carried t ≡ None)
+IsSilent t = (shows t ≡ []) × (shows_caches t ≡ []) × (carried t ≡ None)
 
 -- what stands under a mark for one thing at most
 pub data Holds (i : Infrastructure) (n from first : ℕ) : Option Atom → Option Packet → Option Thing → Type 0 where
@@ -74,6 +76,23 @@ pub data Holds (i : Infrastructure) (n from first : ℕ) : Option Atom → Optio
 abbrev pub listed : Option Thing → Option (List Thing)
 listed None = None
 listed (Some t) = Some (t ∷ [])
+
+-- what is shown stays, in another order, where a mark that shows nothing has other things that show nothing
+module _ {X : Type 0} (show : Thing → List X) (things : NameMap (List Thing)) (m : Name) where
+  abbrev IsBlank : Type 0
+  IsBlank = (map.get things m ≡ None) ⊎ ((ts : List Thing) × (map.get things m ≡ Some ts) × (flat_map show ts ≡ []))
+
+  without : IsBlank → Reordered (shown show (map.remove things m)) (shown show things)
+  without (inl none) = subst (λ (t : NameMap (List Thing)). Reordered (shown show t) (shown show things)) (sym (cut_absent things m none)) kept
+  without (inr some) = backwards
+      (subst (λ l. Reordered (shown show things) (l ++ shown show (map.remove things m))) some.2
+      (flat (λ (e : Name × List Thing). flat_map show e.1) (entries_at things m some.0 some.1)))
+
+  shown_on : IsBlank → (u : Option Thing) → IfSome u (λ t. show t ≡ []) → Reordered (shown show (rewritten things m (listed u))) (shown show things)
+  shown_on blank None quiet = without blank
+  shown_on blank (Some t) quiet =
+      and_then (subst (λ l. Reordered (shown show (map.insert things m (t ∷ []))) (l ++ shown show (map.remove things m))) (ap (λ l. l ++ []) quiet)
+      (flat (λ (e : Name × List Thing). flat_map show e.1) (entries_put things m (t ∷ [])))) (without blank)
 
 listed-atom : (o : Option Thing) → (listed o >>= first_atom_of) ≡ (o >>= high_atom)
 listed-atom None = refl
@@ -94,28 +113,32 @@ module _ {i : Infrastructure} {n from first : ℕ} {low high : Config} {v : View
     pub shaped : (m : Name) → IsShaped i n from first (record low { atoms = atoms; packets = packets }) things m
     pub mirrored : Mirrors (stands_for v.standing) (λ m. map.get things m >>= first_atom_of) (map.get high_atoms)
     pub mirrored_packets : Mirrors (stands_for v.standing) (λ m. map.get things m >>= first_packet_of) (map.get high_packets)
-    pub old_or_new : (m : Name) (ts : List Thing) → map.get things m ≡ Some ts → IsOldOrNew c m
+    pub old_or_new : (m : Name) (ts : List Thing) → map.get things m ≡ Some ts → is_high ts ≡ true → IsOldOrNew c m
     pub order : Reordered (chips things) (chips v.things)
+    pub cache_order : Reordered (cache_chips things) (cache_chips v.things)
     pub letters : (m : Name) → letter_under things m ≡ letter_under v.things m
     pub known : (m : Name) (ts : List Thing) → map.get things m ≡ Some ts → All Knowing ts
+    pub carriers : AllCarry v.standing.messengers things
 
   pub stands : Stands low.atoms low.packets high.atoms high.packets v.things
   stands = record {
     shaped = λ m. reshape m refl refl refl (c.shaped m);
     mirrored = c.mirrored;
     mirrored_packets = c.mirrored_packets;
-    old_or_new = λ m ts h. inl (ts, h);
+    old_or_new = λ m ts h t. inl (ts, h, t);
     order = kept;
+    cache_order = kept;
     letters = λ m. refl;
     known = λ m ts h. All-weaker (λ t. KnowsOnly (may_know v.lock (chips v.things) t) (is_channel n high.born) from t) Knowing
         (λ t k. knows_wider (may_know v.lock (chips v.things) t) (may_know v.lock (chips v.things) t) (is_channel n high.born)
         (is_channel n (with_made high.born e.made)) from (λ a h. h) (more_channels n high.born e.made) t k) ts (c.known m ts h);
+    carriers = c.carriers;
   }
 
   -- a mark that may be written: a new one, or one of a thing that shows no chips and carries no letter
   pub data Free (things : NameMap (List Thing)) (m : Name) : Type 0 where
     new : map.get things m ≡ None → set.contains low.born m ≡ false → Free things m
-    old : {ts : List Thing} → map.get things m ≡ Some ts → show_all ts ≡ [] → first_letter_of ts ≡ None → Free things m
+    old : {ts : List Thing} → map.get things m ≡ Some ts → show_all ts ≡ [] → show_all_caches ts ≡ [] → first_letter_of ts ≡ None → is_high ts ≡ true → Free things m
 
   module _ {atoms : NameMap Atom} {packets : NameMap Packet} {high_atoms : NameMap Atom} {high_packets : NameMap Packet} {things : NameMap (List Thing)}
       (s : Stands atoms packets high_atoms high_packets things) (m : Name) (free : Free things m) where
@@ -124,21 +147,22 @@ module _ {i : Infrastructure} {n from first : ℕ} {low high : Config} {v : View
       where
         go : Free things m → IsOldOrNew c m
         go (Free.new none f) = inr f
-        go (Free.old {ts = ts} h silent none) = s.old_or_new m ts h
+        go (Free.old {ts = ts} h silent uncached none high) = s.old_or_new m ts h high
 
-    only : {X : Type 0} (f : List Thing → Option X) → IsOnly (stands_for v.standing) (λ q. map.get things q >>= f) m
-    only f q y h same = go (map.get things q) refl h
+    only : {X : Type 0} (f : List Thing → Option X) → ((ts : List Thing) (y : X) → f ts ≡ Some y → is_high ts ≡ true)
+        → IsOnly (stands_for v.standing) (λ q. map.get things q >>= f) m
+    only f high q y h same = go (map.get things q) refl h
       where
         go : (o : Option (List Thing)) → map.get things q ≡ o → (o >>= f) ≡ Some y → q ≡ m
         go None i j = no_value j
-        go (Some ts) i j = one_mark c q m same (s.old_or_new q ts i) is_old_or_new
+        go (Some ts) i j = one_mark c q m same (s.old_or_new q ts i (high ts y j)) is_old_or_new
 
     -- the high level has under this mark what the things are
     pub high_atom_at : map.get high_atoms (stands_for v.standing m) ≡ (map.get things m >>= first_atom_of)
-    high_atom_at = mirror_at (stands_for v.standing) (λ q. map.get things q >>= first_atom_of) (map.get high_atoms) m s.mirrored (only first_atom_of)
+    high_atom_at = mirror_at (stands_for v.standing) (λ q. map.get things q >>= first_atom_of) (map.get high_atoms) m s.mirrored (only first_atom_of high_by_atom)
 
     pub high_packet_at : map.get high_packets (stands_for v.standing m) ≡ (map.get things m >>= first_packet_of)
-    high_packet_at = mirror_at (stands_for v.standing) (λ q. map.get things q >>= first_packet_of) (map.get high_packets) m s.mirrored_packets (only first_packet_of)
+    high_packet_at = mirror_at (stands_for v.standing) (λ q. map.get things q >>= first_packet_of) (map.get high_packets) m s.mirrored_packets (only first_packet_of high_by_packet)
 
     module _ (a : Option Atom) (k : Option Packet) (u : Option Thing) (holds : Holds i n from first a k u) (silent : IfSome u IsSilent)
         (knows : IfSome u Knowing) where
@@ -173,9 +197,9 @@ module _ {i : Infrastructure} {n from first : ℕ} {low high : Config} {v : View
           go true e = ap (λ x. x >>= f) (here q e) ∙ is
           go false e = ap (λ x. x >>= f) (there q e)
 
-      old_or_new : (q : Name) (ts : List Thing) (t : Bool) → same_name q m ≡ t → map.get after q ≡ Some ts → IsOldOrNew c q
-      old_or_new q ts true e h = subst (IsOldOrNew c) (sym (same_name-is q m e)) is_old_or_new
-      old_or_new q ts false e h = s.old_or_new q ts (sym (there q e) ∙ h)
+      old_or_new : (q : Name) (ts : List Thing) (t : Bool) → same_name q m ≡ t → map.get after q ≡ Some ts → is_high ts ≡ true → IsOldOrNew c q
+      old_or_new q ts true e h k = subst (IsOldOrNew c) (sym (same_name-is q m e)) is_old_or_new
+      old_or_new q ts false e h k = s.old_or_new q ts (sym (there q e) ∙ h) k
 
       known : (q : Name) (ts : List Thing) (t : Bool) → same_name q m ≡ t → map.get after q ≡ Some ts → All Knowing ts
       known q ts true e h = go u knows (sym (here q e) ∙ h)
@@ -185,35 +209,46 @@ module _ {i : Infrastructure} {n from first : ℕ} {low high : Config} {v : View
           go (Some t) k i = subst (All Knowing) (sym (done i)) (All-from_recursion Knowing (t ∷ []) (k, tt))
       known q ts false e h = s.known q ts (sym (there q e) ∙ h)
 
-      -- the chips stay, in another order
-      without : Reordered (chips (map.remove things m)) (chips things)
-      without = go free
-        where
-          go : Free things m → Reordered (chips (map.remove things m)) (chips things)
-          go (Free.new none f) = subst (λ (t : NameMap (List Thing)). Reordered (chips t) (chips things)) (sym (cut_absent things m none)) kept
-          go (Free.old {ts = ts} h quiet none) = backwards
-              (subst (λ l. Reordered (chips things) (l ++ chips (map.remove things m))) quiet
-              (flat (λ (e : Name × List Thing). show_all e.1) (entries_at things m ts h)))
-
       order : Reordered (chips after) (chips things)
-      order = go u silent
+      order = shown_on shows things m (blank free) u (quiet u silent)
         where
-          go : (u : Option Thing) → IfSome u IsSilent → Reordered (chips (rewritten things m (listed u))) (chips things)
-          go None quiet = without
-          go (Some t) quiet =
-              and_then (subst (λ l. Reordered (chips (map.insert things m (t ∷ []))) (l ++ chips (map.remove things m))) (ap (λ l. l ++ []) quiet.0)
-              (flat (λ (e : Name × List Thing). show_all e.1) (entries_put things m (t ∷ [])))) without
+          blank : Free things m → IsBlank shows things m
+          blank (Free.new none f) = inl none
+          blank (Free.old {ts = ts} h silent uncached none high) = inr (ts, h, silent)
+
+          quiet : (u : Option Thing) → IfSome u IsSilent → IfSome u (λ t. shows t ≡ [])
+          quiet None h = tt
+          quiet (Some t) h = h.0
+
+      cache_order : Reordered (cache_chips after) (cache_chips things)
+      cache_order = shown_on shows_caches things m (blank free) u (quiet u silent)
+        where
+          blank : Free things m → IsBlank shows_caches things m
+          blank (Free.new none f) = inl none
+          blank (Free.old {ts = ts} h silent uncached none high) = inr (ts, h, uncached)
+
+          quiet : (u : Option Thing) → IfSome u IsSilent → IfSome u (λ t. shows_caches t ≡ [])
+          quiet None h = tt
+          quiet (Some t) h = h.1
+
+      carriers : AllCarry v.standing.messengers after
+      carriers = go u silent
+        where
+          go : (u : Option Thing) → IfSome u IsSilent → AllCarry v.standing.messengers (rewritten things m (listed u))
+          go None quiet = carry_cut v.standing.messengers things m s.carriers
+          go (Some t) quiet = carry_put v.standing.messengers things m s.carriers (t ∷ [])
+              (All-from_recursion (IsCarrier v.standing.messengers) (t ∷ []) (no_carrier v.standing.messengers t quiet.2, tt))
 
       letters : (q : Name) → letter_under after q ≡ letter_under v.things q
       letters q = first_of first_letter_of None (none u silent) q ∙ go (same_name q m) refl
         where
           none : (u : Option Thing) → IfSome u IsSilent → (listed u >>= first_letter_of) ≡ None
           none None quiet = refl
-          none (Some t) quiet = quiet.1
+          none (Some t) quiet = quiet.2
 
           none_there : Free things m → letter_under things m ≡ None
           none_there (Free.new absent f) = ap (λ o. o >>= first_letter_of) absent
-          none_there (Free.old h quiet none) = ap (λ o. o >>= first_letter_of) h ∙ none
+          none_there (Free.old h quiet uncached none high) = ap (λ o. o >>= first_letter_of) h ∙ none
 
           go : (t : Bool) → same_name q m ≡ t → cond t None (letter_under things q) ≡ letter_under v.things q
           go true e = sym (ap (letter_under things) (same_name-is q m e) ∙ none_there free) ∙ s.letters q
@@ -226,15 +261,17 @@ module _ {i : Infrastructure} {n from first : ℕ} {low high : Config} {v : View
         mirrored = mirrors_write (stands_for v.standing) (λ q. map.get things q >>= first_atom_of) (map.get high_atoms) (λ q. map.get after q >>= first_atom_of)
             (map.get (rewritten high_atoms (stands_for v.standing m) (u >>= high_atom))) m (u >>= high_atom)
             s.mirrored (first_of first_atom_of (u >>= high_atom) (listed-atom u)) (get-rewritten high_atoms (stands_for v.standing m) (u >>= high_atom))
-            (only first_atom_of);
+            (only first_atom_of high_by_atom);
         mirrored_packets = mirrors_write (stands_for v.standing) (λ q. map.get things q >>= first_packet_of) (map.get high_packets)
             (λ q. map.get after q >>= first_packet_of) (map.get (rewritten high_packets (stands_for v.standing m) (u >>= high_packet))) m (u >>= high_packet)
             s.mirrored_packets (first_of first_packet_of (u >>= high_packet) (listed-packet u))
-            (get-rewritten high_packets (stands_for v.standing m) (u >>= high_packet)) (only first_packet_of);
-        old_or_new = λ q ts h. old_or_new q ts (same_name q m) refl h;
+            (get-rewritten high_packets (stands_for v.standing m) (u >>= high_packet)) (only first_packet_of high_by_packet);
+        old_or_new = λ q ts h k. old_or_new q ts (same_name q m) refl h k;
         order = and_then order s.order;
+        cache_order = and_then cache_order s.cache_order;
         letters = letters;
         known = λ q ts h. known q ts (same_name q m) refl h;
+        carriers = carriers;
       }
 
     -- an atom stands there then, and no packet did
@@ -335,6 +372,9 @@ module _ {i : Infrastructure} {n from first : ℕ} {low high : Config} {v : View
           known = λ m ts h. All-weaker Knowing (λ t. KnowsOnly (may_know v.lock (chips things) t) (is_channel n (with_made high.born e.made)) from t)
               (λ t k. knows_more (may_know v.lock (chips v.things) t) (may_know v.lock (chips things) t) (is_channel n (with_made high.born e.made)) from
               (more t) t k) ts (s.known m ts h);
+          hints = by_step low high next (record high { atoms = high_atoms; packets = high_packets; born = with_made high.born e.made; said = high_said })
+              v.things things (reordered s.cache_order) (λ is. CacheStep.still (λ q. refl));
+          carriers = s.carriers;
         }),
     s.letters,
   )

@@ -26,15 +26,15 @@ use Rattle.np_levels.proofs.Forms.{IsFormOf}
 use Rattle.np_levels.proofs.Applies.{takes_nothing}
 use Rattle.np_levels.proofs.Goes.{IsSame, ends_both}
 
-record IsStopping (low : Config) (e : Event) (next : Config) : Type 0 where
-  atom : Atom
-  acts : Acts low e atom
-  form : layer atom.proc ≡ ProcForm-F.Stop
-  made_none : e.made ≡ made.Nothing
-  other_none : e.other ≡ None
-  is : next ≡ effect low e (record still { atoms = cut e.actor ∷ [] })
+pub record IsStopping (low : Config) (e : Event) (next : Config) : Type 0 where
+  pub atom : Atom
+  pub acts : Acts low e atom
+  pub form : layer atom.proc ≡ ProcForm-F.Stop
+  pub made_none : e.made ≡ made.Nothing
+  pub other_none : e.other ≡ None
+  pub is : next ≡ effect low e (record still { atoms = cut e.actor ∷ [] })
 
-stopping : (low : Config) (e : Event) (next : Config) → row kind.Stop low e ≡ Some next → IsStopping low e next
+pub stopping : (low : Config) (e : Event) (next : Config) → row kind.Stop low e ≡ Some next → IsStopping low e next
 unfolding act
 stopping low e next h =
     let r = row-step low e next kind.Stop h in

@@ -3,7 +3,6 @@ use Rattle.std.proofs.Common.{◌≡◌, ℕ, true, false, cond, None, Some, [],
 use Rattle.std.proofs.lemmas.List.Elements.{recursion_from_All}
 use Rattle.std.specs.Option.{option_map}
 use Rattle.std.specs.FinMap as map
-use Rattle.std.specs.FinSet as set
 use Rattle.np_syntax.specs.declared.value.Name.{Name}
 use Rattle.np_syntax.specs.declared.value.Value.{Value, out-Value}
 use Rattle.np_syntax.specs.declared.expression.Expr.{Expr}
@@ -21,7 +20,7 @@ use Rattle.np_calculus.specs.Begins.{begun_by}
 use Rattle.np_calculus.specs.Changes.{cut, effect, put, still, with_made}
 use Rattle.np_calculus.specs.Config.{Config}
 use Rattle.np_calculus.specs.Reductions.{apply, goes_under, row, sends}
-use Rattle.np_calculus.specs.Starts.{daemon_agent, own_names}
+use Rattle.np_calculus.specs.Starts.{daemon_agent}
 use Rattle.np_calculus.proofs.OwnNames.{not_true}
 use Rattle.np_calculus.proofs.Steps.{Offers}
 use Rattle.cache_lift.specs.Lift.{stands_for}
@@ -37,7 +36,7 @@ use Rattle.daemon_encode.specs.Translates.{Translates}
 use Rattle.np_things.specs.Mail.{Posted, as_output}
 use Rattle.np_things.specs.Shapes.{Is, IsAgents, IsOfSource, IsOpened}
 use Rattle.np_things.specs.Things.{Thing, first_atom_of, first_packet_of, high_packet}
-use Rattle.np_levels.specs.Coupled.{Coupled, KnowsOnly, View, chips, is_channel, may_know}
+use Rattle.np_levels.specs.Coupled.{Coupled, KnowsOnly, View, chips, is_channel, may_know, is_high}
 use Rattle.np_levels.specs.Laws.{IsEvent, event_of}
 use Rattle.np_levels.proofs.Actors.{Actor, actor, agents, known_channel, parts_of, same_here}
 use Rattle.np_levels.proofs.Applies.{comm_applies, rep_applies}
@@ -46,7 +45,7 @@ use Rattle.np_levels.proofs.Forms.{IsFormOf}
 use Rattle.np_levels.proofs.Goes.{IsSame, still_knows}
 use Rattle.np_levels.proofs.Lands.{output-gives}
 use Rattle.np_levels.proofs.Meets.{IsMeeting, meeting}
-use Rattle.np_levels.proofs.Outputs.{IsOutput, by_source, given_by, is_of_source, is_output, not_own, translated-out}
+use Rattle.np_levels.proofs.Outputs.{IsOutput, by_source, given_by, is_of_source, is_output, translated-out}
 use Rattle.np_levels.proofs.Serves.{IsRepeating, repeating}
 use Rattle.np_levels.proofs.Shapes.{of_atom}
 use Rattle.np_levels.proofs.Stands.{Free, IsSilent, cut_atom, leave, put_atom, stands}
@@ -61,6 +60,7 @@ module _ {i : Infrastructure} {n from first : ℕ} {low high : Config} {v : View
     pub thing : Thing
     pub there : map.get v.things m ≡ Some (thing ∷ [])
     pub silent : IsSilent thing
+    pub of_high : is_high (thing ∷ []) ≡ true
     pub no_high_packet : high_packet thing ≡ None
     pub offers : Offers high (stands_for v.standing m) agent chan what
     pub known : IsKnown (agents c e) (is_channel n high.born) what
@@ -95,7 +95,8 @@ module _ {i : Infrastructure} {n from first : ℕ} {low high : Config} {v : View
           no_packet = none;
           thing = Thing.source x hi;
           there = there;
-          silent = (refl, refl);
+          silent = (refl, refl, refl);
+          of_high = refl;
           no_high_packet = refl;
           offers = offers_there hi (c.mirrored.up m hi (ap (λ o. o >>= first_atom_of) there)) i.stands.agent (rw (form, on, gives) refl);
           known = subst (IsKnown (agents c e) (is_channel n high.born)) (sym s.is)
@@ -111,7 +112,8 @@ module _ {i : Infrastructure} {n from first : ℕ} {low high : Config} {v : View
           no_packet = none;
           thing = Thing.opened p;
           there = there;
-          silent = (refl, refl);
+          silent = (refl, refl, refl);
+          of_high = refl;
           no_high_packet = refl;
           offers = offers_there (as_output p) (c.mirrored.up m (as_output p) (ap (λ o. o >>= first_atom_of) there)) (ap (λ (a : Atom). a.agent) i.is)
               (output-gives p.agent p.chan p.value p.tag ∙ ap Some (sym same));
@@ -123,11 +125,9 @@ module _ {i : Infrastructure} {n from first : ℕ} {low high : Config} {v : View
         let o = of_atom c m s.mate s.waits in
         let g = given_by c m s.mate s.sent s.waits s.sends_it o.things o.there o.are in
         let there : map.get v.things m ≡ Some (g.thing ∷ []) = o.there ∙ ap Some g.alone in
-        let other : set.contains (own_names n) s.sent.0 ≡ false =
-        ap (set.contains (own_names n)) (sym (same_name-is chan s.sent.0 s.agree))
-        ∙ not_own (set.contains high.born chan) (set.contains (own_names n) chan) known in
+        let channel : is_channel n high.born s.sent.0 ≡ true = ap (is_channel n high.born) (sym (same_name-is chan s.sent.0 s.agree)) ∙ known in
         let agents_too : IsAgents n s.mate.agent = ap (λ a. same_name a (daemon_agent n)) (sym (same_name-is agent s.mate.agent s.together)) ∙ apart in
-        by_source n s.mate s.sent.0 s.sent.1 g.thing other agents_too g.gift λ of_source. go g.thing of_source g.is o.no_packet there
+        by_source n high.born s.mate s.sent.0 s.sent.1 g.thing channel agents_too g.gift λ of_source. go g.thing of_source g.is o.no_packet there
       where
         go : (t : Thing) → is_of_source t ≡ true → Is i n from first t s.mate → map.get low.packets m ≡ None → map.get v.things m ≡ Some (t ∷ [])
             → Given m agent chan what
@@ -182,9 +182,10 @@ module _ {i : Infrastructure} {n from first : ℕ} {low high : Config} {v : View
       (effect high (event_of v e) (record still { atoms = put (stands_for v.standing e.actor) goes_high ∷ cut (stands_for v.standing s.other) ∷ [] })) w
       × SameLetters v w
   met_both goes_low goes_high g goes knows is =
-      let first = put_atom c e (stands c e) e.actor (Free.old {ts = Thing.source o.named o.atom ∷ []} o.there refl refl) goes_low
-      (Thing.source o.named goes_high) goes_high goes refl refl (refl, refl) knows o.no_packet (ap (λ l. l >>= first_packet_of) o.there) in
-      let second = cut_atom c e first s.other (Free.old {ts = g.thing ∷ []} there (ap (λ l. l ++ []) g.silent.0) g.silent.1) g.no_packet
+      let first = put_atom c e (stands c e) e.actor (Free.old {ts = Thing.source o.named o.atom ∷ []} o.there refl refl refl refl) goes_low
+      (Thing.source o.named goes_high) goes_high goes refl refl (refl, refl, refl) knows o.no_packet (ap (λ l. l >>= first_packet_of) o.there) in
+      let second = cut_atom c e first s.other (Free.old {ts = g.thing ∷ []} there (ap (λ l. l ++ []) g.silent.0)
+      (ap (λ l. l ++ []) g.silent.1) g.silent.2 g.of_high) g.no_packet
       (ap (λ l. l >>= first_packet_of) there ∙ g.no_high_packet) in
       leave c e second next low.said high.said h is c.said
     where
@@ -224,9 +225,10 @@ module _ {i : Infrastructure} {n from first : ℕ} {low high : Config} {v : View
     (translates : Translates i n from o.named p s.body) (t : Taken c e o s.on s.pattern s.chan s.other s.value s.env s.its_chan s.offers s.binds p) where
   copies_both : IsSame c e next
   copies_both =
-      let r = put_atom c e (stands c e) s.other (Free.old {ts = t.given.thing ∷ []} t.given.there (ap (λ l. l ++ []) t.given.silent.0) t.given.silent.1)
+      let r = put_atom c e (stands c e) s.other (Free.old {ts = t.given.thing ∷ []} t.given.there (ap (λ l. l ++ []) t.given.silent.0)
+      (ap (λ l. l ++ []) t.given.silent.1) t.given.silent.2 t.given.of_high)
       (goes_under s.atom s.body s.env) (Thing.source o.named (goes_under o.atom p t.bound.env)) (goes_under o.atom p t.bound.env)
-      (record { stands = goes_on_under s.body o.is.stands t.bound; translates = translates }) refl refl (refl, refl) t.knows t.given.no_packet
+      (record { stands = goes_on_under s.body o.is.stands t.bound; translates = translates }) refl refl (refl, refl, refl) t.knows t.given.no_packet
       (ap (λ l. l >>= first_packet_of) t.given.there ∙ t.given.no_high_packet) in
       let w = leave c e r next low.said high.said h s.is c.said in (
         effect high (event_of v e) (record still { atoms = put (stands_for v.standing s.other) (goes_under o.atom p t.bound.env) ∷ [] }),

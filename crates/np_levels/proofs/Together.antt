@@ -1,5 +1,5 @@
 -- An event that both levels make: what it leaves at both is coupled.
-use Rattle.std.proofs.Common.{◌≡◌, ◌⊎◌, inl, inr, ℕ, Bool, true, false, ◌||◌, Option, None, Some, List, refl, sym, ap, ◌∙◌}
+use Rattle.std.proofs.Common.{◌≡◌, ◌⊎◌, inl, inr, ℕ, Bool, true, false, ◌||◌, Option, None, Some, List, refl, sym, ap, ◌∙◌, is_some}
 use Rattle.std.specs.List.{All}
 use Rattle.std.specs.FinMap as map
 use Rattle.std.specs.FinSet as set
@@ -15,6 +15,8 @@ use Rattle.np_calculus.specs.Changes.{with_made}
 use Rattle.np_calculus.specs.Config.{Config}
 use Rattle.np_calculus.specs.Reductions.{apply}
 use Rattle.np_calculus.specs.Starts.{daemon_agent}
+use Rattle.np_calculus.specs.declared.config.Atom.{Atom}
+use Rattle.np_calculus.specs.declared.config.Packet.{Packet}
 use Rattle.cache_lift.specs.Lift.{stands_for}
 use Rattle.np_protocol.specs.Phases.{Phase}
 use Rattle.np_protocol.specs.Protocol.{Protocol}
@@ -22,9 +24,10 @@ use Rattle.daemon_encode.specs.Infrastructures.{Infrastructure}
 use Rattle.np_source_values.proofs.Known.{more_known}
 use Rattle.np_things.specs.Mail.{Posted}
 use Rattle.np_things.specs.Things.{Thing, carried, first_atom_of, first_packet_of}
-use Rattle.np_levels.specs.Coupled.{Coupled, IsShaped, KnowsLetter, KnowsOnly, View, chips, is_channel, may_know, scene}
+use Rattle.np_levels.specs.Coupled.{Coupled, IsCarrier, IsShaped, KnowsLetter, KnowsOnly, View, chips, is_channel, may_know, scene, is_high}
 use Rattle.np_levels.specs.Mirrors.{Mirrors}
 use Rattle.np_levels.proofs.Born.{born-kept, made-kept}
+use Rattle.np_levels.proofs.Caches.{KeepsHints, both_grow}
 use Rattle.np_levels.proofs.Quiet.{or_cases, or_second, things_born}
 
 -- ---- what is known stays known where more agents and channels are
@@ -42,6 +45,10 @@ module _ (agents more chans wider : Name → Bool) (from : ℕ) (f : (a : Name) 
   knows_wider (Thing.settling a h s) k = record { each = λ x v b e. more_known agents chans more wider f g (k.each x v b e) }
   knows_wider (Thing.making a h s) k = record { each = λ x v b e. more_known agents chans more wider f g (k.each x v b e) }
   knows_wider (Thing.beginning a h p s) k = record { each = λ x v b e. more_known agents chans more wider f g (k.each x v b e) }
+  knows_wider (Thing.calling a h ps) k = record { each = λ x v b e. more_known agents chans more wider f g (k.each x v b e) }
+  knows_wider (Thing.hoping a h l) k = record { each = λ x v b e. more_known agents chans more wider f g (k.each x v b e) }
+  knows_wider (Thing.hiring a h) k = record { each = λ x v b e. more_known agents chans more wider f g (k.each x v b e) }
+  knows_wider (Thing.passing a h) k = record { each = λ x v b e. more_known agents chans more wider f g (k.each x v b e) }
   knows_wider (Thing.opened p) k = (g p.chan k.0, more_known agents chans more wider f g k.1)
   knows_wider (Thing.packet p) k = (f p.agent k.0, g p.chan k.1, more_known agents chans more wider f g k.2)
   knows_wider (Thing.token a s) k = tt
@@ -54,6 +61,27 @@ module _ (agents more chans wider : Name → Bool) (from : ℕ) (f : (a : Name) 
   knows_wider (Thing.serving s) k = tt
   knows_wider (Thing.places ps) k = tt
   knows_wider (Thing.free l s) k = tt
+  knows_wider (Thing.cache a ps) k = tt
+  knows_wider (Thing.hint a l) k = tt
+  knows_wider (Thing.keeping a) k = tt
+  knows_wider (Thing.told a) k = tt
+  knows_wider (Thing.telling a ps) k = tt
+  knows_wider (Thing.replacing a l) k = tt
+  knows_wider (Thing.adding a ps b) k = tt
+  knows_wider Thing.ended k = tt
+  knows_wider (Thing.looking_back a b l ps) k = tt
+  knows_wider (Thing.reading a b l m) k = tt
+  knows_wider (Thing.reading_back a l) k = tt
+  knows_wider (Thing.carrying p t a) k = letter_wider (Some p) k
+  knows_wider (Thing.trying p t a) k = letter_wider (Some p) k
+
+-- ---- what is of the high level
+
+pub high_by_atom : (ts : List Thing) (a : Atom) → first_atom_of ts ≡ Some a → is_high ts ≡ true
+high_by_atom ts a e = ap (λ o. is_some o || is_some (first_packet_of ts)) e
+
+pub high_by_packet : (ts : List Thing) (k : Packet) → first_packet_of ts ≡ Some k → is_high ts ≡ true
+high_by_packet ts k e = or_second (is_some (first_atom_of ts)) (is_some (first_packet_of ts)) (ap (λ o. is_some o) e)
 
 -- ---- names that are made
 
@@ -81,13 +109,13 @@ more_channels n born x q h = let both = and-out (set.contains born q) _ h in and
 -- ---- what an event of both levels leaves
 
 module _ {i : Infrastructure} {n from first : ℕ} {low high : Config} {v : View} (c : Coupled i n from first low high v) where
-  -- the mark had things, or is new
+  -- the mark had something of the high level, or is new
   abbrev pub IsOldOrNew : Name → Type 0
-  IsOldOrNew m = ((us : List Thing) × (map.get v.things m ≡ Some us)) ⊎ (set.contains low.born m ≡ false)
+  IsOldOrNew m = ((us : List Thing) × (map.get v.things m ≡ Some us) × (is_high us ≡ true)) ⊎ (set.contains low.born m ≡ false)
 
   -- such marks that stand for one mark are one
   pub one_mark : (m k : Name) → stands_for v.standing m ≡ stands_for v.standing k → IsOldOrNew m → IsOldOrNew k → m ≡ k
-  one_mark m k e (inl a) (inl b) = c.distinct m k a.0 b.0 a.1 b.1 e
+  one_mark m k e (inl a) (inl b) = c.distinct m k a.0 b.0 a.1 b.1 a.2 b.2 e
   one_mark m k e (inl a) (inr g) = absurd (let bad : false ≡ true =
       sym g ∙ ap (set.contains low.born) (sym (c.new_marks k g) ∙ sym e) ∙ c.old_marks m (things_born c m a.0 a.1) in cc)
   one_mark m k e (inr f) (inl b) = absurd (let bad : false ≡ true =
@@ -109,10 +137,12 @@ module _ {i : Infrastructure} {n from first : ℕ} {low high : Config} {v : View
     pub shaped : (m : Name) → IsShaped i n from first next things m
     pub mirrored : Mirrors (stands_for v.standing) (λ m. map.get things m >>= first_atom_of) (map.get after.atoms)
     pub mirrored_packets : Mirrors (stands_for v.standing) (λ m. map.get things m >>= first_packet_of) (map.get after.packets)
-    pub old_or_new : (m : Name) (ts : List Thing) → map.get things m ≡ Some ts → IsOldOrNew m
+    pub old_or_new : (m : Name) (ts : List Thing) → map.get things m ≡ Some ts → is_high ts ≡ true → IsOldOrNew m
     pub protocol : Protocol (scene v after) phase (chips things)
     pub known : (m : Name) (ts : List Thing) → map.get things m ≡ Some ts
         → All (λ t. KnowsOnly (may_know v.lock (chips things) t) (is_channel n after.born) from t) ts
+    pub hints : KeepsHints i low high next after v.things things
+    pub carriers : (m : Name) (ts : List Thing) → map.get things m ≡ Some ts → All (IsCarrier v.standing.messengers) ts
 
   pub together : (next after : Config) (e : Event) (things : NameMap (List Thing)) (phase : Name → Phase) → Both next after e things phase
       → Coupled i n from first next after (record v { things = things; phase = phase })
@@ -133,12 +163,14 @@ module _ {i : Infrastructure} {n from first : ℕ} {low high : Config} {v : View
     mirrored_packets = x.mirrored_packets;
     new_marks = λ m h. c.new_marks m (still_new m h);
     old_marks = λ m h. old m h (true_or_false (set.contains low.born m));
-    distinct = λ m k ts us h i e. one_mark m k e (x.old_or_new m ts h) (x.old_or_new k us i);
+    distinct = λ m k ts us h i t u e. one_mark m k e (x.old_or_new m ts h t) (x.old_or_new k us i u);
     protocol = x.protocol;
     locks_born = λ a l h. stays l (c.locks_born a l h);
     locks_apart = c.locks_apart;
     main = c.main;
     known = x.known;
+    hints = λ is. x.hints is (both_grow low high next after e x.applies stays x.high_born) (c.hints is);
+    carriers = x.carriers;
   }
     where
       stays : (q : Name) → set.contains low.born q ≡ true → set.contains next.born q ≡ true

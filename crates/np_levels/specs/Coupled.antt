@@ -16,6 +16,9 @@ use Rattle.np_calculus.specs.Config.{Config}
 use Rattle.np_calculus.specs.Parts.{AreBorn}
 use Rattle.np_calculus.specs.Starts.{daemon_agent, main_agent, own, own_names}
 use Rattle.cache_lift.specs.Lift.{Standing, stands_for}
+use Rattle.cache_rule.specs.Chips.{CacheChip}
+use Rattle.cache_rule.specs.Levels.{Levels}
+use Rattle.cache_rule.specs.Rule.{CacheRule}
 use Rattle.np_protocol.specs.Chips.{Chip}
 use Rattle.np_protocol.specs.Phases.{Phase}
 use Rattle.np_protocol.specs.Protocol.{Protocol}
@@ -24,7 +27,7 @@ use Rattle.daemon_encode.specs.Infrastructures.{Infrastructure}
 use Rattle.np_source_values.specs.Known.{IsKnown, Knows}
 use Rattle.np_things.specs.Mail.{Posted}
 use Rattle.np_things.specs.Shapes.{Are, IsUnderWay}
-use Rattle.np_things.specs.Things.{Thing, carried, first_atom_of, first_packet_of, IsHeaded, show_all}
+use Rattle.np_things.specs.Things.{Thing, carried, first_atom_of, first_packet_of, IsHeaded, shows, shows_caches}
 use Rattle.np_levels.specs.Mirrors.{Mirrors}
 
 -- What is told of the two configurations besides: the things under each mark of the low level, the marks that stand for others of the high level
@@ -46,8 +49,33 @@ whereabouts (Some (place.Way s)) = Whereabouts.under_way s
 abbrev pub scene : View → Config → Scene
 scene v high = record { place = λ q. whereabouts (map.get high.places q); lock = v.lock }
 
+-- all that the things show, one way or another
+abbrev pub shown : {X : Type 0} → (Thing → List X) → NameMap (List Thing) → List X
+shown show things = flat_map (λ e. flat_map show e.1) (map.entries things)
+
 abbrev pub chips : NameMap (List Thing) → List Chip
-chips things = flat_map (λ e. show_all e.1) (map.entries things)
+chips things = shown shows things
+
+-- ---- what the caches' rule sees
+
+abbrev pub cache_chips : NameMap (List Thing) → List CacheChip
+cache_chips things = shown shows_caches things
+
+-- the agents are those of the high level, which has no messengers
+abbrev pub levels : Config → Config → Levels
+levels low high = record {
+  is_agent = λ q. is_some (map.get high.places q);
+  low = λ q. set.contains low.born q;
+  high = λ q. set.contains high.born q;
+}
+
+-- ---- messengers
+
+-- who carries a letter to the site of a hint is a messenger
+abbrev pub IsCarrier : NameSet → Thing → Type 0
+IsCarrier messengers (Thing.carrying p t a) = set.contains messengers t ≡ true
+IsCarrier messengers (Thing.trying p t a) = set.contains messengers t ≡ true
+IsCarrier messengers t = Unit {0}
 
 -- ---- what is known
 
@@ -78,9 +106,17 @@ KnowsOnly agents chans from (Thing.leaving a h) = Knows agents chans from h.env
 KnowsOnly agents chans from (Thing.settling a h s) = Knows agents chans from h.env
 KnowsOnly agents chans from (Thing.making a h s) = Knows agents chans from h.env
 KnowsOnly agents chans from (Thing.beginning a h p s) = Knows agents chans from h.env
+KnowsOnly agents chans from (Thing.calling a h ps) = Knows agents chans from h.env
+KnowsOnly agents chans from (Thing.hoping a h l) = Knows agents chans from h.env
+KnowsOnly agents chans from (Thing.hiring a h) = Knows agents chans from h.env
+KnowsOnly agents chans from (Thing.passing a h) = Knows agents chans from h.env
 KnowsOnly agents chans from (Thing.opened p) = KnowsLetter agents chans (Some p)
 KnowsOnly agents chans from (Thing.packet k) = (agents k.agent ≡ true) × (chans k.chan ≡ true) × IsKnown agents chans k.value
 KnowsOnly agents chans from t = KnowsLetter agents chans (carried t)
+
+-- the things of a mark are something of the high level: an atom or a packet
+abbrev pub is_high : List Thing → Bool
+is_high ts = is_some (first_atom_of ts) || is_some (first_packet_of ts)
 
 -- ---- the invariant
 
@@ -120,8 +156,9 @@ pub record Coupled (i : Infrastructure) (n from first : ℕ) (low high : Config)
   -- a name that is new stands for itself, and what stands for it is new
   pub new_marks : (m : Name) → set.contains low.born m ≡ false → stands_for v.standing m ≡ m
   pub old_marks : (m : Name) → set.contains low.born m ≡ true → set.contains low.born (stands_for v.standing m) ≡ true
-  -- marks that stand for one mark are one: so an event takes from the high level what it takes from the low one
-  pub distinct : (m k : Name) (ts us : List Thing) → map.get v.things m ≡ Some ts → map.get v.things k ≡ Some us → stands_for v.standing m ≡ stands_for v.standing k → m ≡ k
+  -- marks that stand for one mark, and have something of the high level, are one: so an event takes from the high level what it takes from the low one
+  pub distinct : (m k : Name) (ts us : List Thing) → map.get v.things m ≡ Some ts → map.get v.things k ≡ Some us → is_high ts ≡ true → is_high us ≡ true
+      → stands_for v.standing m ≡ stands_for v.standing k → m ≡ k
   -- the chips that the things show keep the protocol: so an agent has one affair at a time, and letters and look-ups find their agents in the map
   pub protocol : Protocol (scene v high) v.phase (chips v.things)
   -- a lock is no name of the infrastructure but main's: so nothing else is taken for it; and a new name is no lock
@@ -132,3 +169,8 @@ pub record Coupled (i : Infrastructure) (n from first : ℕ) (low high : Config)
   -- the source knows no agent that is not in the map, so each post finds its agent; and no channel of the infrastructure, so none meets the source's
   pub known : (m : Name) (ts : List Thing) → map.get v.things m ≡ Some ts
       → All (λ t. KnowsOnly (may_know v.lock (chips v.things) t) (is_channel n high.born) from t) ts
+  -- each agent has a cache, and who needs a hint finds it: so no post waits for ever. The lock of a hint is hidden: so the source takes none, and nothing
+  -- of the source is taken for one
+  pub hints : i ≡ Infrastructure.cached → CacheRule (levels low high) (cache_chips v.things)
+  -- what stands in messengers is no agent's: so where they go is nothing for the high level
+  pub carriers : (m : Name) (ts : List Thing) → map.get v.things m ≡ Some ts → All (IsCarrier v.standing.messengers) ts

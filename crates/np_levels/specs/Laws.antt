@@ -1,7 +1,7 @@
 -- What the laws of the invariant between the levels say.
 use Rattle.np_syntax.specs.declared.program.Program.{Program}
 use Rattle.np_syntax.specs.declared.program.LowProgram.{LowProgram}
-use Rattle.std.specs.Prelude.{◌≡◌, ℕ, true, false, Some, length}
+use Rattle.std.specs.Prelude.{◌≡◌, ◌⊎◌, ℕ, true, false, Some, length}
 use Rattle.std.specs.FinSet as set
 use Rattle.np_syntax.specs.declared.event.Event.{Event}
 use Rattle.np_syntax.specs.declared.event.Kind.{Kind}
@@ -19,18 +19,18 @@ use Rattle.np_scope.specs.Sound.{IsSound}
 use Rattle.daemon_encode.specs.Infrastructures.{Infrastructure}
 use Rattle.daemon_encode.specs.Translates.{IsLowOf}
 use Rattle.np_levels.specs.Coupled.{Coupled, View}
-use Rattle.np_levels.specs.Letters.{IsPosting, LettersAfter, NoLetters, SameLetters}
-use Rattle.np_levels.specs.Roles.{occurs}
+use Rattle.np_levels.specs.Letters.{IsFinding, IsHiringFor, IsMissing, IsPosting, LettersAfter, NoLetters, SameLetters}
+use Rattle.np_levels.specs.Roles.{may_occur}
 
 -- the two starts are coupled, each mark stands for itself, there is no messenger, and no letter is under way
-abbrev pub StartsCoupled : Type 0
-StartsCoupled = (p : Program) (q : LowProgram) (low : IsLowOf Infrastructure.central p q) → IsSound p
-    → (v : View) × Coupled Infrastructure.central (length p.sites) p.binders low.first (start_low q) (start_high p) v × (v.standing ≡ at_first) × NoLetters v
+abbrev pub StartsCoupled : Infrastructure → Type 0
+StartsCoupled i = (p : Program) (q : LowProgram) (low : IsLowOf i p q) → IsSound p
+    → (v : View) × Coupled i (length p.sites) p.binders low.first (start_low q) (start_high p) v × (v.standing ≡ at_first) × NoLetters v
 
 -- each event of the low level is of the infrastructure, of a post, or of the source's own, and of a kind that such events have
 abbrev pub RolesOfEvents : Infrastructure → Type 0
 RolesOfEvents i = (n from first : ℕ) (low high : Config) (v : View) → Coupled i n from first low high v → (e : Event) (next : Config) → apply low e ≡ Some next
-    → occurs e.tag.role e.kind ≡ true
+    → may_occur i e.tag.role e.kind ≡ true
 
 -- after an event of this kind and role the low level still belongs to the same configuration of the high level, and the letters under way are those that
 -- such an event leaves
@@ -38,6 +38,18 @@ abbrev pub IsQuiet : Infrastructure → Kind → Role → Type 0
 IsQuiet i k r = (n from first : ℕ) (low high : Config) (v : View) → Coupled i n from first low high v → (e : Event) (next : Config)
     → e.kind ≡ k → e.tag.role ≡ r → apply low e ≡ Some next
     → (w : View) × (w.standing ≡ v.standing) × Coupled i n from first next high w × LettersAfter k r low next e v w
+
+-- the arrival of a messenger is nothing at the high level
+abbrev pub MessengersArrive : Infrastructure → Type 0
+MessengersArrive i = (n from first : ℕ) (low high : Config) (v : View) → Coupled i n from first low high v → (e : Event) (next : Config)
+    → e.kind ≡ kind.Arrive → set.contains v.standing.messengers e.actor ≡ true → apply low e ≡ Some next
+    → (w : View) × (w.standing ≡ v.standing) × Coupled i n from first next high w × SameLetters v w
+
+-- the test of a messenger whether the agent is there is nothing at the high level
+abbrev pub MessengersTry : Infrastructure → Type 0
+MessengersTry i = (n from first : ℕ) (low high : Config) (v : View) → Coupled i n from first low high v → (e : Event) (next : Config)
+    → e.kind ≡ kind.Local → e.tag.role ≡ role.Infra → apply low e ≡ Some next
+    → (w : View) × Coupled i n from first next high w × (IsFinding next e v w ⊎ IsMissing e v w)
 
 -- The post that a Send is, at the mark of the high level: it is an event of the high level, where no value of a wrong type is met and each atom's agent
 -- has a place, and the two configurations stay coupled.
@@ -49,6 +61,12 @@ PostsAreEvents i = (n from first : ℕ) (low high : Config) (v : View) → Coupl
     → e.kind ≡ kind.Send → e.tag.role ≡ role.Post → apply low e ≡ Some next
     → (then : Config) × (apply high (post_of v e) ≡ Some then) × (w : View) × (w.standing ≡ v.standing) × Coupled i n from first next then w
     × IsPosting low e v w
+
+-- The post that the creation of a messenger is, at the mark of the high level. The messenger's mark carries the letter then, and stands for that of the post.
+abbrev pub MessengersAreHired : Infrastructure → Type 0
+MessengersAreHired i = (n from first : ℕ) (low high : Config) (v : View) → Coupled i n from first low high v → Well high → IsLodged (inside high) → (e : Event) (next : Config)
+    → e.kind ≡ kind.Agent → e.tag.role ≡ role.Post → apply low e ≡ Some next
+    → (then : Config) × (apply high (post_of v e) ≡ Some then) × (w : View) × Coupled i n from first next then w × IsHiringFor then e v w
 
 -- the same event at the marks of the high level
 abbrev pub event_of : View → Event → Event

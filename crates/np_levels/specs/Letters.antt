@@ -8,12 +8,14 @@ use Rattle.np_syntax.specs.declared.process.Role.TheVariants as role
 use Rattle.np_syntax.specs.declared.event.Event.{Event}
 use Rattle.np_syntax.specs.declared.event.Kind.{Kind}
 use Rattle.np_syntax.specs.declared.event.Kind.TheVariants as kind
+use Rattle.np_syntax.specs.declared.event.Made.TheVariants as made
 use Rattle.np_syntax.specs.Options.{◌>>=◌}
 use Rattle.np_tables.specs.Names.{NameMap, same_name}
 use Rattle.np_calculus.specs.Config.{Config}
 use Rattle.np_calculus.specs.Reductions.{output_in}
 use Rattle.np_lift.specs.Posts.{Letter, letter_at}
-use Rattle.np_things.specs.Mail.{Posted}
+use Rattle.cache_lift.specs.Lift.{stands_for, with_mark, with_messenger}
+use Rattle.np_things.specs.Mail.{Posted, as_output}
 use Rattle.np_things.specs.Things.{Thing, carried}
 use Rattle.np_levels.specs.Coupled.{View}
 
@@ -47,6 +49,37 @@ pub record IsPosting (low : Config) (e : Event) (v w : View) : Type 0 where
   pub sent : letter_at low e.actor ≡ Some (as_letter letter)
   pub none : letter_under v.things e.actor ≡ None
   pub after : OtherLetter v w e.actor (Some letter)
+
+-- A messenger is made for a post: no letter was under way under the mark of the post, nor under the messenger's, which carries it then. That mark
+-- stands from then on for what the mark of the post stands for.
+pub record IsHiringFor (then : Config) (e : Event) (v w : View) : Type 0 where
+  pub messenger : Name
+  pub mark : Name
+  pub made_two : e.made ≡ made.Two messenger mark
+  pub standing : w.standing ≡ with_messenger v.standing messenger mark e.actor
+  pub letter : Posted
+  pub posted : map.get then.atoms (stands_for v.standing e.actor) ≡ Some (as_output letter)
+  pub none : letter_under v.things e.actor ≡ None
+  pub none_yet : letter_under v.things mark ≡ None
+  pub after : OtherLetter v w mark (Some letter)
+
+-- A messenger finds the agent: the letter that was under way under its mark is an output in that agent then, under a new mark, which stands from then
+-- on for what its mark stands for.
+pub record IsFinding (next : Config) (e : Event) (v w : View) : Type 0 where
+  pub mark : Name
+  pub made_one : e.made ≡ made.One mark
+  pub standing : w.standing ≡ with_mark v.standing mark e.actor
+  pub letter : Posted
+  pub was : letter_under v.things e.actor ≡ Some letter
+  pub tag : Tag
+  pub stands : map.get next.atoms mark ≡ Some (output_in letter.agent letter.chan letter.value tag)
+  pub after : OtherLetter v w e.actor None
+
+-- it does not: its letter stays under its mark
+pub record IsMissing (e : Event) (v w : View) : Type 0 where
+  pub made_none : e.made ≡ made.Nothing
+  pub standing : w.standing ≡ v.standing
+  pub letters : SameLetters v w
 
 -- an opening: the letter that was under way under its mark is an output in its agent then
 pub record IsHanding (next : Config) (e : Event) (v w : View) : Type 0 where

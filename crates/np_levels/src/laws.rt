@@ -1,6 +1,6 @@
 ghost use Rattle.std.specs.Prelude.{◌≡◌};
 ghost use Rattle.daemon_encode.specs.Infrastructures.{Infrastructure};
-ghost use Rattle.np_levels.specs.Laws.{ArrivalsAreEvents, IsEvent, IsQuiet, PostsAreEvents, RolesOfEvents, StartsCoupled};
+ghost use Rattle.np_levels.specs.Laws.{ArrivalsAreEvents, IsEvent, IsQuiet, MessengersAreHired, MessengersArrive, MessengersTry, PostsAreEvents, RolesOfEvents, StartsCoupled};
 ghost use Rattle.np_syntax.specs.declared.event.Kind.{Kind};
 ghost use Rattle.np_syntax.specs.declared.event.Kind.TheVariants as kind;
 ghost use Rattle.np_syntax.specs.declared.process.Role.TheVariants as role;
@@ -8,21 +8,25 @@ ghost use Rattle.np_syntax.specs.declared.process.Role.TheVariants as role;
 /// The starts of a sound program and of each low program of it are coupled, where each mark stands for itself and no letter
 /// is under way.
 pub fn law_coupled_starts()
-    ensures { StartsCoupled }
+    ensures { (i : Infrastructure) → StartsCoupled i }
 {}
 
-/// Each event of the infrastructure, and the landing of a post, is nothing at the high level: the two configurations stay
-/// coupled. The opening of a letter hands it over, and all others leave the letters that are under way. Where an output is taken, this is
-/// said of the central infrastructure.
+/// Each event of the infrastructure, the landing of a post, and the arrival of a messenger are nothing at the high level: the two configurations stay
+/// coupled. The opening of a letter hands it over, and all others leave the letters that are under way. Where a messenger tests whether an agent
+/// is there, and it is, a new mark stands for that of the messenger from then on; the central infrastructure has no messengers.
 pub fn law_quiet()
-    ensures others { (i : Infrastructure) (k : Kind) → (k ≡ kind.Comm → ⊥) → IsQuiet i k role.Infra }
+    ensures others { (i : Infrastructure) (k : Kind) → (k ≡ kind.Local → ⊥) → IsQuiet i k role.Infra }
     ensures infrastructure { (k : Kind) → IsQuiet Infrastructure.central k role.Infra }
     ensures posts_land { (i : Infrastructure) → IsQuiet i kind.Land role.Post }
+    ensures messengers_try { (i : Infrastructure) → MessengersTry i }
+    ensures messengers_arrive { (i : Infrastructure) → MessengersArrive i }
 {}
 
-/// A Send of a post is an event of the high level, and the two configurations stay coupled. Its letter is under way then.
+/// A Send of a post is an event of the high level, and the two configurations stay coupled. Its letter is under way then. So it is where a
+/// messenger is made for a post.
 pub fn law_posts_are_events()
-    ensures { (i : Infrastructure) → PostsAreEvents i }
+    ensures sent { (i : Infrastructure) → PostsAreEvents i }
+    ensures hired { (i : Infrastructure) → MessengersAreHired i }
 {}
 
 /// An event that one process of the source makes alone is the same event of the high level: it is done, makes a channel, binds a value, tests, says a
@@ -46,10 +50,10 @@ pub fn law_meetings_are_events()
     ensures copies { (i : Infrastructure) → IsEvent i kind.Rep }
 {}
 
-/// Where an agent departs or arrives for the source, and is no messenger, the same is an event of the high level, and the two configurations stay
-/// coupled; and so where one is made, by the central infrastructure.
+/// Where an agent is made, departs or arrives for the source, and is no messenger, the same is an event of the high level, and the two configurations
+/// stay coupled.
 pub fn law_moves_are_events()
-    ensures creations { IsEvent Infrastructure.central kind.Agent }
+    ensures creations { (i : Infrastructure) → IsEvent i kind.Agent }
     ensures departures { (i : Infrastructure) → IsEvent i kind.Depart }
     ensures arrivals { (i : Infrastructure) → ArrivalsAreEvents i }
 {}

@@ -29,6 +29,8 @@ headed-letters (t ∷ ts) h = one-more (carried_letter t) t ts refl (no-others t
 -- a thing that carries a letter is its output at the high level
 carried-output : (t : Thing) (p : Posted) → carried t ≡ Some p → high_atom t ≡ Some (as_output p)
 carried-output (Thing.opening q) p h = ap (λ o. do r ← o; Some (as_output r)) h
+carried-output (Thing.carrying q t a) p h = ap (λ o. do r ← o; Some (as_output r)) h
+carried-output (Thing.trying q t a) p h = ap (λ o. do r ← o; Some (as_output r)) h
 carried-output (Thing.mail m stage) p h = ap (λ o. do r ← o; Some (as_output r)) h
 carried-output (Thing.taken m) p h = ap (λ o. do r ← o; Some (as_output r)) h
 carried-output (Thing.looking m ps) p h = ap (λ o. do r ← o; Some (as_output r)) h

@@ -18,20 +18,22 @@ use Rattle.np_calculus.specs.Config.{Config}
 use Rattle.np_calculus.specs.Reductions.{apply, output_in, run}
 use Rattle.np_calculus.specs.Starts.{start_high, start_low}
 use Rattle.np_lift.specs.Posts.{Deed, Letter, and_on, deed_by, deeds, deeds_to, letter_at, prepended}
+use Rattle.cache_lift.specs.Lift.{stands_for}
+use Rattle.cache_lift.proofs.Standings.{stands-itself}
 use Rattle.np_check.specs.Faults.{IsAccepted}
 use Rattle.daemon_encode.specs.Infrastructures.{Infrastructure}
 use Rattle.daemon_encode.specs.Translates.{IsLowOf}
 use Rattle.np_things.specs.Mail.{as_output}
 use Rattle.np_things.specs.Things.{Thing, carried, high_atom}
 use Rattle.np_levels.specs.Coupled.{IsShaped, View}
-use Rattle.np_levels.specs.Letters.{IsHanding, IsPosting, LettersAfter, NoLetters, SameLetters, as_letter, first_letter_of, letter_under}
+use Rattle.np_levels.specs.Letters.{IsHanding, IsPosting, NoLetters, SameLetters, as_letter, first_letter_of, letter_under}
 use Rattle.np_levels.specs.Roles.{occurs}
 use Rattle.np_rest.specs.Laws.{HasRest}
 use Rattle.np_rest.proofs.Highs.{rests-together}
-use Rattle.np_simulation.specs.Laws.{IsLifted}
+use Rattle.np_simulation.specs.Laws.{IsCentralLifted}
+use Rattle.np_simulation.specs.Letters.{LettersLeft}
+use Rattle.np_simulation.proofs.Central.{from-central-starts}
 use Rattle.np_simulation.proofs.Lodged.{runs-are-lodged}
-use Rattle.np_simulation.proofs.Runs.{from-starts}
-use Rattle.np_simulation.proofs.Steps.{itself}
 use Rattle.np_posts.specs.Laws.{LettersInPlace, LettersStandAbove, PostsArePaired, RestsAbove, RestsAllHanded}
 use Rattle.np_posts.specs.UnderWay.{letters_of, listed}
 use Rattle.np_posts.proofs.Carrying.{carries-first, headed-letters}
@@ -86,10 +88,13 @@ module _ (low next : Config) (e : Event) (v w : View) (m : Name) (ds : List (Nam
   handed-turn false is p = others-turn (Deed.opens (map.get next.atoms e.actor)) is
       (ap (option_map as_letter) (p.after m ∙ ap (λ t. cond t None (letter_under v.things m)) is))
 
-  turn : (k : Kind) (r : Role) → LettersAfter k r low next e v w → Turned (deed_by k r low next e)
-  turn kind.Send role.Post l = posted-turn (same_name m e.actor) refl l
-  turn kind.Open r l = handed-turn (same_name m e.actor) refl l
-  turn _ _ l = same-turn l
+  -- the central infrastructure has no messengers
+  turn : (then : Config) (k : Kind) (r : Role) → occurs r k ≡ true → LettersLeft k r low next then e v w → Turned (deed_by k r low next e)
+  turn then kind.Send role.Post may l = posted-turn (same_name m e.actor) refl l
+  turn then kind.Open r may l = handed-turn (same_name m e.actor) refl l
+  turn then kind.Agent role.Post may l = absurd cc
+  turn then kind.Local role.Infra may l = absurd cc
+  turn then _ _ may l = same-turn l
 
 -- ---- runs
 
@@ -97,16 +102,16 @@ module _ (low next : Config) (e : Event) (v w : View) (m : Name) (ds : List (Nam
 abbrev TakeTurns : Config → View → List Event → View → Type 0
 TakeTurns low v es w = (m : Name) → Turns (letter v m) (deeds_to m (deeds low es)) (letter w m)
 
-one-more : (low next : Config) (v u w : View) (e : Event) (es : List Event) → apply low e ≡ Some next → occurs e.tag.role e.kind ≡ true
-    → LettersAfter e.kind e.tag.role low next e v u → TakeTurns next u es w → TakeTurns low v (e ∷ es) w
-one-more low next v u w e es applies may letters turns m =
+one-more : (low next then : Config) (v u w : View) (e : Event) (es : List Event) → apply low e ≡ Some next → occurs e.tag.role e.kind ≡ true
+    → LettersLeft e.kind e.tag.role low next then e v u → TakeTurns next u es w → TakeTurns low v (e ∷ es) w
+one-more low next then v u w e es applies may letters turns m =
     subst (λ xs. Turns (letter v m) (deeds_to m xs) (letter w m)) (sym (ap (λ o. and_on low e o (λ d. deeds d es)) applies))
-    (turn low next e v u m (deeds next es) (letter w m) (turns m) e.kind e.tag.role letters)
+    (turn low next e v u m (deeds next es) (letter w m) (turns m) then e.kind e.tag.role may letters)
 
 module _ (p : Program) (q : LowProgram) (low : IsLowOf Infrastructure.central p q) (accepted : IsAccepted p) (events : List Event) (c : Config)
     (h : run (start_low q) events ≡ Some c) where
-  lifted : (l : IsLifted (length p.sites) p.binders low.first (start_high p) events c) × (v : View) × NoLetters v × TakeTurns (start_low q) v events l.view
-  lifted = from-starts TakeTurns (record { none = λ c v m. Turns.stays; more = one-more }) p q low accepted events c h
+  lifted : (l : IsCentralLifted (length p.sites) p.binders low.first (start_high p) events c) × (v : View) × NoLetters v × TakeTurns (start_low q) v events l.view
+  lifted = from-central-starts p q low accepted events c h TakeTurns (record { none = λ c v m. Turns.stays; more = one-more })
 
   turns : (m : Name) → Turns None (deeds_to m (deeds (start_low q) events)) (letter lifted.0.view m)
   turns m = subst (λ l. Turns l (deeds_to m (deeds (start_low q) events)) (letter lifted.0.view m)) (ap (option_map as_letter) (lifted.2 m)) (lifted.3 m)
@@ -140,7 +145,7 @@ letters-stand-above p q low accepted events c h high runs mark l left =
     sym (turns-left None (deeds_to mark (deeds (start_low q) events)) _ (turns p q low accepted events c h mark)) ∙ left in
     let first = carries-first (map.get v.view.things mark) l its in
     let there : map.get v.high.atoms mark ≡ Some (as_output first.letter) =
-    ap (map.get v.high.atoms) (sym (itself v.view v.stand mark)) ∙ v.coupled.mirrored.up mark (as_output first.letter) first.stands in (
+    ap (map.get v.high.atoms) (sym (ap (λ s. stands_for s mark) v.stand ∙ stands-itself mark)) ∙ v.coupled.mirrored.up mark (as_output first.letter) first.stands in (
       first.letter.tag,
       ap (λ (d : Config). map.get d.atoms mark) (done (sym v.runs ∙ runs)) ∙ there
           ∙ ap (λ (k : Letter). Some (output_in k.agent k.chan k.value first.letter.tag)) first.is,
@@ -159,12 +164,14 @@ none-left v rest m = go (map.get v.things m) refl
 pub rests-above : RestsAbove
 rests-above p q low accepted events c h idle =
     let l = (lifted p q low accepted events c h).0 in
-    let r = rests-together (length p.sites) p.binders low.first c l.high l.view l.coupled (runs-are-lodged p q low accepted events c h) idle in
+    let r =
+    rests-together Infrastructure.central (length p.sites) p.binders low.first c l.high l.view l.coupled (runs-are-lodged p q low accepted events c h) idle in
     (l, r.0, r.1)
 
 pub rests-all-handed : RestsAllHanded
+unfolding rests-above
 rests-all-handed p q low accepted events c h idle mark =
     let l = (lifted p q low accepted events c h).0 in
-    let rest = (rests-together (length p.sites) p.binders low.first c l.high l.view l.coupled (runs-are-lodged p q low accepted events c h) idle).1 in
+    let rest = (rests-above p q low accepted events c h idle).2 in
     turns-handed (deeds_to mark (deeds (start_low q) events))
     (subst (Turns None (deeds_to mark (deeds (start_low q) events))) (none-left l.view rest mark) (turns p q low accepted events c h mark))

@@ -16,7 +16,7 @@ use Rattle.np_check.specs.Faults.{IsAccepted}
 use Rattle.daemon_encode.specs.Infrastructures.{Infrastructure}
 use Rattle.daemon_encode.specs.Translates.{IsLowOf}
 use Rattle.np_rest.specs.Laws.{HasRest}
-use Rattle.np_simulation.specs.Laws.{IsLifted}
+use Rattle.np_simulation.specs.Laws.{IsCentralLifted}
 use Rattle.np_posts.specs.UnderWay.{left_by, letters_of, under_way}
 
 -- each post of a run is handed over once at most, before the next one of its mark
@@ -28,7 +28,7 @@ PostsArePaired = (p : Program) (q : LowProgram) (low : IsLowOf Infrastructure.ce
 -- by which the run's end belongs to that of the lifted run.
 abbrev pub LettersInPlace : Type 0
 LettersInPlace = (p : Program) (q : LowProgram) (low : IsLowOf Infrastructure.central p q) → IsAccepted p → (events : List Event) (c : Config) → run (start_low q) events ≡ Some c
-    → (l : IsLifted (length p.sites) p.binders low.first (start_high p) events c)
+    → (l : IsCentralLifted (length p.sites) p.binders low.first (start_high p) events c)
     × ((mark : Name) → letters_of (map.get l.view.things mark) ≡ under_way (deeds_to mark (deeds (start_low q) events)))
 
 -- where the lifted run leads to, the output of each such letter stands in its agent already, under the mark of its post
@@ -46,4 +46,4 @@ RestsAllHanded = (p : Program) (q : LowProgram) (low : IsLowOf Infrastructure.ce
 -- and the lifted run has come to rest at the high level, where nothing is left of the infrastructure
 abbrev pub RestsAbove : Type 0
 RestsAbove = (p : Program) (q : LowProgram) (low : IsLowOf Infrastructure.central p q) → IsAccepted p → (events : List Event) (c : Config) → run (start_low q) events ≡ Some c
-    → Idle c → (l : IsLifted (length p.sites) p.binders low.first (start_high p) events c) × Idle l.high × HasRest l.view
+    → Idle c → (l : IsCentralLifted (length p.sites) p.binders low.first (start_high p) events c) × Idle l.high × HasRest l.view

@@ -74,7 +74,7 @@ module _ (w : Scene) (phase : Name → Phase) {before after take give : List Chi
     one_lock = locked;
     travels = λ x t r. p.travels x t (g.reported x t r);
     letters = λ x there. let more = no_fewer step (λ ch. one_if (takes_for x ch)) (quiet.letters x) in omega (arith, more, p.letters x there);
-    services = λ k. let more = no_fewer step (λ ch. one_if (does k ch)) (quiet.services k) in omega (arith, more, p.services k);
+    services = λ k always. let more = no_fewer step (λ ch. one_if (does k ch)) (quiet.services k) in omega (arith, more, p.services k always);
     true_chips = all_true step w then given
         (All-weaker (IsTrueOf w phase) (IsTrueOf w then) (λ ch. carry w w phase then (λ x s h. h) (λ x l h. h) g.reports ch (λ is x. refl)) step.rest (all_rest step (IsTrueOf w phase) p.true_chips));
   }

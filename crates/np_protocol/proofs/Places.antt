@@ -54,7 +54,7 @@ module _ (w : Scene) (phase : Name → Phase) {before after : List Chip} where
       one_lock = λ x. ap (λ n. n + one_if (is_moving (phase x))) (same_sum step (λ ch. one_if (has_lock (w.lock x) x ch)) refl) ∙ p.one_lock x;
       travels = λ x u r. on_way x u (same_name x a) refl (p.travels x u r);
       letters = λ x h. let more = no_fewer step (λ ch. one_if (takes_for x ch)) refl in omega (arith, more, p.letters x (sym (there x) ∙ h));
-      services = λ k. let more = no_fewer step (λ ch. one_if (does k ch)) refl in omega (arith, more, p.services k);
+      services = λ k always. let more = no_fewer step (λ ch. one_if (does k ch)) refl in omega (arith, more, p.services k always);
       true_chips = all_true step v phase tt
           (All-weaker (IsTrueOf w phase) (IsTrueOf v phase) (λ ch. carry w v phase phase place (λ x l h. h) (λ x u r. r) ch (λ is x. refl)) step.rest (all_rest step (IsTrueOf w phase) p.true_chips));
     },
@@ -92,7 +92,7 @@ module _ (w : Scene) (phase : Name → Phase) {before after : List Chip} where
           omega (arith, p.one_lock x);
       travels = λ x u r. on_way x u (p.travels x u (was_reporting phase b Phase.absent Phase.registering none refl x u (was_reporting middle a Phase.creating Phase.parent still refl x u r)));
       letters = λ x h. taken_in x (same_name x b) refl h;
-      services = λ k. let more = no_fewer step (λ ch. one_if (does k ch)) refl in omega (arith, more, p.services k);
+      services = λ k always. let more = no_fewer step (λ ch. one_if (does k ch)) refl in omega (arith, more, p.services k always);
       true_chips = all_true step v then (here, ((here, parent_here), (inl parent_here, (tt, tt))))
           (All-weaker (IsTrueOf w phase) (IsTrueOf v then) (λ ch. carry w v phase then place (λ x l h. h) reports ch (λ is x. refl)) step.rest (all_rest step (IsTrueOf w phase) p.true_chips));
     },
@@ -165,7 +165,7 @@ module _ (w : Scene) (phase : Name → Phase) {before after : List Chip} where
           omega (arith, p.one_lock x);
       travels = λ x u r. on_way x u (same_name x a) refl r (p.travels x u);
       letters = λ x h. let more = no_fewer step (λ ch. one_if (takes_for x ch)) refl in omega (arith, more, p.letters x (sym (there x) ∙ h));
-      services = λ k. let more = no_fewer step (λ ch. one_if (does k ch)) refl in omega (arith, more, p.services k);
+      services = λ k always. let more = no_fewer step (λ ch. one_if (does k ch)) refl in omega (arith, more, p.services k always);
       true_chips = all_true step v then (inr left, ((left, λ e. absurd cc), tt))
           (All-weaker (λ ch. IsTrueOf w phase ch × ((f : Chip → ℕ) → f ch ≤ sum_by f step.rest)) (IsTrueOf v then) (λ ch h. stays ch h.0 h.1) step.rest (all_rest_weighed step (IsTrueOf w phase) p.true_chips));
     },
@@ -258,7 +258,7 @@ module _ (w : Scene) (phase : Name → Phase) {before after : List Chip} where
           omega (arith, p.one_lock x, sum_before step f, sum_after step f, only-zero (same_name x a));
       travels = λ x u r. p.travels x u (was_reporting phase a (Phase.reporting t) Phase.finishing was refl x u r);
       letters = λ x h. let more = no_fewer step (λ ch. one_if (takes_for x ch)) refl in omega (arith, more, p.letters x h);
-      services = λ k. let more = no_fewer step (λ ch. one_if (does k ch)) refl in omega (arith, more, p.services k);
+      services = λ k always. let more = no_fewer step (λ ch. one_if (does k ch)) refl in omega (arith, more, p.services k always);
       true_chips = all_true step w then (here, ((a, has, here), tt))
           (All-weaker (λ ch. IsTrueOf w phase ch × ((f : Chip → ℕ) → f ch ≤ sum_by f step.rest)) (IsTrueOf w then) (λ ch h. stays ch h.0 h.1) step.rest (all_rest_weighed step (IsTrueOf w phase) p.true_chips));
     },

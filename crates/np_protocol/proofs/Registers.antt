@@ -51,7 +51,7 @@ module _ (w : Scene) (phase : Name → Phase) {before after : List Chip} where
           omega (arith, p.one_lock x, sum_before step f, sum_after step g, only-zero (same_name x b));
       travels = λ x u r. p.travels x u (was_reporting phase b Phase.registering Phase.starting was refl x u r);
       letters = λ x h. let more = no_fewer step (λ ch. one_if (takes_for x ch)) refl in omega (arith, more, p.letters x h);
-      services = λ k. let more = no_fewer step (λ ch. one_if (does k ch)) refl in omega (arith, more, p.services k);
+      services = λ k always. let more = no_fewer step (λ ch. one_if (does k ch)) refl in omega (arith, more, p.services k always);
       true_chips = all_true step v then (here, (map, ((b, entered, here), tt)))
           (All-weaker (λ ch. IsTrueOf w phase ch × ((f : Chip → ℕ) → f ch ≤ sum_by f step.rest)) (IsTrueOf v then)
           (λ ch h. carry w v phase then (λ x u i. i) (λ x k i. kept x k (same_name x b) refl i) (still_reporting phase b Phase.registering Phase.starting was refl) ch (λ is x. absurd (one_map ch is h.1)) h.0)

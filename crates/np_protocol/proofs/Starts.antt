@@ -1,16 +1,17 @@
 -- The protocol holds of the start.
-use Rattle.std.proofs.Common.{◌≡◌, ◌+◌, ◌≤◌, ℕ, Bool, true, false, cond, None, Some, [], ◌∷◌, is_some, refl, sym, ap, ◌∙◌, arith}
+use Rattle.std.proofs.Common.{◌≡◌, ◌+◌, ◌≤◌, ℕ, Bool, true, false, cond, None, Some, [], ◌∷◌, is_some, refl, sym, ap, ◌∙◌, arith, List}
 use Rattle.std.specs.List.{count_by}
-use Rattle.std.proofs.lemmas.List.Elements.{All-from_recursion}
+use Rattle.std.proofs.lemmas.List.Elements.{All-from_recursion, All-cons}
+use Rattle.std.proofs.lemmas.List.Sums.{sum_by-cons}
 use Rattle.np_syntax.specs.declared.value.Name.{Name}
 use Rattle.np_tables.specs.Names.{same_name}
 use Rattle.np_tables.proofs.Tables.{same_name-is, same_name-itself}
-use Rattle.np_protocol.specs.Chips.{Service, is_lock, does}
+use Rattle.np_protocol.specs.Chips.{Service, is_lock, does, always_serves, Chip, counted}
 use Rattle.np_protocol.specs.Columns.{Column, times}
 use Rattle.np_protocol.specs.Laws.{StartsInOrder}
 use Rattle.np_protocol.specs.Phases.{Phase, line, is_present, is_registered, is_moving}
-use Rattle.np_protocol.specs.Protocol.{IsTrueOf, one_if}
-use Rattle.np_protocol.specs.Scenes.{Locks, Whereabouts, is_there}
+use Rattle.np_protocol.specs.Protocol.{IsTrueOf, one_if, Protocol}
+use Rattle.np_protocol.specs.Scenes.{Locks, Whereabouts, is_there, Scene}
 use Rattle.np_protocol.specs.Starts.{first_scene, first_phase, first_chips}
 use Rattle.np_protocol.proofs.Tallies.{only, tally}
 
@@ -43,12 +44,13 @@ module _ (main lock : Name) (site : ℕ) where
   taken_in true h = omega arith
   taken_in false h = absurd cc
 
-  serves : (map : Locks) (k : Service) → 1 ≤ count_by (does k) (first_chips main lock site map)
-  serves map Service.registers = omega arith
-  serves map Service.grants = omega arith
-  serves map Service.notes_moves = omega arith
-  serves map Service.passes_on = omega arith
-  serves map Service.ends_deliveries = omega arith
+  serves : (map : Locks) (k : Service) → always_serves k ≡ true → 1 ≤ count_by (does k) (first_chips main lock site map)
+  serves map Service.registers always = omega arith
+  serves map Service.grants always = omega arith
+  serves map Service.notes_moves always = omega arith
+  serves map Service.passes_on always = omega arith
+  serves map Service.ends_deliveries always = omega arith
+  serves map Service.tells always = absurd cc
 
   here : cond (same_name main main) (Whereabouts.at site) Whereabouts.nowhere ≡ Whereabouts.at site
   here = rw (same_name-itself main) refl
@@ -69,4 +71,19 @@ starts-in-order main lock site map same = record {
   services = serves main lock site map;
   true_chips = All-from_recursion (IsTrueOf (first_scene main lock site) (first_phase main)) (first_chips main lock site map)
       (here main lock site, (tt, (same, ((main, its_lock main lock site, here main lock site), (tt, (tt, (tt, (tt, (tt, tt)))))))));
+}
+
+-- where the daemon serves more, the protocol holds still
+pub serves-more : (w : Scene) (phase : Name → Phase) (chips : List Chip) (k : Service) → Protocol w phase chips → Protocol w phase (Chip.serves k ∷ chips)
+serves-more w phase chips k p = record {
+  rows = λ a c. omega (arith, sum_by-cons (counted a c) (Chip.serves k) chips, p.rows a c);
+  placed = p.placed;
+  registered = p.registered;
+  apart = p.apart;
+  one_map = omega (arith, p.one_map);
+  one_lock = λ a. omega (arith, p.one_lock a);
+  travels = p.travels;
+  letters = λ a h. omega (arith, p.letters a h);
+  services = λ j h. omega (arith, p.services j h, sum_by-cons (λ c. one_if (does j c)) (Chip.serves k) chips);
+  true_chips = All-cons (IsTrueOf w phase) (Chip.serves k) chips tt p.true_chips;
 }

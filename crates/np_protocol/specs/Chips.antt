@@ -6,13 +6,14 @@ use Rattle.np_tables.specs.Names.{same_name}
 use Rattle.np_protocol.specs.Columns.{Column, same}
 use Rattle.np_protocol.specs.Scenes.{Locks}
 
--- the daemon's servers
+-- the daemon's servers; the last, which tells where agents are, is there with caches alone
 pub data Service : Type 0 where
   registers : Service
   grants : Service
   notes_moves : Service
   passes_on : Service
   ends_deliveries : Service
+  tells : Service
 
 pub data Chip : Type 0 where
   -- of an agent, at a site: its `currentloc` is free; it is about to make an agent; it waits for the end of its affair
@@ -92,6 +93,12 @@ service_number Service.grants = 1
 service_number Service.notes_moves = 2
 service_number Service.passes_on = 3
 service_number Service.ends_deliveries = 4
+service_number Service.tells = 5
+
+-- whether the daemon serves so by each infrastructure
+abbrev pub always_serves : Service → Bool
+always_serves Service.tells = false
+always_serves _ = true
 
 abbrev pub does : Service → Chip → Bool
 does k (Chip.serves j) = nat_eq (service_number k) (service_number j)

@@ -2,7 +2,7 @@
 use Rattle.std.specs.Prelude.{◌≡◌, ◌≤◌, ◌+◌, ◌⊎◌, ℕ, Bool, true, Some, List, is_some, cond}
 use Rattle.std.specs.List.{All, sum_by, count_by}
 use Rattle.np_syntax.specs.declared.value.Name.{Name}
-use Rattle.np_protocol.specs.Chips.{Chip, Service, counted, is_of_locks, has_lock, takes_for, does}
+use Rattle.np_protocol.specs.Chips.{Chip, Service, counted, is_of_locks, has_lock, takes_for, does, always_serves}
 use Rattle.np_protocol.specs.Columns.{Column, times}
 use Rattle.np_protocol.specs.Phases.{Phase, line, is_present, is_registered, is_moving}
 use Rattle.np_protocol.specs.Scenes.{Whereabouts, Scene, is_there}
@@ -46,6 +46,6 @@ pub record Protocol (w : Scene) (phase : Name → Phase) (chips : List Chip) : T
   pub travels : (a : Name) (t : ℕ) → phase a ≡ Phase.reporting t → (w.place a ≡ Whereabouts.at t) ⊎ (w.place a ≡ Whereabouts.under_way t)
   -- letters, and messages to the daemon, are always taken: so none rests
   pub letters : (a : Name) → is_there (w.place a) ≡ true → 1 ≤ count_by (takes_for a) chips
-  pub services : (k : Service) → 1 ≤ count_by (does k) chips
+  pub services : (k : Service) → always_serves k ≡ true → 1 ≤ count_by (does k) chips
   -- sites that are told are true, so what is sent to an agent finds it; locks that are known are the agents', and the map is the daemon's
   pub true_chips : All (IsTrueOf w phase) chips

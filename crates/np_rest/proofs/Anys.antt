@@ -22,6 +22,10 @@ pub or_second : (a b : Bool) → b ≡ true → (a || b) ≡ true
 or_second true b h = refl
 or_second false b h = h
 
+pub one_truth : (b : Bool) → (b || false) ≡ true → b ≡ true
+one_truth true h = refl
+one_truth false h = absurd cc
+
 or_none : (a b : Bool) → (a || b) ≡ false → (a ≡ false) × (b ≡ false)
 or_none true b h = absurd cc
 or_none false b h = (refl, h)
@@ -143,7 +147,7 @@ module _ {X : Type 0} where
   pub any_there : (p : X → Bool) (m : NameMap X) → list_any (λ (e : Name × X). p e.1) (map.entries m) ≡ true → (k : Name) × (x : X) × (map.get m k ≡ Some x) × (p x ≡ true)
   any_there p m h = let r = any_found p (map.entries m) (entries_sorted m) h in (r.0, r.1, get-entries m r.0 ∙ r.2, r.3)
 
--- some chip of a table is shown under a name
-pub any_shown : {X : Type 0} (show : X → List Chip) (p : Chip → Bool) (m : NameMap X) → list_any p (flat_map (λ (e : Name × X). show e.1) (map.entries m)) ≡ true
+-- what of a table passes is shown under a name
+pub any_shown : {X Y : Type 0} (show : X → List Y) (p : Y → Bool) (m : NameMap X) → list_any p (flat_map (λ (e : Name × X). show e.1) (map.entries m)) ≡ true
     → (k : Name) × (x : X) × (map.get m k ≡ Some x) × (list_any p (show x) ≡ true)
 any_shown show p m h = any_there (λ x. list_any p (show x)) m (any_flat (λ e. show e.1) p (map.entries m) h)

@@ -38,8 +38,9 @@ use Rattle.np_things.specs.Things.{Thing, carried, first_atom_of, first_packet_o
 use Rattle.np_levels.specs.Coupled.{Coupled, View, scene, whereabouts}
 use Rattle.np_levels.proofs.Places.{same_place}
 use Rattle.np_levels.proofs.Values.{channel-is}
-use Rattle.np_rest.specs.Laws.{HasRest, RestsTogether}
+use Rattle.np_rest.specs.Laws.{HasCacheRest, HasRest, RestsTogether, WaitsForNone}
 use Rattle.np_rest.proofs.Begins.{Goes, goes}
+use Rattle.np_rest.proofs.Caches.{free_cache, no_call, no_hoping, waits_for_none}
 use Rattle.np_rest.proofs.Phases.{no_asking, no_beginning, no_settling, no_wanting, rests, token}
 use Rattle.np_rest.proofs.Resting.{MayRest, may_rest}
 use Rattle.np_rest.proofs.Standing.{map_there, told}
@@ -78,35 +79,6 @@ module _ {i : Infrastructure} {n from first : ℕ} {low high : Config} {v : View
 
   -- ---- atoms of the high level
 
-  by_thing : (m : Name) (t : Thing) (a h : Atom) → map.get v.things m ≡ Some (t ∷ []) → map.get low.atoms m ≡ Some a → Is i n from first t a → MayRest t → high_atom t ≡ Some h → Stands i n from h a
-  by_thing m t a h under there is (MayRest.source {a = x} {h = k}) e = Stands.source x (subst (λ y. IsOfSource i n from x y a) (done (sym e)) is)
-  by_thing m t a h under there is (MayRest.asking {a = x} {h = k}) e = no_asking c lodged idle m x k under
-  by_thing m t a h under there is (MayRest.settling {a = x} {h = k} {s = s}) e = no_settling c lodged idle m x k s under
-  by_thing m t a h under there is (MayRest.beginning {a = x} {h = k} {p = p} {s = s}) e = no_beginning c lodged idle m x k p s under
-  by_thing m t a h under there is (MayRest.opened {p = p}) e = Stands.opened p is.tag (done e) is.is
-  by_thing m t a h under there is (MayRest.passes {p = p} {l = l}) e = no_letter m p l a under there is
-  by_thing m t a h under there is _ e = absurd cc
-
-  -- the atom of the low level for one of the high level
-  record Below (h : Atom) : Type 0 where
-    mark : Name
-    atom : Atom
-    there : map.get low.atoms mark ≡ Some atom
-    stands : Stands i n from h atom
-
-  below : (k : Name) (h : Atom) → map.get high.atoms k ≡ Some h → Below h
-  below k h there =
-      let d = c.mirrored.down k h there in
-      let f = found (map.get v.things d.0) first_atom_of h d.2 in
-      let o = one_thing c lodged idle d.0 f.0 f.1 in
-      let under : map.get v.things d.0 ≡ Some (o.thing ∷ []) = f.1 ∙ ap Some o.alone in
-      record {
-        mark = d.0;
-        atom = o.atom;
-        there = o.there;
-        stands = by_thing d.0 o.thing o.atom h under o.there o.is (may_rest c lodged idle d.0 o.atom o.there o.thing under o.is) (ap first_atom_of (sym o.alone) ∙ f.2);
-      }
-
   its_agent : (h a : Atom) → Stands i n from h a → a.agent ≡ h.agent
   its_agent h a (Stands.source x i) = i.stands.agent
   its_agent h a (Stands.opened p tag hi is) = ap (λ (b : Atom). b.agent) is ∙ sym (ap (λ (b : Atom). b.agent) hi)
@@ -141,77 +113,121 @@ module _ {i : Infrastructure} {n from first : ℕ} {low high : Config} {v : View
   has_rest : HasRest v
   has_rest = record { agents = rests c lodged idle; lock = (let p = map_there c lodged idle in (p.mark, p.held, p.under)); letters = no_letters }
 
--- by the central infrastructure each process of the source goes on as its translation does
-module _ {n from first : ℕ} {low high : Config} {v : View} (c : Coupled Infrastructure.central n from first low high v) (lodged : IsLodged (inside low)) (idle : Idle low) where
+  -- what an atom of the high level is at rest
+  by_thing : (m : Name) (t : Thing) (a h : Atom) → map.get v.things m ≡ Some (t ∷ []) → map.get low.atoms m ≡ Some a → Is i n from first t a → MayRest t → high_atom t ≡ Some h → Stands i n from h a
+  by_thing m t a h under there is (MayRest.source {a = x} {h = k}) e = Stands.source x (subst (λ y. IsOfSource i n from x y a) (done (sym e)) is)
+  by_thing m t a h under there is (MayRest.asking {a = x} {h = k}) e = no_asking c lodged idle m x k under
+  by_thing m t a h under there is (MayRest.settling {a = x} {h = k} {s = s}) e = no_settling c lodged idle m x k s under
+  by_thing m t a h under there is (MayRest.beginning {a = x} {h = k} {p = p} {s = s}) e = no_beginning c lodged idle m x k p s under
+  by_thing m t a h under there is (MayRest.opened {p = p}) e = Stands.opened p is.tag (done e) is.is
+  by_thing m t a h under there is (MayRest.passes {p = p} {l = l}) e = no_letter m p l a under there is
+  by_thing m t a h under there is (MayRest.hoping {a = x} {h = k} {l = l}) e = no_hoping c lodged idle is.0 m x k l a under there is
+  by_thing m t a h under there is _ e = absurd cc
+
+  -- the atom of the low level for one of the high level
+  record Below (h : Atom) : Type 0 where
+    mark : Name
+    atom : Atom
+    there : map.get low.atoms mark ≡ Some atom
+    stands : Stands i n from h atom
+
+  below : (k : Name) (h : Atom) → map.get high.atoms k ≡ Some h → Below h
+  below k h there =
+      let d = c.mirrored.down k h there in
+      let f = found (map.get v.things d.0) first_atom_of h d.2 in
+      let o = one_thing c lodged idle d.0 f.0 f.1 in
+      let under : map.get v.things d.0 ≡ Some (o.thing ∷ []) = f.1 ∙ ap Some o.alone in
+      record {
+        mark = d.0;
+        atom = o.atom;
+        there = o.there;
+        stands = by_thing d.0 o.thing o.atom h under o.there o.is (may_rest c lodged idle d.0 o.atom o.there o.thing under o.is) (ap first_atom_of (sym o.alone) ∙ f.2);
+      }
+
   -- what gives at the high level gives at the low one
-  gives_below : (m : Name) (h a : Atom) (chan : Name) → map.get low.atoms m ≡ Some a → Stands Infrastructure.central n from h a → Giving h chan → Giving a chan
+  gives_below : (m : Name) (h a : Atom) (chan : Name) → map.get low.atoms m ≡ Some a → Stands i n from h a → Giving h chan → Giving a chan
   gives_below m h a chan there (Stands.opened p tag hi is) g =
       let given : Giving (as_output p) chan = subst (λ b. Giving b chan) hi g in
       subst (λ b. Giving b chan) (sym is) (record { from = given.from; form = given.form; on = given.on })
-  gives_below m h a chan there (Stands.source x i) g = go (goes n from x h.proc a.proc i.translates)
+  gives_below m h a chan there (Stands.source x its) g = go (goes i n from x h.proc a.proc its.translates)
     where
-      go : Goes n (layer h.proc) (layer a.proc) → Giving a chan
+      go : Goes i n (layer h.proc) (layer a.proc) → Giving a chan
       go (Goes.gives {c = y} {e = e} hi lo) =
-          let src = i.stands.source in
+          let src = its.stands.source in
           let parts = subst (ProcParts n src.scope src.node src.after src.bound) hi (proc-parts n src.sound) in
           let same : g.from ≡ y = done (sym (ap given_on hi) ∙ g.form) in
-          record { from = y; form = ap given_on lo; on = same_chan c lodged idle x h a i y parts.1 ∙ ap (λ z. chan_of z h.env) (sym same) ∙ g.on }
+          record { from = y; form = ap given_on lo; on = same_chan x h a its y parts.1 ∙ ap (λ z. chan_of z h.env) (sym same) ∙ g.on }
       go (Goes.takes hi lo) = absurd (let bad : Some g.from ≡ None = sym g.form ∙ ap given_on hi in cc)
       go (Goes.serves hi lo) = absurd (let bad : Some g.from ≡ None = sym g.form ∙ ap given_on hi in cc)
       go (Goes.asks none other lo) = absurd (let bad : Some g.from ≡ None = sym g.form ∙ none in cc)
+      go (Goes.calls cached none other lo) = absurd (let bad : Some g.from ≡ None = sym g.form ∙ none in cc)
       go (Goes.acts free) = no_work c lodged idle m a there free
 
   -- what takes at the high level takes at the low one
-  takes_below : (m : Name) (h a : Atom) (chan : Name) → map.get low.atoms m ≡ Some a → Stands Infrastructure.central n from h a → Taking h chan → Taking a chan
+  takes_below : (m : Name) (h a : Atom) (chan : Name) → map.get low.atoms m ≡ Some a → Stands i n from h a → Taking h chan → Taking a chan
   takes_below m h a chan there (Stands.opened p tag hi is) g =
       absurd (let bad : Some g.to ≡ None = sym g.form ∙ ap (λ (b : Atom). taken_on (layer b.proc)) hi ∙ ap taken_on (forms.outs-Out _ _) in cc)
-  takes_below m h a chan there (Stands.source x i) g = go (goes n from x h.proc a.proc i.translates)
+  takes_below m h a chan there (Stands.source x its) g = go (goes i n from x h.proc a.proc its.translates)
     where
-      go : Goes n (layer h.proc) (layer a.proc) → Taking a chan
+      go : Goes i n (layer h.proc) (layer a.proc) → Taking a chan
       go (Goes.gives hi lo) = absurd (let bad : Some g.to ≡ None = sym g.form ∙ ap taken_on hi in cc)
       go (Goes.takes {c = y} {x = w} hi lo) =
-          let src = i.stands.source in
+          let src = its.stands.source in
           let parts = subst (ProcParts n src.scope src.node src.after src.bound) hi (proc-parts n src.sound) in
           let same : g.to ≡ (y, w) = done (sym (ap taken_on hi) ∙ g.form) in
-          record { to = (y, w); form = ap taken_on lo; on = same_chan c lodged idle x h a i y parts.0 ∙ ap (λ (z : Expr × Pat). chan_of z.0 h.env) (sym same) ∙ g.on }
+          record { to = (y, w); form = ap taken_on lo; on = same_chan x h a its y parts.0 ∙ ap (λ (z : Expr × Pat). chan_of z.0 h.env) (sym same) ∙ g.on }
       go (Goes.serves {c = y} {x = w} hi lo) =
-          let src = i.stands.source in
+          let src = its.stands.source in
           let parts = subst (ProcParts n src.scope src.node src.after src.bound) hi (proc-parts n src.sound) in
           let same : g.to ≡ (y, w) = done (sym (ap taken_on hi) ∙ g.form) in
-          record { to = (y, w); form = ap taken_on lo; on = same_chan c lodged idle x h a i y parts.0 ∙ ap (λ (z : Expr × Pat). chan_of z.0 h.env) (sym same) ∙ g.on }
+          record { to = (y, w); form = ap taken_on lo; on = same_chan x h a its y parts.0 ∙ ap (λ (z : Expr × Pat). chan_of z.0 h.env) (sym same) ∙ g.on }
       go (Goes.asks none other lo) = absurd (let bad : Some g.to ≡ None = sym g.form ∙ other in cc)
+      go (Goes.calls cached none other lo) = absurd (let bad : Some g.to ≡ None = sym g.form ∙ other in cc)
       go (Goes.acts free) = no_work c lodged idle m a there free
 
   no_work_above : (s : ℕ) (agent : Name) → map.get high.places agent ≡ Some (place.At s) → HasWork high agent → ⊥
-  no_work_above s agent placed h = go (below c lodged idle h.mark h.atom h.there)
+  no_work_above s agent placed h = go (below h.mark h.atom h.there)
     where
-      by_source : (m : Name) (x : Expr) (a : Atom) → map.get low.atoms m ≡ Some a → IsOfSource Infrastructure.central n from x h.atom a → Goes n (layer h.atom.proc) (layer a.proc) → ⊥
-      by_source m x a there i (Goes.gives hi lo) = let bad : true ≡ false = sym (ap waits hi) ∙ h.acts in cc
-      by_source m x a there i (Goes.takes hi lo) = let bad : true ≡ false = sym (ap waits hi) ∙ h.acts in cc
-      by_source m x a there i (Goes.serves hi lo) = let bad : true ≡ false = sym (ap waits hi) ∙ h.acts in cc
-      by_source m x a there i (Goes.asks none other lo) = no_move c lodged idle m a s _ _ there (ap (map.get high.places) (i.stands.agent ∙ h.of) ∙ placed) lo
-      by_source m x a there i (Goes.acts free) = no_work c lodged idle m a there free
+      by_source : (m : Name) (x : Expr) (a : Atom) → map.get low.atoms m ≡ Some a → IsOfSource i n from x h.atom a → Goes i n (layer h.atom.proc) (layer a.proc) → ⊥
+      by_source m x a there its (Goes.gives hi lo) = let bad : true ≡ false = sym (ap waits hi) ∙ h.acts in cc
+      by_source m x a there its (Goes.takes hi lo) = let bad : true ≡ false = sym (ap waits hi) ∙ h.acts in cc
+      by_source m x a there its (Goes.serves hi lo) = let bad : true ≡ false = sym (ap waits hi) ∙ h.acts in cc
+      by_source m x a there its (Goes.asks none other lo) = no_move m a s _ _ there (ap (map.get high.places) (its.stands.agent ∙ h.of) ∙ placed) lo
+      by_source m x a there its (Goes.calls cached none other lo) = no_call c lodged idle cached m a (place.At s) _ _ there (ap (map.get high.places) (its.stands.agent ∙ h.of) ∙ placed) lo
+      by_source m x a there its (Goes.acts free) = no_work c lodged idle m a there free
 
-      by_stand : (m : Name) (a : Atom) → map.get low.atoms m ≡ Some a → Stands Infrastructure.central n from h.atom a → ⊥
-      by_stand m a there (Stands.source x i) = by_source m x a there i (goes n from x h.atom.proc a.proc i.translates)
+      by_stand : (m : Name) (a : Atom) → map.get low.atoms m ≡ Some a → Stands i n from h.atom a → ⊥
+      by_stand m a there (Stands.source x its) = by_source m x a there its (goes i n from x h.atom.proc a.proc its.translates)
       by_stand m a there (Stands.opened p tag hi is) = let bad : true ≡ false = sym (ap (λ (b : Atom). waits (layer b.proc)) hi ∙ ap waits (forms.outs-Out _ _)) ∙ h.acts in cc
 
-      go : Below c lodged idle h.atom → ⊥
+      go : Below h.atom → ⊥
       go b = by_stand b.mark b.atom b.there b.stands
 
   no_meeting_above : (agent : Name) → HasMeeting high agent → ⊥
   no_meeting_above agent h =
-      let o = below c lodged idle h.output h.giver h.gives in
-      let i = below c lodged idle h.input h.taker h.takes in
+      let o = below h.output h.giver h.gives in
+      let k = below h.input h.taker h.takes in
       let given : Giving h.giver h.chan = record { from = h.from; form = h.output_form; on = h.given } in
       let taken : Taking h.taker h.chan = record { to = h.to; form = h.input_form; on = h.taken } in
-      no_meeting c lodged idle o.mark i.mark o.atom i.atom h.chan o.there i.there (its_agent c lodged idle h.giver o.atom o.stands ∙ h.giver_of ∙ sym (its_agent c lodged idle h.taker i.atom i.stands ∙ h.taker_of))
-      (gives_below o.mark h.giver o.atom h.chan o.there o.stands given) (takes_below i.mark h.taker i.atom h.chan i.there i.stands taken)
+      no_meeting c lodged idle o.mark k.mark o.atom k.atom h.chan o.there k.there (its_agent h.giver o.atom o.stands ∙ h.giver_of ∙ sym (its_agent h.taker k.atom k.stands ∙ h.taker_of))
+      (gives_below o.mark h.giver o.atom h.chan o.there o.stands given) (takes_below k.mark h.taker k.atom h.chan k.there k.stands taken)
 
   none_can : (s : ℕ) → Can high s → ⊥
-  none_can s (inl h) = no_packet_above c lodged idle h.mark h.packet h.flies
-  none_can s (inr (inl h)) = no_arrival_above c lodged idle h.agent s h.comes
+  none_can s (inl h) = no_packet_above h.mark h.packet h.flies
+  none_can s (inr (inl h)) = no_arrival_above h.agent s h.comes
   none_can s (inr (inr h)) = elim h.works [ inl w ↦ no_work_above s h.agent h.stands w | inr m ↦ no_meeting_above h.agent m ]
 
+  -- ---- with caches
+
+  served : i ≡ Infrastructure.cached → (m : Name) (ts : List Thing) → map.get v.things m ≡ Some ts → All (WaitsForNone high) ts
+  served cached m ts h =
+      let o = one_thing c lodged idle m ts h in
+      let under : map.get v.things m ≡ Some (o.thing ∷ []) = h ∙ ap Some o.alone in
+      subst (All (WaitsForNone high)) (sym o.alone)
+      (All-from_recursion (WaitsForNone high) (o.thing ∷ []) (waits_for_none c lodged idle cached m o.thing o.atom under o.there o.is (may_rest c lodged idle m o.atom o.there o.thing under o.is), tt))
+
+  cache_rest : i ≡ Infrastructure.cached → HasCacheRest low high v
+  cache_rest cached = record { caches = free_cache c lodged idle cached; served = served cached; messengers = λ m b ts there of. no_letters m ts }
+
 pub rests-together : RestsTogether
-rests-together n from first low high v c lodged idle = (none_can c lodged idle, has_rest c lodged idle)
+rests-together i n from first low high v c lodged idle = (none_can c lodged idle, has_rest c lodged idle, cache_rest c lodged idle)

@@ -1,5 +1,6 @@
 pub mod Anys
 pub mod Begins
+pub mod Caches
 pub mod Highs
 pub mod Phases
 pub mod Resting

@@ -4,6 +4,7 @@ use Rattle.std.specs.List.{count_by, list_any, sum_by}
 use Rattle.std.proofs.lemmas.List.Elements.{recursion_from_All}
 use Rattle.std.specs.FinMap as map
 use Rattle.np_syntax.specs.declared.value.Name.{Name}
+use Rattle.np_syntax.specs.declared.value.Value as value
 use Rattle.np_syntax.specs.declared.expression.Expr.{Expr}
 use Rattle.np_tables.specs.Names.{same_name}
 use Rattle.np_tables.proofs.Tables.{same_name-is, same_name-itself}
@@ -24,14 +25,10 @@ use Rattle.np_things.specs.Shapes.{Is}
 use Rattle.np_things.specs.Things.{Stage, Thing, show_all, shows}
 use Rattle.np_levels.specs.Coupled.{Coupled, View, chips, scene}
 use Rattle.np_levels.proofs.Marks.{step_at}
-use Rattle.np_rest.proofs.Anys.{any_counted, any_in_column, in_column, sum_in_column}
+use Rattle.np_rest.proofs.Anys.{any_counted, any_in_column, in_column, one_truth, sum_in_column}
 use Rattle.np_rest.proofs.Resting.{MayRest, Rester, rester}
 use Rattle.np_rest.proofs.Standing.{told}
 use Rattle.np_rest.proofs.Waiting.{Taking, asking_takes, beginning_takes, gives_there, no_meeting, settling_takes, takes_bound}
-
-one_truth : (b : Bool) → (b || false) ≡ true → b ≡ true
-one_truth true h = refl
-one_truth false h = absurd cc
 
 two_truths : (b : Bool) → ((b || false) || false) ≡ true → b ≡ true
 two_truths true h = refl
@@ -97,10 +94,10 @@ module _ (a : Name) where
 
 module _ {i : Infrastructure} {n from first : ℕ} {low high : Config} {v : View} (c : Coupled i n from first low high v) (lodged : IsLodged (inside low)) (idle : Idle low) where
   -- who is in a column in the phase of an agent is there
-  in_phase : (a : Name) (p : Phase) (col : Column) → v.phase a ≡ p → 1 ≤ times col (line p) → Rester c lodged idle (in_column a col)
+  in_phase : (a : Name) (p : Phase) (col : Column) → v.phase a ≡ p → 1 ≤ times col (line p) → Rester c lodged idle shows (in_column a col)
   in_phase a p col is h =
       let its : times col (line (v.phase a)) ≡ times col (line p) = ap (λ q. times col (line q)) is in
-      rester c lodged idle (in_column a col) (any_in_column a col (chips v.things) (omega (arith, c.protocol.rows a col)))
+      rester c lodged idle shows (in_column a col) (any_in_column a col (chips v.things) (omega (arith, c.protocol.rows a col)))
 
   none_in_phase : {A : Type 0} (a : Name) (p : Phase) (col : Column) → Never col → v.phase a ≡ p → 1 ≤ times col (line p) → A
   none_in_phase a p col none is h =
@@ -154,10 +151,10 @@ module _ {i : Infrastructure} {n from first : ℕ} {low high : Config} {v : View
       let known : one_if (is_registered (v.phase a)) ≡ 1 = ap one_if (sym (c.protocol.registered a) ∙ ap is_some has) in
       let still : one_if (is_moving (v.phase a)) ≡ 0 = ap one_if (not_moving a (v.phase a) refl) in
       let some : 1 ≤ count_by (has_lock (v.lock a) a) (chips v.things) = omega (arith, c.protocol.one_lock a) in
-      let r = rester c lodged idle (has_lock (v.lock a) a) (any_counted (has_lock (v.lock a) a) (chips v.things) some) in
+      let r = rester c lodged idle shows (has_lock (v.lock a) a) (any_counted (has_lock (v.lock a) a) (chips v.things) some) in
       let t = free_of a l r.thing r.rests (subst (λ o. list_any (has_lock o a) (shows r.thing) ≡ true) has r.shown) in
-      let g = subst (λ x. Is i n from first x r.atom) t.1 r.is in
-      no_meeting c lodged idle r.mark m r.atom b l r.there there (g.agent ∙ sym of) (gives_there g) taking
+      let g = subst (λ x. Is i n from first x r.atom) {y = Thing.free l t.0} t.1 r.is in
+      no_meeting c lodged idle r.mark m r.atom b l r.there there (g.agent ∙ sym of) (gives_there {v = value.Site t.0} g) taking
 
   not_asking : {A : Type 0} (a : Name) → v.phase a ≡ Phase.asking → A
   not_asking a is =
@@ -188,7 +185,7 @@ module _ {i : Infrastructure} {n from first : ℕ} {low high : Config} {v : View
   in_line : (m : Name) (t : Thing) (a : Name) (col : Column) → map.get v.things m ≡ Some (t ∷ []) → list_any (in_column a col) (show_all (t ∷ [])) ≡ true → 1 ≤ times col (line (v.phase a))
   in_line m t a col under h =
       let its : 1 ≤ sum_by (counted a col) (show_all (t ∷ [])) = sum_in_column a col (show_all (t ∷ [])) h in
-      omega (arith, sum_before (step_at v.things m (t ∷ []) [] under) (counted a col), c.protocol.rows a col)
+      omega (arith, sum_before (step_at shows v.things m (t ∷ []) [] under) (counted a col), c.protocol.rows a col)
 
   pub no_beginning : {A : Type 0} (m : Name) (x : Expr) (h : Atom) (p : Name) (s : ℕ) → map.get v.things m ≡ Some (Thing.beginning x h p s ∷ []) → A
   no_beginning m x h p s under =

@@ -1,6 +1,6 @@
 -- What always stands there: the daemon's map, its servers, and the servers of the agents.
-use Rattle.std.proofs.Common.{◌≡◌, ℕ, Bool, true, false, ◌||◌, nat_eq, inl, inr, Some, List, [], ◌∷◌, refl, sym, ap, subst, ◌∙◌, arith}
-use Rattle.std.specs.List.{All, list_any}
+use Rattle.std.proofs.Common.{◌≡◌, ℕ, Bool, true, false, nat_eq, inl, inr, Some, List, [], ◌∷◌, refl, sym, ap, subst, ◌∙◌, arith}
+use Rattle.std.specs.List.{All, flat_map, list_any}
 use Rattle.std.specs.FinMap as map
 use Rattle.np_syntax.specs.declared.value.Name.{Name}
 use Rattle.np_syntax.specs.declared.value.Value as value
@@ -14,7 +14,7 @@ use Rattle.np_calculus.specs.Parts.{IsLodged}
 use Rattle.np_calculus.specs.Sight.{inside}
 use Rattle.np_calculus.specs.Starts.{daemon_agent, own}
 use Rattle.np_eval.specs.Forms.{layer}
-use Rattle.np_protocol.specs.Chips.{Chip, Service, does, is_of_locks, service_number, takes_for}
+use Rattle.np_protocol.specs.Chips.{Chip, Service, does, is_of_locks, service_number, takes_for, always_serves}
 use Rattle.np_protocol.specs.Protocol.{IsTrueOf}
 use Rattle.np_protocol.specs.Scenes.{is_there}
 use Rattle.np_protocol.proofs.Steps.{all_taken}
@@ -23,9 +23,10 @@ use Rattle.np_things.specs.Desks.{desk}
 use Rattle.np_things.specs.Mail.{Mail}
 use Rattle.np_things.specs.Shapes.{Gives, Is, IsLooking, IsServing}
 use Rattle.np_things.specs.Things.{Stage, Thing, mail_chips, show_all, shows}
-use Rattle.np_levels.specs.Coupled.{Coupled, View, chips, scene, whereabouts}
+use Rattle.np_things.specs.CacheShapes.{IsLookingBack}
+use Rattle.np_levels.specs.Coupled.{Coupled, View, chips, scene, shown, whereabouts}
 use Rattle.np_levels.proofs.Marks.{step_at}
-use Rattle.np_rest.proofs.Anys.{any_counted, any_first, any_shown, any_weaker}
+use Rattle.np_rest.proofs.Anys.{any_counted, any_first, any_shown, any_weaker, one_truth}
 use Rattle.np_rest.proofs.Waiting.{Taking, no_work, one_thing, serves_own}
 
 -- the chips of what stands there for good
@@ -58,6 +59,8 @@ no_mail (Mail.dack b s) stage = refl
 no_mail (Mail.ack a s) Stage.there = refl
 no_mail (Mail.ack a s) _ = refl
 no_mail (Mail.deliver p s) stage = refl
+no_mail (Mail.asks a b) stage = refl
+no_mail (Mail.found a u b s) stage = refl
 
 no_wanting_chip : (m : Mail) (l : Name) → list_any is_standing (shows (Thing.wanting m l)) ≡ false
 no_wanting_chip (Mail.migrating a) l = refl
@@ -69,6 +72,7 @@ data IsStanding : Thing → Type 0 where
   serving : {k : Service} → IsStanding (Thing.serving k)
   places : {ps : List (Name × Name)} → IsStanding (Thing.places ps)
   looking : {m : Mail} {ps : List (Name × Name)} → IsStanding (Thing.looking m ps)
+  looking_back : {a b l : Name} {ps : List (Name × Name)} → IsStanding (Thing.looking_back a b l ps)
 
 bad_truth : {A : Type 0} {b : Bool} → b ≡ false → b ≡ true → A
 bad_truth f t = absurd (let bad : false ≡ true = sym f ∙ t in cc)
@@ -78,6 +82,7 @@ standing (Thing.letters a) h = IsStanding.letters
 standing (Thing.serving k) h = IsStanding.serving
 standing (Thing.places ps) h = IsStanding.places
 standing (Thing.looking m ps) h = IsStanding.looking
+standing (Thing.looking_back a b l ps) h = IsStanding.looking_back
 standing (Thing.mail m stage) h = bad_truth (no_mail m stage) h
 standing (Thing.taken m) h = bad_truth (no_mail m Stage.there) h
 standing (Thing.wanting m l) h = bad_truth (no_wanting_chip m l) h
@@ -93,6 +98,10 @@ looks_alone n first m ps low i = go i.service i.is
     go Service.notes_moves is = ap (λ (q : Proc). waits (layer q)) is ∙ ap waits (forms.outs-Lookup _ _ _ _ _)
     go Service.passes_on is = ap (λ (q : Proc). waits (layer q)) is ∙ ap waits (forms.outs-Lookup _ _ _ _ _)
     go Service.ends_deliveries is = ap (λ (q : Proc). waits (layer q)) is ∙ ap waits (forms.outs-Lookup _ _ _ _ _)
+    go Service.tells is = ap (λ (q : Proc). waits (layer q)) is ∙ ap waits (forms.outs-Lookup _ _ _ _ _)
+
+looks_back_alone : (n first : ℕ) (a b l : Name) (ps : List (Name × Name)) (low : Atom) → IsLookingBack n first a b l ps low → waits (layer low.proc) ≡ false
+looks_back_alone n first a b l ps low i = ap (λ (q : Proc). waits (layer q)) i.is ∙ ap waits (forms.outs-Lookup _ _ _ _ _)
 
 -- the number of a service's channel
 abbrev pub chan_number : Service → ℕ
@@ -101,6 +110,7 @@ chan_number Service.grants = 3
 chan_number Service.notes_moves = 4
 chan_number Service.passes_on = 5
 chan_number Service.ends_deliveries = 8
+chan_number Service.tells = 15
 
 serves_on : (n first : ℕ) (k : Service) (low : Atom) → IsServing n first k low → Taking low (own n (chan_number k))
 serves_on n first Service.registers low i = serves_own low n 2 0 _ _ i.is
@@ -108,10 +118,7 @@ serves_on n first Service.grants low i = serves_own low n 3 0 _ _ i.is
 serves_on n first Service.notes_moves low i = serves_own low n 4 0 _ _ i.is
 serves_on n first Service.passes_on low i = serves_own low n 5 0 _ _ i.is
 serves_on n first Service.ends_deliveries low i = serves_own low n 8 0 _ _ i.is
-
-one_truth : (b : Bool) → (b || false) ≡ true → b ≡ true
-one_truth true h = refl
-one_truth false h = absurd cc
+serves_on n first Service.tells low i = serves_own low n 15 0 _ _ i.is
 
 same_service : (k j : Service) → nat_eq (service_number k) (service_number j) ≡ true → k ≡ j
 same_service Service.registers Service.registers h = refl
@@ -119,29 +126,30 @@ same_service Service.grants Service.grants h = refl
 same_service Service.notes_moves Service.notes_moves h = refl
 same_service Service.passes_on Service.passes_on h = refl
 same_service Service.ends_deliveries Service.ends_deliveries h = refl
+same_service Service.tells Service.tells h = refl
 same_service _ _ h = absurd cc
 
 module _ {i : Infrastructure} {n from first : ℕ} {low high : Config} {v : View} (c : Coupled i n from first low high v) (lodged : IsLodged (inside low)) (idle : Idle low) where
   -- what a thing tells is true
   pub told : (m : Name) (ts : List Thing) → map.get v.things m ≡ Some ts → All (IsTrueOf (scene v high) v.phase) (show_all ts)
-  told m ts h = all_taken (step_at v.things m ts [] h) (IsTrueOf (scene v high) v.phase) c.protocol.true_chips
+  told m ts h = all_taken (step_at shows v.things m ts [] h) (IsTrueOf (scene v high) v.phase) c.protocol.true_chips
 
-  -- a thing alone under its mark, that shows a chip
-  pub record Bearer (p : Chip → Bool) : Type 0 where
+  -- a thing alone under its mark, that shows such a chip in this way
+  pub record Bearer {X : Type 0} (show : Thing → List X) (p : X → Bool) : Type 0 where
     pub mark : Name
     pub thing : Thing
     pub under : map.get v.things mark ≡ Some (thing ∷ [])
     pub atom : Atom
     pub there : map.get low.atoms mark ≡ Some atom
     pub is : Is i n from first thing atom
-    pub shown : list_any p (shows thing) ≡ true
+    pub shown : list_any p (show thing) ≡ true
 
-  alone_shows : (p : Chip → Bool) (t : Thing) → list_any p (show_all (t ∷ [])) ≡ true → list_any p (shows t) ≡ true
-  alone_shows p t h = elim (any_first p (shows t) [] h) [ inl a ↦ a | inr b ↦ absurd cc ]
+  alone_shows : {X : Type 0} (show : Thing → List X) (p : X → Bool) (t : Thing) → list_any p (flat_map show (t ∷ [])) ≡ true → list_any p (show t) ≡ true
+  alone_shows show p t h = elim (any_first p (show t) [] h) [ inl a ↦ a | inr b ↦ absurd cc ]
 
-  pub bearer : (p : Chip → Bool) → list_any p (chips v.things) ≡ true → Bearer p
-  bearer p h =
-      let s = any_shown show_all p v.things h in
+  pub bearer : {X : Type 0} (show : Thing → List X) (p : X → Bool) → list_any p (shown show v.things) ≡ true → Bearer show p
+  bearer show p h =
+      let s = any_shown (flat_map show) p v.things h in
       let o = one_thing c lodged idle s.0 s.1 s.2 in
       record {
         mark = s.0;
@@ -150,7 +158,7 @@ module _ {i : Infrastructure} {n from first : ℕ} {low high : Config} {v : View
         atom = o.atom;
         there = o.there;
         is = o.is;
-        shown = alone_shows p o.thing (subst (λ ts. list_any p (show_all ts) ≡ true) o.alone s.3);
+        shown = alone_shows show p o.thing (subst (λ ts. list_any p (flat_map show ts) ≡ true) o.alone s.3);
       }
 
   -- the daemon's map is there
@@ -165,14 +173,15 @@ module _ {i : Infrastructure} {n from first : ℕ} {low high : Config} {v : View
   pub map_there : MapThere
   map_there = go b.thing b.under b.is (standing b.thing (any_weaker is_of_locks is_standing locks_stand (shows b.thing) b.shown)) b.shown
     where
-      b : Bearer is_of_locks
-      b = bearer is_of_locks (any_counted is_of_locks (chips v.things) (omega (arith, c.protocol.one_map)))
+      b : Bearer shows is_of_locks
+      b = bearer shows is_of_locks (any_counted is_of_locks (chips v.things) (omega (arith, c.protocol.one_map)))
 
       go : (t : Thing) → map.get v.things b.mark ≡ Some (t ∷ []) → Is i n from first t b.atom → IsStanding t → list_any is_of_locks (shows t) ≡ true → MapThere
       go t under i IsStanding.letters shown = absurd cc
       go t under i IsStanding.serving shown = absurd cc
       go t under i (IsStanding.places {ps = ps}) shown = record { mark = b.mark; held = ps; under = under; atom = b.atom; there = b.there; gives = i }
       go t under i (IsStanding.looking {m = m} {ps = ps}) shown = no_work c lodged idle b.mark b.atom b.there (looks_alone n first m ps b.atom i)
+      go t under i (IsStanding.looking_back {a = x} {b = y} {l = l} {ps = ps}) shown = no_work c lodged idle b.mark b.atom b.there (looks_back_alone n first x y l ps b.atom i)
 
   -- what takes in an agent from a channel is there
   pub record Server (a chan : Name) : Type 0 where
@@ -182,11 +191,11 @@ module _ {i : Infrastructure} {n from first : ℕ} {low high : Config} {v : View
     pub agent : atom.agent ≡ a
     pub taking : Taking atom chan
 
-  pub service_there : (k : Service) → Server (daemon_agent n) (own n (chan_number k))
-  service_there k = go b.thing b.is (standing b.thing (any_weaker (does k) is_standing (services_stand k) (shows b.thing) b.shown)) b.shown
+  pub service_there : (k : Service) → always_serves k ≡ true → Server (daemon_agent n) (own n (chan_number k))
+  service_there k always = go b.thing b.is (standing b.thing (any_weaker (does k) is_standing (services_stand k) (shows b.thing) b.shown)) b.shown
     where
-      b : Bearer (does k)
-      b = bearer (does k) (any_counted (does k) (chips v.things) (c.protocol.services k))
+      b : Bearer shows (does k)
+      b = bearer shows (does k) (any_counted (does k) (chips v.things) (c.protocol.services k always))
 
       go : (t : Thing) → Is i n from first t b.atom → IsStanding t → list_any (does k) (shows t) ≡ true → Server (daemon_agent n) (own n (chan_number k))
       go t i IsStanding.letters shown = absurd cc
@@ -195,12 +204,13 @@ module _ {i : Infrastructure} {n from first : ℕ} {low high : Config} {v : View
           record { mark = b.mark; atom = b.atom; there = b.there; agent = i.agent; taking = subst (λ x. Taking b.atom (own n (chan_number x))) same (serves_on n first j b.atom i) }
       go t i IsStanding.places shown = absurd cc
       go t i (IsStanding.looking {m = m} {ps = ps}) shown = no_work c lodged idle b.mark b.atom b.there (looks_alone n first m ps b.atom i)
+      go t i (IsStanding.looking_back {a = x} {b = y} {l = l} {ps = ps}) shown = no_work c lodged idle b.mark b.atom b.there (looks_back_alone n first x y l ps b.atom i)
 
   pub letters_there : (a : Name) → is_there (whereabouts (map.get high.places a)) ≡ true → Server a (own n 6)
   letters_there a placed = go b.thing b.is (standing b.thing (any_weaker (takes_for a) is_standing (letters_stand a) (shows b.thing) b.shown)) b.shown
     where
-      b : Bearer (takes_for a)
-      b = bearer (takes_for a) (any_counted (takes_for a) (chips v.things) (c.protocol.letters a placed))
+      b : Bearer shows (takes_for a)
+      b = bearer shows (takes_for a) (any_counted (takes_for a) (chips v.things) (c.protocol.letters a placed))
 
       go : (t : Thing) → Is i n from first t b.atom → IsStanding t → list_any (takes_for a) (shows t) ≡ true → Server a (own n 6)
       go t i (IsStanding.letters {a = x}) shown =
@@ -208,3 +218,4 @@ module _ {i : Infrastructure} {n from first : ℕ} {low high : Config} {v : View
       go t i IsStanding.serving shown = absurd cc
       go t i IsStanding.places shown = absurd cc
       go t i (IsStanding.looking {m = m} {ps = ps}) shown = no_work c lodged idle b.mark b.atom b.there (looks_alone n first m ps b.atom i)
+      go t i (IsStanding.looking_back {a = x} {b = y} {l = l} {ps = ps}) shown = no_work c lodged idle b.mark b.atom b.there (looks_back_alone n first x y l ps b.atom i)

@@ -1,3 +1,5 @@
+pub mod Agents
+pub mod Central
 pub mod Lodged
 pub mod Runs
 pub mod Steps

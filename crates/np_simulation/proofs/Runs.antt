@@ -10,55 +10,60 @@ use Rattle.np_calculus.specs.Starts.{start_high, start_low}
 use Rattle.np_calculus.specs.Well.{Well}
 use Rattle.np_calculus.specs.Parts.{IsLodged}
 use Rattle.np_calculus.specs.Sight.{inside}
-use Rattle.np_lift.specs.Lift.{lift}
-use Rattle.cache_lift.specs.Lift.{at_first}
+use Rattle.np_lift.specs.Posts.{prepended}
+use Rattle.cache_lift.specs.Lift.{Standing, at_first, lift_from, lifted, standing_after}
 use Rattle.np_check.specs.Faults.{IsAccepted}
 use Rattle.daemon_encode.specs.Infrastructures.{Infrastructure}
 use Rattle.daemon_encode.specs.Translates.{IsLowOf}
 use Rattle.np_safety.proofs.Starts.{runs-well, well-typed}
 use Rattle.np_levels.specs.Coupled.{Coupled, View}
-use Rattle.np_levels.specs.Letters.{LettersAfter, NoLetters}
-use Rattle.np_levels.specs.Roles.{occurs}
+use Rattle.np_levels.specs.Letters.{NoLetters}
+use Rattle.np_levels.specs.Roles.{may_occur}
 use Rattle.np_levels.proofs.Roles.{roles-of-events}
 use Rattle.np_levels.proofs.Starts.{starts-coupled}
-use Rattle.np_simulation.specs.Laws.{IsLifted, RunsAreLifted}
+use Rattle.np_simulation.specs.Laws.{IsLifted, LeadsAbove, RunsAreLifted}
+use Rattle.np_simulation.specs.Letters.{LettersLeft}
+use Rattle.np_simulation.proofs.Agents.{AgentsStand, agents-at_first}
 use Rattle.np_simulation.proofs.Steps.{step}
 
 -- what a run makes, event by event, of the kinds that its events have and of the letters under way
-pub record Follows (Made : Config → View → List Event → View → Type 0) : Type 0 where
+pub record Follows (i : Infrastructure) (Made : Config → View → List Event → View → Type 0) : Type 0 where
   pub none : (low : Config) (v : View) → Made low v [] v
-  pub more : (low next : Config) (v u w : View) (e : Event) (es : List Event) → apply low e ≡ Some next → occurs e.tag.role e.kind ≡ true
-      → LettersAfter e.kind e.tag.role low next e v u → Made next u es w
+  pub more : (low next then : Config) (v u w : View) (e : Event) (es : List Event) → apply low e ≡ Some next → may_occur i e.tag.role e.kind ≡ true
+      → LettersLeft e.kind e.tag.role low next then e v u → Made next u es w
       → Made low v (e ∷ es) w
 
-module _ (n from first : ℕ) (Made : Config → View → List Event → View → Type 0) (follows : Follows Made) where
-  pub along : (events : List Event) (low high : Config) (v : View) → Coupled Infrastructure.central n from first low high v → v.standing ≡ at_first
+module _ (i : Infrastructure) (n from first : ℕ) (Made : Config → View → List Event → View → Type 0) (follows : Follows i Made) where
+  pub along : (events : List Event) (low high : Config) (v : View) → Coupled i n from first low high v → (s : Standing) → v.standing ≡ s → AgentsStand low v.standing
       → ((hs : List Event) (d : Config) → run high hs ≡ Some d → Well d × IsLodged (inside d)) → (c : Config) → run low events ≡ Some c
-      → (l : IsLifted n from first high events c) × Made low v events l.view
-  along [] low high v coupled stand well c h = (
+      → (l : LeadsAbove i n from first high (lift_from s events) (standing_after s events) c) × Made low v events l.view
+  along [] low high v coupled s stand agents well c h = (
     record {
       high = high;
       runs = refl;
       said = ap (λ (d : Config). d.said) (done h) ∙ coupled.said;
       view = v;
-      coupled = subst (λ d. Coupled Infrastructure.central n from first d high v) (sym (done h)) coupled;
+      coupled = subst (λ d. Coupled i n from first d high v) (sym (done h)) coupled;
       stand = stand;
     },
     follows.none low v,
   )
-  along (e ∷ es) low high v coupled stand well c h =
+  along (e ∷ es) low high v coupled s stand agents well c h =
       then (apply low e) _ h λ next applies rest.
-      let s = step coupled stand (well [] high refl).0 (well [] high refl).1 e next applies in
-      let l = along es next s.then s.view s.coupled s.stand (λ hs d r. well (s.made ++ hs) d (s.runs hs ∙ r)) c rest in (
+      let x = step coupled agents (well [] high refl).0 (well [] high refl).1 e next applies in
+      let runs : (hs : List Event) → run high (prepended (lifted s e).event hs) ≡ run x.then hs =
+      λ hs. ap (λ s. run high (prepended (lifted s e).event hs)) (sym stand) ∙ x.runs hs in
+      let l = along es next x.then x.view x.coupled (lifted s e).standing (x.stand ∙ ap (λ s. (lifted s e).standing) stand) x.agents
+      (λ hs d r. well (prepended (lifted s e).event hs) d (runs hs ∙ r)) c rest in (
         record {
           high = l.0.high;
-          runs = ap (run high) (s.lifts es) ∙ s.runs (lift es) ∙ l.0.runs;
+          runs = runs (lift_from (lifted s e).standing es) ∙ l.0.runs;
           said = l.0.said;
           view = l.0.view;
           coupled = l.0.coupled;
           stand = l.0.stand;
         },
-        follows.more low next v s.view l.0.view e es applies (roles-of-events n from first low high v coupled e next applies) s.letters l.1,
+        follows.more low next x.then v x.view l.0.view e es applies (roles-of-events n from first low high v coupled e next applies) x.letters l.1,
       )
 
 nothing-more : {A : Type 0} (xs : List A) → xs ≡ xs ++ []
@@ -72,15 +77,16 @@ stays-well p accepted hs d h =
     subst Well (done (sym h ∙ x.1)) x.2
 
 -- from the starts, where no letter is under way
-pub from-starts : (Made : Config → View → List Event → View → Type 0) → Follows Made → (p : Program) (q : LowProgram) (low : IsLowOf Infrastructure.central p q) → IsAccepted p
+pub from-starts : {i : Infrastructure} (Made : Config → View → List Event → View → Type 0) → Follows i Made → (p : Program) (q : LowProgram) (low : IsLowOf i p q) → IsAccepted p
     → (events : List Event) (c : Config) → run (start_low q) events ≡ Some c
-    → (l : IsLifted (length p.sites) p.binders low.first (start_high p) events c) × (v : View) × NoLetters v × Made (start_low q) v events l.view
+    → (l : IsLifted i (length p.sites) p.binders low.first (start_high p) events c) × (v : View) × NoLetters v × Made (start_low q) v events l.view
 from-starts Made follows p q low accepted events c h =
     let start = starts-coupled p q low accepted.sound in
-    let l = along (length p.sites) p.binders low.first Made follows events _ (start_high p) start.0 start.1 start.2 (λ hs d r. (stays-well p accepted hs d r, (runs-well p accepted).lodged hs d r)) c h in
+    let l = along _ (length p.sites) p.binders low.first Made follows events _ (start_high p) start.0 start.1 at_first start.2
+    (agents-at_first (start_low q) start.0.standing start.2) (λ hs d r. (stays-well p accepted hs d r, (runs-well p accepted).lodged hs d r)) c h in
     (l.0, start.0, start.3, l.1)
 
-pub runs-are-lifted : RunsAreLifted
+pub runs-are-lifted : {i : Infrastructure} → RunsAreLifted i
 runs-are-lifted p q low accepted events c h =
-    (from-starts (λ low v es w. Unit {0}) (record { none = λ low v. tt; more = λ low next v u w e es applies may letters made. tt })
+    (from-starts (λ low v es w. Unit {0}) (record { none = λ low v. tt; more = λ low next then v u w e es applies may letters made. tt })
     p q low accepted events c h).0

@@ -3,4 +3,4 @@
 
 mod laws;
 
-pub use laws::{law_runs_are_lifted, law_runs_are_lodged};
+pub use laws::{law_cached_runs_are_lifted, law_runs_are_lifted, law_runs_are_lodged};

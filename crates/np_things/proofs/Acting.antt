@@ -85,6 +85,7 @@ module _ (n from first : ℕ) (low : Atom) (k : Kind) (begun : begun_by (layer l
   looks m ps Service.notes_moves is = by-text (Thing.looking m ps) low _ kind.Lookup k is (ap begun_by (forms.outs-Lookup _ _ _ _ _)) refl begun
   looks m ps Service.passes_on is = by-text (Thing.looking m ps) low _ kind.Lookup k is (ap begun_by (forms.outs-Lookup _ _ _ _ _)) refl begun
   looks m ps Service.ends_deliveries is = by-text (Thing.looking m ps) low _ kind.Lookup k is (ap begun_by (forms.outs-Lookup _ _ _ _ _)) refl begun
+  looks m ps Service.tells is = by-text (Thing.looking m ps) low _ kind.Lookup k is (ap begun_by (forms.outs-Lookup _ _ _ _ _)) refl begun
 
   wants : (m : Mail) (l : Name) → WaitsFor n first m l low → begins (Thing.wanting m l) low.proc.tag.role k ≡ true
   wants (Mail.migrating a) l w = by-text (Thing.wanting (Mail.migrating a) l) low _ kind.Comm k w.0 (ap begun_by (forms.outs-Inp _ _ _)) refl begun
@@ -103,6 +104,23 @@ module _ (n from first : ℕ) (low : Atom) (k : Kind) (begun : begun_by (layer l
   thing-begins _ (Thing.settling a h s) i = by-text (Thing.settling a h s) low _ kind.Comm k i.is (ap begun_by (forms.outs-Inp _ _ _)) refl begun
   thing-begins _ (Thing.making a h s) i = by-text (Thing.making a h s) low _ kind.Agent k i.is (ap begun_by (forms.outs-Agent _ _ _)) refl begun
   thing-begins _ (Thing.beginning a h p s) i = by-text (Thing.beginning a h p s) low _ kind.Comm k i.is (ap begun_by (forms.outs-Inp _ _ _)) refl begun
+  thing-begins _ (Thing.calling a h ps) i = by-text (Thing.calling a h ps) low _ kind.Lookup k i.2.is (ap begun_by (forms.outs-Lookup _ _ _ _ _)) refl begun
+  thing-begins _ (Thing.hoping a h l) i = by-text (Thing.hoping a h l) low _ kind.Comm k i.2.is (ap begun_by (forms.outs-Inp _ _ _)) refl begun
+  thing-begins _ (Thing.hiring a h) i = by-text (Thing.hiring a h) low _ kind.Agent k i.2.is (ap begun_by (forms.outs-Agent _ _ _)) refl begun
+  thing-begins _ (Thing.passing a h) i = by-text (Thing.passing a h) low _ kind.Send k i.2.is (ap begun_by (forms.outs-Send _ _ _ _)) refl begun
+  thing-begins _ (Thing.cache a ps) i = gives-none i.1
+  thing-begins _ (Thing.hint a l) i = gives-none i.1.1
+  thing-begins _ (Thing.keeping a) i = by-text (Thing.keeping a) low _ kind.Rep k i.1.is (ap begun_by (forms.outs-Rep _ _ _)) refl begun
+  thing-begins _ (Thing.told a) i = by-text (Thing.told a) low _ kind.Comm k i.1.is (ap begun_by (forms.outs-Inp _ _ _)) refl begun
+  thing-begins _ (Thing.telling a ps) i = by-text (Thing.telling a ps) low _ kind.Lookup k i.1.is (ap begun_by (forms.outs-Lookup _ _ _ _ _)) refl begun
+  thing-begins _ (Thing.replacing a l) i = by-text (Thing.replacing a l) low _ kind.Comm k i.1.is (ap begun_by (forms.outs-Inp _ _ _)) refl begun
+  thing-begins _ (Thing.adding a ps b) i = by-text (Thing.adding a ps b) low _ kind.New k i.1.is (ap begun_by (forms.outs-New _ _ _)) refl begun
+  thing-begins _ (Thing.carrying p t a) i = by-text (Thing.carrying p t a) low _ kind.Depart k i.1.is (ap begun_by (forms.outs-Migrate _ _)) refl begun
+  thing-begins _ (Thing.trying p t a) i = by-text (Thing.trying p t a) low _ kind.Local k i.1.is (ap begun_by (forms.outs-IfLocal _ _ _ _ _)) refl begun
+  thing-begins _ Thing.ended i = by-text Thing.ended low _ kind.Stop k i.1.is (ap begun_by forms.outs-Stop) refl begun
+  thing-begins _ (Thing.looking_back a b l ps) i = by-text (Thing.looking_back a b l ps) low _ kind.Lookup k i.is (ap begun_by (forms.outs-Lookup _ _ _ _ _)) refl begun
+  thing-begins _ (Thing.reading a b l ll) i = by-text (Thing.reading a b l ll) low _ kind.Comm k i.is (ap begun_by (forms.outs-Inp _ _ _)) refl begun
+  thing-begins _ (Thing.reading_back a l) i = by-text (Thing.reading_back a l) low _ kind.Comm k i.is (ap begun_by (forms.outs-Inp _ _ _)) refl begun
   thing-begins _ (Thing.opened p) i = absurd (let none : None ≡ Some k = sym (ap (λ (a : Atom). begun_by (layer a.proc)) i.is ∙ ap begun_by (forms.outs-Out _ _)) ∙ begun in cc)
   thing-begins _ (Thing.token a s) i = gives-none i.0
   thing-begins _ (Thing.letters a) i = by-text (Thing.letters a) low _ kind.Rep k i.is (ap begun_by (forms.outs-Rep _ _ _)) refl begun

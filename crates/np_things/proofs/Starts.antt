@@ -1,6 +1,7 @@
 -- The things of the two atoms of the low start.
-use Rattle.std.proofs.Common.{◌≡◌, ℕ, false, Some, [], ◌∷◌, length, refl, sym, ap, subst, ◌∙◌}
+use Rattle.std.proofs.Common.{◌≡◌, ℕ, false, Some, [], ◌∷◌, length, refl, sym, ap, subst, ◌∙◌, List, ◌++◌}
 use Rattle.std.specs.FinMap as map
+use Rattle.std.specs.List.{AllByRecursion}
 use Rattle.np_syntax.specs.declared.value.Name.{Name}
 use Rattle.np_syntax.specs.declared.value.Value.{Value}
 use Rattle.np_syntax.specs.declared.value.Value as value
@@ -21,15 +22,17 @@ use Rattle.np_protocol.specs.Chips.{Service}
 use Rattle.np_scope.specs.Sound.{IsSound}
 use Rattle.daemon_encode.specs.Pieces.{beside, currentloc, expression, gives, here, main, site}
 use Rattle.daemon_encode.specs.Texts.{server_text}
-use Rattle.daemon_encode.specs.Daemon.{first_places}
+use Rattle.daemon_encode.specs.Daemon.{first_places, daemon_text}
 use Rattle.daemon_encode.specs.Infrastructures.{Infrastructure}
+use Rattle.daemon_encode.specs.InfrastructureTexts.{main_of, daemon_of}
 use Rattle.daemon_encode.specs.Translates.{IsLowOf}
+use Rattle.daemon_encode.specs.CacheTexts.{empty_cache, found_server}
 use Rattle.np_source_values.specs.Sources.{Names}
 use Rattle.np_source_values.proofs.Sources.{sound-is-source}
 use Rattle.np_things.specs.Desks.{desk, server}
 use Rattle.np_things.specs.Laws.{StartsWithThings}
 use Rattle.np_things.specs.Shapes.{Are, Gives, IsAgents, IsLetters, IsOfSource}
-use Rattle.np_things.specs.Starts.{daemon_things, main_things}
+use Rattle.np_things.specs.Starts.{daemon_things, main_things, first_cache}
 use Rattle.np_things.specs.Things.{Thing}
 
 -- own names of two numbers are two names
@@ -43,7 +46,13 @@ constant-is v env = eval-form (expression (expr.Val v)) env ∙ eval-val v env
 pub gives-own : (n i k : ℕ) (a : Name) (v : Value) (env : Env) → sends (record { agent = a; proc = gives k (expression (expr.Val (value.Chan (own n i)))) (expression (expr.Val v)); env = env }) ≡ Some (own n i, v)
 gives-own n i k a v env = rw (outs-Out (expression (expr.Val (value.Chan (own n i)))) (expression (expr.Val v)), constant-is (value.Chan (own n i)) env, outs-Chan (own n i), constant-is v env) refl
 
-module _ (p : Program) (q : LowProgram) (low : IsLowOf Infrastructure.central p q) (sound : IsSound p) where
+-- what all have, the first cache of an agent has too
+pub caching_holds : (i : Infrastructure) (a : Name) (P : Thing → Type 0) → P (Thing.cache a []) → P (Thing.keeping a) → (ts : List Thing) → AllByRecursion P ts
+    → AllByRecursion P (first_cache i a ++ ts)
+caching_holds Infrastructure.central a P p q ts h = h
+caching_holds Infrastructure.cached a P p q ts h = (p, (q, h))
+
+module _ {structure : Infrastructure} (p : Program) (q : LowProgram) (low : IsLowOf structure p q) (sound : IsSound p) where
   abbrev n : ℕ
   n = length p.sites
 
@@ -53,13 +62,17 @@ module _ (p : Program) (q : LowProgram) (low : IsLowOf Infrastructure.central p 
   abbrev before : Proc
   before = beside 0 low.body (gives 0 (currentloc n) (site p.at))
 
-  main_are : Are Infrastructure.central n p.binders low.first (first_atom (main_agent n) (beside 0 before (server_text n 0 (main n) low.letter low.place))) (main_things n p.at p.main)
-  main_are =
+  abbrev main_bracket : Proc
+  main_bracket = beside 0 before (server_text n 0 (main n) low.letter low.place)
+
+  bracket_are : Are structure n p.binders low.first (first_atom (main_agent n) main_bracket)
+      (Thing.source (main n) (first_atom (main_agent n) p.main) ∷ Thing.token (main_agent n) p.at ∷ Thing.letters (main_agent n) ∷ [])
+  bracket_are =
       Are.both {k = 0} {p = before} {q = server_text n 0 (main n) low.letter low.place} refl
       (Are.both {k = 0} {p = low.body} {q = gives 0 (currentloc n) (site p.at)} refl (Are.one source) (Are.one token))
       (Are.one letters)
     where
-      source : IsOfSource Infrastructure.central n p.binders (main n) (first_atom (main_agent n) p.main) (first_atom (main_agent n) low.body)
+      source : IsOfSource structure n p.binders (main n) (first_atom (main_agent n) p.main) (first_atom (main_agent n) low.body)
       source = record {
         stands = record { agent = refl; apart = agents; source = sound-is-source p sound; agrees = record { same = λ x h. refl }; called = constant-is (value.Agent (main_agent n)) map.empty };
         translates = low.translates;
@@ -87,7 +100,7 @@ module _ (p : Program) (q : LowProgram) (low : IsLowOf Infrastructure.central p 
   abbrev its_server : Service → Proc
   its_server k = server n (desk n low.first k)
 
-  serves : (k : Service) → Are Infrastructure.central n p.binders low.first (first_atom (daemon_agent n) (its_server k)) (Thing.serving k ∷ [])
+  serves : (k : Service) → Are structure n p.binders low.first (first_atom (daemon_agent n) (its_server k)) (Thing.serving k ∷ [])
   serves k = Are.one (record { agent = refl; is = refl })
 
   abbrev two_parts : Proc
@@ -105,8 +118,9 @@ module _ (p : Program) (q : LowProgram) (low : IsLowOf Infrastructure.central p 
   abbrev with_passes : Proc
   with_passes = beside 0 with_notes (its_server Service.passes_on)
 
-  daemon_are : Are Infrastructure.central n p.binders low.first (first_atom (daemon_agent n) (beside 0 with_passes (its_server Service.ends_deliveries))) (daemon_things n p.at)
-  daemon_are =
+  servers_are : Are structure n p.binders low.first (first_atom (daemon_agent n) (beside 0 with_passes (its_server Service.ends_deliveries)))
+      (daemon_things Infrastructure.central n p.at)
+  servers_are =
       Are.both {k = 0} {p = with_passes} {q = its_server Service.ends_deliveries} refl
       (Are.both {k = 0} {p = with_notes} {q = its_server Service.passes_on} refl
       (Are.both {k = 0} {p = with_grants} {q = its_server Service.notes_moves} refl
@@ -121,8 +135,30 @@ module _ (p : Program) (q : LowProgram) (low : IsLowOf Infrastructure.central p 
       (serves Service.passes_on))
       (serves Service.ends_deliveries)
 
-pub starts-with-things : StartsWithThings
-starts-with-things p q low sound = record {
-  main = subst (λ b. Are Infrastructure.central (length p.sites) p.binders low.first (first_atom (main_agent (length p.sites)) b) (main_things (length p.sites) p.at p.main)) (sym low.main) (main_are p q low sound);
-  daemon = subst (λ b. Are Infrastructure.central (length p.sites) p.binders low.first (first_atom (daemon_agent (length p.sites)) b) (daemon_things (length p.sites) p.at)) (sym low.daemon) (daemon_are p q low sound);
+-- by each infrastructure
+main_are : (i : Infrastructure) (p : Program) (q : LowProgram) (low : IsLowOf i p q) (sound : IsSound p)
+    → Are i (length p.sites) p.binders low.first (first_atom (main_agent (length p.sites)) (main_of i (length p.sites) p.at low.letter low.place low.cache low.body))
+    (main_things i (length p.sites) p.at p.main)
+main_are Infrastructure.central p q low sound = bracket_are p q low sound
+main_are Infrastructure.cached p q low sound =
+    let n : ℕ = length p.sites in
+    let bracket : Proc = main_bracket p q low sound in
+    Are.both {k = 0} {p = beside 0 bracket (empty_cache n 0)} {q = found_server n 0 low.cache} refl
+    (Are.both {k = 0} {p = bracket} {q = empty_cache n 0} refl
+    (bracket_are p q low sound)
+    (Are.one (refl, record { agent = refl; gives = gives-own n 14 0 (main_agent n) (value.Places []) map.empty }, agents p q low sound)))
+    (Are.one (refl, record { agent = refl; node = 0; x = low.cache; above = low.cache_above; is = refl }, agents p q low sound))
+
+daemon_are : (i : Infrastructure) (p : Program) (q : LowProgram) (low : IsLowOf i p q) (sound : IsSound p)
+    → Are i (length p.sites) p.binders low.first (first_atom (daemon_agent (length p.sites)) (daemon_of i (length p.sites) p.at low.first)) (daemon_things i (length p.sites) p.at)
+daemon_are Infrastructure.central p q low sound = servers_are p q low sound
+daemon_are Infrastructure.cached p q low sound =
+    let n : ℕ = length p.sites in
+    Are.both {k = 0} {p = daemon_text n p.at low.first} {q = server n (desk n low.first Service.tells)} refl (servers_are p q low sound)
+    (serves p q low sound Service.tells)
+
+pub starts-with-things : {i : Infrastructure} → StartsWithThings i
+starts-with-things {i} p q low sound = record {
+  main = subst (λ b. Are i (length p.sites) p.binders low.first (first_atom (main_agent (length p.sites)) b) (main_things i (length p.sites) p.at p.main)) (sym low.main) (main_are i p q low sound);
+  daemon = subst (λ b. Are i (length p.sites) p.binders low.first (first_atom (daemon_agent (length p.sites)) b) (daemon_things i (length p.sites) p.at)) (sym low.daemon) (daemon_are i p q low sound);
 }

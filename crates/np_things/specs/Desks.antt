@@ -12,6 +12,8 @@ use Rattle.np_check.specs.Faults.{lock_type}
 use Rattle.np_protocol.specs.Chips.{Service}
 use Rattle.daemon_encode.specs.Pieces.{variable, name, pair, two_names, register, migrating, migrated, message, deliver, dack, lock, infra, beside, gives, takes, serves, sends, finds}
 use Rattle.daemon_encode.specs.Daemon.{acks, enters, frees}
+use Rattle.daemon_encode.specs.CacheTexts.{asking}
+use Rattle.daemon_encode.specs.CacheDaemon.{reads_locks}
 use Rattle.np_things.specs.Mail.{Mail}
 
 -- a server: its channel and pattern, the binder of the map, and what it does then
@@ -24,6 +26,10 @@ pub record Desk : Type 0 where
 -- lookup a in m then l -> (P | lock!m) else 0
 abbrev pub looks : ℕ → ℕ → ℕ → ℕ → Proc → Proc
 looks n a m l p = finds 0 a m l (beside 0 p (frees n m))
+
+-- lookup a in m then k -> (l?s -> .. | lock!m) else 0, where the lock l of the other agent was found
+abbrev pub looks_back : ℕ → ℕ → Proc
+looks_back n x = finds 0 (x + 21) (x + 23) (x + 25) (beside 0 (reads_locks n (x + 21) (x + 22) (x + 24) (x + 25) (x + 26) (x + 27)) (frees n (x + 23)))
 
 abbrev pub desk : ℕ → ℕ → Service → Desk
 desk n x Service.registers =
@@ -45,6 +51,8 @@ desk n x Service.passes_on = record {
 }
 desk n x Service.ends_deliveries =
     record { chan = dack n; pattern = two_names (x + 17) (x + 18); map = x + 19; body = looks n (x + 17) (x + 19) (x + 20) (gives 0 (variable (x + 20)) (variable (x + 18))) }
+desk n x Service.tells =
+    record { chan = asking n; pattern = two_names (x + 21) (x + 22); map = x + 23; body = finds 0 (x + 22) (x + 23) (x + 24) (looks_back n x) }
 
 -- lock?m -> P, and the server that goes on so
 abbrev pub takes_map : ℕ → Desk → Proc
@@ -60,4 +68,5 @@ Took x Service.grants (Mail.migrating a) env = map.get env (x + 4) ≡ Some (val
 Took x Service.notes_moves (Mail.migrated a t) env = (map.get env (x + 8) ≡ Some (value.Agent a)) × (map.get env (x + 9) ≡ Some (value.Site t))
 Took x Service.passes_on (Mail.message p) env = (map.get env (x + 12) ≡ Some (value.Agent p.agent)) × (map.get env (x + 13) ≡ Some (value.Letter p.chan p.value))
 Took x Service.ends_deliveries (Mail.dack b s) env = (map.get env (x + 17) ≡ Some (value.Agent b)) × (map.get env (x + 18) ≡ Some (value.Site s))
+Took x Service.tells (Mail.asks a b) env = (map.get env (x + 21) ≡ Some (value.Agent a)) × (map.get env (x + 22) ≡ Some (value.Agent b))
 Took x _ m env = ⊥

@@ -27,9 +27,13 @@ pub data Mail : Type 0 where
   migrated : Name → ℕ → Mail
   message : Posted → Mail
   dack : Name → ℕ → Mail
+  -- with caches also where![a b], of an agent that asks where another is
+  asks : Name → Name → Mail
   -- to an agent at a site: ack![] and deliver![letter s]
   ack : Name → ℕ → Mail
   deliver : Posted → ℕ → Mail
+  -- and found![b s], for an agent at a site: another is at s
+  found : Name → ℕ → Name → ℕ → Mail
 
 abbrev pub agent_and_site : Name → ℕ → Value
 agent_and_site a s = value.Tuple (value.Agent a ∷ value.Site s ∷ [])
@@ -38,12 +42,14 @@ agent_and_site a s = value.Tuple (value.Agent a ∷ value.Site s ∷ [])
 abbrev pub receiver : ℕ → Mail → Name
 receiver n (Mail.ack a s) = a
 receiver n (Mail.deliver p s) = p.agent
+receiver n (Mail.found a u b s) = a
 receiver n _ = daemon_agent n
 
 -- the site to which it goes: the daemon stands at site 0
 abbrev pub to_site : Mail → ℕ
 to_site (Mail.ack a s) = s
 to_site (Mail.deliver p s) = s
+to_site (Mail.found a u b s) = u
 to_site _ = 0
 
 -- the number of its channel among the own names
@@ -55,6 +61,8 @@ on_channel (Mail.message p) = 5
 on_channel (Mail.dack b s) = 8
 on_channel (Mail.ack a s) = 7
 on_channel (Mail.deliver p s) = 6
+on_channel (Mail.asks a b) = 15
+on_channel (Mail.found a u b s) = 16
 
 abbrev pub content : Mail → Value
 content (Mail.register b s) = agent_and_site b s
@@ -64,6 +72,8 @@ content (Mail.message p) = value.Tuple (value.Agent p.agent ∷ value.Letter p.c
 content (Mail.dack b s) = agent_and_site b s
 content (Mail.ack a s) = value.Tuple []
 content (Mail.deliver p s) = value.Tuple (value.Letter p.chan p.value ∷ value.Site s ∷ [])
+content (Mail.asks a b) = value.Tuple (value.Agent a ∷ value.Agent b ∷ [])
+content (Mail.found a u b s) = agent_and_site b s
 
 -- the packet that it is on its way
 abbrev pub packet_of : ℕ → Mail → Tag → Packet

@@ -27,6 +27,7 @@ use Rattle.daemon_encode.specs.Infrastructures.{Infrastructure}
 use Rattle.daemon_encode.specs.InfrastructureTexts.{child_of}
 use Rattle.daemon_encode.specs.Translates.{Translates, source}
 use Rattle.np_source_values.specs.Sources.{Agrees, IsSource, Names}
+use Rattle.np_things.specs.CacheShapes.{IsAdding, IsCalling, IsCarrying, IsEnded, IsHiring, IsHoping, IsKeeping, IsLookingBack, IsPassing, IsReading, IsReadingBack, IsReplacing, IsTelling, IsTold, IsTrying}
 use Rattle.np_things.specs.Desks.{Took, desk, server, takes_map}
 use Rattle.np_things.specs.Mail.{Mail, Posted, content, on_channel, packet_of, receiver as receiver_of, to_site}
 use Rattle.np_things.specs.Things.{Stage, Thing}
@@ -219,6 +220,10 @@ pub record IsServing (n first : ℕ) (k : Service) (low : Atom) : Type 0 where
 
 -- ---- all of them
 
+-- what there is in agents with caches alone
+abbrev pub IsCached : Infrastructure → Type 0
+IsCached i = i ≡ Infrastructure.cached
+
 -- the made output of the high level, with any tag
 pub record IsOpened (n : ℕ) (p : Posted) (low : Atom) : Type 0 where
   pub apart : IsAgents n p.agent
@@ -232,9 +237,23 @@ Is i n from first (Thing.leaving a h) low = IsLeaving i n from a h low
 Is i n from first (Thing.settling a h s) low = IsSettling i n from a h s low
 Is i n from first (Thing.making a h s) low = IsMaking i n from a h s low
 Is i n from first (Thing.beginning a h p s) low = IsBeginning i n from a h p s low
+Is i n from first (Thing.calling a h ps) low = IsCached i × StandsFor n from a h low × IsCalling n from a h ps low
+Is i n from first (Thing.hoping a h l) low = IsCached i × StandsFor n from a h low × IsHoping n from a h l low
+Is i n from first (Thing.hiring a h) low = IsCached i × StandsFor n from a h low × IsHiring n from a h low
+Is i n from first (Thing.passing a h) low = IsCached i × StandsFor n from a h low × IsPassing n from h low
 Is i n from first (Thing.opened p) low = IsOpened n p low
 Is i n from first (Thing.token a s) low = Gives a (own n 9) (value.Site s) low × IsAgents n a
 Is i n from first (Thing.letters a) low = IsLetters n from a low
+Is i n from first (Thing.cache a ps) low = IsCached i × Gives a (own n 14) (value.Places ps) low × IsAgents n a
+Is i n from first (Thing.hint a l) low = IsCached i × ((v : Value) × Gives a l v low) × IsAgents n a
+Is i n from first (Thing.keeping a) low = IsCached i × IsKeeping n from a low × IsAgents n a
+Is i n from first (Thing.told a) low = IsCached i × IsTold n a low × IsAgents n a
+Is i n from first (Thing.telling a ps) low = IsCached i × IsTelling n a ps low × IsAgents n a
+Is i n from first (Thing.replacing a l) low = IsCached i × IsReplacing a l low × IsAgents n a
+Is i n from first (Thing.adding a ps b) low = IsCached i × IsAdding n a ps b low × IsAgents n a
+Is i n from first (Thing.carrying p t a) low = IsCached i × IsCarrying n p t a low × IsAgents n t
+Is i n from first (Thing.trying p t a) low = IsCached i × IsTrying n p t a low × IsAgents n t
+Is i n from first Thing.ended low = IsCached i × IsEnded low
 Is i n from first (Thing.opening p) low = Opens p low × IsAgents n p.agent
 Is i n from first (Thing.mail m stage) low = IsMail n m stage low
 Is i n from first (Thing.taken m) low = HasTaken n first m low
@@ -243,6 +262,9 @@ Is i n from first (Thing.wanting m l) low = IsWanting n first m l low
 Is i n from first (Thing.serving k) low = IsServing n first k low
 Is i n from first (Thing.places ps) low = Gives (daemon_agent n) (own n 10) (value.Places ps) low
 Is i n from first (Thing.free l s) low = Gives (daemon_agent n) l (value.Site s) low
+Is i n from first (Thing.looking_back a b l ps) low = IsLookingBack n first a b l ps low
+Is i n from first (Thing.reading a b l k) low = IsReading n first a b l k low
+Is i n from first (Thing.reading_back a k) low = IsReadingBack n first a k low
 Is i n from first (Thing.packet p) low = ⊥
 
 -- The things of an atom. A bracket of the infrastructure is no thing by itself: it has the things of its parts.

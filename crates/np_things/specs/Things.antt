@@ -9,6 +9,7 @@ use Rattle.np_calculus.specs.declared.config.Atom.{Atom}
 use Rattle.np_calculus.specs.declared.config.Packet.{Packet}
 use Rattle.np_eval.specs.Eval.{find_place}
 use Rattle.np_protocol.specs.Chips.{Chip, Service}
+use Rattle.cache_rule.specs.Chips.{CacheChip}
 use Rattle.np_things.specs.Mail.{Mail, Posted, as_output}
 
 -- where mail is: about to be sent from an agent, on its way, and there as an output
@@ -26,11 +27,31 @@ pub data Thing : Type 0 where
   settling : Expr → Atom → ℕ → Thing
   making : Expr → Atom → ℕ → Thing
   beginning : Expr → Atom → Name → ℕ → Thing
+  -- With caches, of a post of the high level: its agent's cache, with these hints by their locks, is taken; it waits for the hint with this lock; it is
+  -- about to make a messenger; it is about to send to the daemon.
+  calling : Expr → Atom → List (Name × Name) → Thing
+  hoping : Expr → Atom → Name → Thing
+  hiring : Expr → Atom → Thing
+  passing : Expr → Atom → Thing
   -- a made output of the high level
   opened : Posted → Thing
   -- of an agent: its free `currentloc` with its site, and its server of letters
   token : Name → ℕ → Thing
   letters : Name → Thing
+  -- with caches also its free cache, a free hint by its lock, and its server of what is found
+  cache : Name → List (Name × Name) → Thing
+  hint : Name → Name → Thing
+  keeping : Name → Thing
+  -- an answer of the daemon in the agent: a copy of that server took it, and has the cache; it replaces a hint, or adds one of an agent
+  told : Name → Thing
+  telling : Name → List (Name × Name) → Thing
+  replacing : Name → Name → Thing
+  adding : Name → List (Name × Name) → Name → Thing
+  -- a letter with a messenger of an agent: it is about to leave for the site of a hint, or to look for the receiver
+  carrying : Posted → Name → Name → Thing
+  trying : Posted → Name → Name → Thing
+  -- `0` of the infrastructure
+  ended : Thing
   -- `open` of a letter
   opening : Posted → Thing
   -- mail of the infrastructure; of that for the daemon, a server's copy that took it, and has the map, or waits for an agent's lock
@@ -42,6 +63,11 @@ pub data Thing : Type 0 where
   serving : Service → Thing
   places : List (Name × Name) → Thing
   free : Name → ℕ → Thing
+  -- of the daemon with caches, for an agent that asks where another is: it has found the lock of the other, and has the map; it has found both
+  -- locks; it has read that of the other
+  looking_back : Name → Name → Name → List (Name × Name) → Thing
+  reading : Name → Name → Name → Name → Thing
+  reading_back : Name → Name → Thing
   -- a packet of the source
   packet : Packet → Thing
 
@@ -55,6 +81,8 @@ mail_chips (Mail.dack b s) stage = Chip.delivery b s ∷ []
 mail_chips (Mail.ack a s) Stage.there = Chip.ack_here a ∷ []
 mail_chips (Mail.ack a s) _ = Chip.ack_sent a s ∷ []
 mail_chips (Mail.deliver p s) stage = Chip.delivery p.agent s ∷ Chip.knows p.agent ∷ []
+mail_chips (Mail.asks a b) stage = Chip.knows a ∷ Chip.knows b ∷ []
+mail_chips (Mail.found a u b s) stage = Chip.knows a ∷ []
 
 -- who waits for an agent's lock: a request to move, and a letter
 abbrev pub wanting_chips : Mail → Name → List Chip
@@ -79,7 +107,23 @@ shows (Thing.wanting m l) = wanting_chips m l
 shows (Thing.serving k) = Chip.serves k ∷ []
 shows (Thing.places ps) = Chip.locks (find_place ps) ∷ []
 shows (Thing.free l s) = Chip.free l s ∷ []
+shows (Thing.carrying p t a) = Chip.knows p.agent ∷ Chip.knows a ∷ []
+shows (Thing.trying p t a) = Chip.knows p.agent ∷ Chip.knows a ∷ []
+shows (Thing.looking_back a b l ps) = Chip.locks (find_place ps) ∷ Chip.wants b l ∷ Chip.knows a ∷ []
+shows (Thing.reading a b l k) = Chip.wants b l ∷ Chip.wants a k ∷ []
+shows (Thing.reading_back a k) = Chip.wants a k ∷ []
 shows _ = []
+
+-- the chips of caches that a thing shows: who has taken an agent's cache has it still
+abbrev pub shows_caches : Thing → List CacheChip
+shows_caches (Thing.cache a ps) = CacheChip.cache a (find_place ps) ∷ []
+shows_caches (Thing.calling a h ps) = CacheChip.cache h.agent (find_place ps) ∷ []
+shows_caches (Thing.telling a ps) = CacheChip.cache a (find_place ps) ∷ []
+shows_caches (Thing.adding a ps b) = CacheChip.cache a (find_place ps) ∷ []
+shows_caches (Thing.hint a l) = CacheChip.hint a l ∷ []
+shows_caches (Thing.hoping a h l) = CacheChip.needs h.agent l ∷ []
+shows_caches (Thing.replacing a l) = CacheChip.needs a l ∷ []
+shows_caches _ = []
 
 -- the letter of a mail, if it carries one
 abbrev pub letter_of_mail : Mail → Option Posted
@@ -93,6 +137,8 @@ carried (Thing.mail m stage) = letter_of_mail m
 carried (Thing.taken m) = letter_of_mail m
 carried (Thing.looking m ps) = letter_of_mail m
 carried (Thing.wanting m l) = letter_of_mail m
+carried (Thing.carrying p t a) = Some p
+carried (Thing.trying p t a) = Some p
 carried _ = None
 
 -- the atom of the high level that a thing is: a letter under way is the output that it was posted as
@@ -103,6 +149,10 @@ high_atom (Thing.leaving a h) = Some h
 high_atom (Thing.settling a h s) = Some h
 high_atom (Thing.making a h s) = Some h
 high_atom (Thing.beginning a h p s) = Some h
+high_atom (Thing.calling a h ps) = Some h
+high_atom (Thing.hoping a h l) = Some h
+high_atom (Thing.hiring a h) = Some h
+high_atom (Thing.passing a h) = Some h
 high_atom (Thing.opened p) = Some (as_output p)
 high_atom t = do p ← carried t; Some (as_output p)
 
@@ -125,3 +175,6 @@ IsHeaded (t ∷ ts) = All (λ u. high_atom u ≡ None) ts
 
 abbrev pub show_all : List Thing → List Chip
 show_all ts = flat_map shows ts
+
+abbrev pub show_all_caches : List Thing → List CacheChip
+show_all_caches ts = flat_map shows_caches ts

@@ -8,9 +8,9 @@ pub fn law_daemon_desks()
 {}
 
 /// At the low start of a sound program main has its process, its `currentloc` and its server, and the daemon has its map, main's
-/// lock and its servers.
+/// lock and its servers. With caches main also has an empty cache and what keeps it, and the daemon tells where agents are.
 pub fn law_start_things()
-    ensures { StartsWithThings }
+    ensures { (i : Infrastructure) → StartsWithThings i }
 {}
 
 /// An atom that begins an event of a kind is there for one thing, which begins events of this kind in this role; or it is a

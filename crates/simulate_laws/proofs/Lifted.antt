@@ -10,34 +10,36 @@ use Rattle.np_calculus.specs.Starts.{start_high, start_low}
 use Rattle.np_calculus.specs.Well.{Has}
 use Rattle.np_check.specs.Faults.{IsAccepted}
 use Rattle.daemon_encode.specs.Encoded.{encoded}
+use Rattle.daemon_encode.specs.Infrastructures.{Infrastructure}
 use Rattle.daemon_encode.proofs.LowAgents.{encodes-runs-well}
 use Rattle.daemon_encode.proofs.Related.{encodes-itself}
 use Rattle.np_lift.specs.Lift.{lift}
 use Rattle.np_posts.proofs.Posts.{posts-are-paired, rests-all-handed}
 use Rattle.np_rest.proofs.Highs.{rests-together}
-use Rattle.np_simulation.proofs.Runs.{runs-are-lifted, stays-well}
+use Rattle.np_simulation.proofs.Central.{central-runs-are-lifted}
+use Rattle.np_simulation.proofs.Runs.{stays-well}
 use Rattle.simulate_laws.specs.Lifted.{EndsAtRest, ShowsHigh, ShowsRest}
 
 module _ (p : Program) (accepted : IsAccepted p) (events : List Event) where
   -- the lifted events are a run
   pub are-run : Has (run (start_low (encoded p)) events) → Has (run (start_high p) (lift events))
-  are-run h = let l = runs-are-lifted p (encoded p) (encodes-itself p) accepted events h.0 h.1 in (l.high, l.runs)
+  are-run h = let l = central-runs-are-lifted p (encoded p) (encodes-itself p) accepted events h.0 h.1 in (l.high, l.runs)
 
   pub shows-high : Has (run (start_low (encoded p)) events) → (high : Config) → run (start_high p) (lift events) ≡ Some high → ShowsHigh p events high
   shows-high h high leads = record {
     runs = leads;
-    said = λ low is. (let l = runs-are-lifted p (encoded p) (encodes-itself p) accepted events low is in l.said ∙ ap (λ (d : Config). d.said) (done (sym leads ∙ l.runs)));
+    said = λ low is. (let l = central-runs-are-lifted p (encoded p) (encodes-itself p) accepted events low is in l.said ∙ ap (λ (d : Config). d.said) (done (sym leads ∙ l.runs)));
     well = stays-well p accepted (lift events) high leads;
     paired = posts-are-paired p (encoded p) (encodes-itself p) accepted events h.0 h.1;
   }
 
   pub shows-rest : EndsAtRest p events → (high : Config) → ShowsHigh p events high → ShowsRest p events high
   shows-rest ends high shows =
-      let l = runs-are-lifted p (encoded p) (encodes-itself p) accepted events ends.last ends.runs in
+      let l = central-runs-are-lifted p (encoded p) (encodes-itself p) accepted events ends.last ends.runs in
       let lodged = (encodes-runs-well p accepted).lodged events ends.last ends.runs in
       let same : high ≡ l.high = done (sym l.runs ∙ shows.runs) in
       record {
         shows = shows;
-        rests = subst Idle (sym same) (rests-together (length p.sites) p.binders (encodes-itself p).first ends.last l.high l.view l.coupled lodged ends.rests).0;
+        rests = subst Idle (sym same) (rests-together Infrastructure.central (length p.sites) p.binders (encodes-itself p).first ends.last l.high l.view l.coupled lodged ends.rests).0;
         handed = rests-all-handed p (encoded p) (encodes-itself p) accepted events ends.last ends.runs ends.rests;
       }

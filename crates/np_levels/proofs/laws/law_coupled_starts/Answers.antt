@@ -2,4 +2,4 @@ use Rattle.np_levels.proofs.Starts.{starts-coupled}
 use Rattle.np_levels.proofs.laws.law_coupled_starts.Goals as goal
 
 pub returns : goal.returns
-returns c = starts-coupled
+returns c i = starts-coupled

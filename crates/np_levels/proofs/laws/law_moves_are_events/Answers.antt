@@ -4,7 +4,7 @@ use Rattle.np_levels.proofs.Departures.{departures-are-events}
 use Rattle.np_levels.proofs.laws.law_moves_are_events.Goals as goal
 
 pub returns-clause-creations : goal.returns-clause-creations
-returns-clause-creations c = creations-are-events
+returns-clause-creations c i = creations-are-events
 
 pub returns-clause-departures : goal.returns-clause-departures
 returns-clause-departures c i = departures-are-events

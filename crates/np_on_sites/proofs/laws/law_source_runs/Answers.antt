@@ -1,6 +1,7 @@
 use Rattle.std.proofs.Common.{length, sym, subst, ◌∙◌}
 use Rattle.np_syntax.specs.declared.program.LowProgram.{LowProgram}
 use Rattle.daemon_encode.specs.Encoded.{encoded}
+use Rattle.daemon_encode.specs.Infrastructures.{Infrastructure}
 use Rattle.np_on_sites.specs.SitesRuns.{IsSitesRun, events_of}
 use Rattle.np_on_sites.specs.SourceRuns.{IsSourceRun}
 use Rattle.np_on_sites.proofs.laws.law_source_runs.Goals as goal
@@ -20,5 +21,5 @@ returns c = λ p low budget histories end accepted is ran.
       said = sym high.said ∙ run_of.said;
       paired = c.law_posts_are_paired.ensures p (encoded p) of accepted events run_of.last run_of.reaches;
       handed = λ rest. c.law_all_handed.ensures.handed p (encoded p) of accepted events run_of.last run_of.reaches (run_of.rests.0 rest);
-      rests = λ rest. (c.law_rest.ensures (length p.sites) p.binders of.first run_of.last high.high high.view high.coupled lodged (run_of.rests.0 rest)).0;
+      rests = λ rest. (c.law_rest.ensures Infrastructure.central (length p.sites) p.binders of.first run_of.last high.high high.view high.coupled lodged (run_of.rests.0 rest)).0;
     })

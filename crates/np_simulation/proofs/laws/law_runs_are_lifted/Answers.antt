@@ -1,5 +1,5 @@
-use Rattle.np_simulation.proofs.Runs.{runs-are-lifted}
+use Rattle.np_simulation.proofs.Central.{central-runs-are-lifted}
 use Rattle.np_simulation.proofs.laws.law_runs_are_lifted.Goals as goal
 
 pub returns : goal.returns
-returns c = runs-are-lifted
+returns c = central-runs-are-lifted
