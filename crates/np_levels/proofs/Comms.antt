@@ -101,7 +101,8 @@ no_owed a b (ch ∷ cs) none h =
         omega arith
     counts _ i = absurd cc
 
-module _ {i : Infrastructure} {n from first : ℕ} {low high : Config} {v : View} (c : Coupled i n from first low high v) (e : Event) (next : Config) (s : IsMeeting low e next) (no_packet : map.get low.packets e.actor ≡ None) (h : apply low e ≡ Some next) where
+module _ {i : Infrastructure} {n from first : ℕ} {low high : Config} {v : View} (c : Coupled i n from first low high v) (e : Event) (next : Config) (s : IsMeeting low e next)
+    (no_packet : map.get low.packets e.actor ≡ None) (h : apply low e ≡ Some next) where
   abbrev Done : Type 0
   Done = (w : View) × (w.standing ≡ v.standing) × Coupled i n from first next high w × SameLetters v w
 
@@ -198,7 +199,8 @@ module _ {i : Infrastructure} {n from first : ℕ} {low high : Config} {v : View
     where
       go : (m : Mail) → WaitsFor n first m l s.atom → map.get v.things e.actor ≡ Some (Thing.wanting m l ∷ []) → Done
       go (Mail.migrating a) w there =
-          let told = recursion_from_All (IsTrueOf (scene v high) v.phase) (Chip.request a ∷ Chip.wants a l ∷ []) (all_taken (step_at shows v.things e.actor (Thing.wanting (Mail.migrating a) l ∷ []) [] there) (IsTrueOf (scene v high) v.phase) c.protocol.true_chips) in
+          let told = recursion_from_All (IsTrueOf (scene v high) v.phase) (Chip.request a ∷ Chip.wants a l ∷ [])
+          (all_taken (step_at shows v.things e.actor (Thing.wanting (Mail.migrating a) l ∷ []) [] there) (IsTrueOf (scene v high) v.phase) c.protocol.true_chips) in
           let r = reads 0 (variable (first + 6)) (name (first + 7)) (acks n (first + 4) (first + 7)) w.0 in
           let k = takes_free a l told.1.0 waits.agent (chan_var (first + 6) l r.on w.2) in
           let t : ℕ = k.site_of in
@@ -241,13 +243,16 @@ module _ {i : Infrastructure} {n from first : ℕ} {low high : Config} {v : View
             carriers = λ k. (tt, tt);
           })
       go (Mail.message p) w there =
-          let told = recursion_from_All (IsTrueOf (scene v high) v.phase) (Chip.wants p.agent l ∷ Chip.knows p.agent ∷ []) (all_taken (step_at shows v.things e.actor (Thing.wanting (Mail.message p) l ∷ []) [] there) (IsTrueOf (scene v high) v.phase) c.protocol.true_chips) in
+          let told = recursion_from_All (IsTrueOf (scene v high) v.phase) (Chip.wants p.agent l ∷ Chip.knows p.agent ∷ [])
+          (all_taken (step_at shows v.things e.actor (Thing.wanting (Mail.message p) l ∷ []) [] there) (IsTrueOf (scene v high) v.phase) c.protocol.true_chips) in
           let r = reads 0 (variable (first + 15)) (name (first + 16)) (sends_text 0 (variable (first + 12)) (variable (first + 16)) (deliver n) (pair (variable (first + 13)) (variable (first + 16)))) w.0 in
           let k = takes_free p.agent l told.0 waits.agent (chan_var (first + 15) l r.on w.2) in
           let t : ℕ = k.site_of in
           let env = bound (first + 16) (value.Site t) r.pattern k.what in
-          let agent_is : map.get s.env (first + 12) ≡ Some (value.Agent p.agent) = ap (λ (e : Env). map.get e (first + 12)) env ∙ there_is s.atom.env (first + 16) (first + 12) (value.Site t) (λ e. let bad : ⊥ = omega arith in bad) ∙ w.1.0 in
-          let letter_is : map.get s.env (first + 13) ≡ Some (value.Letter p.chan p.value) = ap (λ (e : Env). map.get e (first + 13)) env ∙ there_is s.atom.env (first + 16) (first + 13) (value.Site t) (λ e. let bad : ⊥ = omega arith in bad) ∙ w.1.1 in
+          let agent_is : map.get s.env (first + 12) ≡ Some (value.Agent p.agent) = ap (λ (e : Env). map.get e (first + 12)) env
+          ∙ there_is s.atom.env (first + 16) (first + 12) (value.Site t) (λ e. let bad : ⊥ = omega arith in bad) ∙ w.1.0 in
+          let letter_is : map.get s.env (first + 13) ≡ Some (value.Letter p.chan p.value) = ap (λ (e : Env). map.get e (first + 13)) env
+          ∙ there_is s.atom.env (first + 16) (first + 13) (value.Site t) (λ e. let bad : ⊥ = omega arith in bad) ∙ w.1.1 in
           let site_is : map.get s.env (first + 16) ≡ Some (value.Site t) = ap (λ (e : Env). map.get e (first + 16)) env ∙ here_is s.atom.env (first + 16) (value.Site t) in
           meets c next e s (Thing.wanting (Mail.message p) l ∷ []) (Thing.mail (Mail.deliver p t) (Stage.in_agent s.atom.agent) ∷ []) (Thing.free l t) (record {
             applies = h;
@@ -369,18 +374,25 @@ module _ {i : Infrastructure} {n from first : ℕ} {low high : Config} {v : View
         letters = refl;
         no_atom = refl;
         no_high_packet = refl;
-        protocol = λ step. keeps-protocol (scene v high) (scene v high) v.phase (chips v.things) _ (Chip.waiter hi.agent t ∷ Chip.ack_here hi.agent ∷ []) (Chip.token hi.agent t ∷ []) (Rule.finishes {a = hi.agent} {s = t}) (alone step) c.protocol;
+        protocol = λ step. keeps-protocol (scene v high) (scene v high) v.phase (chips v.things) _ (Chip.waiter hi.agent t ∷ Chip.ack_here hi.agent ∷ [])
+            (Chip.token hi.agent t ∷ []) (Rule.finishes {a = hi.agent} {s = t}) (alone step) c.protocol;
         children = λ step a b any. inl (any_kept (is_child_of a b) step (λ x. x) any);
-        known = λ step k. (knows_more (may_know v.lock (chips v.things) (Thing.settling a hi t)) (λ b. is_some (v.lock b)) (is_channel n high.born) from (λ b m. forgets step b (or_cases (is_some (v.lock b)) (list_any (is_child_of hi.agent b) (chips v.things)) m)) (Thing.source a hi) k.0, (tt, tt));
+        known = λ step k. (
+          knows_more (may_know v.lock (chips v.things) (Thing.settling a hi t)) (λ b. is_some (v.lock b)) (is_channel n high.born) from
+              (λ b m. forgets step b (or_cases (is_some (v.lock b)) (list_any (is_child_of hi.agent b) (chips v.things)) m)) (Thing.source a hi) k.0,
+          (tt, tt),
+        );
         hints = handed_on low high next;
         carriers = λ k. (tt, (tt, tt));
       })
     where
-      alone : {after : List Chip} → Step (chips v.things) after (Chip.ack_here hi.agent ∷ Chip.waiter hi.agent t ∷ []) (Chip.token hi.agent t ∷ []) → Step (chips v.things) after (Chip.waiter hi.agent t ∷ Chip.ack_here hi.agent ∷ []) (Chip.token hi.agent t ∷ [])
+      alone : {after : List Chip} → Step (chips v.things) after (Chip.ack_here hi.agent ∷ Chip.waiter hi.agent t ∷ []) (Chip.token hi.agent t ∷ [])
+          → Step (chips v.things) after (Chip.waiter hi.agent t ∷ Chip.ack_here hi.agent ∷ []) (Chip.token hi.agent t ∷ [])
       alone step = cancel (Chip.waiter hi.agent t ∷ Chip.ack_here hi.agent ∷ []) (Chip.token hi.agent t ∷ []) [] step (permuted swapped) (IsPermutation-refl (Chip.token hi.agent t ∷ []))
 
       -- who is told waits for no agent that it made
-      forgets : {after : List Chip} → Step (chips v.things) after (Chip.ack_here hi.agent ∷ Chip.waiter hi.agent t ∷ []) (Chip.token hi.agent t ∷ []) → (b : Name) → (is_some (v.lock b) ≡ true) ⊎ (list_any (is_child_of hi.agent b) (chips v.things) ≡ true)
+      forgets : {after : List Chip} → Step (chips v.things) after (Chip.ack_here hi.agent ∷ Chip.waiter hi.agent t ∷ []) (Chip.token hi.agent t ∷ []) → (b : Name)
+          → (is_some (v.lock b) ≡ true) ⊎ (list_any (is_child_of hi.agent b) (chips v.things) ≡ true)
           → is_some (v.lock b) ≡ true
       forgets step b (inl known) = known
       forgets {after} step b (inr child) = absurd (no_owed hi.agent b (chips v.things) ((acknowledged (scene v high)).finishes v.phase (chips v.things) after (Chip.token hi.agent t ∷ []) hi.agent t (alone step) c.protocol) child)
@@ -427,10 +439,16 @@ module _ {i : Infrastructure} {n from first : ℕ} {low high : Config} {v : View
         letters = refl;
         no_atom = refl;
         no_high_packet = refl;
-        protocol = λ step. keeps-protocol (scene v high) (scene v high) v.phase (chips v.things) _ (Chip.ack_here hi.agent ∷ Chip.child hi.agent p t ∷ []) (Chip.token hi.agent t ∷ Chip.ack_sent p t ∷ []) (Rule.starts {b = hi.agent} {p = p} {s = t})
-            (cancel (Chip.ack_here hi.agent ∷ Chip.child hi.agent p t ∷ []) (Chip.token hi.agent t ∷ Chip.ack_sent p t ∷ []) [] step (IsPermutation-refl (Chip.ack_here hi.agent ∷ Chip.child hi.agent p t ∷ [])) (permuted swapped)) c.protocol;
+        protocol = λ step. keeps-protocol (scene v high) (scene v high) v.phase (chips v.things) _ (Chip.ack_here hi.agent ∷ Chip.child hi.agent p t ∷ [])
+            (Chip.token hi.agent t ∷ Chip.ack_sent p t ∷ []) (Rule.starts {b = hi.agent} {p = p} {s = t})
+            (cancel (Chip.ack_here hi.agent ∷ Chip.child hi.agent p t ∷ []) (Chip.token hi.agent t ∷ Chip.ack_sent p t ∷ []) [] step
+            (IsPermutation-refl (Chip.ack_here hi.agent ∷ Chip.child hi.agent p t ∷ [])) (permuted swapped)) c.protocol;
         children = children;
-        known = λ step k. (knows_more (may_know v.lock (chips v.things) (Thing.beginning a hi p t)) (λ b. is_some (v.lock b)) (is_channel n high.born) from (λ b m. in_map step b (or_cases (is_some (v.lock b)) (same_name b hi.agent) m)) (Thing.source a hi) k.0, (tt, (tt, tt)));
+        known = λ step k. (
+          knows_more (may_know v.lock (chips v.things) (Thing.beginning a hi p t)) (λ b. is_some (v.lock b)) (is_channel n high.born) from
+              (λ b m. in_map step b (or_cases (is_some (v.lock b)) (same_name b hi.agent) m)) (Thing.source a hi) k.0,
+          (tt, (tt, tt)),
+        );
         hints = handed_on low high next;
         carriers = λ k. (tt, (tt, (tt, tt)));
       })
@@ -445,7 +463,8 @@ module _ {i : Infrastructure} {n from first : ℕ} {low high : Config} {v : View
       children : {after give : List Chip} → Step (chips v.things) after (Chip.ack_here hi.agent ∷ Chip.child hi.agent p t ∷ []) give → (x b : Name) → list_any (is_child_of x b) (chips v.things) ≡ true
           → (list_any (is_child_of x b) after ≡ true) ⊎ (is_some (v.lock b) ≡ true)
       children {after} {give} step x b any =
-          elim (any_out (is_child_of x b) (Chip.ack_here hi.agent ∷ Chip.child hi.agent p t ∷ []) step.rest (sym (list_any-IsPermutation (is_child_of x b) (chips v.things) ((Chip.ack_here hi.agent ∷ Chip.child hi.agent p t ∷ []) ++ step.rest) step.taken) ∙ any)) [
+          elim (any_out (is_child_of x b) (Chip.ack_here hi.agent ∷ Chip.child hi.agent p t ∷ []) step.rest
+          (sym (list_any-IsPermutation (is_child_of x b) (chips v.things) ((Chip.ack_here hi.agent ∷ Chip.child hi.agent p t ∷ []) ++ step.rest) step.taken) ∙ any)) [
             | inl taken ↦ inr (ap (λ y. is_some (v.lock y)) (sym (same_name-is hi.agent b (its (same_name hi.agent b) (same_name p x) taken))) ∙ registered step)
             | inr rest ↦ inl (list_any-IsPermutation (is_child_of x b) after (give ++ step.rest) step.given ∙ any_in (is_child_of x b) give step.rest (inr rest))
           ]
@@ -516,7 +535,8 @@ module _ {i : Infrastructure} {n from first : ℕ} {low high : Config} {v : View
         letters = refl;
         no_atom = refl;
         no_high_packet = refl;
-        protocol = λ step. keeps-protocol (scene v high) (scene v high) v.phase (chips v.things) _ (Chip.token hi.agent k.site_of ∷ []) (Chip.mover hi.agent ∷ Chip.request hi.agent ∷ []) (Rule.begins_move {a = hi.agent} {s = k.site_of}) step c.protocol;
+        protocol = λ step. keeps-protocol (scene v high) (scene v high) v.phase (chips v.things) _ (Chip.token hi.agent k.site_of ∷ [])
+            (Chip.mover hi.agent ∷ Chip.request hi.agent ∷ []) (Rule.begins_move {a = hi.agent} {s = k.site_of}) step c.protocol;
         children = λ step a b any. inl (any_kept (is_child_of a b) step (λ x. x) any);
         known = λ step k. (k.0, (tt, tt));
         hints = handed_on low high next;
@@ -569,7 +589,8 @@ module _ {i : Infrastructure} {n from first : ℕ} {low high : Config} {v : View
         letters = refl;
         no_atom = refl;
         no_high_packet = refl;
-        protocol = λ step. keeps-protocol (scene v high) (scene v high) v.phase (chips v.things) _ (Chip.token hi.agent k.site_of ∷ []) (Chip.maker hi.agent k.site_of ∷ []) (Rule.begins_creation {a = hi.agent} {s = k.site_of}) step c.protocol;
+        protocol = λ step. keeps-protocol (scene v high) (scene v high) v.phase (chips v.things) _ (Chip.token hi.agent k.site_of ∷ []) (Chip.maker hi.agent k.site_of ∷ [])
+            (Rule.begins_creation {a = hi.agent} {s = k.site_of}) step c.protocol;
         children = λ step a b any. inl (any_kept (is_child_of a b) step (λ x. x) any);
         known = λ step k. k;
         hints = handed_on low high next;
@@ -903,7 +924,8 @@ module _ {i : Infrastructure} {n from first : ℕ} {low high : Config} {v : View
       → s.atom.proc ≡ post_of i n tag.node a b ch va m → from ≤ m → s.atom.proc.tag.role ≡ role.Infra → map.get v.things e.actor ≡ Some (Thing.source a hi ∷ []) → Done
 
   -- a process of the source that takes `currentloc`, or posts
-  of_source : PostsTake → (a : Expr) (hi : Atom) (p q : Proc) → IsOfSource i n from a hi s.atom → hi.proc ≡ p → s.atom.proc ≡ q → p.tag.role ≡ role.Plain → s.atom.proc.tag.role ≡ role.Infra → Translates i n from a p q → map.get v.things e.actor ≡ Some (Thing.source a hi ∷ []) → Done
+  of_source : PostsTake → (a : Expr) (hi : Atom) (p q : Proc) → IsOfSource i n from a hi s.atom → hi.proc ≡ p → s.atom.proc ≡ q → p.tag.role ≡ role.Plain
+      → s.atom.proc.tag.role ≡ role.Infra → Translates i n from a p q → map.get v.things e.actor ≡ Some (Thing.source a hi ∷ []) → Done
   of_source posts a hi p q i is text plain infra (Translates.migrate {k = tag} {at = at} {e = to} {p = body} {p' = below} t) there = begins_move a hi tag at to body below i is text t there
   of_source posts a hi p q i is text plain infra (Translates.agent {k = tag} {at = at} {b = b} {s = st} {l = l} {t = pl} {c = ca} {p = x} {p' = x'} {q = y} {q' = y'} f g w apart above tp tq) there =
       begins_creation a hi tag at b st l pl ca x y x' y' i is text f g w apart above tp tq there

@@ -238,7 +238,9 @@ module _ {i : Infrastructure} {n from first : ℕ} {low high : Config} {v : View
           split_shown : {X : Type 0} (show : Thing → List X) → Reordered (shown show things) (shown show v.things)
           split_shown show =
               let rest = shown show (map.remove v.things e.actor) in
-              let new = flat (λ (e : Name × List Thing). flat_map show e.1) (and_then (entries_new half s.new right (get-put v.things e.actor left s.new ∙ ap (λ t. cond t (Some left) (map.get v.things s.new)) other ∙ absent)) (behind (entries_put v.things e.actor left))) in
+              let new = flat (λ (e : Name × List Thing). flat_map show e.1)
+              (and_then (entries_new half s.new right (get-put v.things e.actor left s.new ∙ ap (λ t. cond t (Some left) (map.get v.things s.new)) other ∙ absent))
+              (behind (entries_put v.things e.actor left))) in
               let old = flat (λ (e : Name × List Thing). flat_map show e.1) (entries_at v.things e.actor (left ++ right) there) in
               let middle : Reordered (flat_map show right ++ (flat_map show left ++ rest)) (flat_map show left ++ (flat_map show right ++ rest)) =
               past (flat_map show right) (flat_map show left) rest in
@@ -276,12 +278,17 @@ module _ {i : Infrastructure} {n from first : ℕ} {low high : Config} {v : View
 
           shaped : (q : Name) (t u : Bool) → same_name q s.new ≡ t → same_name q e.actor ≡ u → IsShaped i n from first next things q
           shaped q true u a b =
-              IsShaped.atom (at_atoms q ∙ ap (λ t. cond t (Some (goes s.atom s.left)) (cond (same_name q s.new) (Some (goes s.atom s.right)) (map.get low.atoms q))) (not_both q a) ∙ ap (λ t. cond t (Some (goes s.atom s.right)) (map.get low.atoms q)) a)
+              IsShaped.atom (at_atoms q ∙ ap (λ t. cond t (Some (goes s.atom s.left)) (cond (same_name q s.new) (Some (goes s.atom s.right)) (map.get low.atoms q))) (not_both q a)
+              ∙ ap (λ t. cond t (Some (goes s.atom s.right)) (map.get low.atoms q)) a)
               (at_packets q ∙ ap (map.get low.packets) (same_name-is q s.new a) ∙ no_new_packet) (at q ∙ ap (λ t. cond t (Some right) (cond (same_name q e.actor) (Some left) (map.get v.things q))) a) headed.of_right are_right
           shaped q false true a b =
               IsShaped.atom (at_atoms q ∙ ap (λ t. cond t (Some (goes s.atom s.left)) (cond (same_name q s.new) (Some (goes s.atom s.right)) (map.get low.atoms q))) b)
-              (at_packets q ∙ ap (map.get low.packets) (same_name-is q e.actor b) ∙ no_packet) (at q ∙ ap (λ t. cond t (Some right) (cond (same_name q e.actor) (Some left) (map.get v.things q))) a ∙ ap (λ t. cond t (Some left) (map.get v.things q)) b) headed.of_left are_left
-          shaped q false false a b = reshape q (at_atoms q ∙ ap (λ t. cond t (Some (goes s.atom s.left)) (cond (same_name q s.new) (Some (goes s.atom s.right)) (map.get low.atoms q))) b ∙ ap (λ t. cond t (Some (goes s.atom s.right)) (map.get low.atoms q)) a) (at_packets q) (unchanged q a b) (c.shaped q)
+              (at_packets q ∙ ap (map.get low.packets) (same_name-is q e.actor b) ∙ no_packet)
+              (at q ∙ ap (λ t. cond t (Some right) (cond (same_name q e.actor) (Some left) (map.get v.things q))) a
+              ∙ ap (λ t. cond t (Some left) (map.get v.things q)) b) headed.of_left are_left
+          shaped q false false a b = reshape q
+              (at_atoms q ∙ ap (λ t. cond t (Some (goes s.atom s.left)) (cond (same_name q s.new) (Some (goes s.atom s.right)) (map.get low.atoms q))) b
+              ∙ ap (λ t. cond t (Some (goes s.atom s.right)) (map.get low.atoms q)) a) (at_packets q) (unchanged q a b) (c.shaped q)
 
           atoms : (q : Name) (t u : Bool) → same_name q s.new ≡ t → same_name q e.actor ≡ u → (map.get things q >>= first_atom_of) ≡ (map.get v.things q >>= first_atom_of)
           atoms q true u a b = ap (λ o. o >>= first_atom_of) (new_at q a) ∙ headed.none ∙ sym (ap (λ o. o >>= first_atom_of) (ap (map.get v.things) (same_name-is q s.new a) ∙ absent))
@@ -301,6 +308,10 @@ module _ {i : Infrastructure} {n from first : ℕ} {low high : Config} {v : View
           letters q false false a b = ap (λ o. o >>= first_letter_of) (unchanged q a b)
 
           known : (q : Name) (ts : List Thing) (t u : Bool) → same_name q s.new ≡ t → same_name q e.actor ≡ u → map.get things q ≡ Some ts → All (λ t. KnowsOnly (may_know v.lock (chips things) t) (is_channel n high.born) from t) ts
-          known q ts true u a b i = subst (All (λ t. KnowsOnly (may_know v.lock (chips things) t) (is_channel n high.born) from t)) (some_is (sym (new_at q a) ∙ i)) (all_right (λ t. KnowsOnly (may_know v.lock (chips things) t) (is_channel n high.born) from t) left right (weaker (left ++ right) (c.known e.actor (left ++ right) there)))
-          known q ts false true a b i = subst (All (λ t. KnowsOnly (may_know v.lock (chips things) t) (is_channel n high.born) from t)) (some_is (sym (left_at q a b) ∙ i)) (all_left (λ t. KnowsOnly (may_know v.lock (chips things) t) (is_channel n high.born) from t) left right (weaker (left ++ right) (c.known e.actor (left ++ right) there)))
+          known q ts true u a b i = subst (All (λ t. KnowsOnly (may_know v.lock (chips things) t) (is_channel n high.born) from t)) (some_is (sym (new_at q a) ∙ i))
+              (all_right (λ t. KnowsOnly (may_know v.lock (chips things) t) (is_channel n high.born) from t) left right
+              (weaker (left ++ right) (c.known e.actor (left ++ right) there)))
+          known q ts false true a b i = subst (All (λ t. KnowsOnly (may_know v.lock (chips things) t) (is_channel n high.born) from t)) (some_is (sym (left_at q a b) ∙ i))
+              (all_left (λ t. KnowsOnly (may_know v.lock (chips things) t) (is_channel n high.born) from t) left right
+              (weaker (left ++ right) (c.known e.actor (left ++ right) there)))
           known q ts false false a b i = weaker ts (c.known q ts (sym (unchanged q a b) ∙ i))

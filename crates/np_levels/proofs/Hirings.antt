@@ -34,9 +34,10 @@ use Rattle.np_protocol.specs.Rules.{IsKnowledge, IsLearnt, Rule}
 use Rattle.np_protocol.specs.Steps.{Step}
 use Rattle.np_protocol.proofs.Keeps.{keeps-protocol}
 use Rattle.cache_lift.specs.Lift.{stands_for, with_messenger, Standing}
+use Rattle.cache_lift.specs.Posts.{letter_carried, letter_given, letter_hired, letter_tried}
 use Rattle.cache_lift.proofs.Standings.{stands-as_before, stands-new}
-use Rattle.daemon_encode.specs.Pieces.{stop}
-use Rattle.daemon_encode.specs.CacheTexts.{messenger_text}
+use Rattle.daemon_encode.specs.Pieces.{stop, variable}
+use Rattle.daemon_encode.specs.CacheTexts.{hands_back, messenger_text, tries}
 use Rattle.daemon_encode.specs.Infrastructures.{Infrastructure}
 use Rattle.cache_rule.specs.Steps.{CacheStep}
 use Rattle.np_things.specs.Acting.{begins}
@@ -46,13 +47,13 @@ use Rattle.np_things.specs.Shapes.{Are, Is, IsAgents, StandsFor}
 use Rattle.np_things.specs.Things.{Stage, Thing}
 use Rattle.np_levels.specs.Coupled.{Coupled, IsCarrier, View, chips, is_child_of, scene}
 use Rattle.np_levels.specs.Laws.{MessengersAreHired, post_of}
-use Rattle.np_levels.specs.Letters.{IsHiringFor, first_letter_of, letter_under}
+use Rattle.np_levels.specs.Letters.{IsHiringFor, as_letter, first_letter_of, letter_under}
 use Rattle.np_levels.proofs.Born.{born-kept, made-kept}
 use Rattle.np_levels.proofs.Caches.{by_step, carry_put, low_grows}
 use Rattle.np_levels.proofs.Creations.{IsCreating, created, creating, same_parts}
 use Rattle.np_levels.proofs.Outputs.{is-own}
 use Rattle.np_levels.proofs.Posting.{PostAbove, post_above}
-use Rattle.np_levels.proofs.Quiet.{any_kept, or_second}
+use Rattle.np_levels.proofs.Quiet.{any_kept, or_second, things_born}
 use Rattle.np_levels.proofs.Shapes.{of_actor, same_role}
 use Rattle.np_levels.proofs.Shifts.{Shifted, shift}
 use Rattle.np_levels.proofs.Values.{named_is, stands_under}
@@ -285,7 +286,23 @@ module _ {i : Infrastructure} {n from first : ℕ} {low high : Config} {v : View
   letter_at_actor q true g = sym (ap (λ o. o >>= first_letter_of) (ap (map.get v.things) (same_name-is q e.actor g) ∙ there))
   letter_at_actor q false g = refl
 
-  hired : (then : Config) × (apply high (post_of v e) ≡ Some then) × (w : View) × Coupled i n from first next then w × IsHiringFor then e v w
+  other : same_name e.actor m ≡ false
+  other = not_true _ (λ t. let bad : false ≡ true = sym s.mark_new ∙ ap (set.contains low.born) (sym (same_name-is e.actor m t)) ∙ things_born c e.actor (Thing.hiring x hi ∷ []) there in cc)
+
+  -- the text of the messenger has the letter
+  tries_it : letter_tried (layer (tries n node x hires.posts.to hires.posts.on hires.posts.sent)) s.atom.env ≡ Some (as_letter p)
+  tries_it =
+      let values = above.values s.atom.env stands.agrees in
+      rw (forms.outs-IfLocal hires.posts.to hires.posts.on hires.posts.sent (stop node) (hands_back n node x hires.posts.to hires.posts.on hires.posts.sent), values.0, values.1, values.2) refl
+
+  gives_letter : letter_hired low e.actor ≡ Some (as_letter p)
+  gives_letter =
+      let form = ap layer hires.is ∙ forms.outs-Agent binder text (stop node) in
+      let body = forms.outs-Migrate (variable site) (tries n node x hires.posts.to hires.posts.on hires.posts.sent) in
+      ap (λ o. o >>= λ (a : Atom). letter_given (layer a.proc) a.env) s.acts.there
+      ∙ ap (λ l. letter_given l s.atom.env) form ∙ ap (λ l. letter_carried l s.atom.env) body ∙ tries_it
+
+  hired : (then : Config) × (apply high (post_of v e) ≡ Some then) × (w : View) × Coupled i n from first next then w × IsHiringFor low then e v w
   hired = (
     then_high,
     above.applies,
@@ -297,10 +314,14 @@ module _ {i : Infrastructure} {n from first : ℕ} {low high : Config} {v : View
       made_two = s.made_two;
       standing = refl;
       letter = p;
+      sent = gives_letter;
       posted = put_here high.atoms (stands_for v.standing e.actor) (as_output p);
       none = ap (λ o. o >>= first_letter_of) there;
       none_yet = ap (λ o. o >>= first_letter_of) shifted.unseen;
       after = λ q. shifted.letters q ∙ ap (cond (same_name q m) (Some p)) (letter_at_actor q (same_name q e.actor) refl);
+      sender = hi.agent;
+      carries = put_here half m ws;
+      ended = get-put half m ws e.actor ∙ ap (λ t. cond t (Some ws) (map.get half e.actor)) other ∙ put_here v.things e.actor us;
     },
   )
 

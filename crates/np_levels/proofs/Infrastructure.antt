@@ -96,8 +96,10 @@ module _ {i : Infrastructure} {n from first : ℕ} {low high : Config} {v : View
       when (same_tag e.tag (record { node = 0; role = role.Plain })) _ g λ tag g. absurd (let bad : role.Infra ≡ role.Plain = sym infra ∙ same_role e.tag (record { node = 0; role = role.Plain }) tag in cc)
   by_kind located kind.Let is h = then (acting low e) _ (row-step low e next kind.Let h).gives λ a acts g. parts kind.Let (sight low.sites (inside low) e.site) e a g λ p form g. no_actor kind.Let IsOthers.bind a acts (ap begun_by form)
   by_kind located kind.If is h = then (acting low e) _ (row-step low e next kind.If h).gives λ a acts g. parts kind.If (sight low.sites (inside low) e.site) e a g λ p form g. no_actor kind.If IsOthers.test a acts (ap begun_by form)
-  by_kind located kind.Agent is h = then (acting low e) _ (row-step low e next kind.Agent h).gives λ a acts g. parts kind.Agent (sight low.sites (inside low) e.site) e a g λ p form g. no_actor kind.Agent IsOthers.agent a acts (ap begun_by form)
-  by_kind located kind.Print is h = then (acting low e) _ (row-step low e next kind.Print h).gives λ a acts g. parts kind.Print (sight low.sites (inside low) e.site) e a g λ p form g. no_actor kind.Print IsOthers.print a acts (ap begun_by form)
+  by_kind located kind.Agent is h = then (acting low e) _ (row-step low e next kind.Agent h).gives λ a acts g. parts kind.Agent
+      (sight low.sites (inside low) e.site) e a g λ p form g. no_actor kind.Agent IsOthers.agent a acts (ap begun_by form)
+  by_kind located kind.Print is h = then (acting low e) _ (row-step low e next kind.Print h).gives λ a acts g. parts kind.Print
+      (sight low.sites (inside low) e.site) e a g λ p form g. no_actor kind.Print IsOthers.print a acts (ap begun_by form)
   by_kind located kind.Post is h = then (acting low e) _ (row-step low e next kind.Post h).gives λ a acts g. parts kind.Post (sight low.sites (inside low) e.site) e a g λ p form g. no_actor kind.Post IsOthers.post a acts (ap begun_by form)
 
 -- but for tests for agents, of each infrastructure

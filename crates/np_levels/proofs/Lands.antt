@@ -173,7 +173,12 @@ module _ {i : Infrastructure} {n from first : ℕ} {low high : Config} {v : View
               said = ap (λ (d : Config). d.said) is;
               born = ap (λ (d : Config). d.born) is;
               there = there;
-              others = λ q d. (ap (λ (d : Config). map.get d.atoms q) is ∙ get-put low.atoms e.actor low_atom q ∙ ap (λ t. cond t (Some low_atom) (map.get low.atoms q)) d, ap (λ (d : Config). map.get d.packets q) is ∙ get-cut low.packets e.actor q ∙ ap (λ t. cond t None (map.get low.packets q)) d);
+              others = λ q d. (
+                ap (λ (d : Config). map.get d.atoms q) is ∙ get-put low.atoms e.actor low_atom q
+                    ∙ ap (λ t. cond t (Some low_atom) (map.get low.atoms q)) d,
+                ap (λ (d : Config). map.get d.packets q) is ∙ get-cut low.packets e.actor q
+                    ∙ ap (λ t. cond t None (map.get low.packets q)) d,
+              );
               here = IsShaped.atom (ap (λ (d : Config). map.get d.atoms e.actor) is ∙ put_here low.atoms e.actor low_atom) (ap (λ (d : Config). map.get d.packets e.actor) is ∙ cut_here low.packets e.actor)
                   (put_here v.things e.actor us) (All-nil (λ u. high_atom u ≡ None)) (Are.one (record { agent = ap (λ (k : Packet). k.agent) packet; gives = gives }));
               atoms = refl;

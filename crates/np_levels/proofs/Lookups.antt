@@ -164,12 +164,17 @@ module _ {i : Infrastructure} {n from first : ℕ} {low high : Config} {v : View
             headed = All-from_recursion (λ u. high_atom u ≡ None) (Thing.places ps ∷ []) (refl, tt);
             are = Are.both {k = 0} {p = left} {q = frees n (first + 5)} refl
                 (Are.one (record { agent = its.agent; waits = (refl, there_is s.atom.env (first + 6) (first + 4) (value.Chan lock.0) (λ e. let bad : ⊥ = omega arith in bad) ∙ took, here_is s.atom.env (first + 6) (value.Chan lock.0)) }))
-                (Are.one (record { agent = its.agent; gives = gives_own n 10 0 (first + 5) s.atom.agent env (value.Places ps) (there_is s.atom.env (first + 6) (first + 5) (value.Chan lock.0) (λ e. let bad : ⊥ = omega arith in bad) ∙ map_is) }));
+                (Are.one (record {
+                  agent = its.agent;
+                  gives = gives_own n 10 0 (first + 5) s.atom.agent env (value.Places ps)
+                      (there_is s.atom.env (first + 6) (first + 5) (value.Chan lock.0) (λ e. let bad : ⊥ = omega arith in bad) ∙ map_is);
+                }));
             atoms = refl;
             packets = refl;
             protocol = λ step. keeps-protocol (scene v high) (scene v high) v.phase (chips v.things) _ [] (Chip.wants a lock.0 ∷ [])
                 (Rule.knows (All-nil IsKnowledge) (All-from_recursion (IsLearnt (scene v high)) (Chip.wants a lock.0 ∷ []) (lock.1, tt)))
-                (cancel [] (Chip.wants a lock.0 ∷ []) (Chip.locks (find_place ps) ∷ Chip.request a ∷ []) step (IsPermutation-refl (Chip.locks (find_place ps) ∷ Chip.request a ∷ [])) (permuted (and_then swapped (behind swapped)))) c.protocol;
+                (cancel [] (Chip.wants a lock.0 ∷ []) (Chip.locks (find_place ps) ∷ Chip.request a ∷ []) step
+                (IsPermutation-refl (Chip.locks (find_place ps) ∷ Chip.request a ∷ [])) (permuted (and_then swapped (behind swapped)))) c.protocol;
             children = λ a b any. any;
             known = λ k. (tt, (tt, tt));
             hints = handed_on low high next;
@@ -192,11 +197,19 @@ module _ {i : Infrastructure} {n from first : ℕ} {low high : Config} {v : View
                   agent = its.agent;
                   waits = (
                     refl,
-                    (there_is s.atom.env (first + 15) (first + 12) (value.Chan lock.0) (λ e. let bad : ⊥ = omega arith in bad) ∙ took.0, there_is s.atom.env (first + 15) (first + 13) (value.Chan lock.0) (λ e. let bad : ⊥ = omega arith in bad) ∙ took.1),
+                    (
+                      there_is s.atom.env (first + 15) (first + 12) (value.Chan lock.0) (λ e. let bad : ⊥ = omega arith in bad)
+                          ∙ took.0,
+                      there_is s.atom.env (first + 15) (first + 13) (value.Chan lock.0) (λ e. let bad : ⊥ = omega arith in bad) ∙ took.1,
+                    ),
                     here_is s.atom.env (first + 15) (value.Chan lock.0),
                   );
                 }))
-                (Are.one (record { agent = its.agent; gives = gives_own n 10 0 (first + 14) s.atom.agent env (value.Places ps) (there_is s.atom.env (first + 15) (first + 14) (value.Chan lock.0) (λ e. let bad : ⊥ = omega arith in bad) ∙ map_is) }));
+                (Are.one (record {
+                  agent = its.agent;
+                  gives = gives_own n 10 0 (first + 14) s.atom.agent env (value.Places ps)
+                      (there_is s.atom.env (first + 15) (first + 14) (value.Chan lock.0) (λ e. let bad : ⊥ = omega arith in bad) ∙ map_is);
+                }));
             atoms = refl;
             packets = refl;
             protocol = λ step. keeps-protocol (scene v high) (scene v high) v.phase (chips v.things) _ [] (Chip.wants p.agent lock.0 ∷ [])
@@ -220,8 +233,17 @@ module _ {i : Infrastructure} {n from first : ℕ} {low high : Config} {v : View
             there = at;
             headed = All-from_recursion (λ u. high_atom u ≡ None) (Thing.places ps ∷ []) (refl, tt);
             are = Are.both {k = 0} {p = left} {q = frees n (first + 19)} refl
-                (Are.one (record { agent = its.agent; gives = gives_two s.atom.agent 0 (first + 20) (first + 18) env lock.0 (value.Site t) (here_is s.atom.env (first + 20) (value.Chan lock.0)) (there_is s.atom.env (first + 20) (first + 18) (value.Chan lock.0) (λ e. let bad : ⊥ = omega arith in bad) ∙ took.1) }))
-                (Are.one (record { agent = its.agent; gives = gives_own n 10 0 (first + 19) s.atom.agent env (value.Places ps) (there_is s.atom.env (first + 20) (first + 19) (value.Chan lock.0) (λ e. let bad : ⊥ = omega arith in bad) ∙ map_is) }));
+                (Are.one (record {
+                  agent = its.agent;
+                  gives = gives_two s.atom.agent 0 (first + 20) (first + 18) env lock.0 (value.Site t)
+                      (here_is s.atom.env (first + 20) (value.Chan lock.0))
+                      (there_is s.atom.env (first + 20) (first + 18) (value.Chan lock.0) (λ e. let bad : ⊥ = omega arith in bad) ∙ took.1);
+                }))
+                (Are.one (record {
+                  agent = its.agent;
+                  gives = gives_own n 10 0 (first + 19) s.atom.agent env (value.Places ps)
+                      (there_is s.atom.env (first + 20) (first + 19) (value.Chan lock.0) (λ e. let bad : ⊥ = omega arith in bad) ∙ map_is);
+                }));
             atoms = refl;
             packets = refl;
             protocol = λ step. keeps-protocol (scene v high) (scene v high) v.phase (chips v.things) _ (Chip.delivery b t ∷ []) (Chip.free lock.0 t ∷ []) (Rule.delivered {b = b} {l = lock.0} {s = t} lock.1)
@@ -240,7 +262,8 @@ module _ {i : Infrastructure} {n from first : ℕ} {low high : Config} {v : View
           let two : Proc = acks n (first + 8) (first + 9) in
           let agent_is : map.get env (first + 8) ≡ Some (value.Agent a) = there_is s.atom.env (first + 11) (first + 8) (value.Chan lock.0) (λ e. let bad : ⊥ = omega arith in bad) ∙ took.0 in
           let site_is : map.get env (first + 9) ≡ Some (value.Site t) = there_is s.atom.env (first + 11) (first + 9) (value.Chan lock.0) (λ e. let bad : ⊥ = omega arith in bad) ∙ took.1 in
-          becomes c next e e.actor (goes_under s.atom (beside 0 (beside 0 one two) (frees n (first + 10))) env) (Thing.looking (Mail.migrated a t) ps ∷ []) (Thing.free lock.0 t ∷ Thing.mail (Mail.ack a t) (Stage.in_agent s.atom.agent) ∷ Thing.places ps ∷ []) refl (record {
+          becomes c next e e.actor (goes_under s.atom (beside 0 (beside 0 one two) (frees n (first + 10))) env) (Thing.looking (Mail.migrated a t) ps ∷ [])
+          (Thing.free lock.0 t ∷ Thing.mail (Mail.ack a t) (Stage.in_agent s.atom.agent) ∷ Thing.places ps ∷ []) refl (record {
             applies = h;
             is = finds_lock low e next s (first + 8) (first + 10) (first + 11) (beside 0 (beside 0 one two) (frees n (first + 10))) a lock.0 ps text took.0 map_is (told.0 a ∙ lock.1);
             no_packet = no_packet;
@@ -265,7 +288,11 @@ module _ {i : Infrastructure} {n from first : ℕ} {low high : Config} {v : View
                   },
                   tt,
                 )))
-                (Are.one (record { agent = its.agent; gives = gives_own n 10 0 (first + 10) s.atom.agent env (value.Places ps) (there_is s.atom.env (first + 11) (first + 10) (value.Chan lock.0) (λ e. let bad : ⊥ = omega arith in bad) ∙ map_is) }));
+                (Are.one (record {
+                  agent = its.agent;
+                  gives = gives_own n 10 0 (first + 10) s.atom.agent env (value.Places ps)
+                      (there_is s.atom.env (first + 11) (first + 10) (value.Chan lock.0) (λ e. let bad : ⊥ = omega arith in bad) ∙ map_is);
+                }));
             atoms = refl;
             packets = refl;
             protocol = λ step. keeps-protocol (scene v high) (scene v high) v.phase (chips v.things) _ (Chip.report a t true ∷ []) (Chip.ack_sent a t ∷ Chip.free lock.0 t ∷ []) (Rule.notes {a = a} {l = lock.0} {t = t} lock.1)

@@ -188,7 +188,8 @@ module _ {i : Infrastructure} {n from first : ℕ} {low high : Config} {v : View
       at q = get-put (map.remove v.things s.other) e.actor us q ∙ ap (cond (same_name q e.actor) (Some us)) (get-cut v.things s.other q)
 
       at_atoms : (q : Name) → map.get next.atoms q ≡ cond (same_name q s.other) None (cond (same_name q e.actor) (Some (goes_under s.atom s.body s.env)) (map.get low.atoms q))
-      at_atoms q = ap (λ (d : Config). map.get d.atoms q) s.is ∙ get-cut (map.insert low.atoms e.actor (goes_under s.atom s.body s.env)) s.other q ∙ ap (cond (same_name q s.other) None) (get-put low.atoms e.actor (goes_under s.atom s.body s.env) q)
+      at_atoms q = ap (λ (d : Config). map.get d.atoms q) s.is ∙ get-cut (map.insert low.atoms e.actor (goes_under s.atom s.body s.env)) s.other q
+          ∙ ap (cond (same_name q s.other) None) (get-put low.atoms e.actor (goes_under s.atom s.body s.env) q)
 
       at_packets : (q : Name) → map.get next.packets q ≡ map.get low.packets q
       at_packets q = ap (λ (d : Config). map.get d.packets q) s.is
@@ -207,12 +208,14 @@ module _ {i : Infrastructure} {n from first : ℕ} {low high : Config} {v : View
 
       shaped : (q : Name) (t r : Bool) → same_name q s.other ≡ t → same_name q e.actor ≡ r → IsShaped i n from first next things q
       shaped q true r x y =
-          IsShaped.nothing (at_atoms q ∙ ap (λ t. cond t None (cond (same_name q e.actor) (Some (goes_under s.atom s.body s.env)) (map.get low.atoms q))) x) (at_packets q ∙ ap (map.get low.packets) (same_name-is q s.other x) ∙ b.no_other_packet) (gone q x)
+          IsShaped.nothing (at_atoms q ∙ ap (λ t. cond t None (cond (same_name q e.actor) (Some (goes_under s.atom s.body s.env)) (map.get low.atoms q))) x)
+          (at_packets q ∙ ap (map.get low.packets) (same_name-is q s.other x) ∙ b.no_other_packet) (gone q x)
       shaped q false true x y =
           IsShaped.atom (at_atoms q ∙ ap (λ t. cond t None (cond (same_name q e.actor) (Some (goes_under s.atom s.body s.env)) (map.get low.atoms q))) x ∙ ap (λ t. cond t (Some (goes_under s.atom s.body s.env)) (map.get low.atoms q)) y)
           (at_packets q ∙ ap (map.get low.packets) (same_name-is q e.actor y) ∙ b.no_packet) (its q y) b.headed b.are
       shaped q false false x y =
-          reshape q (at_atoms q ∙ ap (λ t. cond t None (cond (same_name q e.actor) (Some (goes_under s.atom s.body s.env)) (map.get low.atoms q))) x ∙ ap (λ t. cond t (Some (goes_under s.atom s.body s.env)) (map.get low.atoms q)) y) (at_packets q) (unchanged q x y) (c.shaped q)
+          reshape q (at_atoms q ∙ ap (λ t. cond t None (cond (same_name q e.actor) (Some (goes_under s.atom s.body s.env)) (map.get low.atoms q))) x
+          ∙ ap (λ t. cond t (Some (goes_under s.atom s.body s.env)) (map.get low.atoms q)) y) (at_packets q) (unchanged q x y) (c.shaped q)
 
       atoms : (q : Name) (t r : Bool) → same_name q s.other ≡ t → same_name q e.actor ≡ r → (map.get things q >>= first_atom_of) ≡ (map.get v.things q >>= first_atom_of)
       atoms q true r x y = ap (λ o. o >>= first_atom_of) (gone q x) ∙ sym b.no_atom ∙ sym (ap (λ o. o >>= first_atom_of) (ap (map.get v.things) (same_name-is q s.other x) ∙ b.other_there))

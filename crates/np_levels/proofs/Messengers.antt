@@ -103,7 +103,11 @@ module _ {i : Infrastructure} {n from first : ℕ} {low high : Config} {v : View
           said = ap (λ (d : Config). d.said) s.is;
           born = ap (λ (d : Config). d.born) s.is;
           there = there;
-          others = λ q f. (ap (λ (d : Config). map.get d.atoms q) s.is ∙ get-put low.atoms e.actor (goes s.atom s.body) q ∙ ap (λ t. cond t (Some (goes s.atom s.body)) (map.get low.atoms q)) f, ap (λ (d : Config). map.get d.packets q) s.is);
+          others = λ q f. (
+            ap (λ (d : Config). map.get d.atoms q) s.is ∙ get-put low.atoms e.actor (goes s.atom s.body) q
+                ∙ ap (λ t. cond t (Some (goes s.atom s.body)) (map.get low.atoms q)) f,
+            ap (λ (d : Config). map.get d.packets q) s.is,
+          );
           here = IsShaped.atom (ap (λ (d : Config). map.get d.atoms e.actor) s.is ∙ put_here low.atoms e.actor (goes s.atom s.body)) (ap (λ (d : Config). map.get d.packets e.actor) s.is ∙ no_packet)
               (put_here v.things e.actor us) (All-nil (λ u. high_atom u ≡ None))
               (Are.one (

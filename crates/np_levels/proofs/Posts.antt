@@ -152,7 +152,8 @@ module _ {j : Infrastructure} {n from first : ℕ} {low high : Config} {v : View
   shaped q true f = subst (IsShaped j n from first next things) (sym (same_name-is q e.actor f))
       (IsShaped.packet (ap (λ (d : Config). map.get d.atoms e.actor) s.is ∙ cut_here low.atoms e.actor) (ap (λ (d : Config). map.get d.packets e.actor) s.is ∙ put_here low.packets e.actor s.packet)
       (put_here v.things e.actor (Thing.mail (Mail.message p) Stage.on_the_way ∷ [])) (packet, λ r. let bad : role.Plain ≡ role.Post = sym r ∙ ap (λ (t : Tag). t.role) s.its_tag ∙ post in cc))
-  shaped q false f = reshape q (ap (λ (d : Config). map.get d.atoms q) s.is ∙ get-cut low.atoms e.actor q ∙ ap (λ t. cond t None (map.get low.atoms q)) f) (ap (λ (d : Config). map.get d.packets q) s.is ∙ get-put low.packets e.actor s.packet q ∙ ap (λ t. cond t (Some s.packet) (map.get low.packets q)) f)
+  shaped q false f = reshape q (ap (λ (d : Config). map.get d.atoms q) s.is ∙ get-cut low.atoms e.actor q ∙ ap (λ t. cond t None (map.get low.atoms q)) f)
+      (ap (λ (d : Config). map.get d.packets q) s.is ∙ get-put low.packets e.actor s.packet q ∙ ap (λ t. cond t (Some s.packet) (map.get low.packets q)) f)
       (unchanged q f) (c.shaped q)
 
   its_atoms : (q : Name) → (map.get things q >>= first_atom_of) ≡ cond (same_name q e.actor) (Some (as_output p)) (map.get v.things q >>= first_atom_of)
@@ -187,7 +188,8 @@ module _ {j : Infrastructure} {n from first : ℕ} {low high : Config} {v : View
   known q ts true f j = subst (All (λ t. KnowsOnly (may_know v.lock (chips things) t) (is_channel n high.born) from t)) (sym (done (sym (its q f) ∙ j)))
       (All-from_recursion (λ t. KnowsOnly (may_know v.lock (chips things) t) (is_channel n high.born) from t) (Thing.mail (Mail.message p) Stage.on_the_way ∷ []) ((above.its_chan, above.its_value), tt))
   known q ts false f j = All-weaker (λ t. KnowsOnly (may_know v.lock (chips v.things) t) (is_channel n high.born) from t) (λ t. KnowsOnly (may_know v.lock (chips things) t) (is_channel n high.born) from t)
-      (λ z k. knows_more (may_know v.lock (chips v.things) z) (may_know v.lock (chips things) z) (is_channel n high.born) from (may_know_more v.lock (chips v.things) (chips things) (λ a d any. any_kept (is_child_of a d) step (λ w. absurd cc) any) z) z k)
+      (λ z k. knows_more (may_know v.lock (chips v.things) z) (may_know v.lock (chips things) z) (is_channel n high.born) from
+      (may_know_more v.lock (chips v.things) (chips things) (λ a d any. any_kept (is_child_of a d) step (λ w. absurd cc) any) z) z k)
       ts (c.known q ts (sym (unchanged q f) ∙ j))
 
   coupled : Coupled j n from first next then_high (record v { things = things; phase = protocol.0 })

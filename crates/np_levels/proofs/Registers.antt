@@ -131,7 +131,8 @@ with-is m a l env ps b k x y z =
     rw (eval-form (with_text m a l) env, eval-with (variable m) (variable a) (variable l) env, variable-is m env, x, variable-is a env, y, variable-is l env, z, outs.outs-Places ps, outs.outs-Agent b, outs.outs-Chan k) refl
 
 module _ {i : Infrastructure} {n from first : ℕ} {low high : Config} {v : View} (c : Coupled i n from first low high v) where
-  entered : (e : Event) (next : Config) (s : IsNaming low e next) (b : Name) (t : ℕ) (ps : List (Name × Name)) → IsLooking n first (Mail.register b t) ps s.atom → s.atom.proc ≡ (desk n first Service.registers).body → Took first Service.registers (Mail.register b t) s.atom.env
+  entered : (e : Event) (next : Config) (s : IsNaming low e next) (b : Name) (t : ℕ) (ps : List (Name × Name)) → IsLooking n first (Mail.register b t) ps s.atom
+      → s.atom.proc ≡ (desk n first Service.registers).body → Took first Service.registers (Mail.register b t) s.atom.env
       → map.get s.atom.env (first + 2) ≡ Some (value.Places ps) → map.get low.packets e.actor ≡ None → map.get v.things e.actor ≡ Some (Thing.looking (Mail.register b t) ps ∷ []) → apply low e ≡ Some next
       → (w : View) × (w.standing ≡ v.standing) × Coupled i n from first next high w × SameLetters v w
   entered e next s b t ps looks text took map_is no_packet there h = (
@@ -196,9 +197,11 @@ module _ {i : Infrastructure} {n from first : ℕ} {low high : Config} {v : View
       no_such a j = let bad : false ≡ true = sym s.is_new ∙ c.locks_born a s.new j in cc
 
       protocol : (then : Name → Phase) × Protocol (with_lock (scene v high) b s.new) then (chips things)
-      protocol = keeps-protocol (scene v high) (with_lock (scene v high) b s.new) v.phase (chips v.things) (chips things) (Chip.registration b t ∷ Chip.locks (find_place ps) ∷ []) (Chip.ack_sent b t ∷ Chip.locks (find_place (put_place ps b s.new)) ∷ Chip.free s.new t ∷ [])
+      protocol = keeps-protocol (scene v high) (with_lock (scene v high) b s.new) v.phase (chips v.things) (chips things) (Chip.registration b t ∷ Chip.locks (find_place ps) ∷ [])
+          (Chip.ack_sent b t ∷ Chip.locks (find_place (put_place ps b s.new)) ∷ Chip.free s.new t ∷ [])
           (Rule.registers {b = b} {l = s.new} {s = t} {m = find_place ps} {n = find_place (put_place ps b s.new)} no_such (λ a. find-put ps b s.new a ∙ ap (λ o. cond (same_name a b) (Some s.new) o) (told.0 a)))
-          (cancel (Chip.registration b t ∷ Chip.locks (find_place ps) ∷ []) (Chip.ack_sent b t ∷ Chip.locks (find_place (put_place ps b s.new)) ∷ Chip.free s.new t ∷ []) [] step (permuted swapped) (permuted (and_then (behind swapped) swapped))) c.protocol
+          (cancel (Chip.registration b t ∷ Chip.locks (find_place ps) ∷ []) (Chip.ack_sent b t ∷ Chip.locks (find_place (put_place ps b s.new)) ∷ Chip.free s.new t ∷ []) [] step
+          (permuted swapped) (permuted (and_then (behind swapped) swapped))) c.protocol
 
       still_born : (q : Name) → set.contains low.born q ≡ true → set.contains next.born q ≡ true
       still_born q j = ap (λ (d : Config). set.contains d.born q) s.is ∙ made-kept low.born e.made q j
@@ -245,7 +248,15 @@ module _ {i : Infrastructure} {n from first : ℕ} {low high : Config} {v : View
       are : Are i n from first low_atom us
       are = Are.both {k = 0} {p = beside 0 (gives 0 (lock n) (with_text (first + 2) first (first + 3))) (gives 0 (variable (first + 3)) (variable (first + 1)))} {q = acks n first (first + 1)} refl
           (Are.both {k = 0} {p = gives 0 (lock n) (with_text (first + 2) first (first + 3))} {q = gives 0 (variable (first + 3)) (variable (first + 1))} refl
-          (Are.one (record { agent = looks.agent; gives = rw (forms.outs-Out (lock n) (with_text (first + 2) first (first + 3)), channel-is (own n 10) env, with-is (first + 2) first (first + 3) env ps b s.new places_is agent_is lock_is) refl }))
+          (Are.one (record {
+            agent = looks.agent;
+            gives = rw (
+              forms.outs-Out (lock n) (with_text (first + 2) first (first + 3)),
+              channel-is (own n 10) env,
+              with-is (first + 2) first
+                  (first + 3) env ps b s.new places_is agent_is lock_is,
+            ) refl;
+          }))
           (Are.one (record { agent = looks.agent; gives = gives_two s.atom.agent 0 (first + 3) (first + 1) env s.new (value.Site t) lock_is site_is })))
           (Are.one (
             record {
@@ -268,7 +279,8 @@ module _ {i : Infrastructure} {n from first : ℕ} {low high : Config} {v : View
       shaped q true f = subst (IsShaped i n from first next things) (sym (same_name-is q e.actor f))
           (IsShaped.atom (ap (λ (d : Config). map.get d.atoms e.actor) is ∙ put_here low.atoms e.actor low_atom) (ap (λ (d : Config). map.get d.packets e.actor) is ∙ no_packet) (put_here v.things e.actor us)
           (All-from_recursion (λ u. high_atom u ≡ None) (Thing.free s.new t ∷ Thing.mail (Mail.ack b t) (Stage.in_agent s.atom.agent) ∷ []) (refl, (refl, tt))) are)
-      shaped q false f = reshape q (ap (λ (d : Config). map.get d.atoms q) is ∙ get-put low.atoms e.actor low_atom q ∙ ap (λ x. cond x (Some low_atom) (map.get low.atoms q)) f) (ap (λ (d : Config). map.get d.packets q) is) (unchanged q f) (c.shaped q)
+      shaped q false f = reshape q (ap (λ (d : Config). map.get d.atoms q) is ∙ get-put low.atoms e.actor low_atom q ∙ ap (λ x. cond x (Some low_atom) (map.get low.atoms q)) f)
+          (ap (λ (d : Config). map.get d.packets q) is) (unchanged q f) (c.shaped q)
 
       atoms : (q : Name) (u : Bool) → same_name q e.actor ≡ u → (map.get things q >>= first_atom_of) ≡ (map.get v.things q >>= first_atom_of)
       atoms q true f = ap (λ o. o >>= first_atom_of) (its q f) ∙ sym (ap (λ o. o >>= first_atom_of) (was q f))
@@ -363,7 +375,8 @@ module _ {i : Infrastructure} {n from first : ℕ} {low high : Config} {v : View
       no_new : {A : Type 0} (e : Event) (next : Config) (s : IsNaming low e next) (a m : Expr) (x : ℕ) (p q : Proc) → layer s.atom.proc ≡ ProcForm-F.Lookup a m x p q → A
       no_new e next s a m x p q j = absurd (let bad = sym s.form ∙ j in cc)
 
-      by_service : (e : Event) (next : Config) (s : IsNaming low e next) (m : Mail) (ps : List (Name × Name)) → IsLooking n first m ps s.atom → (k : Service) → Took first k m s.atom.env → map.get s.atom.env (desk n first k).map ≡ Some (value.Places ps)
+      by_service : (e : Event) (next : Config) (s : IsNaming low e next) (m : Mail) (ps : List (Name × Name)) → IsLooking n first m ps s.atom → (k : Service)
+          → Took first k m s.atom.env → map.get s.atom.env (desk n first k).map ≡ Some (value.Places ps)
           → s.atom.proc ≡ (desk n first k).body → map.get low.packets e.actor ≡ None → map.get v.things e.actor ≡ Some (Thing.looking m ps ∷ []) → apply low e ≡ Some next
           → (w : View) × (w.standing ≡ v.standing) × Coupled i n from first next high w × SameLetters v w
       by_service e next s (Mail.register b t) ps i Service.registers took map_is text no_packet there h = entered e next s b t ps i text took map_is no_packet there h

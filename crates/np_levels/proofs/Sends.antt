@@ -122,7 +122,8 @@ packet_is n m low e next s r t x y form for_agent for_site on holds =
     some_is e = cc
 
 -- what is sent is mail
-sends_mail : {R : Type 0} (i : Infrastructure) (n from first : ℕ) (t : Thing) (a : Atom) → Is i n from first t a → begins t role.Infra kind.Send ≡ true → ((m : Mail) (x : Name) → t ≡ Thing.mail m (Stage.in_agent x) → Mails n m x a → IsSender m x → R) → R
+sends_mail : {R : Type 0} (i : Infrastructure) (n from first : ℕ) (t : Thing) (a : Atom) → Is i n from first t a → begins t role.Infra kind.Send ≡ true
+    → ((m : Mail) (x : Name) → t ≡ Thing.mail m (Stage.in_agent x) → Mails n m x a → IsSender m x → R) → R
 sends_mail _ n from first (Thing.mail m (Stage.in_agent x)) a i h f = f m x refl i.0 i.1
 sends_mail _ n from first _ a i h f = absurd cc
 
@@ -181,7 +182,12 @@ module _ {i : Infrastructure} {n from first : ℕ} {low high : Config} {v : View
           said = ap (λ (d : Config). d.said) s.is;
           born = ap (λ (d : Config). d.born) s.is;
           there = there;
-          others = λ q d. (ap (λ (d : Config). map.get d.atoms q) s.is ∙ get-cut low.atoms e.actor q ∙ ap (λ t. cond t None (map.get low.atoms q)) d, ap (λ (d : Config). map.get d.packets q) s.is ∙ get-put low.packets e.actor s.packet q ∙ ap (λ t. cond t (Some s.packet) (map.get low.packets q)) d);
+          others = λ q d. (
+            ap (λ (d : Config). map.get d.atoms q) s.is ∙ get-cut low.atoms e.actor q
+                ∙ ap (λ t. cond t None (map.get low.atoms q)) d,
+            ap (λ (d : Config). map.get d.packets q) s.is ∙ get-put low.packets e.actor s.packet q
+                ∙ ap (λ t. cond t (Some s.packet) (map.get low.packets q)) d,
+          );
           here = IsShaped.packet (ap (λ (d : Config). map.get d.atoms e.actor) s.is ∙ cut_here low.atoms e.actor) (ap (λ (d : Config). map.get d.packets e.actor) s.is ∙ put_here low.packets e.actor s.packet)
               (put_here v.things e.actor us) (packet, λ plain. let bad : role.Plain ≡ role.Infra = sym plain ∙ ap (λ (t : Tag). t.role) s.its_tag ∙ infra in cc);
           atoms = refl;

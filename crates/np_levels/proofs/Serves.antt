@@ -133,7 +133,9 @@ two_there x d u w env next h =
 
 took : (n x : ℕ) (k : Service) (m : Mail) (v : Value) (env next : Env) → on_channel m ≡ number_of k → v ≡ content_of m → bind (desk n x k).pattern v env ≡ Some next → Took x k m next
 took n x Service.registers (Mail.register b s) v env next same is h =
-    let g = two_there x 0 (value.Agent b) (value.Site s) env next (let start : x + 0 ≡ x = omega arith in ap (λ y. bind (two_names y (x + 1)) (value.Tuple (value.Agent b ∷ value.Site s ∷ [])) env) start ∙ ap (λ u. bind (two_names x (x + 1)) u env) (sym is) ∙ h) in
+    let g = two_there x 0 (value.Agent b) (value.Site s) env next
+    (let start : x + 0 ≡ x = omega arith in ap (λ y. bind (two_names y (x + 1)) (value.Tuple (value.Agent b ∷ value.Site s ∷ [])) env) start
+    ∙ ap (λ u. bind (two_names x (x + 1)) u env) (sym is) ∙ h) in
     (let start : x + 0 ≡ x = omega arith in ap (map.get next) (sym start) ∙ g.0, g.1)
 took n x Service.grants (Mail.migrating a) v env next same is h =
     let e : next ≡ map.insert env (x + 4) (value.Agent a) = done (sym (ap (λ u. bind (name (x + 4)) u env) is ∙ bind-one (x + 4) (value.Agent a) env) ∙ h) in

@@ -204,7 +204,13 @@ module _ {structure : Infrastructure} (p : Program) (q : LowProgram) (low : IsLo
   at-daemon x y = put_here (map.insert map.empty (main_mark n) x) (daemon_mark n) y
 
   at-main : {X : Type 0} (x y : X) → map.get (two x y) (main_mark n) ≡ Some x
-  at-main {X} x y = rw (get-put (map.insert (map.empty {X = X} {R = name_cmp}) (main_mark n) x) (daemon_mark n) y (main_mark n), same_name-swap (main_mark n) (daemon_mark n), marks-apart, put_here (map.empty {X = X} {R = name_cmp}) (main_mark n) x) refl
+  at-main {X} x y = rw (
+    get-put (map.insert (map.empty {X = X} {R = name_cmp}) (main_mark n) x) (daemon_mark n) y (main_mark n),
+    same_name-swap (main_mark n) (daemon_mark n),
+    marks-apart,
+    put_here
+        (map.empty {X = X} {R = name_cmp}) (main_mark n) x,
+  ) refl
 
   are : HasStartThings structure p q low.first
   are = starts-with-things p q low sound
@@ -227,10 +233,12 @@ module _ {structure : Infrastructure} (p : Program) (q : LowProgram) (low : IsLo
       go : (t u : Bool) → same_name m (daemon_mark n) ≡ t → same_name m (main_mark n) ≡ u → IsShaped structure n p.binders low.first low_start things m
       go true u e f =
           let same = same_name-is m (daemon_mark n) e in
-          IsShaped.atom (ap (map.get low_start.atoms) same ∙ at-daemon (first_atom main q.main) (first_atom daemon q.daemon)) (get-none m) (ap (map.get things) same ∙ at-daemon (main_things structure n p.at p.main) (daemon_things structure n p.at)) headed.1 are.daemon
+          IsShaped.atom (ap (map.get low_start.atoms) same ∙ at-daemon (first_atom main q.main) (first_atom daemon q.daemon)) (get-none m)
+          (ap (map.get things) same ∙ at-daemon (main_things structure n p.at p.main) (daemon_things structure n p.at)) headed.1 are.daemon
       go false true e f =
           let same = same_name-is m (main_mark n) f in
-          IsShaped.atom (ap (map.get low_start.atoms) same ∙ at-main (first_atom main q.main) (first_atom daemon q.daemon)) (get-none m) (ap (map.get things) same ∙ at-main (main_things structure n p.at p.main) (daemon_things structure n p.at)) headed.0 are.main
+          IsShaped.atom (ap (map.get low_start.atoms) same ∙ at-main (first_atom main q.main) (first_atom daemon q.daemon)) (get-none m)
+          (ap (map.get things) same ∙ at-main (main_things structure n p.at p.main) (daemon_things structure n p.at)) headed.0 are.main
       go false false e f = IsShaped.nothing (neither (first_atom main q.main) (first_atom daemon q.daemon) m e f) (get-none m) (neither (main_things structure n p.at p.main) (daemon_things structure n p.at) m e f)
 
   up : (m : Name) (o : Option (List Thing)) (x : Atom) → map.get things m ≡ o → (o >>= first_atom_of) ≡ Some x → map.get high_start.atoms m ≡ Some x

@@ -219,6 +219,9 @@ module _ {i : Infrastructure} {n from first : ℕ} {low high : Config} {v : View
       stands = ap (λ (d : Config). map.get d.atoms m) is ∙ get-put (map.insert low.atoms m low_child) e.actor low_rest m
           ∙ ap (λ z. cond z (Some low_rest) (map.get (map.insert low.atoms m low_child) m)) (same_name-swap m e.actor ∙ other) ∙ put_here low.atoms m low_child;
       after = λ q. shifted.letters q ∙ after q (same_name q m) (same_name q e.actor) refl refl;
+      ended = get-put (map.insert v.things e.actor (Thing.ended ∷ [])) m (Thing.opened p ∷ []) e.actor
+          ∙ ap (λ t. cond t (Some (Thing.opened p ∷ [])) (map.get (map.insert v.things e.actor (Thing.ended ∷ [])) e.actor)) other
+          ∙ put_here v.things e.actor (Thing.ended ∷ []);
     }
 
   -- ---- it is not

@@ -66,7 +66,7 @@ PostsAreEvents i = (n from first : ℕ) (low high : Config) (v : View) → Coupl
 abbrev pub MessengersAreHired : Infrastructure → Type 0
 MessengersAreHired i = (n from first : ℕ) (low high : Config) (v : View) → Coupled i n from first low high v → Well high → IsLodged (inside high) → (e : Event) (next : Config)
     → e.kind ≡ kind.Agent → e.tag.role ≡ role.Post → apply low e ≡ Some next
-    → (then : Config) × (apply high (post_of v e) ≡ Some then) × (w : View) × Coupled i n from first next then w × IsHiringFor then e v w
+    → (then : Config) × (apply high (post_of v e) ≡ Some then) × (w : View) × Coupled i n from first next then w × IsHiringFor low then e v w
 
 -- the same event at the marks of the high level
 abbrev pub event_of : View → Event → Event

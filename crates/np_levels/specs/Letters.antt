@@ -15,6 +15,7 @@ use Rattle.np_calculus.specs.Config.{Config}
 use Rattle.np_calculus.specs.Reductions.{output_in}
 use Rattle.np_lift.specs.Posts.{Letter, letter_at}
 use Rattle.cache_lift.specs.Lift.{stands_for, with_mark, with_messenger}
+use Rattle.cache_lift.specs.Posts.{letter_hired}
 use Rattle.np_things.specs.Mail.{Posted, as_output}
 use Rattle.np_things.specs.Things.{Thing, carried}
 use Rattle.np_levels.specs.Coupled.{View}
@@ -50,21 +51,25 @@ pub record IsPosting (low : Config) (e : Event) (v w : View) : Type 0 where
   pub none : letter_under v.things e.actor ≡ None
   pub after : OtherLetter v w e.actor (Some letter)
 
--- A messenger is made for a post: no letter was under way under the mark of the post, nor under the messenger's, which carries it then. That mark
--- stands from then on for what the mark of the post stands for.
-pub record IsHiringFor (then : Config) (e : Event) (v w : View) : Type 0 where
+-- A messenger is made for a post: no letter was under way under the mark of the post, which has `0` alone then, nor under the messenger's, which carries it
+-- then. That mark stands from then on for what the mark of the post stands for.
+pub record IsHiringFor (low then : Config) (e : Event) (v w : View) : Type 0 where
   pub messenger : Name
   pub mark : Name
   pub made_two : e.made ≡ made.Two messenger mark
   pub standing : w.standing ≡ with_messenger v.standing messenger mark e.actor
   pub letter : Posted
+  pub sent : letter_hired low e.actor ≡ Some (as_letter letter)
   pub posted : map.get then.atoms (stands_for v.standing e.actor) ≡ Some (as_output letter)
   pub none : letter_under v.things e.actor ≡ None
   pub none_yet : letter_under v.things mark ≡ None
   pub after : OtherLetter v w mark (Some letter)
+  pub sender : Name
+  pub carries : map.get w.things mark ≡ Some (Thing.carrying letter messenger sender ∷ [])
+  pub ended : map.get w.things e.actor ≡ Some (Thing.ended ∷ [])
 
 -- A messenger finds the agent: the letter that was under way under its mark is an output in that agent then, under a new mark, which stands from then
--- on for what its mark stands for.
+-- on for what its mark stands for. Its own mark has `0` alone then.
 pub record IsFinding (next : Config) (e : Event) (v w : View) : Type 0 where
   pub mark : Name
   pub made_one : e.made ≡ made.One mark
@@ -74,6 +79,7 @@ pub record IsFinding (next : Config) (e : Event) (v w : View) : Type 0 where
   pub tag : Tag
   pub stands : map.get next.atoms mark ≡ Some (output_in letter.agent letter.chan letter.value tag)
   pub after : OtherLetter v w e.actor None
+  pub ended : map.get w.things e.actor ≡ Some (Thing.ended ∷ [])
 
 -- it does not: its letter stays under its mark
 pub record IsMissing (e : Event) (v w : View) : Type 0 where

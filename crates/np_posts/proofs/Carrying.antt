@@ -27,7 +27,7 @@ headed-letters [] h = absurd h
 headed-letters (t ∷ ts) h = one-more (carried_letter t) t ts refl (no-others ts h)
 
 -- a thing that carries a letter is its output at the high level
-carried-output : (t : Thing) (p : Posted) → carried t ≡ Some p → high_atom t ≡ Some (as_output p)
+pub carried-output : (t : Thing) (p : Posted) → carried t ≡ Some p → high_atom t ≡ Some (as_output p)
 carried-output (Thing.opening q) p h = ap (λ o. do r ← o; Some (as_output r)) h
 carried-output (Thing.carrying q t a) p h = ap (λ o. do r ← o; Some (as_output r)) h
 carried-output (Thing.trying q t a) p h = ap (λ o. do r ← o; Some (as_output r)) h
@@ -40,6 +40,7 @@ carried-output _ p h = absurd cc
 -- so is what carries it first of several
 pub record CarriesFirst (o : Option (List Thing)) (l : Letter) : Type 0 where
   pub letter : Posted
+  pub carried : (o >>= first_letter_of) ≡ Some letter
   pub is : as_letter letter ≡ l
   pub stands : (o >>= first_atom_of) ≡ Some (as_output letter)
 
@@ -50,4 +51,4 @@ carries-first (Some (t ∷ ts)) l h = go (carried t) refl h
   where
     go : (c : Option Posted) → carried t ≡ c → option_map as_letter c ≡ Some l → CarriesFirst (Some (t ∷ ts)) l
     go None e k = absurd cc
-    go (Some p) e k = record { letter = p; is = sym (done k); stands = carried-output t p e }
+    go (Some p) e k = record { letter = p; carried = e; is = sym (done k); stands = carried-output t p e }

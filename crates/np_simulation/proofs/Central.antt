@@ -18,11 +18,9 @@ use Rattle.cache_lift.proofs.WithoutMessengers.{lift-without-messengers, standin
 use Rattle.np_check.specs.Faults.{IsAccepted}
 use Rattle.daemon_encode.specs.Infrastructures.{Infrastructure}
 use Rattle.daemon_encode.specs.Translates.{IsLowOf}
-use Rattle.np_levels.specs.Coupled.{View}
-use Rattle.np_levels.specs.Letters.{NoLetters}
 use Rattle.np_levels.specs.Roles.{occurs}
 use Rattle.np_simulation.specs.Laws.{CentralRunsAreLifted, IsCentralLifted, IsLifted}
-use Rattle.np_simulation.proofs.Runs.{Follows, from-starts, runs-are-lifted}
+use Rattle.np_simulation.proofs.Runs.{from-starts, runs-are-lifted}
 
 -- no event that it has adds a mark
 adds-none : (r : Role) (k : Kind) (names : Made) → occurs r k ≡ true → adds_mark r k names ≡ false
@@ -32,13 +30,13 @@ adds-none _ _ names may = refl
 
 module _ (p : Program) (q : LowProgram) (low : IsLowOf Infrastructure.central p q) (accepted : IsAccepted p) (events : List Event) (c : Config)
     (h : run (start_low q) events ≡ Some c) where
-  none-added : All AddsNoMark events
-  none-added = (from-starts (λ low v es w. All AddsNoMark es) (record {
+  pub none-added : All AddsNoMark events
+  none-added = (from-starts p q low accepted events c h (λ low v es w. All AddsNoMark es) (record {
     none = λ low v. All-nil AddsNoMark;
-    more = λ low next then v u w e es applies may letters rest. All-cons AddsNoMark e es (adds-none e.tag.role e.kind e.made may) rest;
-  }) p q low accepted events c h).3
+    more = λ low next v u w e es step rest. All-cons AddsNoMark e es (adds-none e.tag.role e.kind e.made step.may) rest;
+  })).4
 
-  pub central : IsLifted Infrastructure.central (length p.sites) p.binders low.first (start_high p) events c
+  unfoldable pub central : IsLifted Infrastructure.central (length p.sites) p.binders low.first (start_high p) events c
       → IsCentralLifted (length p.sites) p.binders low.first (start_high p) events c
   central l = record {
     high = l.high;
@@ -48,11 +46,6 @@ module _ (p : Program) (q : LowProgram) (low : IsLowOf Infrastructure.central p 
     coupled = l.coupled;
     stand = l.stand ∙ standing-without-messengers events none-added;
   }
-
-  pub from-central-starts : (Holds : Config → View → List Event → View → Type 0) → Follows Infrastructure.central Holds
-      → (l : IsCentralLifted (length p.sites) p.binders low.first (start_high p) events c) × (v : View) × NoLetters v × Holds (start_low q) v events l.view
-  unfolding central
-  from-central-starts Holds follows = let l = from-starts Holds follows p q low accepted events c h in (central l.0, l.1, l.2, l.3)
 
 pub central-runs-are-lifted : CentralRunsAreLifted
 central-runs-are-lifted p q low accepted events c h = central p q low accepted events c h (runs-are-lifted p q low accepted events c h)

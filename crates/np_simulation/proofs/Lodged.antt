@@ -16,7 +16,7 @@ use Rattle.np_calculus.specs.declared.config.Place.TheVariants as place
 use Rattle.np_calculus.specs.Changes.{put}
 use Rattle.np_calculus.specs.Config.{Config}
 use Rattle.np_calculus.specs.Parts.{IsLodged}
-use Rattle.np_calculus.specs.Reductions.{apply, run}
+use Rattle.np_calculus.specs.Reductions.{run}
 use Rattle.np_calculus.specs.Sight.{inside}
 unfoldable use Rattle.np_calculus.specs.Starts.{start_low}
 use Rattle.np_calculus.specs.Starts.{daemon_agent, daemon_mark, first_atom, main_agent, main_mark}
@@ -26,8 +26,7 @@ use Rattle.daemon_encode.specs.Infrastructures.{Infrastructure}
 use Rattle.np_levels.specs.Coupled.{View}
 use Rattle.np_levels.specs.Roles.{may_occur}
 use Rattle.np_simulation.specs.Laws.{RunsAreLodged}
-use Rattle.np_simulation.specs.Letters.{LettersLeft}
-use Rattle.np_simulation.proofs.Runs.{Follows, from-starts}
+use Rattle.np_simulation.proofs.Runs.{from-starts}
 use Rattle.np_simulation.proofs.Steps.{runs-on}
 
 -- main and the daemon stand somewhere at the start
@@ -56,7 +55,7 @@ start-lodged q =
     }
 
 -- the low level has no event Post, the one kind that may put an atom where its agent is not
-no-post : (i : Infrastructure) (r : Role) → may_occur i r kind.Post ≡ true → ⊥
+pub no-post : (i : Infrastructure) (r : Role) → may_occur i r kind.Post ≡ true → ⊥
 no-post Infrastructure.central role.Infra h = cc
 no-post Infrastructure.central role.Post h = cc
 no-post Infrastructure.central role.Plain h = cc
@@ -67,12 +66,11 @@ no-post Infrastructure.cached role.Plain h = cc
 abbrev KeepsLodged : Config → View → List Event → View → Type 0
 KeepsLodged low v es w = (c : Config) → IsLodged (inside low) → run low es ≡ Some c → IsLodged (inside c)
 
-one-more : (i : Infrastructure) (low next then : Config) (v u w : View) (e : Event) (es : List Event) → apply low e ≡ Some next → may_occur i e.tag.role e.kind ≡ true
-    → LettersLeft e.kind e.tag.role low next then e v u → KeepsLodged next u es w → KeepsLodged low v (e ∷ es) w
-one-more i low next then v u w e es applies may letters keeps c lodged h =
-    keeps c (keeps_lodged low next e (λ is. no-post i e.tag.role (ap (may_occur i e.tag.role) (sym is) ∙ may)) lodged applies) (sym (runs-on low next e es applies) ∙ h)
-
 pub runs-are-lodged : {i : Infrastructure} → RunsAreLodged i
 runs-are-lodged {i} p q low accepted events c h =
-    let follows : Follows i KeepsLodged = record { none = λ d v c lodged h. subst (λ c. IsLodged (inside c)) (sym (done h)) lodged; more = one-more i } in
-    (from-starts KeepsLodged follows p q low accepted events c h).3 c (start-lodged q) h
+    (from-starts p q low accepted events c h KeepsLodged (record {
+      none = λ d v c lodged h. subst (λ c. IsLodged (inside c)) (sym (done h)) lodged;
+      more = λ low next v u w e es step keeps c lodged h.
+          let kept = keeps_lodged low next e (λ is. no-post i e.tag.role (ap (may_occur i e.tag.role) (sym is) ∙ step.may)) lodged step.applies in
+          keeps c kept (sym (runs-on low next e es step.applies) ∙ h);
+    })).4 c (start-lodged q) h

@@ -26,14 +26,24 @@ use Rattle.np_simulation.specs.Letters.{LettersLeft}
 use Rattle.np_simulation.proofs.Agents.{AgentsStand, agents-at_first}
 use Rattle.np_simulation.proofs.Steps.{step}
 
--- what a run makes, event by event, of the kinds that its events have and of the letters under way
-pub record Follows (i : Infrastructure) (Made : Config → View → List Event → View → Type 0) : Type 0 where
-  pub none : (low : Config) (v : View) → Made low v [] v
-  pub more : (low next then : Config) (v u w : View) (e : Event) (es : List Event) → apply low e ≡ Some next → may_occur i e.tag.role e.kind ≡ true
-      → LettersLeft e.kind e.tag.role low next then e v u → Made next u es w
-      → Made low v (e ∷ es) w
+-- an event between two configurations of the low level, each of which belongs to one of the high level
+pub record IsStep (i : Infrastructure) (n from first : ℕ) (low next : Config) (v u : View) (e : Event) : Type 0 where
+  pub high : Config
+  pub then : Config
+  pub before : Coupled i n from first low high v
+  pub after : Coupled i n from first next then u
+  pub applies : apply low e ≡ Some next
+  pub may : may_occur i e.tag.role e.kind ≡ true
+  -- what marks stand for afterwards, and the letters under way
+  pub stand : u.standing ≡ (lifted v.standing e).standing
+  pub letters : LettersLeft e.kind e.tag.role low next then e v u
 
-module _ (i : Infrastructure) (n from first : ℕ) (Made : Config → View → List Event → View → Type 0) (follows : Follows i Made) where
+-- what a run makes, event by event
+pub record Follows (i : Infrastructure) (n from first : ℕ) (Made : Config → View → List Event → View → Type 0) : Type 0 where
+  pub none : (low : Config) (v : View) → Made low v [] v
+  pub more : (low next : Config) (v u w : View) (e : Event) (es : List Event) → IsStep i n from first low next v u e → Made next u es w → Made low v (e ∷ es) w
+
+module _ (i : Infrastructure) (n from first : ℕ) (Made : Config → View → List Event → View → Type 0) (follows : Follows i n from first Made) where
   pub along : (events : List Event) (low high : Config) (v : View) → Coupled i n from first low high v → (s : Standing) → v.standing ≡ s → AgentsStand low v.standing
       → ((hs : List Event) (d : Config) → run high hs ≡ Some d → Well d × IsLodged (inside d)) → (c : Config) → run low events ≡ Some c
       → (l : LeadsAbove i n from first high (lift_from s events) (standing_after s events) c) × Made low v events l.view
@@ -63,7 +73,16 @@ module _ (i : Infrastructure) (n from first : ℕ) (Made : Config → View → L
           coupled = l.0.coupled;
           stand = l.0.stand;
         },
-        follows.more low next x.then v x.view l.0.view e es applies (roles-of-events n from first low high v coupled e next applies) x.letters l.1,
+        follows.more low next v x.view l.0.view e es (record {
+          high = high;
+          then = x.then;
+          before = coupled;
+          after = x.coupled;
+          applies = applies;
+          may = roles-of-events n from first low high v coupled e next applies;
+          stand = x.stand;
+          letters = x.letters;
+        }) l.1,
       )
 
 nothing-more : {A : Type 0} (xs : List A) → xs ≡ xs ++ []
@@ -76,17 +95,17 @@ stays-well p accepted hs d h =
     let x = w.each hs [] (nothing-more hs) in
     subst Well (done (sym h ∙ x.1)) x.2
 
--- from the starts, where no letter is under way
-pub from-starts : {i : Infrastructure} (Made : Config → View → List Event → View → Type 0) → Follows i Made → (p : Program) (q : LowProgram) (low : IsLowOf i p q) → IsAccepted p
-    → (events : List Event) (c : Config) → run (start_low q) events ≡ Some c
-    → (l : IsLifted i (length p.sites) p.binders low.first (start_high p) events c) × (v : View) × NoLetters v × Made (start_low q) v events l.view
-from-starts Made follows p q low accepted events c h =
+-- from the starts, where each mark stands for itself and no letter is under way
+pub from-starts : {i : Infrastructure} (p : Program) (q : LowProgram) (low : IsLowOf i p q) → IsAccepted p → (events : List Event) (c : Config)
+    → run (start_low q) events ≡ Some c → (Made : Config → View → List Event → View → Type 0) → Follows i (length p.sites) p.binders low.first Made
+    → (l : IsLifted i (length p.sites) p.binders low.first (start_high p) events c) × (v : View) × (v.standing ≡ at_first) × NoLetters v
+    × Made (start_low q) v events l.view
+from-starts p q low accepted events c h Made follows =
     let start = starts-coupled p q low accepted.sound in
     let l = along _ (length p.sites) p.binders low.first Made follows events _ (start_high p) start.0 start.1 at_first start.2
     (agents-at_first (start_low q) start.0.standing start.2) (λ hs d r. (stays-well p accepted hs d r, (runs-well p accepted).lodged hs d r)) c h in
-    (l.0, start.0, start.3, l.1)
+    (l.0, start.0, start.2, start.3, l.1)
 
 pub runs-are-lifted : {i : Infrastructure} → RunsAreLifted i
 runs-are-lifted p q low accepted events c h =
-    (from-starts (λ low v es w. Unit {0}) (record { none = λ low v. tt; more = λ low next then v u w e es applies may letters made. tt })
-    p q low accepted events c h).0
+    (from-starts p q low accepted events c h (λ low v es w. Unit {0}) (record { none = λ low v. tt; more = λ low next v u w e es step made. tt })).0
