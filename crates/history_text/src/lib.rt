@@ -14,4 +14,4 @@ pub use fail::HistFail;
 pub use format::Format;
 pub use laws::{law_fits, law_one_reading, law_written};
 pub use read::read_history;
-pub use write::{write_high, write_history, write_history_1};
+pub use write::{write_high, write_history, write_history_1, write_in};

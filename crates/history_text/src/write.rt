@@ -120,6 +120,13 @@ fn text_under(alloc: Global, first: &[u8], format: Format, events: &[Event]) -> 
     Ok(text)
 }
 
+/// The history text of the events, in a format.
+pub fn write_in(alloc: Global, format: Format, events: &[Event]) -> Result<Text, Memory>
+    ensures { IfOk result (λ text. text ≡ spec.history_text format events.now) }
+{
+    text_under(alloc, first_line(format), format, events)
+}
+
 /// The history text of the events, in the second format.
 pub fn write_history(alloc: Global, events: &[Event]) -> Result<Text, Memory>
     ensures { IfOk result (λ text. text ≡ spec.history_text Second events.now) }

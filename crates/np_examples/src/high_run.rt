@@ -1,12 +1,13 @@
 //! The run of the source that is read off a run on sites: it is made again at the high level.
 
+use cache_lift::lift_cached;
 use np_check::Checked;
 use np_configuration::{Cfg, start_high};
 use np_replay::{ReplayFail, follow};
 use np_run::{Record, Refusal};
-use np_syntax::{End, Event, Kind, LONGEST_SOURCE, Memory, Role, Value};
+use np_syntax::{End, Event, Kind, LONGEST_SOURCE, Made, Memory, Role, Value};
 use np_verdict::checked_source;
-use run_merge::{lift, merge, said};
+use run_merge::{merge, said};
 use std::alloc::Global;
 
 /// What is seen of the events of a run on sites.
@@ -14,33 +15,48 @@ use std::alloc::Global;
 pub(crate) struct Reading {
     /// How many letters are opened: each is a message that was handed over.
     pub opens: usize,
-    /// Whether what is read off is a run of the source that prints the same; at no place more letters are opened than messages
-    /// are sent; and at rest that run rests, and as many are opened as are sent.
+    /// Whether what is read off is a run of the source that prints the same; at no place more messages are handed over than
+    /// sent; and at rest that run rests, and as many are handed over as sent.
     pub is_run: bool,
 }
 
-/// How many messages to agents were sent, and how many letters were opened.
+/// How many messages to agents were sent, to the daemon or by a messenger, and how many were handed over.
 #[derive(Clone, Copy)]
 struct Letters {
     posts: usize,
+    /// As letters that were opened.
     opens: usize,
-    /// Whether at some place more were opened than sent.
+    /// By messengers that found their agents.
+    finds: usize,
+    /// Whether at some place more were handed over than sent.
     early: bool,
+}
+
+impl Letters {
+    fn handed(&self) -> usize {
+        self.opens.saturating_add(self.finds)
+    }
 }
 
 fn letters_in(events: &[Event]) -> Letters {
     let mut letters = Letters {
         posts: 0,
         opens: 0,
+        finds: 0,
         early: false,
     };
     for event in events {
-        match (event.tag.role, event.kind) {
-            (Role::Post, Kind::Send) => letters.posts = letters.posts.saturating_add(1),
-            (_, Kind::Open) => letters.opens = letters.opens.saturating_add(1),
+        match (event.tag.role, event.kind, event.made) {
+            (Role::Post, Kind::Send | Kind::Agent, _) => {
+                letters.posts = letters.posts.saturating_add(1);
+            }
+            (_, Kind::Open, _) => letters.opens = letters.opens.saturating_add(1),
+            (Role::Infra, Kind::Local, Made::One(_)) => {
+                letters.finds = letters.finds.saturating_add(1);
+            }
             _ => {}
         }
-        letters.early = letters.early || letters.posts < letters.opens;
+        letters.early = letters.early || letters.posts < letters.handed();
     }
     letters
 }
@@ -120,14 +136,15 @@ fn is_run_of(
     }
 }
 
-/// Whether what is read off the events is a run of the source at the high level, which ends as the sites do.
+/// Whether what is read off the events is a run of the source at the high level, which ends as the sites do. Without messengers
+/// the list for caches is that of the central infrastructure.
 fn is_high_run(
     alloc: Global,
     source: &[u8],
     record: &Record,
     events: &[Event],
 ) -> Result<bool, Memory> {
-    let lifted = lift(alloc, events)?;
+    let lifted = lift_cached(alloc, events)?;
     let values = said(alloc, record.histories.as_slice())?;
     let is_run = is_run_of(
         alloc,
@@ -144,7 +161,7 @@ fn is_high_run(
 pub(crate) fn reading_of(alloc: Global, source: &[u8], record: &Record) -> Result<Reading, Memory> {
     let events = merge(alloc, record.histories.as_slice())?;
     let letters = letters_in(events.as_slice());
-    let all = record.end == End::Spent || letters.posts == letters.opens;
+    let all = record.end == End::Spent || letters.posts == letters.handed();
     let is_run = is_high_run(alloc, source, record, events.as_slice())?;
     Ok(Reading {
         opens: letters.opens,

@@ -74,6 +74,15 @@ pub(crate) fn option_of(example: &Example) -> &'static str {
     }
 }
 
+/// The first line of the histories that `run` and `past` write of such a low program.
+pub(crate) fn first_line_of(example: &Example) -> &'static str {
+    if example.with_caches {
+        "history 1\n"
+    } else {
+        "history 2\n"
+    }
+}
+
 /// Runs the low program of a source within the greatest budget.
 fn run_of(alloc: Global, infrastructure: Infrastructure, source: &[u8]) -> Result<LowRun, Memory> {
     if source.len() > LONGEST_SOURCE {

@@ -1,6 +1,6 @@
 //! The past of each line that the run of a low program prints.
 
-use super::low_run::option_of;
+use super::low_run::{first_line_of, option_of};
 use super::replays::LowRun;
 use super::trial::{Call, Came, came_of};
 use history_text::write_history;
@@ -74,8 +74,8 @@ fn is_past<R: Threads + Wait + Sync>(
     let Some(count) = count_in(past) else {
         return Ok(false);
     };
-    let format = if run.example.with_caches { 1 } else { 2 };
-    let head = format!(in alloc; "{text}\nhistory {format}\n")?;
+    let first = first_line_of(run.example);
+    let head = format!(in alloc; "{text}\n{first}")?;
     let wanted = format!(in alloc; "{text}\na run of {count} events\n")?;
     let option = option_of(run.example);
     let words = format!(in alloc; "replay a h{option}")?;

@@ -1,6 +1,6 @@
 //! Histories of low runs, replayed as they are and changed.
 
-use super::low_run::{LowEvents, events_of_low, option_of};
+use super::low_run::{LowEvents, events_of_low, first_line_of, option_of};
 use super::pasts::{called, has_past};
 use super::report::tell_replay;
 use super::resumes::is_resumed;
@@ -71,8 +71,10 @@ pub(crate) fn replays_itself<R: Threads + Wait + Sync>(
     call: &Call<'_>,
     came: &Came,
 ) -> Result<bool, ExampleFail> {
+    let option = option_of(example);
+    let words = format!(in alloc; "replay a h{option}")?;
     let call = Call {
-        words: "replay a h",
+        words: words.as_str(),
         source: call.source,
         history: Some(came.out.bytes()),
     };
@@ -81,14 +83,15 @@ pub(crate) fn replays_itself<R: Threads + Wait + Sync>(
     let last = format!(in alloc; "a run of {count} events\n")?;
     let written = std::str::from_utf8(came.out.bytes()).unwrap_or("");
     let replayed = std::str::from_utf8(again.out.bytes()).unwrap_or("");
-    Ok(again.status == DONE && is_replay(written, replayed, last.as_str()))
+    let first = first_line_of(example);
+    Ok(again.status == DONE && is_replay(written, replayed, first, last.as_str()))
 }
 
-/// Whether a report of a replay has the lines in front of the history, and then this last line.
-fn is_replay(written: &str, replayed: &str, last: &str) -> bool {
+/// Whether a report of a replay has the lines in front of the history, which begins with this line, and then the last line.
+fn is_replay(written: &str, replayed: &str, first: &str, last: &str) -> bool {
     match replayed.strip_suffix(last) {
         Some(printed) => match written.strip_prefix(printed) {
-            Some(rest) => rest.starts_with("history 2\n"),
+            Some(rest) => rest.starts_with(first),
             None => false,
         },
         None => false,

@@ -1,5 +1,6 @@
 //! Runs on sites that a budget cuts off, resumed from the histories that they wrote.
 
+use super::low_run::{first_line_of, option_of};
 use super::pasts::called;
 use super::replays::LowRun;
 use super::trial::Came;
@@ -26,8 +27,9 @@ struct Written<'a> {
     last: &'a str,
 }
 
-fn written_of(text: &str) -> Option<Written<'_>> {
-    let (said, rest) = text.split_once("history 2\n")?;
+/// What is written, where the history begins with this line.
+fn written_of<'a>(text: &'a str, first: &str) -> Option<Written<'a>> {
+    let (said, rest) = text.split_once(first)?;
     let (events, last) = rest.split_once("end\n")?;
     Some(Written { said, events, last })
 }
@@ -64,7 +66,8 @@ fn is_resumed_over<R: Threads + Wait + Sync>(
     links: &str,
 ) -> Result<bool, ExampleFail> {
     let way = way_of(budget);
-    let options = format!(in alloc; "--history --links {links}{way}")?;
+    let option = option_of(run.example);
+    let options = format!(in alloc; "--history --links {links}{way}{option}")?;
     let words = format!(in alloc; "run a {options} --budget {budget}")?;
     let came = called(rt, alloc, run, words.as_str(), b"")?;
     is_resumed_from(rt, alloc, run, options.as_str(), &came, budget)
@@ -93,10 +96,11 @@ fn is_run(came: &Came) -> bool {
 }
 
 /// Whether a run of the source was made that begins with the saved events.
-fn goes_on(came: &Came, saved: &[u8]) -> bool {
+fn goes_on(run: &LowRun<'_>, came: &Came, saved: &[u8]) -> bool {
+    let first = first_line_of(run.example);
     match (
-        written_of(text_of(came.out.bytes())),
-        written_of(text_of(saved)),
+        written_of(text_of(came.out.bytes()), first),
+        written_of(text_of(saved), first),
     ) {
         (Some(whole), Some(saved)) => {
             is_run(came)
@@ -129,14 +133,15 @@ fn is_end(alloc: Global, run: &LowRun<'_>, came: &Came, saved: &[u8]) -> Result<
     Ok(
         came.status == DONE
             && came.events == Some(run.events.len())
-            && goes_on(came, saved)
+            && goes_on(run, came, saved)
             && is_whole(alloc, run, came)?,
     )
 }
 
 /// Whether the lines that are printed and the last line are those of the whole run, in any order.
 fn is_whole(alloc: Global, run: &LowRun<'_>, came: &Came) -> Result<bool, AllocError> {
-    match written_of(text_of(came.out.bytes())) {
+    let first = first_line_of(run.example);
+    match written_of(text_of(came.out.bytes()), first) {
         Some(Written { said, last, .. }) => {
             let lines = format!(in alloc; "{said}{last}")?;
             same_lines(alloc, lines.as_bytes(), run.report.as_bytes())
@@ -157,7 +162,7 @@ fn ends_in_two<R: Threads + Wait + Sync>(
     let further = budget.saturating_add(MORE);
     let words = format!(in alloc; "resume a h {options} --budget {further}")?;
     let came = called(rt, alloc, run, words.as_str(), saved)?;
-    if !goes_on(&came, saved) {
+    if !goes_on(run, &came, saved) {
         return Ok(false);
     }
     ends(rt, alloc, run, options, came.out.bytes())

@@ -9,15 +9,15 @@ use Rattle.np_calculus.specs.Starts.{start_low}
 use Rattle.history_text.specs.declared.fail.HistFail.{HistFail}
 use Rattle.history_text.specs.declared.fail.HistFail.TheVariants as history
 use Rattle.history_text.specs.declared.format.Format.{Format}
-use Rattle.history_text.specs.declared.format.Format.TheVariants.{First, Second}
+use Rattle.history_text.specs.declared.format.Format.TheVariants.{Second}
 use Rattle.history_text.specs.Spelling.{history_text}
 use Rattle.history_text.specs.Histories.{IsHistory, IsRefused}
 use Rattle.np_replay.specs.declared.fail.ReplayFail.{ReplayFail}
 use Rattle.np_replay.specs.declared.fail.ReplayFail.TheVariants as replay
 use Rattle.np_replay.specs.Replays.{StopsAt}
 use Rattle.np_report.specs.Report.{replay_text}
+use Rattle.np_words.specs.Formats.{format_for}
 use Rattle.np_words.specs.declared.modes.Infrastructure.{Infrastructure}
-use Rattle.np_words.specs.declared.modes.Infrastructure.TheVariants.{Cache, Central}
 use Rattle.np_words.specs.declared.planning.View.{View}
 use Rattle.np_words.specs.declared.planning.View.TheVariants as view
 use Rattle.np_verdict.specs.declared.refusal.Refusal.{Refusal}
@@ -60,12 +60,6 @@ pub record HasRun (low : LowProgram) (shown : View) (bytes : List ℕ) : Type 0 
   pub has : HasView shown last
 
 -- ---- what is made
-
--- Histories are written in the second format, but those of an infrastructure with caches: what the ninth field tells of an event of the high level
--- is so without caches alone.
-abbrev pub format_for : Infrastructure → Format
-format_for Central = Second
-format_for Cache = First
 
 -- the events are a run of the low program, and this is the report of their replay
 pub record Ends (low : LowProgram) (events : List Event) (text : List ℕ) : Type 0 where

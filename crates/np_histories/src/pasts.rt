@@ -11,7 +11,7 @@ ghost use Rattle.np_histories.specs.Histories.{Stops};
 ghost use Rattle.np_histories.specs.Pasts.{HasPrinted, IsLine, IsPrintOf, IsPastOfLine, LacksLine, PrintsLine, TellsPast};
 
 use super::replaying::end_of;
-use history_text::{Format, write_history, write_history_1};
+use history_text::{Format, write_in};
 use np_report::past_report;
 use np_syntax::{Event, Kind, List, LowProgram, Memory, Text, Value};
 use np_verdict::Refusal;
@@ -62,16 +62,6 @@ fn past_of(
     }
 }
 
-/// The text of a history in a format.
-fn written_in(alloc: Global, format: Format, events: &[Event]) -> Result<Text, Memory>
-    ensures { IfOk result (λ text. text ≡ history_text format events.now) }
-{
-    match format {
-        Format::First => write_history_1(alloc, events),
-        Format::Second => write_history(alloc, events),
-    }
-}
-
 /// The report of the events that led to a value.
 fn report_of(
     alloc: Global,
@@ -83,7 +73,7 @@ fn report_of(
 ) -> Result<Text, Memory>
     ensures { IfOk result (λ text. text ≡ past_text sites.now (site, value.now) (history_text format led.now) (length led.now)) }
 {
-    let history = written_in(alloc, format, led)?;
+    let history = write_in(alloc, format, led)?;
     past_report(alloc, sites, site, value, history.as_slice(), led.len())
 }
 

@@ -5,18 +5,17 @@ ghost use Rattle.np_calculus.specs.Reductions.{run};
 ghost use Rattle.np_calculus.specs.Starts.{start_low};
 ghost use Rattle.np_report.specs.Report.{replay_text};
 ghost use Rattle.np_words.specs.Plans.{HasLine};
-ghost use Rattle.np_histories.specs.Histories.{Replays, Ends, Lacks, Shows, Stops, IsFaulty, format_for, of_replay};
+ghost use Rattle.np_histories.specs.Histories.{Replays, Ends, Lacks, Shows, Stops, IsFaulty, of_replay};
 
 use super::events::events_of;
 use super::limits::LONGEST_HISTORY;
 use super::pasts::past_told;
-use history_text::Format;
 use np_configuration::Cfg;
 use np_replay::{ReplayFail, replay};
 use np_report::replay_report;
 use np_syntax::{Event, LowProgram, Memory, Text};
 use np_verdict::Refusal;
-use np_words::{Infrastructure, View};
+use np_words::{Infrastructure, View, format_for};
 use std::alloc::Global;
 
 /// The refusal of `replay` as a refusal of the program.
@@ -62,16 +61,6 @@ fn replayed_events(alloc: Global, low: &LowProgram, events: &[Event]) -> Result<
 {
     let last = end_of(alloc, low, events)?;
     report_of(alloc, low, &last, events.len())
-}
-
-/// The format in which the histories of an infrastructure are written.
-fn format_for(infrastructure: Infrastructure) -> Format
-    ensures { result ≡ format_for infrastructure }
-{
-    match infrastructure {
-        Infrastructure::Central => Format::Second,
-        Infrastructure::Cache => Format::First,
-    }
 }
 
 /// Replays the events of a low program, and makes the report of what is to be shown.

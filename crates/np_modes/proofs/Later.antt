@@ -12,7 +12,6 @@ use Rattle.np_sources.specs.Reaches.{IsCompiled, Reach}
 use Rattle.np_sources.specs.declared.sites.Shown.{Shown}
 use Rattle.np_verdict.specs.Faults.{IsWellTyped}
 use Rattle.np_words.specs.declared.modes.Infrastructure.{Infrastructure}
-use Rattle.np_words.specs.declared.modes.Infrastructure.TheVariants.{Central}
 use Rattle.np_words.specs.declared.planning.View.{View}
 use Rattle.np_modes.specs.Readings.{IsRead, IsText, IsUnread, seen}
 use Rattle.np_modes.specs.Causes.{IsLowered, OfResume, OfRun, OfReplay, OfSaved, RefusesResume, RefusesSaved, RefusesSource, RefusesRun, RefusesReplay}
@@ -68,28 +67,30 @@ module _ (held-0 held-1 : Held) (count-0 count-1 count-2 : Counts) (taken-1 take
 
   -- ---- a run that goes on from a history
 
-  pub resume_made : (source saved : List ℕ) (budget : ℕ) (how : Shown) (bytes : List ℕ) → IsText (seen held-0 count-0 count-1 taken-1 begun-0 begun-1) source LONGEST_SOURCE bytes
-      → (r : Result Job Refusal) → IfOk r (λ job. OfSaved (seen held-1 count-1 count-2 taken-2 begun-1 begun-2) saved budget how bytes job.kept job.high job.text)
-      → IfOk r (λ job. OfResume (seen held-0 count-0 count-2 taken-2 begun-0 begun-2) source saved budget how job.kept job.high job.text)
-  resume_made source saved budget how bytes text (Ok job) run = record {
+  pub resume_made : (source saved : List ℕ) (infrastructure : Infrastructure) (budget : ℕ) (how : Shown) (bytes : List ℕ)
+      → IsText (seen held-0 count-0 count-1 taken-1 begun-0 begun-1) source LONGEST_SOURCE bytes → (r : Result Job Refusal)
+      → IfOk r (λ job. OfSaved (seen held-1 count-1 count-2 taken-2 begun-1 begun-2) saved infrastructure budget how bytes job.kept job.high job.text)
+      → IfOk r (λ job. OfResume (seen held-0 count-0 count-2 taken-2 begun-0 begun-2) source saved infrastructure budget how job.kept job.high job.text)
+  resume_made source saved infrastructure budget how bytes text (Ok job) run = record {
     bytes = bytes;
     read = record { short = text.short; whole = text.whole };
     run = record { bytes = run.bytes; read = read_later saved _ run.bytes run.read; goes_on = run.goes_on };
   }
-  resume_made source saved budget how bytes text (Err e) run = tt
+  resume_made source saved infrastructure budget how bytes text (Err e) run = tt
 
   saved_refused : (saved : List ℕ) (low : LowProgram) (budget : ℕ) (refusal : Refusal) → RefusesSaved (seen held-1 count-1 count-2 taken-2 begun-1 begun-2) saved low budget refusal
       → RefusesSaved (seen held-0 count-0 count-2 taken-2 begun-0 begun-2) saved low budget refusal
   saved_refused saved low budget refusal (inl u) = inl (unread_later saved _ _ refusal u)
   saved_refused saved low budget refusal (inr s) = inr (record { bytes = s.bytes; read = read_later saved _ s.bytes s.read; unfit = s.unfit })
 
-  pub resume_refused : (source saved : List ℕ) (budget : ℕ) (bytes : List ℕ) (p : Program) (low : LowProgram)
-      → IsText (seen held-0 count-0 count-1 taken-1 begun-0 begun-1) source LONGEST_SOURCE bytes → IsWellTyped bytes p → IsCompiled Central p low → (r : Result Job Refusal)
+  pub resume_refused : (source saved : List ℕ) (infrastructure : Infrastructure) (budget : ℕ) (bytes : List ℕ) (p : Program) (low : LowProgram)
+      → IsText (seen held-0 count-0 count-1 taken-1 begun-0 begun-1) source LONGEST_SOURCE bytes → IsWellTyped bytes p → IsCompiled infrastructure p low
+      → (r : Result Job Refusal)
       → IfErr r (λ refusal. refusal ≢ Memory → RefusesSaved (seen held-1 count-1 count-2 taken-2 begun-1 begun-2) saved low budget refusal)
-      → IfErr r (λ refusal. refusal ≢ Memory → RefusesSource (seen held-0 count-0 count-2 taken-2 begun-0 begun-2) source (Reach.low Central) refusal
-      ⊎ RefusesResume (seen held-0 count-0 count-2 taken-2 begun-0 begun-2) source saved budget refusal)
-  resume_refused source saved budget bytes p low text typed is (Ok job) h = tt
-  resume_refused source saved budget bytes p low text typed is (Err e) h =
+      → IfErr r (λ refusal. refusal ≢ Memory → RefusesSource (seen held-0 count-0 count-2 taken-2 begun-0 begun-2) source (Reach.low infrastructure) refusal
+      ⊎ RefusesResume (seen held-0 count-0 count-2 taken-2 begun-0 begun-2) source saved infrastructure budget refusal)
+  resume_refused source saved infrastructure budget bytes p low text typed is (Ok job) h = tt
+  resume_refused source saved infrastructure budget bytes p low text typed is (Err e) h =
       λ some. inr (record {
         low = low;
         lowered = record {

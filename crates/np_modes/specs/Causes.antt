@@ -15,7 +15,6 @@ use Rattle.np_verdict.specs.declared.refusal.Refusal.{Refusal}
 use Rattle.np_verdict.specs.declared.refusal.Refusal.TheVariants.{Usage, TooLong, HistoryTooLong}
 use Rattle.np_words.specs.Plans.{plan}
 use Rattle.np_words.specs.declared.modes.Infrastructure.{Infrastructure}
-use Rattle.np_words.specs.declared.modes.Infrastructure.TheVariants.{Central}
 use Rattle.np_words.specs.declared.planning.Plan.{Plan}
 use Rattle.np_words.specs.declared.planning.Plan.TheVariants as plans
 use Rattle.np_words.specs.declared.planning.Task.{Task}
@@ -58,22 +57,25 @@ pub record OfReplay (texts : Reading) (source history : List ℕ) (infrastructur
   pub run : OfRun texts history infrastructure low view kept high text
 
 -- the bytes are a history, and the run of the source of those bytes goes on from its events
-pub record GoesOnFrom (budget : ℕ) (how : Shown) (source bytes : List ℕ) (kept : Option Record) (high : Option SerialRun) (text : List ℕ) : Type 0 where
+pub record GoesOnFrom (infrastructure : Infrastructure) (budget : ℕ) (how : Shown) (source bytes : List ℕ)
+    (kept : Option Record) (high : Option SerialRun) (text : List ℕ) : Type 0 where
   pub events : List Event
   pub history : histories.IsRead bytes events
-  pub keeps : KeepsResumed budget how source events kept high text
+  pub keeps : KeepsResumed infrastructure budget how source events kept high text
 
 -- the history was read, and the run goes on from it
-pub record OfSaved (texts : Reading) (saved : List ℕ) (budget : ℕ) (how : Shown) (source : List ℕ) (kept : Option Record) (high : Option SerialRun) (text : List ℕ) : Type 0 where
+pub record OfSaved (texts : Reading) (saved : List ℕ) (infrastructure : Infrastructure) (budget : ℕ) (how : Shown) (source : List ℕ)
+    (kept : Option Record) (high : Option SerialRun) (text : List ℕ) : Type 0 where
   pub bytes : List ℕ
   pub read : IsRead texts saved LONGEST_HISTORY bytes
-  pub goes_on : GoesOnFrom budget how source bytes kept high text
+  pub goes_on : GoesOnFrom infrastructure budget how source bytes kept high text
 
 -- both were read, and the run of the source goes on from the history
-pub record OfResume (texts : Reading) (source saved : List ℕ) (budget : ℕ) (how : Shown) (kept : Option Record) (high : Option SerialRun) (text : List ℕ) : Type 0 where
+pub record OfResume (texts : Reading) (source saved : List ℕ) (infrastructure : Infrastructure) (budget : ℕ) (how : Shown)
+    (kept : Option Record) (high : Option SerialRun) (text : List ℕ) : Type 0 where
   pub bytes : List ℕ
   pub read : IsText texts source LONGEST_SOURCE bytes
-  pub run : OfSaved texts saved budget how bytes kept high text
+  pub run : OfSaved texts saved infrastructure budget how bytes kept high text
 
 -- the history was read, and this is its text in the second format
 pub record OfUpgrade (texts : Reading) (history : List ℕ) (kept : Option Record) (high : Option SerialRun) (text : List ℕ) : Type 0 where
@@ -90,18 +92,18 @@ pub record OfNumber (agents : ℕ) (kept : Option Record) (high : Option SerialR
   pub is_high : high ≡ None
 
 -- the generated source, which is no longer than a source may be, was run
-pub record OfLoad (agents : ℕ) (kept : Option Record) (high : Option SerialRun) (text : List ℕ) : Type 0 where
+pub record OfLoad (infrastructure : Infrastructure) (agents : ℕ) (kept : Option Record) (high : Option SerialRun) (text : List ℕ) : Type 0 where
   pub short : length (generated agents) ≤ LONGEST_SOURCE
-  pub does : DoesLoad agents kept high text
+  pub does : DoesLoad infrastructure agents kept high text
 
 abbrev pub Does : Reading → Plan → Option Record → Option SerialRun → List ℕ → Type 0
 Does texts (plans.Source file task) kept high text = OfSource texts file task kept high text
 Does texts (plans.Replay source history infrastructure view) kept high text = OfReplay texts source history infrastructure view kept high text
-Does texts (plans.Resume source saved budget history shows serial links) kept high text =
-    OfResume texts source saved budget (shown.Printed history (in_two_steps shows)) kept high text
+Does texts (plans.Resume source saved budget history shows serial links infrastructure) kept high text =
+    OfResume texts source saved infrastructure budget (shown.Printed history (in_two_steps shows)) kept high text
 Does texts (plans.Upgrade history) kept high text = OfUpgrade texts history kept high text
 Does texts (plans.Generate agents) kept high text = OfNumber agents kept high text
-Does texts (plans.Load agents serial links) kept high text = OfLoad agents kept high text
+Does texts (plans.Load agents serial links infrastructure) kept high text = OfLoad infrastructure agents kept high text
 
 -- the words ask for this, and it was made
 pub record HasMade (words : List (List ℕ)) (texts : Reading) (kept : Option Record) (high : Option SerialRun) (text : List ℕ) : Type 0 where
@@ -176,9 +178,9 @@ abbrev pub RefusesSaved : Reading → List ℕ → LowProgram → ℕ → Refusa
 RefusesSaved texts saved low budget refusal = IsUnread texts saved LONGEST_HISTORY HistoryTooLong refusal ⊎ IsUnfitSaved texts saved low budget refusal
 
 -- the source is accepted, and the history is refused
-pub record RefusesResume (texts : Reading) (source saved : List ℕ) (budget : ℕ) (refusal : Refusal) : Type 0 where
+pub record RefusesResume (texts : Reading) (source saved : List ℕ) (infrastructure : Infrastructure) (budget : ℕ) (refusal : Refusal) : Type 0 where
   pub low : LowProgram
-  pub lowered : IsLowered texts source Central low
+  pub lowered : IsLowered texts source infrastructure low
   pub run : RefusesSaved texts saved low budget refusal
 
 -- the history was read, and it is none
@@ -191,20 +193,20 @@ abbrev pub RefusesHistory : Reading → List ℕ → Refusal → Type 0
 RefusesHistory texts history refusal = IsUnread texts history LONGEST_HISTORY HistoryTooLong refusal ⊎ IsFaultyHistory texts history refusal
 
 -- the generated source, which is no longer than a source may be, is refused
-pub record RefusesLoad (agents : ℕ) (refusal : Refusal) : Type 0 where
+pub record RefusesLoad (infrastructure : Infrastructure) (agents : ℕ) (refusal : Refusal) : Type 0 where
   pub short : length (generated agents) ≤ LONGEST_SOURCE
-  pub faulty : FaultyTo (Reach.sites LOAD_BUDGET) (generated agents) refusal
+  pub faulty : FaultyTo (Reach.sites infrastructure LOAD_BUDGET) (generated agents) refusal
 
 -- what is asked for is refused so
 abbrev pub RefusesPlan : Reading → Plan → Refusal → Type 0
 RefusesPlan texts (plans.Source file task) refusal = RefusesSource texts file (reach_of task) refusal
 RefusesPlan texts (plans.Replay source history infrastructure view) refusal =
     RefusesSource texts source (Reach.low infrastructure) refusal ⊎ RefusesReplay texts source history infrastructure view refusal
-RefusesPlan texts (plans.Resume source saved budget history shows serial links) refusal =
-    RefusesSource texts source (Reach.low Central) refusal ⊎ RefusesResume texts source saved budget refusal
+RefusesPlan texts (plans.Resume source saved budget history shows serial links infrastructure) refusal =
+    RefusesSource texts source (Reach.low infrastructure) refusal ⊎ RefusesResume texts source saved infrastructure budget refusal
 RefusesPlan texts (plans.Upgrade history) refusal = RefusesHistory texts history refusal
 RefusesPlan texts (plans.Generate agents) refusal = ⊥
-RefusesPlan texts (plans.Load agents serial links) refusal = RefusesLoad agents refusal
+RefusesPlan texts (plans.Load agents serial links infrastructure) refusal = RefusesLoad infrastructure agents refusal
 
 -- the refusal has its cause
 pub data Stands (words : List (List ℕ)) (texts : Reading) : Refusal → Type 0 where
@@ -218,10 +220,10 @@ pub data Stands (words : List (List ℕ)) (texts : Reading) : Refusal → Type 0
 abbrev pub texts_of : Plan → ℕ
 texts_of (plans.Source file task) = 1
 texts_of (plans.Replay source history infrastructure view) = 2
-texts_of (plans.Resume source saved budget history shows serial links) = 2
+texts_of (plans.Resume source saved budget history shows serial links infrastructure) = 2
 texts_of (plans.Upgrade history) = 1
 texts_of (plans.Generate agents) = 0
-texts_of (plans.Load agents serial links) = 0
+texts_of (plans.Load agents serial links infrastructure) = 0
 
 -- how many texts are read where the words say this, or nothing
 abbrev pub texts_read : Option Plan → ℕ

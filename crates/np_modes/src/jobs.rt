@@ -72,8 +72,10 @@ fn done<R: Threads + Wait + Sync, G: Gate, T: Texts>(
             high,
             serial,
             links,
+            infrastructure,
         } => {
             let course = Course {
+                infrastructure: *infrastructure,
                 budget: *budget,
                 serial: *serial,
                 links: *links,
@@ -90,7 +92,8 @@ fn done<R: Threads + Wait + Sync, G: Gate, T: Texts>(
             agents,
             serial,
             links,
-        } => load_of(alloc, rt, gate, *agents, *serial, *links),
+            infrastructure,
+        } => load_of(alloc, rt, gate, *agents, *serial, *links, *infrastructure),
     }
 }
 

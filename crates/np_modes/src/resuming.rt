@@ -4,7 +4,6 @@ ghost use Rattle.std.specs.Prelude.{◌≡◌, ◌≢◌, ◌+◌, ◌<◌, ◌�
 ghost use Rattle.np_io.specs.Causes.{NoneFell};
 ghost use Rattle.np_io.specs.Bytes.{StayHeld};
 ghost use Rattle.np_syntax.specs.declared.limits.TheConstants.{LARGEST_BUDGET, LONGEST_SOURCE, MOST_SITES};
-ghost use Rattle.np_words.specs.declared.modes.Infrastructure.TheVariants.{Central};
 ghost use Rattle.np_sources.specs.Makes.{KeepsResumed, high_of, in_two_steps};
 ghost use Rattle.np_sources.specs.Reaches.{Reach, IsCompiled, barred};
 ghost use Rattle.np_sources.specs.declared.sites.Shown.TheVariants as shown;
@@ -20,7 +19,7 @@ use np_on_sites::Gate;
 use np_sources::{Compiled, Course, Job, Shown, compiled_of, job_redone, job_resumed};
 use np_syntax::{Event, LONGEST_SOURCE, List, LowProgram};
 use np_verdict::Refusal;
-use np_words::HighText;
+use np_words::{HighText, Infrastructure};
 use std::alloc::Global;
 use std::sync::Wait;
 use std::thread::Threads;
@@ -66,12 +65,13 @@ pub(crate) fn resume<R: Threads + Wait + Sync, G: Gate, T: Texts>(
     requires within { course.budget ≤ LARGEST_BUDGET }
     ensures begins { T.begins texts.new ≤ T.begins texts.old + 2 }
     ensures made { let seen = seen (T.held texts.old) (T.faults texts.old) (T.faults texts.new) (T.taken texts.new) (T.begins texts.old) (T.begins texts.new)
-        in IfOk result (λ job. OfResume seen source.now saved.now course.budget (shown.Printed report.history (in_two_steps report.high)) job.kept job.high job.text) }
+        in IfOk result (λ job. OfResume seen source.now saved.now course.infrastructure course.budget (shown.Printed report.history (in_two_steps report.high)) job.kept job.high job.text) }
     ensures refused { let seen = seen (T.held texts.old) (T.faults texts.old) (T.faults texts.new) (T.taken texts.new) (T.begins texts.old) (T.begins texts.new)
         in IfErr result (λ refusal. refusal ≢ Refusal.Memory
-        → RefusesSource seen source.now (Reach.low Central) refusal ⊎ RefusesResume seen source.now saved.now course.budget refusal) }
+        → RefusesSource seen source.now (Reach.low course.infrastructure) refusal
+        ⊎ RefusesResume seen source.now saved.now course.infrastructure course.budget refusal) }
 {
-    match read_source(alloc, texts, source) {
+    match read_source(alloc, texts, course.infrastructure, source) {
         Ok(source) => {
             let made = resume_source(alloc, rt, gate, texts, &source, saved, course, report);
             drop(source);
@@ -82,20 +82,25 @@ pub(crate) fn resume<R: Threads + Wait + Sync, G: Gate, T: Texts>(
 }
 
 /// The source of this name, with its low program.
-fn read_source<T: Texts>(alloc: Global, texts: &mut T, name: &Word) -> Result<Source, Refusal>
+fn read_source<T: Texts>(
+    alloc: Global,
+    texts: &mut T,
+    infrastructure: Infrastructure,
+    name: &Word,
+) -> Result<Source, Refusal>
     ensures held { StayHeld (T.held texts.old) (T.held texts.new) }
     ensures later { NoneFell (T.faults texts.old) (T.faults texts.new) }
     ensures begins { T.begins texts.new ≤ T.begins texts.old + 1 }
     ensures read { let seen = seen (T.held texts.old) (T.faults texts.old) (T.faults texts.new) (T.taken texts.new) (T.begins texts.old) (T.begins texts.new)
         in IfOk result (λ made. IsText seen name.now LONGEST_SOURCE made.bytes) }
     ensures typed { IfOk result (λ made. IsWellTyped made.bytes made.checked) }
-    ensures compiled { IfOk result (λ made. IsCompiled Central made.checked made.low) }
+    ensures compiled { IfOk result (λ made. IsCompiled infrastructure made.checked made.low) }
     ensures runs { IfOk result (λ made. CanRun made.low) }
     ensures refused { let seen = seen (T.held texts.old) (T.faults texts.old) (T.faults texts.new) (T.taken texts.new) (T.begins texts.old) (T.begins texts.new)
-        in IfErr result (λ refusal. refusal ≢ Refusal.Memory → RefusesSource seen name.now (Reach.low Central) refusal) }
+        in IfErr result (λ refusal. refusal ≢ Refusal.Memory → RefusesSource seen name.now (Reach.low infrastructure) refusal) }
 {
     let bytes = read_text(alloc, texts, name, LONGEST_SOURCE, Refusal::TooLong)?;
-    match compiled_of(alloc, bytes.as_slice()) {
+    match compiled_of(alloc, infrastructure, bytes.as_slice()) {
         Ok(Compiled { checked, low }) => Ok(Source {
             bytes,
             checked,
@@ -117,13 +122,13 @@ fn resume_source<R: Threads + Wait + Sync, G: Gate, T: Texts>(
     report: Report,
 ) -> Result<Job, Refusal>
     requires typed { IsWellTyped source.now.bytes source.now.checked }
-    requires compiled { IsCompiled Central source.now.checked source.now.low }
+    requires compiled { IsCompiled course.infrastructure source.now.checked source.now.low }
     requires runs { CanRun source.now.low }
     requires some { 1 ≤ course.budget }
     requires within { course.budget ≤ LARGEST_BUDGET }
     ensures begins { T.begins texts.new ≤ T.begins texts.old + 1 }
     ensures made { let seen = seen (T.held texts.old) (T.faults texts.old) (T.faults texts.new) (T.taken texts.new) (T.begins texts.old) (T.begins texts.new)
-        in IfOk result (λ job. OfSaved seen saved.now course.budget (shown.Printed report.history (in_two_steps report.high)) source.now.bytes job.kept job.high job.text) }
+        in IfOk result (λ job. OfSaved seen saved.now course.infrastructure course.budget (shown.Printed report.history (in_two_steps report.high)) source.now.bytes job.kept job.high job.text) }
     ensures refused { let seen = seen (T.held texts.old) (T.faults texts.old) (T.faults texts.new) (T.taken texts.new) (T.begins texts.old) (T.begins texts.new)
         in IfErr result (λ refusal. refusal ≢ Refusal.Memory → RefusesSaved seen saved.now source.now.low course.budget refusal) }
 {
@@ -149,11 +154,11 @@ fn resume_from<R: Threads + Wait + Sync, G: Gate>(
 ) -> Result<Job, Refusal>
     requires short { length saved.now ≤ LONGEST_HISTORY }
     requires typed { IsWellTyped source.now.bytes source.now.checked }
-    requires compiled { IsCompiled Central source.now.checked source.now.low }
+    requires compiled { IsCompiled course.infrastructure source.now.checked source.now.low }
     requires runs { CanRun source.now.low }
     requires some { 1 ≤ course.budget }
     requires within { course.budget ≤ LARGEST_BUDGET }
-    ensures made { IfOk result (λ job. GoesOnFrom course.budget (shown.Printed report.history (in_two_steps report.high)) source.now.bytes saved.now job.kept job.high job.text) }
+    ensures made { IfOk result (λ job. GoesOnFrom course.infrastructure course.budget (shown.Printed report.history (in_two_steps report.high)) source.now.bytes saved.now job.kept job.high job.text) }
     ensures refused { IfErr result (λ refusal. refusal ≢ Refusal.Memory → IsUnfit course.budget source.now.low saved.now refusal) }
 {
     let shown = Shown::Printed {
@@ -177,12 +182,12 @@ fn job_from<R: Threads + Wait + Sync, G: Gate>(
 ) -> Result<Job, Refusal>
     requires few { length events.now < 2 ^ 32 }
     requires typed { IsWellTyped source.now.bytes source.now.checked }
-    requires compiled { IsCompiled Central source.now.checked source.now.low }
+    requires compiled { IsCompiled course.infrastructure source.now.checked source.now.low }
     requires free { barred (high_of shown) source.now.checked ≡ None }
     requires runs { CanRun source.now.low }
     requires some { 1 ≤ course.budget }
     requires within { course.budget ≤ LARGEST_BUDGET }
-    ensures made { IfOk result (λ job. KeepsResumed course.budget shown source.now.bytes events.now job.kept job.high job.text) }
+    ensures made { IfOk result (λ job. KeepsResumed course.infrastructure course.budget shown source.now.bytes events.now job.kept job.high job.text) }
     ensures refused { IfErr result (λ refusal. refusal ≢ Refusal.Memory → StopsFrom course.budget source.now.low events.now refusal) }
 {
     let bytes = source.bytes.as_slice();

@@ -1,2 +1,3 @@
+pub mod ByInfrastructure
 pub mod SitesRuns
 pub mod SourceRuns

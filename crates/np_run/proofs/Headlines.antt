@@ -4,6 +4,7 @@ use Rattle.np_generate.specs.Generated.{generated}
 use Rattle.np_syntax.specs.declared.program.Program.{Program}
 use Rattle.np_serial.specs.declared.serial.SerialRun.{SerialRun}
 use Rattle.np_words.specs.Plans.{plan}
+use Rattle.np_words.specs.declared.modes.Infrastructure.{Infrastructure}
 use Rattle.np_words.specs.declared.planning.Plan.{Plan}
 use Rattle.np_words.specs.declared.planning.Plan.TheVariants as plans
 use Rattle.np_words.specs.declared.planning.Task.{Task}
@@ -17,11 +18,13 @@ use Rattle.np_modes.specs.Readings.{Reading}
 use Rattle.np_run.specs.Headline.{AsksForRun, Headline}
 
 module _ (words : List (List ℕ)) (texts : Reading) (kept : Record) where
-  of_sites : (budget : ℕ) (report : Program → Record → List ℕ) (bytes : List ℕ) (o : Option Record) (made : Record) (text : List ℕ) → o ≡ Some kept → o ≡ Some made
-      → AsksForRun words texts budget report bytes → KeepsPromises budget report bytes made text → Headline words texts kept text
-  of_sites budget report bytes o made text is is_made asks k =
+  of_sites : (infrastructure : Infrastructure) (budget : ℕ) (report : Program → Record → List ℕ) (bytes : List ℕ) (o : Option Record) (made : Record) (text : List ℕ)
+      → o ≡ Some kept → o ≡ Some made → AsksForRun words texts infrastructure budget report bytes → KeepsPromises infrastructure budget report bytes made text
+      → Headline words texts kept text
+  of_sites infrastructure budget report bytes o made text is is_made asks k =
       let same : made ≡ kept = (let both : Some made ≡ Some kept = sym is_made ∙ is in cc) in
       subst (λ (r : Record). Headline words texts r text) same (record {
+        infrastructure = infrastructure;
         budget = budget;
         report = report;
         bytes = bytes;
@@ -44,9 +47,9 @@ module _ (words : List (List ℕ)) (texts : Reading) (kept : Record) where
 
   of_task : (name : List ℕ) (asked : Task) (o : Option Record) (high : Option SerialRun) (text : List ℕ) → o ≡ Some kept → plan words ≡ Some (plans.Source name asked)
       → OfSource texts name asked o high text → Headline words texts kept text
-  of_task name (task.Run budget history high serial links) o made text is planned d =
-      of_sites budget (run_report history high) d.bytes o d.does.made text is d.does.is_kept (AsksForRun.file name d.bytes budget history high serial links planned d.read)
-      d.does.promises
+  of_task name (task.Run budget history high serial links infra) o made text is planned d =
+      of_sites infra budget (run_report infra history high) d.bytes o d.does.made text is d.does.is_kept
+      (AsksForRun.file name d.bytes budget history high serial links infra planned d.read) d.does.promises
   of_task name (task.High budget history) o made text is planned d = not_kept o is d.does.is_kept
   of_task name task.Show o made text is planned d = not_kept o is d.does.is_kept
   of_task name task.Check o made text is planned d = not_kept o is d.does.is_kept
@@ -56,14 +59,14 @@ module _ (words : List (List ℕ)) (texts : Reading) (kept : Record) where
       → Headline words texts kept text
   of_plan (plans.Source name asked) o high text is planned d = of_task name asked o high text is planned d
   of_plan (plans.Replay source history infra view) o high text is planned d = not_kept o is d.run.is_kept
-  of_plan (plans.Resume name saved budget history shows serial links) o high text is planned d =
+  of_plan (plans.Resume name saved budget history shows serial links infra) o high text is planned d =
       let keeps = d.run.goes_on.keeps.keeps in
-      of_sites budget (run_report history (in_two_steps shows)) d.bytes o keeps.made text is keeps.is_kept
-      (AsksForRun.resumed name saved d.bytes budget history shows serial links planned d.read) keeps.promises
+      of_sites infra budget (run_report infra history (in_two_steps shows)) d.bytes o keeps.made text is keeps.is_kept
+      (AsksForRun.resumed name saved d.bytes budget history shows serial links infra planned d.read) keeps.promises
   of_plan (plans.Upgrade history) o high text is planned d = not_kept o is d.is_kept
   of_plan (plans.Generate agents) o high text is planned d = not_kept o is d.is_kept
-  of_plan (plans.Load agents serial links) o high text is planned d =
-      of_sites LOAD_BUDGET (load_report agents) (generated agents) o d.does.made text is d.does.is_kept (AsksForRun.loaded agents serial links planned)
+  of_plan (plans.Load agents serial links infra) o high text is planned d =
+      of_sites infra LOAD_BUDGET (load_report agents) (generated agents) o d.does.made text is d.does.is_kept (AsksForRun.loaded agents serial links infra planned)
       d.does.promises
 
 pub headline : (words : List (List ℕ)) (texts : Reading) (o : Option Record) (high : Option SerialRun) (text : List ℕ) → HasMade words texts o high text

@@ -10,7 +10,6 @@ use Rattle.np_calculus.specs.Config.{Config}
 use Rattle.np_calculus.specs.Reductions.{run}
 use Rattle.np_calculus.specs.Starts.{start_low}
 use Rattle.np_words.specs.declared.modes.Infrastructure.{Infrastructure}
-use Rattle.np_words.specs.declared.modes.Infrastructure.TheVariants.{Central}
 use Rattle.np_words.specs.declared.planning.Plan.{Plan}
 use Rattle.np_words.specs.declared.planning.View.{View}
 use Rattle.np_words.specs.declared.planning.View.TheVariants as views
@@ -149,11 +148,11 @@ module _ (sources : source_laws.HaveOneAnswer) where
   by_plan call asked history purpose bytes refusal (ReadsHistory.replayed source h b infra view one_low told_source short lowered) t (inr r) =
       subst (λ (q : LowProgram). SaysHistory (Purpose.replay q view) bytes refusal) (same_low infra call source b one_low r.low told_source lowered r.lowered)
       (run_says call h r.low view bytes refusal t r.run)
-  by_plan call asked history purpose bytes refusal (ReadsHistory.resumed source h b budget shows high serial links one_low told_source short lowered) t (inl r) =
-      absurd (sources.not_both (Reach.low Central) b refusal (one_low, lowered)
-      (says_faulty (Reach.low Central) b refusal short (source_says call source (Reach.low Central) b refusal told_source r)))
-  by_plan call asked history purpose bytes refusal (ReadsHistory.resumed source h b budget shows high serial links one_low told_source short lowered) t (inr r) =
-      subst (λ (q : LowProgram). SaysHistory (Purpose.resume q budget) bytes refusal) (same_low Central call source b one_low r.low told_source lowered r.lowered)
+  by_plan call asked history purpose bytes refusal (ReadsHistory.resumed source h b budget shows high serial links infra one_low told_source short lowered) t (inl r) =
+      absurd (sources.not_both (Reach.low infra) b refusal (one_low, lowered)
+      (says_faulty (Reach.low infra) b refusal short (source_says call source (Reach.low infra) b refusal told_source r)))
+  by_plan call asked history purpose bytes refusal (ReadsHistory.resumed source h b budget shows high serial links infra one_low told_source short lowered) t (inr r) =
+      subst (λ (q : LowProgram). SaysHistory (Purpose.resume q budget) bytes refusal) (same_low infra call source b one_low r.low told_source lowered r.lowered)
       (saved_says call h r.low budget bytes refusal t r.run)
 
   pub stands_says : (call : Call) (purpose : Purpose) (bytes : List ℕ) (refusal : Refusal) → Follows call purpose bytes → Stands call.words call.texts refusal
@@ -182,9 +181,9 @@ some_run : (low : LowProgram) (events : List Event) (o : Option Config) → run 
 some_run low events (Some last) is some = (last, is)
 some_run low events None is some = let no = some in absurd cc
 
-is_fit : (call : Call) (source saved : List ℕ) (budget : ℕ) (how : Shown) (kept : Option Record) (high : Option SerialRun) (text : List ℕ)
-    (d : OfResume call.texts source saved budget how kept high text) → IsFit budget d.run.goes_on.keeps.keeps.promises.low d.run.bytes
-is_fit call source saved budget how kept high text d =
+is_fit : (call : Call) (source saved : List ℕ) (infra : Infrastructure) (budget : ℕ) (how : Shown) (kept : Option Record) (high : Option SerialRun) (text : List ℕ)
+    (d : OfResume call.texts source saved infra budget how kept high text) → IsFit budget d.run.goes_on.keeps.keeps.promises.low d.run.bytes
+is_fit call source saved infra budget how kept high text d =
     let from = d.run.goes_on in
     let runs = some_run from.keeps.keeps.promises.low from.events _ refl from.keeps.run in
     record { events = from.events; history = from.history; last = runs.0; reaches = runs.1; can = from.keeps.can }
@@ -200,12 +199,13 @@ module _ (sources : source_laws.HaveOneAnswer) where
       let taken : IsTaken (Purpose.replay d.low view) bytes = subst (λ (b : List ℕ). IsTaken (Purpose.replay d.low view) b) (same_text call h bytes d.run.bytes LONGEST_HISTORY t d.run.read.text)
       (d.run.read.text.short, run) in
       subst (λ (q : LowProgram). IsTaken (Purpose.replay q view) bytes) (same_low sources infra call source b one_low d.low told_source lowered d.lowered) taken
-  made_plan call asked history purpose bytes kept high text (ReadsHistory.resumed source h b budget shows in_high serial links one_low told_source short lowered) t d =
+  made_plan call asked history purpose bytes kept high text (ReadsHistory.resumed source h b budget shows in_high serial links infra one_low told_source short lowered) t d =
       let promises = d.run.goes_on.keeps.keeps.promises in
       let taken : IsTaken (Purpose.resume promises.low budget) bytes = subst (λ (x : List ℕ). IsTaken (Purpose.resume promises.low budget) x) (same_text call h bytes d.run.bytes LONGEST_HISTORY t d.run.read.text)
-      (d.run.read.text.short, is_fit call source h budget _ kept high text d) in
-      let typed : IsLowOf Central b promises.low = subst (λ (x : List ℕ). IsLowOf Central x promises.low) (same_text call source b d.bytes LONGEST_SOURCE told_source d.read) promises.lowered in
-      subst (λ (q : LowProgram). IsTaken (Purpose.resume q budget) bytes) (sources.same_low Central b promises.low one_low typed lowered) taken
+      (d.run.read.text.short, is_fit call source h infra budget _ kept high text d) in
+      let typed : IsLowOf infra b promises.low =
+      subst (λ (x : List ℕ). IsLowOf infra x promises.low) (same_text call source b d.bytes LONGEST_SOURCE told_source d.read) promises.lowered in
+      subst (λ (q : LowProgram). IsTaken (Purpose.resume q budget) bytes) (sources.same_low infra b promises.low one_low typed lowered) taken
 
   -- what is made is made of an accepted history
   pub made_accepts : (call : Call) (purpose : Purpose) (bytes : List ℕ) (kept : Option Record) (high : Option SerialRun) (text : List ℕ) → Follows call purpose bytes

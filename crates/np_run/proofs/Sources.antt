@@ -2,7 +2,6 @@
 use Rattle.std.proofs.Common.{◌≡◌, ℕ, ◌≤◌, ◌<◌, ◌⊎◌, List, length, Option, inl, inr, subst, ap, arith}
 use Rattle.np_syntax.specs.declared.limits.TheConstants.{LONGEST_SOURCE}
 use Rattle.np_syntax.specs.declared.program.LowProgram.{LowProgram}
-use Rattle.np_words.specs.declared.modes.Infrastructure.TheVariants.{Central}
 use Rattle.np_words.specs.declared.planning.Plan.{Plan}
 use Rattle.np_words.specs.declared.planning.View.{View}
 use Rattle.np_words.specs.declared.planning.View.TheVariants as views
@@ -81,14 +80,14 @@ module _ (sources : source_laws.HaveOneAnswer) (histories : history_laws.HaveOne
       let accepted = subst (λ (x : List ℕ). TakenTo (Reach.low infra) x) same (r.low, r.lowered.lowers) in
       Cause.of_later (record { both = ReadsBoth.replayed source history infra view; infrastructure = infra; low = accepted.0; lowered = accepted.1 })
       (subst (λ (x : List ℕ). length x ≤ LONGEST_SOURCE) same r.lowered.read.short) accepted (of_history histories call history r.low view refusal r.run)
-  by_plan call asked reach bytes refusal (HasSource.resumed source saved b budget history high serial links t) (inl r) =
-      Cause.of_source (source_says call source (Reach.low Central) b refusal t r)
-  by_plan call asked reach bytes refusal (HasSource.resumed source saved b budget history high serial links t) (inr r) =
+  by_plan call asked reach bytes refusal (HasSource.resumed source saved b budget history high serial links infra t) (inl r) =
+      Cause.of_source (source_says call source (Reach.low infra) b refusal t r)
+  by_plan call asked reach bytes refusal (HasSource.resumed source saved b budget history high serial links infra t) (inr r) =
       let same : r.lowered.bytes ≡ b = same_text call source b r.lowered.bytes LONGEST_SOURCE t r.lowered.read in
-      let accepted = subst (λ (x : List ℕ). TakenTo (Reach.low Central) x) same (r.low, r.lowered.lowers) in
-      Cause.of_later (record { both = ReadsBoth.resumed source saved budget history high serial links; infrastructure = Central; low = accepted.0; lowered = accepted.1 })
+      let accepted = subst (λ (x : List ℕ). TakenTo (Reach.low infra) x) same (r.low, r.lowered.lowers) in
+      Cause.of_later (record { both = ReadsBoth.resumed source saved budget history high serial links infra; infrastructure = infra; low = accepted.0; lowered = accepted.1 })
       (subst (λ (x : List ℕ). length x ≤ LONGEST_SOURCE) same r.lowered.read.short) accepted (of_saved sources histories call saved r.low budget refusal r.run)
-  by_plan call asked reach bytes refusal (HasSource.made agents serial links) r = Cause.of_source (inr (r.short, r.faulty))
+  by_plan call asked reach bytes refusal (HasSource.made agents serial links infra) r = Cause.of_source (inr (r.short, r.faulty))
 
   pub stands_cause : (call : Call) (asked : Plan) (reach : Reach) (bytes : List ℕ) (refusal : Refusal) → Reads call asked reach bytes
       → Stands call.words call.texts refusal → Cause asked reach bytes refusal
@@ -99,7 +98,8 @@ module _ (sources : source_laws.HaveOneAnswer) (histories : history_laws.HaveOne
 
 pub does_accept : (task : Task) (bytes : List ℕ) (kept : Option Record) (high : Option SerialRun) (text : List ℕ) → DoesTask task bytes kept high text
     → TakenTo (reach_of task) bytes
-does_accept (task.Run budget history high serial links) bytes kept made text d = (d.free, record { low = d.promises.low; lowered = d.promises.lowered; few = d.promises.few })
+does_accept (task.Run budget history high serial links infrastructure) bytes kept made text d =
+    (d.free, record { low = d.promises.low; lowered = d.promises.lowered; few = d.promises.few })
 does_accept (task.High budget history) bytes kept made text d = (d.runs.free, (d.runs.program, d.runs.accepted))
 does_accept task.Show bytes kept made text d = (d.tree, d.accepted)
 does_accept task.Check bytes kept made text d = (d.program, d.accepted)
@@ -116,10 +116,10 @@ made_plan call asked reach bytes kept high text (HasSource.alone f b task t) d =
 made_plan call asked reach bytes kept high text (HasSource.replayed source history b infra view t) d =
     subst (λ (x : List ℕ). IsTaken (Reach.low infra) x) (same_text call source b d.lowered.bytes LONGEST_SOURCE t d.lowered.read)
     (d.lowered.read.short, (d.low, d.lowered.lowers))
-made_plan call asked reach bytes kept high text (HasSource.resumed source saved b budget history shows serial links t) d =
+made_plan call asked reach bytes kept high text (HasSource.resumed source saved b budget history shows serial links infra t) d =
     let promises = d.run.goes_on.keeps.keeps.promises in
-    subst (λ (x : List ℕ). IsTaken (Reach.low Central) x) (same_text call source b d.bytes LONGEST_SOURCE t d.read) (d.read.short, (promises.low, promises.lowered))
-made_plan call asked reach bytes kept high text (HasSource.made agents serial links) d =
+    subst (λ (x : List ℕ). IsTaken (Reach.low infra) x) (same_text call source b d.bytes LONGEST_SOURCE t d.read) (d.read.short, (promises.low, promises.lowered))
+made_plan call asked reach bytes kept high text (HasSource.made agents serial links infra) d =
     (d.short, record { low = d.does.promises.low; lowered = d.does.promises.lowered; few = d.does.promises.few })
 
 -- what is made is made of an accepted source

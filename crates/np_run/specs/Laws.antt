@@ -9,7 +9,6 @@ use Rattle.np_words.specs.declared.planning.Plan.TheVariants as plans
 use Rattle.np_words.specs.declared.planning.Task.{Task}
 use Rattle.np_words.specs.declared.planning.View.{View}
 use Rattle.np_words.specs.declared.modes.Infrastructure.{Infrastructure}
-use Rattle.np_words.specs.declared.modes.Infrastructure.TheVariants.{Central}
 use Rattle.np_words.specs.declared.modes.Links.{Links}
 use Rattle.np_generate.specs.Generated.{generated}
 use Rattle.np_sources.specs.declared.limits.TheConstants.{LOAD_BUDGET}
@@ -36,9 +35,10 @@ pub data HasSource (call : Call) : Plan → Reach → List ℕ → Type 0 where
   alone : (file bytes : List ℕ) (task : Task) → IsTold call file bytes → HasSource call (plans.Source file task) (reach_of task) bytes
   replayed : (source history bytes : List ℕ) (infrastructure : Infrastructure) (view : View) → IsTold call source bytes
       → HasSource call (plans.Replay source history infrastructure view) (Reach.low infrastructure) bytes
-  resumed : (source saved bytes : List ℕ) (budget : ℕ) (history high serial : Bool) (links : Links) → IsTold call source bytes
-      → HasSource call (plans.Resume source saved budget history high serial links) (Reach.low Central) bytes
-  made : (agents : ℕ) (serial : Bool) (links : Links) → HasSource call (plans.Load agents serial links) (Reach.sites LOAD_BUDGET) (generated agents)
+  resumed : (source saved bytes : List ℕ) (budget : ℕ) (history high serial : Bool) (links : Links) (infrastructure : Infrastructure) → IsTold call source bytes
+      → HasSource call (plans.Resume source saved budget history high serial links infrastructure) (Reach.low infrastructure) bytes
+  made : (agents : ℕ) (serial : Bool) (links : Links) (infrastructure : Infrastructure)
+      → HasSource call (plans.Load agents serial links infrastructure) (Reach.sites infrastructure LOAD_BUDGET) (generated agents)
 
 -- the words ask for something of a source, and these are its bytes
 pub record Reads (call : Call) (asked : Plan) (reach : Reach) (bytes : List ℕ) : Type 0 where
@@ -48,7 +48,8 @@ pub record Reads (call : Call) (asked : Plan) (reach : Reach) (bytes : List ℕ)
 -- a history is read behind the source
 pub data ReadsBoth : Plan → Type 0 where
   replayed : (source history : List ℕ) (infrastructure : Infrastructure) (view : View) → ReadsBoth (plans.Replay source history infrastructure view)
-  resumed : (source saved : List ℕ) (budget : ℕ) (history high serial : Bool) (links : Links) → ReadsBoth (plans.Resume source saved budget history high serial links)
+  resumed : (source saved : List ℕ) (budget : ℕ) (history high serial : Bool) (links : Links) (infrastructure : Infrastructure)
+      → ReadsBoth (plans.Resume source saved budget history high serial links infrastructure)
 
 -- the source has a low program, and then the history is read
 pub record Replays (asked : Plan) (bytes : List ℕ) : Type 0 where
@@ -72,9 +73,9 @@ pub data ReadsHistory (call : Call) : Plan → List ℕ → Purpose → Type 0 w
   replayed : (source history bytes : List ℕ) (infrastructure : Infrastructure) (view : View) (low : LowProgram) → IsTold call source bytes
       → length bytes ≤ LONGEST_SOURCE → IsLowOf infrastructure bytes low
       → ReadsHistory call (plans.Replay source history infrastructure view) history (Purpose.replay low view)
-  resumed : (source saved bytes : List ℕ) (budget : ℕ) (history high serial : Bool) (links : Links) (low : LowProgram) → IsTold call source bytes
-      → length bytes ≤ LONGEST_SOURCE → IsLowOf Central bytes low
-      → ReadsHistory call (plans.Resume source saved budget history high serial links) saved (Purpose.resume low budget)
+  resumed : (source saved bytes : List ℕ) (budget : ℕ) (history high serial : Bool) (links : Links) (infrastructure : Infrastructure) (low : LowProgram)
+      → IsTold call source bytes → length bytes ≤ LONGEST_SOURCE → IsLowOf infrastructure bytes low
+      → ReadsHistory call (plans.Resume source saved budget history high serial links infrastructure) saved (Purpose.resume low budget)
 
 -- the words ask for something of a history, and these are its bytes
 pub record Follows (call : Call) (purpose : Purpose) (bytes : List ℕ) : Type 0 where
@@ -109,12 +110,12 @@ pub record AcceptsReplay (call : Call) (source history : List ℕ) (infrastructu
   pub short_run : length run ≤ LONGEST_HISTORY
   pub replays : HasRun low view run
 
-pub record AcceptsResume (call : Call) (source saved : List ℕ) (budget : ℕ) : Type 0 where
+pub record AcceptsResume (call : Call) (source saved : List ℕ) (infrastructure : Infrastructure) (budget : ℕ) : Type 0 where
   pub bytes : List ℕ
   pub told : IsTold call source bytes
   pub short : length bytes ≤ LONGEST_SOURCE
   pub low : LowProgram
-  pub lowered : IsLowOf Central bytes low
+  pub lowered : IsLowOf infrastructure bytes low
   pub run : List ℕ
   pub told_run : IsTold call saved run
   pub short_run : length run ≤ LONGEST_HISTORY
@@ -130,10 +131,10 @@ pub record AcceptsHistory (call : Call) (history : List ℕ) : Type 0 where
 abbrev pub Accepts : Call → Plan → Type 0
 Accepts call (plans.Source file task) = AcceptsSource call file (reach_of task)
 Accepts call (plans.Replay source history infrastructure view) = AcceptsReplay call source history infrastructure view
-Accepts call (plans.Resume source saved budget history high serial links) = AcceptsResume call source saved budget
+Accepts call (plans.Resume source saved budget history high serial links infrastructure) = AcceptsResume call source saved infrastructure budget
 Accepts call (plans.Upgrade history) = AcceptsHistory call history
 Accepts call (plans.Generate agents) = Unit {0}
-Accepts call (plans.Load agents serial links) = TakenTo (Reach.sites LOAD_BUDGET) (generated agents)
+Accepts call (plans.Load agents serial links infrastructure) = TakenTo (Reach.sites infrastructure LOAD_BUDGET) (generated agents)
 
 -- ---- the laws
 

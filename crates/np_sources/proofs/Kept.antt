@@ -13,10 +13,10 @@ use Rattle.np_verdict.specs.Faults.{IsWellTyped}
 use Rattle.np_verdict.specs.declared.refusal.Refusal.{Refusal}
 use Rattle.np_verdict.specs.declared.refusal.Refusal.TheVariants.{Memory, TooManyEvents}
 use Rattle.np_words.specs.declared.modes.Infrastructure.{Infrastructure}
-use Rattle.np_words.specs.declared.modes.Infrastructure.TheVariants.{Central}
+use Rattle.np_on_sites.specs.ByInfrastructure.{low_by}
 use Rattle.np_sources.specs.declared.lowering.Lowered.{Lowered}
 use Rattle.np_sources.specs.declared.limits.TheConstants.{MOST_EVENTS}
-use Rattle.np_sources.specs.Reaches.{Reach, CannotRun, FaultyTo, HasManyNodes, IsCompiled, IsLowOf, low_by}
+use Rattle.np_sources.specs.Reaches.{Reach, CannotRun, FaultyTo, HasManyNodes, IsCompiled, IsLowOf}
 
 -- what is kept of the low program of a program is its low program
 pub is_compiled : (infrastructure : Infrastructure) (p : Program) (low : LowProgram) → IsAccepted p → low ≡ low_by infrastructure p
@@ -49,8 +49,9 @@ too_large infrastructure bytes p typed (Ok low) refused = tt
 too_large infrastructure bytes p typed (Err e) refused = λ some. inr (record { program = p; accepted = typed; large = refused some })
 
 -- it could make too many events
-pub makes_many : (budget : ℕ) (p : Program) (low : LowProgram) → IsCompiled Central p low → MOST_EVENTS < length low.sites * budget → CannotRun budget p TooManyEvents
-makes_many budget p low is many = inr (record {
+pub makes_many : (infrastructure : Infrastructure) (budget : ℕ) (p : Program) (low : LowProgram) → IsCompiled infrastructure p low → MOST_EVENTS < length low.sites * budget
+    → CannotRun infrastructure budget p TooManyEvents
+makes_many infrastructure budget p low is many = inr (record {
   few = subst (λ (q : LowProgram). program_nodes q ≤ MOST_CODE_NODES) is.is is.few;
   many = subst (λ (q : LowProgram). MOST_EVENTS < length q.sites * budget) is.is many;
   is = refl;

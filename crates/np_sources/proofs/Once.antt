@@ -13,11 +13,11 @@ use Rattle.np_verdict.specs.declared.refusal.Refusal.{Refusal}
 use Rattle.np_verdict.specs.declared.refusal.Refusal.TheVariants.{Usage, TooLong, LocationTest, TooManyNodes, TooManyEvents, NotOurs, BudgetPast}
 use Rattle.np_words.specs.declared.modes.HighText.{HighText}
 use Rattle.np_words.specs.declared.modes.Infrastructure.{Infrastructure}
-use Rattle.np_words.specs.declared.modes.Infrastructure.TheVariants.{Central}
 use Rattle.np_verdict.proofs.Verdicts as verdicts
 use Rattle.run_save.specs.Ours.{PrefixIsOurs, StopsBeingOurs}
 use Rattle.site_crew.specs.Lists.{AreWithin, IsFirstPast}
-use Rattle.np_sources.specs.Reaches.{Reach, CanGoOn, CannotGoOn, HasFewEvents, HasManyEvents, HasNoLow, IsBarred, IsFree, IsLowOf, IsTooLarge, TakenTo, FaultyTo, barred, low_by}
+use Rattle.np_on_sites.specs.ByInfrastructure.{low_by}
+use Rattle.np_sources.specs.Reaches.{Reach, CanGoOn, CannotGoOn, HasFewEvents, HasManyEvents, HasNoLow, IsBarred, IsFree, IsLowOf, IsTooLarge, TakenTo, FaultyTo, barred}
 use Rattle.np_sources.specs.declared.limits.TheConstants.{MOST_EVENTS}
 
 -- a source has one low program of each infrastructure
@@ -41,9 +41,10 @@ low_not_both infrastructure bytes refusal low is (inr f) = not_too_large infrast
 few_events : (n : ℕ) → n ≤ MOST_EVENTS → MOST_EVENTS < n → ⊥
 few_events n few many = omega (arith, few, many)
 
-not_many : (budget : ℕ) (bytes : List ℕ) (refusal : Refusal) → HasFewEvents budget bytes → HasManyEvents budget bytes refusal → ⊥
-not_many budget bytes refusal a f =
-    let same : a.low ≡ f.low = same_low Central bytes a.low f.low a.lowered f.lowered in
+not_many : (infrastructure : Infrastructure) (budget : ℕ) (bytes : List ℕ) (refusal : Refusal) → HasFewEvents infrastructure budget bytes
+    → HasManyEvents infrastructure budget bytes refusal → ⊥
+not_many infrastructure budget bytes refusal a f =
+    let same : a.low ≡ f.low = same_low infrastructure bytes a.low f.low a.lowered f.lowered in
     few_events (length f.low.sites * budget) (subst (λ (p : LowProgram). length p.sites * budget ≤ MOST_EVENTS) same a.few) f.many
 
 -- nothing bars it, or something does
@@ -62,8 +63,8 @@ pub not_both : (reach : Reach) (bytes : List ℕ) (refusal : Refusal) → TakenT
 not_both Reach.tree bytes refusal a f = verdicts.not_both Stage.tree bytes refusal a f
 not_both Reach.program bytes refusal a f = verdicts.not_both Stage.program bytes refusal a f
 not_both (Reach.low infrastructure) bytes refusal a f = low_not_both infrastructure bytes refusal a.0 a.1 f
-not_both (Reach.sites budget) bytes refusal a (inl f) = low_not_both Central bytes refusal a.low a.lowered f
-not_both (Reach.sites budget) bytes refusal a (inr f) = not_many budget bytes refusal a f
+not_both (Reach.sites infrastructure budget) bytes refusal a (inl f) = low_not_both infrastructure bytes refusal a.low a.lowered f
+not_both (Reach.sites infrastructure budget) bytes refusal a (inr f) = not_many infrastructure budget bytes refusal a f
 not_both (Reach.shown high reach) bytes refusal a (inl f) = free_not_barred high bytes refusal a.0 f
 not_both (Reach.shown high reach) bytes refusal a (inr f) = not_both reach bytes refusal a.1 f.1
 
@@ -87,10 +88,10 @@ pub same_fault : (reach : Reach) (bytes : List ℕ) (a b : Refusal) → FaultyTo
 same_fault Reach.tree bytes a b f g = verdicts.same_fault Stage.tree bytes a b f g
 same_fault Reach.program bytes a b f g = verdicts.same_fault Stage.program bytes a b f g
 same_fault (Reach.low infrastructure) bytes a b f g = low_fault infrastructure bytes a b f g
-same_fault (Reach.sites budget) bytes a b (inl f) (inl g) = low_fault Central bytes a b f g
-same_fault (Reach.sites budget) bytes a b (inl f) (inr g) = absurd (low_not_both Central bytes a g.low g.lowered f)
-same_fault (Reach.sites budget) bytes a b (inr f) (inl g) = absurd (low_not_both Central bytes b f.low f.lowered g)
-same_fault (Reach.sites budget) bytes a b (inr f) (inr g) = f.is ∙ sym g.is
+same_fault (Reach.sites infrastructure budget) bytes a b (inl f) (inl g) = low_fault infrastructure bytes a b f g
+same_fault (Reach.sites infrastructure budget) bytes a b (inl f) (inr g) = absurd (low_not_both infrastructure bytes a g.low g.lowered f)
+same_fault (Reach.sites infrastructure budget) bytes a b (inr f) (inl g) = absurd (low_not_both infrastructure bytes b f.low f.lowered g)
+same_fault (Reach.sites infrastructure budget) bytes a b (inr f) (inr g) = f.is ∙ sym g.is
 same_fault (Reach.shown high reach) bytes a b (inl f) (inl g) = barred_once high bytes a b f g
 same_fault (Reach.shown high reach) bytes a b (inl f) (inr g) = absurd (free_not_barred high bytes a g.0 f)
 same_fault (Reach.shown high reach) bytes a b (inr f) (inl g) = absurd (free_not_barred high bytes b f.0 g)
@@ -106,8 +107,8 @@ pub not_long : (reach : Reach) (bytes : List ℕ) → FaultyTo reach bytes TooLo
 not_long Reach.tree bytes f = verdicts.not_long Stage.tree bytes f
 not_long Reach.program bytes f = verdicts.not_long Stage.program bytes f
 not_long (Reach.low infrastructure) bytes f = low_not_long infrastructure bytes f
-not_long (Reach.sites budget) bytes (inl f) = low_not_long Central bytes f
-not_long (Reach.sites budget) bytes (inr f) = let is = f.is in cc
+not_long (Reach.sites infrastructure budget) bytes (inl f) = low_not_long infrastructure bytes f
+not_long (Reach.sites infrastructure budget) bytes (inr f) = let is = f.is in cc
 not_long (Reach.shown high reach) bytes (inl f) = let is = f.is in cc
 not_long (Reach.shown high reach) bytes (inr f) = not_long reach bytes f.1
 
@@ -119,8 +120,8 @@ pub not_usage : (reach : Reach) (bytes : List ℕ) → FaultyTo reach bytes Usag
 not_usage Reach.tree bytes f = verdicts.not_usage Stage.tree bytes f
 not_usage Reach.program bytes f = verdicts.not_usage Stage.program bytes f
 not_usage (Reach.low infrastructure) bytes f = low_not_usage infrastructure bytes f
-not_usage (Reach.sites budget) bytes (inl f) = low_not_usage Central bytes f
-not_usage (Reach.sites budget) bytes (inr f) = let is = f.is in cc
+not_usage (Reach.sites infrastructure budget) bytes (inl f) = low_not_usage infrastructure bytes f
+not_usage (Reach.sites infrastructure budget) bytes (inr f) = let is = f.is in cc
 not_usage (Reach.shown high reach) bytes (inl f) = let is = f.is in cc
 not_usage (Reach.shown high reach) bytes (inr f) = not_usage reach bytes f.1
 
@@ -136,8 +137,8 @@ pub faulty_status : (reach : Reach) (bytes : List ℕ) (refusal : Refusal) → F
 faulty_status Reach.tree bytes refusal f = verdicts.faulty_status Stage.tree bytes refusal f
 faulty_status Reach.program bytes refusal f = verdicts.faulty_status Stage.program bytes refusal f
 faulty_status (Reach.low infrastructure) bytes refusal f = low_status infrastructure bytes refusal f
-faulty_status (Reach.sites budget) bytes refusal (inl f) = low_status Central bytes refusal f
-faulty_status (Reach.sites budget) bytes refusal (inr f) = inl (ap status_of f.is)
+faulty_status (Reach.sites infrastructure budget) bytes refusal (inl f) = low_status infrastructure bytes refusal f
+faulty_status (Reach.sites infrastructure budget) bytes refusal (inr f) = inl (ap status_of f.is)
 faulty_status (Reach.shown high reach) bytes refusal (inl f) = inl (ap status_of f.is)
 faulty_status (Reach.shown high reach) bytes refusal (inr f) = faulty_status reach bytes refusal f.1
 

@@ -6,7 +6,6 @@ use Rattle.np_syntax.specs.declared.program.Program.{Program}
 use Rattle.np_calculus.specs.Config.{Config}
 use Rattle.np_calculus.specs.Reductions.{run}
 use Rattle.np_calculus.specs.Starts.{start_high, start_low}
-use Rattle.np_lift.specs.Lift.{lift}
 use Rattle.run_merge.specs.Merged.{past}
 use Rattle.np_verdict.specs.Faults.{Faulty, IsWellTyped, Stage}
 use Rattle.np_verdict.specs.declared.refusal.Refusal.{Refusal}
@@ -14,7 +13,9 @@ use Rattle.np_verdict.specs.declared.refusal.Refusal.TheVariants.{Memory}
 use Rattle.np_verdict.proofs.Verdicts.{not_both, well_typed_once}
 use Rattle.np_words.specs.declared.modes.HighText.{HighText}
 use Rattle.np_words.specs.declared.modes.HighText.TheVariants.{Absent}
+use Rattle.np_words.specs.declared.modes.Infrastructure.{Infrastructure}
 use Rattle.np_following.specs.Following.{IsResumed}
+use Rattle.np_on_sites.specs.ByInfrastructure.{lift_by}
 use Rattle.np_on_sites.specs.SourceRuns.{SitesRunsAreSourceRuns}
 use Rattle.np_on_sites.specs.declared.record.Record.{Record}
 use Rattle.np_sources.specs.declared.job.Job.{Job}
@@ -23,11 +24,12 @@ use Rattle.np_sources.specs.Kept.{IsShownSo, KeepsPromises, merged}
 use Rattle.np_sources.specs.Makes.{KeepsResumed, KeepsRun, KeepsSites, RunsOnSites, high_of, report_of}
 use Rattle.np_sources.specs.Reaches.{Reach, CanGoOn, CannotRun, FaultyTo, IsFree, barred}
 
-pub promises : SitesRunsAreSourceRuns → (budget : ℕ) (report : Program → Record → List ℕ) (bytes : List ℕ) (p : Program)
-    (low : LowProgram) (kept : Record) (text : List ℕ) → IsWellTyped bytes p → RunsOnSites budget p low kept → text ≡ report p kept → KeepsPromises budget report bytes kept text
-promises law budget report bytes p low kept text typed r written =
+pub promises : SitesRunsAreSourceRuns → (infrastructure : Infrastructure) (budget : ℕ) (report : Program → Record → List ℕ) (bytes : List ℕ) (p : Program)
+    (low : LowProgram) (kept : Record) (text : List ℕ) → IsWellTyped bytes p → RunsOnSites infrastructure budget p low kept → text ≡ report p kept
+    → KeepsPromises infrastructure budget report bytes kept text
+promises law infrastructure budget report bytes p low kept text typed r written =
     let compiled = r.compiled in
-    let source = law p low budget (past kept.histories) kept.end compiled.accepted compiled.is r.ran in
+    let source = law infrastructure p low budget (past kept.histories) kept.end compiled.accepted compiled.is r.ran in
     record {
       low = low;
       lowered = record { program = p; accepted = typed; is = compiled.is; few = compiled.few };
@@ -44,10 +46,10 @@ promises law budget report bytes p low kept text typed r written =
     }
 
 -- what is read off a run on sites is a run of the source
-pub read_off : SitesRunsAreSourceRuns → (budget : ℕ) (p : Program) (low : LowProgram) (kept : Record) → RunsOnSites budget p low kept
-    → IsSome (run (start_high p) (lift (merged kept)))
-read_off law budget p low kept r =
-    let source = law p low budget (past kept.histories) kept.end r.compiled.accepted r.compiled.is r.ran in
+pub read_off : SitesRunsAreSourceRuns → (infrastructure : Infrastructure) (budget : ℕ) (p : Program) (low : LowProgram) (kept : Record)
+    → RunsOnSites infrastructure budget p low kept → IsSome (run (start_high p) (lift_by infrastructure (merged kept)))
+read_off law infrastructure budget p low kept r =
+    let source = law infrastructure p low budget (past kept.histories) kept.end r.compiled.accepted r.compiled.is r.ran in
     subst (λ (o : Option Config). IsSome o) (sym source.lifted) refl
 
 -- what does not bar the program of a source bars no program of it
@@ -55,18 +57,19 @@ pub free_of : (high : HighText) (bytes : List ℕ) (p : Program) → IsWellTyped
 free_of high bytes p typed free q other = subst (λ (p : Program). barred high p ≡ None) (well_typed_once bytes p q typed other) free
 
 -- what is kept of a run of a program is kept of its source
-pub kept_of : SitesRunsAreSourceRuns → (budget : ℕ) (how : Shown) (bytes : List ℕ) (p : Program) → IsWellTyped bytes p → barred (high_of how) p ≡ None → (r : Result Job Refusal)
-    → IfOk r (λ job. KeepsRun budget how p job.kept job.high job.text) → IfOk r (λ job. KeepsSites budget how bytes job.kept job.high job.text)
+pub kept_of : SitesRunsAreSourceRuns → (infrastructure : Infrastructure) (budget : ℕ) (how : Shown) (bytes : List ℕ) (p : Program) → IsWellTyped bytes p
+    → barred (high_of how) p ≡ None → (r : Result Job Refusal) → IfOk r (λ job. KeepsRun infrastructure budget how p job.kept job.high job.text)
+    → IfOk r (λ job. KeepsSites infrastructure budget how bytes job.kept job.high job.text)
 unfolding promises
-kept_of law budget how bytes p typed free (Ok job) k = record {
+kept_of law infrastructure budget how bytes p typed free (Ok job) k = record {
   made = k.made;
-  promises = promises law budget (report_of how) bytes p k.low k.made job.text typed k.ran k.written;
+  promises = promises law infrastructure budget (report_of infrastructure how) bytes p k.low k.made job.text typed k.ran k.written;
   free = free_of (high_of how) bytes p typed free;
   shown = k.stepped;
   is_kept = k.is_kept;
   is_high = k.is_high;
 }
-kept_of law budget how bytes p typed free (Err e) k = tt
+kept_of law infrastructure budget how bytes p typed free (Err e) k = tt
 
 -- ---- refusals
 
@@ -75,10 +78,10 @@ pub residual : {X : Type 0} (r : Result X Refusal) (e : Refusal) (P : Refusal �
 residual (Ok x) e P h p = tt
 residual (Err x) e P h p = subst P (sym h.1) p
 
-cannot : (budget : ℕ) (high : HighText) (bytes : List ℕ) (p : Program) (e : Refusal) → IsWellTyped bytes p → barred high p ≡ None → CannotRun budget p e
-    → FaultyTo (Reach.shown high (Reach.sites budget)) bytes e
-cannot budget high bytes p e typed free (inl many) = inr (free_of high bytes p typed free, inl (inr (record { program = p; accepted = typed; large = many })))
-cannot budget high bytes p e typed free (inr many) = inr (
+cannot : (infrastructure : Infrastructure) (budget : ℕ) (high : HighText) (bytes : List ℕ) (p : Program) (e : Refusal) → IsWellTyped bytes p → barred high p ≡ None
+    → CannotRun infrastructure budget p e → FaultyTo (Reach.shown high (Reach.sites infrastructure budget)) bytes e
+cannot infrastructure budget high bytes p e typed free (inl many) = inr (free_of high bytes p typed free, inl (inr (record { program = p; accepted = typed; large = many })))
+cannot infrastructure budget high bytes p e typed free (inr many) = inr (
   free_of high bytes p typed free,
   inr (record {
     low = _;
@@ -88,23 +91,24 @@ cannot budget high bytes p e typed free (inr many) = inr (
   }),
 )
 
-pub refused_of : (budget : ℕ) (high : HighText) (bytes : List ℕ) (p : Program) → IsWellTyped bytes p → barred high p ≡ None → (r : Result Job Refusal)
-    → IfErr r (λ refusal. refusal ≢ Memory → CannotRun budget p refusal) → IfErr r (λ refusal. refusal ≢ Memory → FaultyTo (Reach.shown high (Reach.sites budget)) bytes refusal)
-refused_of budget high bytes p typed free (Ok job) h = tt
-refused_of budget high bytes p typed free (Err e) h = λ some. cannot budget high bytes p e typed free (h some)
+pub refused_of : (infrastructure : Infrastructure) (budget : ℕ) (high : HighText) (bytes : List ℕ) (p : Program) → IsWellTyped bytes p → barred high p ≡ None
+    → (r : Result Job Refusal) → IfErr r (λ refusal. refusal ≢ Memory → CannotRun infrastructure budget p refusal)
+    → IfErr r (λ refusal. refusal ≢ Memory → FaultyTo (Reach.shown high (Reach.sites infrastructure budget)) bytes refusal)
+refused_of infrastructure budget high bytes p typed free (Ok job) h = tt
+refused_of infrastructure budget high bytes p typed free (Err e) h = λ some. cannot infrastructure budget high bytes p e typed free (h some)
 
 -- what is refused before its low program is asked for is refused
-first : (budget : ℕ) (high : HighText) (bytes : List ℕ) (e : Refusal) → FaultyTo (Reach.shown high Reach.program) bytes e
-    → FaultyTo (Reach.shown high (Reach.sites budget)) bytes e
-first budget high bytes e (inl f) = inl f
-first budget high bytes e (inr f) = inr (f.0, inl (inl f.1))
+first : (infrastructure : Infrastructure) (budget : ℕ) (high : HighText) (bytes : List ℕ) (e : Refusal) → FaultyTo (Reach.shown high Reach.program) bytes e
+    → FaultyTo (Reach.shown high (Reach.sites infrastructure budget)) bytes e
+first infrastructure budget high bytes e (inl f) = inl f
+first infrastructure budget high bytes e (inr f) = inr (f.0, inl (inl f.1))
 
-pub refused_first : {X : Type 0} (budget : ℕ) (told high : HighText) (bytes : List ℕ) → told ≡ high → (r : Result X Refusal)
+pub refused_first : {X : Type 0} (infrastructure : Infrastructure) (budget : ℕ) (told high : HighText) (bytes : List ℕ) → told ≡ high → (r : Result X Refusal)
     → IfErr r (λ refusal. refusal ≢ Memory → FaultyTo (Reach.shown told Reach.program) bytes refusal)
-    → IfErr r (λ refusal. refusal ≢ Memory → FaultyTo (Reach.shown high (Reach.sites budget)) bytes refusal)
-refused_first budget told high bytes is (Ok x) h = tt
-refused_first budget told high bytes is (Err e) h =
-    λ some. first budget high bytes e (subst (λ (t : HighText). FaultyTo (Reach.shown t Reach.program) bytes e) is (h some))
+    → IfErr r (λ refusal. refusal ≢ Memory → FaultyTo (Reach.shown high (Reach.sites infrastructure budget)) bytes refusal)
+refused_first infrastructure budget told high bytes is (Ok x) h = tt
+refused_first infrastructure budget told high bytes is (Err e) h =
+    λ some. first infrastructure budget high bytes e (subst (λ (t : HighText). FaultyTo (Reach.shown t Reach.program) bytes e) is (h some))
 
 pub free_for : (told high : HighText) → told ≡ high → (r : Result Program Refusal) → IfOk r (λ p. barred told p ≡ None) → IfOk r (λ p. barred high p ≡ None)
 free_for told high is (Ok p) free = subst (λ (t : HighText). barred t p ≡ None) is free
@@ -127,23 +131,25 @@ refused_absent reach bytes (Err e) h = λ some. absent reach bytes e (h some)
 
 -- ---- a run that is kept, with its report
 
-module _ (how : Shown) (p : Program) (made : Record) where
-  pub keeps_run : (budget : ℕ) (low : LowProgram) → RunsOnSites budget p low made → (r : Result Job Refusal) → IfOk r (λ job. job.kept ≡ Some made) → IfOk r (λ job. job.high ≡ None)
-      → IfOk r (λ job. job.text ≡ report_of how p made) → IfOk r (λ _. IsShownSo (high_of how) p (lift (merged made)))
-      → IfOk r (λ job. KeepsRun budget how p job.kept job.high job.text)
+module _ (infrastructure : Infrastructure) (how : Shown) (p : Program) (made : Record) where
+  pub keeps_run : (budget : ℕ) (low : LowProgram) → RunsOnSites infrastructure budget p low made → (r : Result Job Refusal) → IfOk r (λ job. job.kept ≡ Some made)
+      → IfOk r (λ job. job.high ≡ None) → IfOk r (λ job. job.text ≡ report_of infrastructure how p made)
+      → IfOk r (λ _. IsShownSo (high_of how) p (lift_by infrastructure (merged made)))
+      → IfOk r (λ job. KeepsRun infrastructure budget how p job.kept job.high job.text)
   keeps_run budget low ran (Ok job) kept high text shown = record { low = low; made = made; ran = ran; written = text; stepped = shown; is_kept = kept; is_high = high }
   keeps_run budget low ran (Err e) kept high text shown = tt
 
   -- so it is with one that goes on from saved events
   pub keeps_resumed : SitesRunsAreSourceRuns → (budget : ℕ) (low : LowProgram) (bytes : List ℕ) (events : List Event) → IsWellTyped bytes p → barred (high_of how) p ≡ None
-      → RunsOnSites budget p low made → IsSome (run (start_low low) events) → CanGoOn budget low events → IsResumed events (past made.histories)
-      → (r : Result Job Refusal) → IfOk r (λ job. job.kept ≡ Some made) → IfOk r (λ job. job.high ≡ None) → IfOk r (λ job. job.text ≡ report_of how p made)
-      → IfOk r (λ _. IsShownSo (high_of how) p (lift (merged made))) → IfOk r (λ job. KeepsResumed budget how bytes events job.kept job.high job.text)
+      → RunsOnSites infrastructure budget p low made → IsSome (run (start_low low) events) → CanGoOn budget low events → IsResumed events (past made.histories)
+      → (r : Result Job Refusal) → IfOk r (λ job. job.kept ≡ Some made) → IfOk r (λ job. job.high ≡ None)
+      → IfOk r (λ job. job.text ≡ report_of infrastructure how p made) → IfOk r (λ _. IsShownSo (high_of how) p (lift_by infrastructure (merged made)))
+      → IfOk r (λ job. KeepsResumed infrastructure budget how bytes events job.kept job.high job.text)
   unfolding promises
   keeps_resumed law budget low bytes events typed free ran runs can resumed (Ok job) kept high text shown = record {
     keeps = record {
       made = made;
-      promises = promises law budget (report_of how) bytes p low made job.text typed ran text;
+      promises = promises law infrastructure budget (report_of infrastructure how) bytes p low made job.text typed ran text;
       free = free_of (high_of how) bytes p typed free;
       shown = shown;
       is_kept = kept;

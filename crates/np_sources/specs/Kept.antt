@@ -11,17 +11,16 @@ use Rattle.np_calculus.specs.Idle.{Idle}
 use Rattle.np_calculus.specs.Reductions.{run}
 use Rattle.np_calculus.specs.Starts.{start_high, start_low}
 use Rattle.np_calculus.specs.Well.{WellAlong}
-use Rattle.np_lift.specs.Lift.{lift}
-use Rattle.np_lift.specs.Posts.{IsAllHanded, IsPaired}
-use Rattle.history_text.specs.declared.format.Format.TheVariants.{Second}
 use Rattle.history_text.specs.Spelling.{high_text, history_text}
 use Rattle.np_views.specs.OneStep.{one_step}
 use Rattle.run_views.specs.Stepped.{IsStepped}
 use Rattle.run_merge.specs.Merged as histories
-use Rattle.np_words.specs.declared.modes.Infrastructure.TheVariants.{Central}
+use Rattle.np_words.specs.Formats.{format_for}
+use Rattle.np_words.specs.declared.modes.Infrastructure.{Infrastructure}
 use Rattle.np_words.specs.declared.modes.HighText.{HighText}
 use Rattle.np_words.specs.declared.modes.HighText.TheVariants.{Absent, TwoSteps, OneStep}
 use Rattle.np_report.specs.Report.{load_text, report_text}
+use Rattle.np_on_sites.specs.ByInfrastructure.{IsAllHandedBy, IsPairedBy, lift_by}
 use Rattle.np_on_sites.specs.SitesRuns.{IsSitesRun, events_of}
 use Rattle.np_on_sites.specs.declared.record.Record.{Record}
 use Rattle.np_sources.specs.declared.limits.TheConstants.{MOST_EVENTS}
@@ -35,11 +34,11 @@ merged kept = events_of (histories.past kept.histories)
 abbrev pub said : Record → List (ℕ × Value)
 said kept = histories.said (histories.past kept.histories)
 
--- Of a source of these bytes, where each site makes at most so many events; `report` makes a text of the program and what is kept.
-pub record KeepsPromises (budget : ℕ) (report : Program → Record → List ℕ) (bytes : List ℕ) (kept : Record) (text : List ℕ) : Type 0 where
+-- Of a source of these bytes and an infrastructure, where each site makes at most so many events; `report` makes a text of the program and what is kept.
+pub record KeepsPromises (infrastructure : Infrastructure) (budget : ℕ) (report : Program → Record → List ℕ) (bytes : List ℕ) (kept : Record) (text : List ℕ) : Type 0 where
   -- the source is accepted, and this is its low program
   pub low : LowProgram
-  pub lowered : IsLowOf Central bytes low
+  pub lowered : IsLowOf infrastructure bytes low
   -- its sites make few events together
   pub few : length low.sites * budget ≤ MOST_EVENTS
   -- the histories of its sites, each within the budget, are merged a run of it that printed what they have; it is at rest exactly where the record
@@ -49,22 +48,22 @@ pub record KeepsPromises (budget : ℕ) (report : Program → Record → List �
   pub well : WellAlong (start_low low) (merged kept)
   -- the source has the run that is read off it, and prints the same
   pub high : Config
-  pub lifted : run (start_high lowered.program) (lift (merged kept)) ≡ Some high
+  pub lifted : run (start_high lowered.program) (lift_by infrastructure (merged kept)) ≡ Some high
   pub same : high.said ≡ said kept
   -- each message to an agent wherever it is was handed over at most once, and as it was sent
-  pub paired : IsPaired (start_low low) (merged kept)
+  pub paired : IsPairedBy infrastructure (start_low low) (merged kept)
   -- and where the record says that it is at rest, that run has ended, and each message was handed over
   pub ended : kept.end ≡ Rest → Idle high
-  pub handed : kept.end ≡ Rest → IsAllHanded (start_low low) (merged kept)
+  pub handed : kept.end ≡ Rest → IsAllHandedBy infrastructure (start_low low) (merged kept)
   -- the text is the report of it
   pub written : text ≡ report lowered.program kept
 
 -- ---- reports
 
 -- the history text, where it is asked for
-abbrev pub history_part : Bool → List Event → List ℕ
-history_part true events = history_text Second events
-history_part false events = []
+abbrev pub history_part : Infrastructure → Bool → List Event → List ℕ
+history_part infrastructure true events = history_text (format_for infrastructure) events
+history_part infrastructure false events = []
 
 -- the high text, where it is asked for, of a run from this start
 abbrev pub high_part : HighText → Config → List Event → List ℕ
@@ -72,9 +71,10 @@ high_part Absent start events = []
 high_part TwoSteps start events = high_text events
 high_part OneStep start events = high_text (one_step start events)
 
-abbrev pub run_report : Bool → HighText → Program → Record → List ℕ
-run_report history high p kept =
-    report_text p.sites (said kept) (history_part history (merged kept) ++ high_part high (start_high p) (lift (merged kept))) kept.end
+abbrev pub run_report : Infrastructure → Bool → HighText → Program → Record → List ℕ
+run_report infrastructure history high p kept =
+    report_text p.sites (said kept)
+    (history_part infrastructure history (merged kept) ++ high_part high (start_high p) (lift_by infrastructure (merged kept))) kept.end
 
 abbrev pub load_report : ℕ → Program → Record → List ℕ
 load_report agents p kept = load_text agents (said kept) kept.end

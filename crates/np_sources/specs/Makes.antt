@@ -15,13 +15,12 @@ use Rattle.np_verdict.specs.Faults.{HasTree, IsWellTyped}
 use Rattle.np_words.specs.declared.planning.Task.{Task}
 use Rattle.np_words.specs.declared.planning.Task.TheVariants as task
 use Rattle.np_generate.specs.Generated.{generated}
-use Rattle.np_lift.specs.Lift.{lift}
 use Rattle.run_merge.specs.Merged.{past}
 use Rattle.np_words.specs.declared.modes.Infrastructure.{Infrastructure}
-use Rattle.np_words.specs.declared.modes.Infrastructure.TheVariants.{Central}
 use Rattle.np_words.specs.declared.modes.HighText.{HighText}
 use Rattle.np_words.specs.declared.modes.HighText.TheVariants.{Absent, TwoSteps}
 use Rattle.np_following.specs.Following.{IsResumed}
+use Rattle.np_on_sites.specs.ByInfrastructure.{lift_by}
 use Rattle.np_on_sites.specs.SitesRuns.{IsSitesRun}
 use Rattle.np_on_sites.specs.declared.record.Record.{Record}
 use Rattle.np_sources.specs.declared.limits.TheConstants.{LOAD_BUDGET, MOST_EVENTS}
@@ -62,16 +61,16 @@ pub record RunsLow (infrastructure : Infrastructure) (budget : ℕ) (bytes : Lis
 
 -- ---- modes
 
--- the program has this low program of the central infrastructure, which was run on its sites, and this was kept
-pub record RunsOnSites (budget : ℕ) (p : Program) (low : LowProgram) (kept : Record) : Type 0 where
-  pub compiled : IsCompiled Central p low
+-- the program has this low program, which was run on its sites, and this was kept
+pub record RunsOnSites (infrastructure : Infrastructure) (budget : ℕ) (p : Program) (low : LowProgram) (kept : Record) : Type 0 where
+  pub compiled : IsCompiled infrastructure p low
   pub few : length low.sites * budget ≤ MOST_EVENTS
   pub ran : IsSitesRun low budget (past kept.histories) kept.end
 
 -- the report of what was kept, and the high text that it has
-abbrev pub report_of : Shown → Program → Record → List ℕ
-report_of (shown.Printed history high) = run_report history high
-report_of (shown.Counted agents) = load_report agents
+abbrev pub report_of : Infrastructure → Shown → Program → Record → List ℕ
+report_of infrastructure (shown.Printed history high) = run_report infrastructure history high
+report_of infrastructure (shown.Counted agents) = load_report agents
 
 -- the high text, where it is asked for, of migration in two steps
 abbrev pub in_two_steps : Bool → HighText
@@ -83,28 +82,29 @@ high_of (shown.Printed history high) = high
 high_of (shown.Counted agents) = Absent
 
 -- the run of a program on its sites, with its report, is kept, and nothing else
-pub record KeepsRun (budget : ℕ) (how : Shown) (p : Program) (kept : Option Record) (high : Option SerialRun) (text : List ℕ) : Type 0 where
+pub record KeepsRun (infrastructure : Infrastructure) (budget : ℕ) (how : Shown) (p : Program) (kept : Option Record) (high : Option SerialRun) (text : List ℕ) : Type 0 where
   pub low : LowProgram
   pub made : Record
-  pub ran : RunsOnSites budget p low made
-  pub written : text ≡ report_of how p made
-  pub stepped : IsShownSo (high_of how) p (lift (merged made))
+  pub ran : RunsOnSites infrastructure budget p low made
+  pub written : text ≡ report_of infrastructure how p made
+  pub stepped : IsShownSo (high_of how) p (lift_by infrastructure (merged made))
   pub is_kept : kept ≡ Some made
   pub is_high : high ≡ None
 
 -- what a run on sites makes is kept, and nothing else
-pub record KeepsSites (budget : ℕ) (how : Shown) (bytes : List ℕ) (kept : Option Record) (high : Option SerialRun) (text : List ℕ) : Type 0 where
+pub record KeepsSites (infrastructure : Infrastructure) (budget : ℕ) (how : Shown) (bytes : List ℕ) (kept : Option Record) (high : Option SerialRun) (text : List ℕ) : Type 0 where
   pub made : Record
-  pub promises : KeepsPromises budget (report_of how) bytes made text
+  pub promises : KeepsPromises infrastructure budget (report_of infrastructure how) bytes made text
   pub free : IsFree (high_of how) bytes
-  pub shown : IsShownSo (high_of how) promises.lowered.program (lift (merged made))
+  pub shown : IsShownSo (high_of how) promises.lowered.program (lift_by infrastructure (merged made))
   pub is_kept : kept ≡ Some made
   pub is_high : high ≡ None
 
 -- So it is with a run that goes on from these events, which are one of the low program, and which its sites can go on from: the merged histories begin
 -- with them, and what comes behind them is stamped later.
-pub record KeepsResumed (budget : ℕ) (how : Shown) (bytes : List ℕ) (events : List Event) (kept : Option Record) (high : Option SerialRun) (text : List ℕ) : Type 0 where
-  pub keeps : KeepsSites budget how bytes kept high text
+pub record KeepsResumed (infrastructure : Infrastructure) (budget : ℕ) (how : Shown) (bytes : List ℕ) (events : List Event)
+    (kept : Option Record) (high : Option SerialRun) (text : List ℕ) : Type 0 where
+  pub keeps : KeepsSites infrastructure budget how bytes kept high text
   pub run : IsSome (run (start_low keeps.promises.low) events)
   pub can : CanGoOn budget keeps.promises.low events
   pub resumed : IsResumed events (past keeps.made.histories)
@@ -142,12 +142,13 @@ pub record Lowers (infrastructure : Infrastructure) (bytes : List ℕ) (kept : O
 
 -- what is made of a source: a run, which is kept, the canonical text, that it is well typed, or the low text
 abbrev pub DoesTask : Task → List ℕ → Option Record → Option SerialRun → List ℕ → Type 0
-DoesTask (task.Run budget history high serial links) bytes kept made text = KeepsSites budget (shown.Printed history high) bytes kept made text
+DoesTask (task.Run budget history high serial links infrastructure) bytes kept made text =
+    KeepsSites infrastructure budget (shown.Printed history high) bytes kept made text
 DoesTask (task.High budget history) bytes kept made text = KeepsHigh budget history bytes kept made text
 DoesTask task.Show bytes kept made text = Shows bytes kept made text
 DoesTask task.Check bytes kept made text = Checks bytes kept made text
 DoesTask (task.Low infrastructure) bytes kept made text = Lowers infrastructure bytes kept made text
 
 -- the generated source of so many agents was run
-abbrev pub DoesLoad : ℕ → Option Record → Option SerialRun → List ℕ → Type 0
-DoesLoad agents kept made text = KeepsSites LOAD_BUDGET (shown.Counted agents) (generated agents) kept made text
+abbrev pub DoesLoad : Infrastructure → ℕ → Option Record → Option SerialRun → List ℕ → Type 0
+DoesLoad infrastructure agents kept made text = KeepsSites infrastructure LOAD_BUDGET (shown.Counted agents) (generated agents) kept made text

@@ -7,8 +7,6 @@ use Rattle.np_syntax.specs.declared.program.Program.{Program}
 use Rattle.np_calculus.specs.Starts.{start_low}
 use Rattle.np_code.specs.Sizes.{capped, program_nodes}
 use Rattle.np_code.specs.declared.limits.TheConstants.{MOST_CODE_NODES}
-use Rattle.daemon_encode.specs.Encoded.{encoded}
-use Rattle.cache_encode.specs.Encoded.{encoded_cached}
 use Rattle.np_check.specs.Faults.{IsAccepted}
 use Rattle.np_verdict.specs.Faults.{Stage, Accepted, Faulty, IsWellTyped}
 use Rattle.np_verdict.specs.declared.refusal.Refusal.{Refusal}
@@ -17,35 +15,30 @@ use Rattle.np_views.specs.Tests.{tests}
 use Rattle.run_save.specs.Ours.{IsOurs, StopsBeingOurs}
 use Rattle.site_crew.specs.Lists.{AreWithin, IsFirstPast}
 use Rattle.np_words.specs.declared.modes.Infrastructure.{Infrastructure}
-use Rattle.np_words.specs.declared.modes.Infrastructure.TheVariants.{Cache, Central}
 use Rattle.np_words.specs.declared.modes.HighText.{HighText}
 use Rattle.np_words.specs.declared.modes.HighText.TheVariants.{OneStep}
 use Rattle.np_words.specs.declared.planning.Task.{Task}
 use Rattle.np_words.specs.declared.planning.Task.TheVariants as task
+use Rattle.np_on_sites.specs.ByInfrastructure.{low_by}
 use Rattle.np_sources.specs.declared.limits.TheConstants.{MOST_EVENTS}
 
--- to its tree, to its program, to a low program that has a code, to a run of the central one on its sites within a budget, or so far that a high text can be shown of it
+-- to its tree, to its program, to a low program that has a code, to a run of that on its sites within a budget, or so far that a high text can be shown of it
 pub data Reach : Type 0 where
   tree : Reach
   program : Reach
   low : Infrastructure → Reach
-  sites : ℕ → Reach
+  sites : Infrastructure → ℕ → Reach
   shown : HighText → Reach → Reach
 
 -- how far what is asked for takes a source: `show` asks for no types, `low` for the low program, and `run` alone for its run
 abbrev pub reach_of : Task → Reach
-reach_of (task.Run budget history high serial links) = Reach.shown high (Reach.sites budget)
+reach_of (task.Run budget history high serial links infrastructure) = Reach.shown high (Reach.sites infrastructure budget)
 reach_of (task.High budget history) = Reach.shown history Reach.program
 reach_of task.Show = Reach.tree
 reach_of task.Check = Reach.program
 reach_of (task.Low infrastructure) = Reach.low infrastructure
 
 -- ---- what is accepted
-
--- the low program of a program, by its infrastructure
-abbrev pub low_by : Infrastructure → Program → LowProgram
-low_by Central p = encoded p
-low_by Cache p = encoded_cached p
 
 -- the source is well typed, this is the low program of its program, and its nodes are not too many
 pub record IsLowOf (infrastructure : Infrastructure) (bytes : List ℕ) (low : LowProgram) : Type 0 where
@@ -60,10 +53,10 @@ pub record IsCompiled (infrastructure : Infrastructure) (p : Program) (low : Low
   pub is : low ≡ low_by infrastructure p
   pub few : program_nodes low ≤ MOST_CODE_NODES
 
--- the source has a low program of the central infrastructure, whose sites make few events within the budget
-pub record HasFewEvents (budget : ℕ) (bytes : List ℕ) : Type 0 where
+-- the source has a low program, whose sites make few events within the budget
+pub record HasFewEvents (infrastructure : Infrastructure) (budget : ℕ) (bytes : List ℕ) : Type 0 where
   pub low : LowProgram
-  pub lowered : IsLowOf Central bytes low
+  pub lowered : IsLowOf infrastructure bytes low
   pub few : length low.sites * budget ≤ MOST_EVENTS
 
 -- the offset of what bars a program from being shown by such a high text: where migration is one step, its first location test
@@ -80,7 +73,7 @@ abbrev pub TakenTo : Reach → List ℕ → Type 0
 TakenTo Reach.tree bytes = Accepted Stage.tree bytes
 TakenTo Reach.program bytes = Accepted Stage.program bytes
 TakenTo (Reach.low infrastructure) bytes = (low : LowProgram) × IsLowOf infrastructure bytes low
-TakenTo (Reach.sites budget) bytes = HasFewEvents budget bytes
+TakenTo (Reach.sites infrastructure budget) bytes = HasFewEvents infrastructure budget bytes
 TakenTo (Reach.shown high reach) bytes = IsFree high bytes × TakenTo reach bytes
 
 -- ---- what is refused
@@ -97,9 +90,9 @@ pub record IsTooLarge (infrastructure : Infrastructure) (bytes : List ℕ) (refu
   pub large : HasManyNodes (low_by infrastructure program) refusal
 
 -- the source is well typed, and nothing is wrong with its low program but that its sites could make too many events within the budget
-pub record HasManyEvents (budget : ℕ) (bytes : List ℕ) (refusal : Refusal) : Type 0 where
+pub record HasManyEvents (infrastructure : Infrastructure) (budget : ℕ) (bytes : List ℕ) (refusal : Refusal) : Type 0 where
   pub low : LowProgram
-  pub lowered : IsLowOf Central bytes low
+  pub lowered : IsLowOf infrastructure bytes low
   pub many : MOST_EVENTS < length low.sites * budget
   pub is : refusal ≡ TooManyEvents
 
@@ -120,17 +113,17 @@ abbrev pub FaultyTo : Reach → List ℕ → Refusal → Type 0
 FaultyTo Reach.tree bytes refusal = Faulty Stage.tree bytes refusal
 FaultyTo Reach.program bytes refusal = Faulty Stage.program bytes refusal
 FaultyTo (Reach.low infrastructure) bytes refusal = HasNoLow infrastructure bytes refusal
-FaultyTo (Reach.sites budget) bytes refusal = HasNoLow Central bytes refusal ⊎ HasManyEvents budget bytes refusal
+FaultyTo (Reach.sites infrastructure budget) bytes refusal = HasNoLow infrastructure bytes refusal ⊎ HasManyEvents infrastructure budget bytes refusal
 FaultyTo (Reach.shown high reach) bytes refusal = IsBarred high bytes refusal ⊎ (IsFree high bytes × FaultyTo reach bytes refusal)
 
 -- an accepted program is refused so, where it is to be run on its sites: its low program has too many nodes, or these could make too many events
-pub record MakesMany (budget : ℕ) (p : Program) (refusal : Refusal) : Type 0 where
-  pub few : program_nodes (encoded p) ≤ MOST_CODE_NODES
-  pub many : MOST_EVENTS < length (encoded p).sites * budget
+pub record MakesMany (infrastructure : Infrastructure) (budget : ℕ) (p : Program) (refusal : Refusal) : Type 0 where
+  pub few : program_nodes (low_by infrastructure p) ≤ MOST_CODE_NODES
+  pub many : MOST_EVENTS < length (low_by infrastructure p).sites * budget
   pub is : refusal ≡ TooManyEvents
 
-abbrev pub CannotRun : ℕ → Program → Refusal → Type 0
-CannotRun budget p refusal = HasManyNodes (encoded p) refusal ⊎ MakesMany budget p refusal
+abbrev pub CannotRun : Infrastructure → ℕ → Program → Refusal → Type 0
+CannotRun infrastructure budget p refusal = HasManyNodes (low_by infrastructure p) refusal ⊎ MakesMany infrastructure budget p refusal
 
 -- ---- saved events, of a run of a low program
 

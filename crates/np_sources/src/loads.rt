@@ -14,7 +14,7 @@ use np_generate::{MOST_AGENTS, generated};
 use np_on_sites::Gate;
 use np_syntax::Memory;
 use np_verdict::Refusal;
-use np_words::Links;
+use np_words::{Infrastructure, Links};
 use std::alloc::Global;
 use std::sync::Wait;
 use std::thread::Threads;
@@ -27,14 +27,16 @@ pub fn load_of<R: Threads + Wait + Sync, G: Gate>(
     agents: u32,
     serial: bool,
     links: Links,
+    infrastructure: Infrastructure,
 ) -> Result<Job, Refusal>
     requires some { 1 ≤ agents }
     requires within { agents ≤ MOST_AGENTS }
     ensures short { length (generated agents) ≤ LONGEST_SOURCE }
-    ensures made { IfOk result (λ job. DoesLoad agents job.kept job.high job.text) }
-    ensures refused { IfErr result (λ refusal. refusal ≢ Refusal.Memory → FaultyTo (Reach.sites LOAD_BUDGET) (generated agents) refusal) }
+    ensures made { IfOk result (λ job. DoesLoad infrastructure agents job.kept job.high job.text) }
+    ensures refused { IfErr result (λ refusal. refusal ≢ Refusal.Memory → FaultyTo (Reach.sites infrastructure LOAD_BUDGET) (generated agents) refusal) }
 {
     let course = Course {
+        infrastructure,
         budget: LOAD_BUDGET,
         serial,
         links,

@@ -8,8 +8,8 @@ ghost use Rattle.np_code.specs.Programs.{program};
 ghost use Rattle.np_code.specs.Sizes.{program_nodes};
 ghost use Rattle.np_code.specs.declared.limits.TheConstants.{MOST_CODE_NODES};
 ghost use Rattle.np_verdict.specs.Faults.{IsWellTyped};
-ghost use Rattle.np_words.specs.declared.modes.Infrastructure.TheVariants.{Central};
-ghost use Rattle.np_sources.specs.Reaches.{Reach, FaultyTo, HasManyNodes, IsCompiled, IsLowOf, low_by};
+ghost use Rattle.np_on_sites.specs.ByInfrastructure.{low_by};
+ghost use Rattle.np_sources.specs.Reaches.{Reach, FaultyTo, HasManyNodes, IsCompiled, IsLowOf};
 
 use cache_encode::{encode_cached, law_cached_runs_well};
 use daemon_encode::{encode, law_low_runs_well};
@@ -34,16 +34,20 @@ pub struct Compiled {
     pub low: LowProgram,
 }
 
-/// A source with its low program of the central infrastructure, or the first refusal of a mode that runs it from there.
-pub fn compiled_of(alloc: Global, bytes: &[u8]) -> Result<Compiled, Refusal>
+/// A source with its low program, or the first refusal of a mode that runs it from there.
+pub fn compiled_of(
+    alloc: Global,
+    infrastructure: Infrastructure,
+    bytes: &[u8],
+) -> Result<Compiled, Refusal>
     requires { length bytes.now ≤ LONGEST_SOURCE }
     ensures found { IfOk result (λ made. IsWellTyped bytes.now made.checked) }
-    ensures compiled { IfOk result (λ made. IsCompiled Central made.checked made.low) }
+    ensures compiled { IfOk result (λ made. IsCompiled infrastructure made.checked made.low) }
     ensures runs { IfOk result (λ made. RunsWell (start_low made.low) made.low.at) }
-    ensures refused { IfErr result (λ refusal. refusal ≢ Refusal.Memory → FaultyTo (Reach.low Central) bytes.now refusal) }
+    ensures refused { IfErr result (λ refusal. refusal ≢ Refusal.Memory → FaultyTo (Reach.low infrastructure) bytes.now refusal) }
 {
     let checked = checked_source(alloc, bytes)?;
-    match low_alone(alloc, Infrastructure::Central, &checked) {
+    match low_alone(alloc, infrastructure, &checked) {
         Ok(low) => Ok(Compiled { checked, low }),
         Err(refusal) => {
             drop(checked);

@@ -7,7 +7,6 @@ ghost use Rattle.np_calculus.specs.Starts.{start_low};
 ghost use Rattle.run_merge.specs.Merged.{past};
 ghost use Rattle.np_following.specs.Following.{IsResumed};
 ghost use Rattle.np_verdict.specs.Faults.{IsWellTyped};
-ghost use Rattle.np_words.specs.declared.modes.Infrastructure.TheVariants.{Central};
 ghost use Rattle.np_sources.specs.Makes.{KeepsResumed, RunsOnSites, high_of};
 ghost use Rattle.np_sources.specs.Reaches.{CanGoOn, CannotGoOn, IsCompiled, barred};
 
@@ -36,18 +35,18 @@ pub fn job_redone<R: Threads + Wait + Sync, G: Gate>(
     events: &[Event],
 ) -> Result<Option<Job>, Refusal>
     requires typed { IsWellTyped _bytes.now checked.now }
-    requires compiled { IsCompiled Central checked.now low.now }
+    requires compiled { IsCompiled course.infrastructure checked.now low.now }
     requires free { barred (high_of shown) checked.now ≡ None }
     requires sites { length low.now.sites ≤ MOST_SITES }
     requires site { low.now.at < length low.now.sites }
     requires some { 1 ≤ course.budget }
     requires within { course.budget ≤ LARGEST_BUDGET }
-    ensures made { IfOk result (λ made. IfSome made (λ job. KeepsResumed course.budget shown _bytes.now events.now job.kept job.high job.text)) }
+    ensures made { IfOk result (λ made. IfSome made (λ job. KeepsResumed course.infrastructure course.budget shown _bytes.now events.now job.kept job.high job.text)) }
     ensures refused { IfErr result (λ refusal. refusal ≡ Refusal.Memory) }
 {
     law_source_runs();
     match redone(alloc, rt, gate, course, checked, low, events)? {
-        Some(kept) => match job_of_kept(alloc, shown, checked, kept) {
+        Some(kept) => match job_of_kept(alloc, course.infrastructure, shown, checked, kept) {
             Ok(job) => Ok(Some(job)),
             Err(refusal) => Err(refusal),
         },
@@ -65,12 +64,12 @@ fn redone<R: Threads + Wait + Sync, G: Gate>(
     low: &LowProgram,
     events: &[Event],
 ) -> Result<Option<Record>, Refusal>
-    requires compiled { IsCompiled Central _checked.now low.now }
+    requires compiled { IsCompiled course.infrastructure _checked.now low.now }
     requires sites { length low.now.sites ≤ MOST_SITES }
     requires site { low.now.at < length low.now.sites }
     requires some { 1 ≤ course.budget }
     requires within { course.budget ≤ LARGEST_BUDGET }
-    ensures made { IfOk result (λ made. IfSome made (λ kept. RunsOnSites course.budget _checked.now low.now kept)) }
+    ensures made { IfOk result (λ made. IfSome made (λ kept. RunsOnSites course.infrastructure course.budget _checked.now low.now kept)) }
     ensures resumed { IfOk result (λ made. IfSome made (λ kept. IsResumed events.now (past kept.histories))) }
     ensures run { IfOk result (λ made. IfSome made (λ _. IsSome (run (start_low low.now) events.now))) }
     ensures can { IfOk result (λ made. IfSome made (λ _. CanGoOn course.budget low.now events.now)) }
@@ -80,6 +79,7 @@ fn redone<R: Threads + Wait + Sync, G: Gate>(
         budget,
         serial,
         links,
+        ..
     } = course;
     if are_many(low.sites.len(), budget) {
         return Ok(None);
@@ -104,19 +104,19 @@ pub fn job_resumed<R: Threads + Wait + Sync, G: Gate>(
     events: &[Event],
 ) -> Result<Job, Refusal>
     requires typed { IsWellTyped _bytes.now checked.now }
-    requires compiled { IsCompiled Central checked.now low.now }
+    requires compiled { IsCompiled course.infrastructure checked.now low.now }
     requires free { barred (high_of shown) checked.now ≡ None }
     requires sites { length low.now.sites ≤ MOST_SITES }
     requires site { low.now.at < length low.now.sites }
     requires some { 1 ≤ course.budget }
     requires within { course.budget ≤ LARGEST_BUDGET }
     requires run { IsSome (run (start_low low.now) events.now) }
-    ensures made { IfOk result (λ job. KeepsResumed course.budget shown _bytes.now events.now job.kept job.high job.text) }
+    ensures made { IfOk result (λ job. KeepsResumed course.infrastructure course.budget shown _bytes.now events.now job.kept job.high job.text) }
     ensures refused { IfErr result (λ refusal. refusal ≢ Refusal.Memory → CannotGoOn course.budget low.now events.now refusal) }
 {
     law_source_runs();
     let kept = resumed(alloc, rt, gate, course, checked, low, events)?;
-    job_of_kept(alloc, shown, checked, kept)
+    job_of_kept(alloc, course.infrastructure, shown, checked, kept)
 }
 
 /// What is kept of the run of a low program that goes on from saved events.
@@ -129,13 +129,13 @@ fn resumed<R: Threads + Wait + Sync, G: Gate>(
     low: &LowProgram,
     events: &[Event],
 ) -> Result<Record, Refusal>
-    requires compiled { IsCompiled Central _checked.now low.now }
+    requires compiled { IsCompiled course.infrastructure _checked.now low.now }
     requires sites { length low.now.sites ≤ MOST_SITES }
     requires site { low.now.at < length low.now.sites }
     requires some { 1 ≤ course.budget }
     requires within { course.budget ≤ LARGEST_BUDGET }
     requires run { IsSome (run (start_low low.now) events.now) }
-    ensures made { IfOk result (λ kept. RunsOnSites course.budget _checked.now low.now kept) }
+    ensures made { IfOk result (λ kept. RunsOnSites course.infrastructure course.budget _checked.now low.now kept) }
     ensures resumed { IfOk result (λ kept. IsResumed events.now (past kept.histories)) }
     ensures can { OnOk result (CanGoOn course.budget low.now events.now) }
     ensures refused { IfErr result (λ refusal. refusal ≢ Refusal.Memory → CannotGoOn course.budget low.now events.now refusal) }
@@ -144,6 +144,7 @@ fn resumed<R: Threads + Wait + Sync, G: Gate>(
         budget,
         serial,
         links,
+        ..
     } = course;
     if are_many(low.sites.len(), budget) {
         return Err(Refusal::TooManyEvents);

@@ -5,12 +5,10 @@ ghost use Rattle.np_syntax.specs.declared.limits.TheConstants.{LARGEST_BUDGET, M
 ghost use Rattle.np_calculus.specs.Reductions.{run};
 ghost use Rattle.np_calculus.specs.Starts.{start_high};
 ghost use Rattle.np_code.specs.Programs.{program};
-ghost use Rattle.np_lift.specs.Lift.{lift};
-ghost use Rattle.daemon_encode.specs.Encoded.{encoded};
 ghost use Rattle.np_verdict.specs.Faults.{IsWellTyped};
 ghost use Rattle.np_report.specs.Report.{load_text};
 ghost use Rattle.np_sources.specs.declared.limits.TheConstants.{MOST_EVENTS};
-ghost use Rattle.np_words.specs.declared.modes.Infrastructure.TheVariants.{Central};
+ghost use Rattle.np_on_sites.specs.ByInfrastructure.{lift_by, low_by};
 ghost use Rattle.np_sources.specs.Reaches.{Reach, CannotRun, FaultyTo, IsCompiled, barred};
 ghost use Rattle.np_sources.specs.Kept.{IsShownSo, high_part, history_part, merged, run_report, said};
 ghost use Rattle.np_sources.specs.Makes.{KeepsRun, KeepsSites, RunsOnSites, high_of, report_of};
@@ -19,22 +17,24 @@ use super::high::{checked_for, high_part};
 use super::job::Job;
 use super::limits::MOST_EVENTS;
 use super::lowering::{Lowered, low_with_code};
-use history_text::write_history;
+use cache_lift::lift_cached;
+use history_text::write_in;
 use np_check::Checked;
 use np_on_sites::{Gate, Record, law_source_runs, run_on_sites};
 use np_report::{load_report, report};
 use np_syntax::{Event, LARGEST_BUDGET, LONGEST_SOURCE, List, Memory, Text};
 use np_verdict::Refusal;
-use np_words::{HighText, Infrastructure, Links};
+use np_words::{HighText, Infrastructure, Links, format_for};
 use run_merge::{lift, merge, said};
 use std::alloc::Global;
 use std::sync::Wait;
 use std::thread::Threads;
 
-/// How the sites run: each makes at most so many events; with `serial` they take turns one after another; and what carries
-/// agents and packets from one to another.
+/// How the sites run: the infrastructure of the low program; each site makes at most so many events; with `serial` they take
+/// turns one after another; and what carries agents and packets from one to another.
 #[derive(Clone, Copy)]
 pub struct Course {
+    pub infrastructure: Infrastructure,
     pub budget: u32,
     pub serial: bool,
     pub links: Links,
@@ -70,11 +70,11 @@ pub(crate) fn job_on_sites<R: Threads + Wait + Sync, G: Gate>(
     requires short { length bytes.now ≤ LONGEST_SOURCE }
     requires some { 1 ≤ course.budget }
     requires within { course.budget ≤ LARGEST_BUDGET }
-    ensures made { IfOk result (λ job. KeepsSites course.budget shown bytes.now job.kept job.high job.text) }
-    ensures refused { IfErr result (λ refusal. refusal ≢ Refusal.Memory → FaultyTo (Reach.shown (high_of shown) (Reach.sites course.budget)) bytes.now refusal) }
+    ensures made { IfOk result (λ job. KeepsSites course.infrastructure course.budget shown bytes.now job.kept job.high job.text) }
+    ensures refused { IfErr result (λ refusal. refusal ≢ Refusal.Memory → FaultyTo (Reach.shown (high_of shown) (Reach.sites course.infrastructure course.budget)) bytes.now refusal) }
 {
     law_source_runs();
-    let checked = checked_to_run(alloc, course.budget, shown, bytes)?;
+    let checked = checked_to_run(alloc, course, shown, bytes)?;
     let made = job_of_program(alloc, rt, gate, course, shown, &checked);
     drop(checked);
     made
@@ -83,14 +83,14 @@ pub(crate) fn job_on_sites<R: Threads + Wait + Sync, G: Gate>(
 /// The checked program of a source that is to be run on its sites, or the first refusal.
 fn checked_to_run(
     alloc: Global,
-    _budget: u32,
+    _course: Course,
     shown: Shown,
     bytes: &[u8],
 ) -> Result<Checked, Refusal>
     requires { length bytes.now ≤ LONGEST_SOURCE }
     ensures found { IfOk result (IsWellTyped bytes.now) }
     ensures free { IfOk result (λ checked. barred (high_of shown) checked ≡ None) }
-    ensures refused { IfErr result (λ refusal. refusal ≢ Refusal.Memory → FaultyTo (Reach.shown (high_of shown) (Reach.sites _budget)) bytes.now refusal) }
+    ensures refused { IfErr result (λ refusal. refusal ≢ Refusal.Memory → FaultyTo (Reach.shown (high_of shown) (Reach.sites _course.infrastructure _course.budget)) bytes.now refusal) }
 {
     checked_for(alloc, high_of(shown), bytes)
 }
@@ -107,30 +107,31 @@ fn job_of_program<R: Threads + Wait + Sync, G: Gate>(
     requires free { barred (high_of shown) checked.now ≡ None }
     requires some { 1 ≤ course.budget }
     requires within { course.budget ≤ LARGEST_BUDGET }
-    ensures made { IfOk result (λ job. KeepsRun course.budget shown checked.now job.kept job.high job.text) }
-    ensures refused { IfErr result (λ refusal. refusal ≢ Refusal.Memory → CannotRun course.budget checked.now refusal) }
+    ensures made { IfOk result (λ job. KeepsRun course.infrastructure course.budget shown checked.now job.kept job.high job.text) }
+    ensures refused { IfErr result (λ refusal. refusal ≢ Refusal.Memory → CannotRun course.infrastructure course.budget checked.now refusal) }
 {
     law_source_runs();
     let kept = run_of(alloc, rt, gate, course, checked)?;
-    job_of_kept(alloc, shown, checked, kept)
+    job_of_kept(alloc, course.infrastructure, shown, checked, kept)
 }
 
 /// The report of what is kept of a run of a checked program, with that.
 pub(crate) fn job_of_kept(
     alloc: Global,
+    infrastructure: Infrastructure,
     shown: Shown,
     checked: &Checked,
     kept: Record,
 ) -> Result<Job, Refusal>
     requires free { barred (high_of shown) checked.now ≡ None }
-    requires run { IsSome (run (start_high checked.now) (lift (merged kept))) }
+    requires run { IsSome (run (start_high checked.now) (lift_by infrastructure (merged kept))) }
     ensures kept { IfOk result (λ job. job.kept ≡ Some kept) }
     ensures high { IfOk result (λ job. job.high ≡ None) }
-    ensures text { IfOk result (λ job. job.text ≡ report_of shown checked.now kept) }
-    ensures shown { IfOk result (λ _. IsShownSo (high_of shown) checked.now (lift (merged kept))) }
+    ensures text { IfOk result (λ job. job.text ≡ report_of infrastructure shown checked.now kept) }
+    ensures shown { IfOk result (λ _. IsShownSo (high_of shown) checked.now (lift_by infrastructure (merged kept))) }
     ensures refused { IfErr result (λ refusal. refusal ≡ Refusal.Memory) }
 {
-    match text_of(alloc, shown, checked, &kept) {
+    match text_of(alloc, infrastructure, shown, checked, &kept) {
         Ok(text) => Ok(Job {
             kept: Some(kept),
             high: None,
@@ -153,15 +154,16 @@ fn run_of<R: Threads + Wait + Sync, G: Gate>(
 ) -> Result<Record, Refusal>
     requires some { 1 ≤ course.budget }
     requires within { course.budget ≤ LARGEST_BUDGET }
-    ensures made { IfOk result (λ kept. RunsOnSites course.budget checked.now (encoded checked.now) kept) }
-    ensures refused { IfErr result (λ refusal. refusal ≢ Refusal.Memory → CannotRun course.budget checked.now refusal) }
+    ensures made { IfOk result (λ kept. RunsOnSites course.infrastructure course.budget checked.now (low_by course.infrastructure checked.now) kept) }
+    ensures refused { IfErr result (λ refusal. refusal ≢ Refusal.Memory → CannotRun course.infrastructure course.budget checked.now refusal) }
 {
     let Course {
+        infrastructure,
         budget,
         serial,
         links,
     } = course;
-    let Lowered { low, code } = lowered_within(alloc, budget, checked)?;
+    let Lowered { low, code } = lowered_within(alloc, infrastructure, budget, checked)?;
     let made = run_on_sites(alloc, rt, gate, &low, code, budget, serial, links);
     drop(low);
     match made {
@@ -171,16 +173,21 @@ fn run_of<R: Threads + Wait + Sync, G: Gate>(
 }
 
 /// The low program of a checked program with its table, where its sites make few events within the budget.
-fn lowered_within(alloc: Global, budget: u32, checked: &Checked) -> Result<Lowered, Refusal>
+fn lowered_within(
+    alloc: Global,
+    infrastructure: Infrastructure,
+    budget: u32,
+    checked: &Checked,
+) -> Result<Lowered, Refusal>
     requires within { budget ≤ LARGEST_BUDGET }
-    ensures compiled { IfOk result (λ made. IsCompiled Central checked.now made.low) }
+    ensures compiled { IfOk result (λ made. IsCompiled infrastructure checked.now made.low) }
     ensures code { IfOk result (λ made. program made.code ≡ made.low) }
     ensures sites { IfOk result (λ made. length made.low.sites ≤ MOST_SITES) }
     ensures site { IfOk result (λ made. made.low.at < length made.low.sites) }
     ensures few { IfOk result (λ made. length made.low.sites * budget ≤ MOST_EVENTS) }
-    ensures refused { IfErr result (λ refusal. refusal ≢ Refusal.Memory → CannotRun budget checked.now refusal) }
+    ensures refused { IfErr result (λ refusal. refusal ≢ Refusal.Memory → CannotRun infrastructure budget checked.now refusal) }
 {
-    let made = low_with_code(alloc, Infrastructure::Central, checked)?;
+    let made = low_with_code(alloc, infrastructure, checked)?;
     if are_many(made.low.sites.len(), budget) {
         drop(made);
         return Err(Refusal::TooManyEvents);
@@ -198,14 +205,22 @@ pub(crate) fn are_many(sites: usize, budget: u32) -> bool
 }
 
 /// The report of a run of the low program of a checked program.
-fn text_of(alloc: Global, shown: Shown, checked: &Checked, kept: &Record) -> Result<Text, Memory>
+fn text_of(
+    alloc: Global,
+    infrastructure: Infrastructure,
+    shown: Shown,
+    checked: &Checked,
+    kept: &Record,
+) -> Result<Text, Memory>
     requires free { barred (high_of shown) checked.now ≡ None }
-    requires run { IsSome (run (start_high checked.now) (lift (merged kept.now))) }
-    ensures text { IfOk result (λ text. text ≡ report_of shown checked.now kept.now) }
-    ensures shown { IfOk result (λ _. IsShownSo (high_of shown) checked.now (lift (merged kept.now))) }
+    requires run { IsSome (run (start_high checked.now) (lift_by infrastructure (merged kept.now))) }
+    ensures text { IfOk result (λ text. text ≡ report_of infrastructure shown checked.now kept.now) }
+    ensures shown { IfOk result (λ _. IsShownSo (high_of shown) checked.now (lift_by infrastructure (merged kept.now))) }
 {
     match shown {
-        Shown::Printed { history, high } => printed_text(alloc, checked, kept, history, high),
+        Shown::Printed { history, high } => {
+            printed_text(alloc, infrastructure, checked, kept, history, high)
+        }
         Shown::Counted { agents } => counted_text(alloc, agents, kept),
     }
 }
@@ -213,18 +228,26 @@ fn text_of(alloc: Global, shown: Shown, checked: &Checked, kept: &Record) -> Res
 /// What was printed, with the texts of the events that are asked for.
 fn printed_text(
     alloc: Global,
+    infrastructure: Infrastructure,
     checked: &Checked,
     kept: &Record,
     history: bool,
     high: HighText,
 ) -> Result<Text, Memory>
     requires free { barred high checked.now ≡ None }
-    requires run { IsSome (run (start_high checked.now) (lift (merged kept.now))) }
-    ensures text { IfOk result (λ text. text ≡ run_report history high checked.now kept.now) }
-    ensures shown { IfOk result (λ _. IsShownSo high checked.now (lift (merged kept.now))) }
+    requires run { IsSome (run (start_high checked.now) (lift_by infrastructure (merged kept.now))) }
+    ensures text { IfOk result (λ text. text ≡ run_report infrastructure history high checked.now kept.now) }
+    ensures shown { IfOk result (λ _. IsShownSo high checked.now (lift_by infrastructure (merged kept.now))) }
 {
     let events = merge(alloc, kept.histories.as_slice())?;
-    let between = between(alloc, checked, history, high, events.as_slice())?;
+    let between = between(
+        alloc,
+        infrastructure,
+        checked,
+        history,
+        high,
+        events.as_slice(),
+    )?;
     let values = said(alloc, kept.histories.as_slice())?;
     report(
         alloc,
@@ -238,29 +261,49 @@ fn printed_text(
 /// The texts of the events that are asked for.
 fn between(
     alloc: Global,
+    infrastructure: Infrastructure,
     checked: &Checked,
     history: bool,
     high: HighText,
     events: &[Event],
 ) -> Result<Text, Memory>
     requires free { barred high checked.now ≡ None }
-    requires run { IsSome (run (start_high checked.now) (lift events.now)) }
-    ensures text { IfOk result (λ text. text ≡ history_part history events.now ++ high_part high (start_high checked.now) (lift events.now)) }
-    ensures shown { IfOk result (λ _. IsShownSo high checked.now (lift events.now)) }
+    requires run { IsSome (run (start_high checked.now) (lift_by infrastructure events.now)) }
+    ensures text { IfOk result (λ text. text ≡ history_part infrastructure history events.now ++ high_part high (start_high checked.now) (lift_by infrastructure events.now)) }
+    ensures shown { IfOk result (λ _. IsShownSo high checked.now (lift_by infrastructure events.now)) }
 {
-    let mut text = history_part(alloc, history, events)?;
-    let lifted = lift(alloc, events)?;
+    let mut text = history_part(alloc, infrastructure, history, events)?;
+    let lifted = lifted(alloc, infrastructure, events)?;
     let high = high_part(alloc, high, checked, lifted.as_slice())?;
     text.append(high.as_slice())?;
     Ok(text)
 }
 
+/// The run of the high level that is read off the events.
+fn lifted(
+    alloc: Global,
+    infrastructure: Infrastructure,
+    events: &[Event],
+) -> Result<List<Event>, Memory>
+    ensures { IfOk result (λ made. made ≡ lift_by infrastructure events.now) }
+{
+    match infrastructure {
+        Infrastructure::Central => lift(alloc, events),
+        Infrastructure::Cache => lift_cached(alloc, events),
+    }
+}
+
 /// The history text of the events where it is asked for, and nothing where it is not.
-fn history_part(alloc: Global, history: bool, events: &[Event]) -> Result<Text, Memory>
-    ensures { IfOk result (λ text. text ≡ history_part history events.now) }
+fn history_part(
+    alloc: Global,
+    infrastructure: Infrastructure,
+    history: bool,
+    events: &[Event],
+) -> Result<Text, Memory>
+    ensures { IfOk result (λ text. text ≡ history_part infrastructure history events.now) }
 {
     if history {
-        write_history(alloc, events)
+        write_in(alloc, format_for(infrastructure), events)
     } else {
         Ok(List::new(alloc))
     }

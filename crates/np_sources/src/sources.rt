@@ -40,8 +40,10 @@ pub fn job_of<R: Threads + Wait + Sync, G: Gate>(
             high,
             serial,
             links,
+            infrastructure,
         } => {
             let course = Course {
+                infrastructure,
                 budget,
                 serial,
                 links,

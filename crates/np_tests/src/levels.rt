@@ -22,14 +22,14 @@ use std::test::Fail;
 use std::thread::Threads;
 
 /// A message finds its agent at another site.
-const LETTER: &str =
+pub(crate) const LETTER: &str =
     "sites home far ; main at home = new c : ^Int in agent b = migrate to far -> c?x -> print x in <b@?>c!5";
 
 /// A message of an agent to itself.
 const OWN: &str = "sites home ; main at home = new c : ^Int in (<main@?>c!9 | c?x -> print x)";
 
 /// An agent goes round eight sites twice, and tells main of each.
-const TOUR: &str =
+pub(crate) const TOUR: &str =
     "sites s0 s1 s2 s3 s4 s5 s6 s7 ; main at s0 = new r : ^Int in (*r?k -> print k | agent t = \
     migrate to s1 -> (<main@?>r!1 | migrate to s2 -> (<main@?>r!2 | migrate to s3 -> (<main@?>r!3 | migrate to s4 -> (<main@?>r!4 | \
     migrate to s5 -> (<main@?>r!5 | migrate to s6 -> (<main@?>r!6 | migrate to s7 -> (<main@?>r!7 | migrate to s0 -> (<main@?>r!8 | \
@@ -37,7 +37,7 @@ const TOUR: &str =
     migrate to s5 -> (<main@?>r!13 | migrate to s6 -> (<main@?>r!14 | migrate to s7 -> (<main@?>r!15 | migrate to s0 -> (<main@?>r!16 | 0)))))))))))))))) in 0)";
 
 /// A buyer asks shops at their sites, and a clerk from there.
-const SHOP: &str = "sites home shop1 shop2 shop3 ; main at home = \
+pub(crate) const SHOP: &str = "sites home shop1 shop2 shop3 ; main at home = \
     new offer : ^[Site Int] in new ask : ^[Agent Int] in new answer : ^String in \
     agent clerk = *ask?[who item] -> if item == 1 then <who@?>answer!\"tea\" else <who@?>answer!\"no such item\" in \
     agent buyer = migrate to shop1 -> (<main@?>offer![shop1 30] | migrate to shop2 -> (<main@?>offer![shop2 25] | \
@@ -45,7 +45,7 @@ const SHOP: &str = "sites home shop1 shop2 shop3 ; main at home = \
     *offer?[place price] -> print [place price]";
 
 /// How many events each site may make where a run is to end at rest.
-const AMPLE: u32 = 10_000;
+pub(crate) const AMPLE: u32 = 10_000;
 
 /// How many messages were sent at the high level and how many letters were opened, and whether the run ended at rest.
 #[derive(Clone, Copy, Debug, PartialEq, Eq)]
@@ -60,7 +60,7 @@ fn count(events: &[Event], kind: Kind) -> usize {
     events.iter().filter(|event| event.kind == kind).count()
 }
 
-fn checked(alloc: Global, source: &str) -> Result<Checked, Memory> {
+pub(crate) fn checked(alloc: Global, source: &str) -> Result<Checked, Memory> {
     let bytes = source.as_bytes();
     if bytes.len() > LONGEST_SOURCE as usize {
         return Err(Memory);
@@ -72,7 +72,7 @@ fn checked(alloc: Global, source: &str) -> Result<Checked, Memory> {
 }
 
 /// What is kept of the run of a low program, whose sites take turns one after another.
-fn run_low<R: Threads + Wait + Sync>(
+pub(crate) fn run_low<R: Threads + Wait + Sync>(
     rt: &R,
     alloc: Global,
     low: &LowProgram,

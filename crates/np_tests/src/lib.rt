@@ -5,6 +5,8 @@
 #[cfg(test)]
 mod adapters;
 #[cfg(test)]
+mod caches;
+#[cfg(test)]
 mod copies;
 #[cfg(test)]
 mod gates;

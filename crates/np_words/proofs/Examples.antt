@@ -13,7 +13,7 @@ use Rattle.np_words.specs.declared.planning.View.TheVariants.{Said, Past}
 use Rattle.np_words.specs.declared.planning.Task.TheVariants.{Run, High, Low, Show}
 
 abbrev runs : List ℕ → ℕ → Option Plan
-runs file budget = Some (Source file (Run budget false Absent false Rings))
+runs file budget = Some (Source file (Run budget false Absent false Rings Central))
 
 abbrev runs_high : List ℕ → ℕ → HighText → Option Plan
 runs_high file budget history = Some (Source file (High budget history))
@@ -62,7 +62,7 @@ one_step_of_high : plan (codes "high" ∷ a ∷ codes "--history" ∷ codes "--o
 unfolding plan taken command clap_on_literals
 one_step_of_high = refl
 
-one_step_of_run : plan (codes "run" ∷ a ∷ codes "--one" ∷ codes "--high" ∷ []) ≡ Some (Source a (Run 10000 false OneStep false Rings))
+one_step_of_run : plan (codes "run" ∷ a ∷ codes "--one" ∷ codes "--high" ∷ []) ≡ Some (Source a (Run 10000 false OneStep false Rings Central))
 unfolding plan taken command clap_on_literals
 one_step_of_run = refl
 
@@ -90,36 +90,48 @@ past_of_caches : plan (codes "past" ∷ a ∷ codes "b" ∷ codes "--line=2" ∷
 unfolding plan taken command clap_on_literals
 past_of_caches = refl
 
-resume_two : plan (codes "resume" ∷ a ∷ codes "b" ∷ []) ≡ Some (Resume a (codes "b") 10000 false false false Rings)
+resume_two : plan (codes "resume" ∷ a ∷ codes "b" ∷ []) ≡ Some (Resume a (codes "b") 10000 false false false Rings Central)
 unfolding plan taken command clap_on_literals
 resume_two = refl
 
 resume_all : plan (codes "resume" ∷ a ∷ codes "b" ∷ budget ∷ codes "5" ∷ codes "--history" ∷ codes "--high" ∷ codes "--serial" ∷ codes "--links=inbox" ∷ [])
-    ≡ Some (Resume a (codes "b") 5 true true true Inbox)
+    ≡ Some (Resume a (codes "b") 5 true true true Inbox Central)
 unfolding plan taken command clap_on_literals
 resume_all = refl
+
+run_of_caches : plan (codes "run" ∷ a ∷ codes "--infra=cache" ∷ []) ≡ Some (Source a (Run 10000 false Absent false Rings Cache))
+unfolding plan taken command clap_on_literals
+run_of_caches = refl
+
+resume_of_caches : plan (codes "resume" ∷ a ∷ codes "b" ∷ codes "--infra" ∷ codes "cache" ∷ []) ≡ Some (Resume a (codes "b") 10000 false false false Rings Cache)
+unfolding plan taken command clap_on_literals
+resume_of_caches = refl
+
+load_of_caches : plan (codes "load" ∷ codes "1" ∷ codes "--infra=cache" ∷ []) ≡ Some (Load 1 false Rings Cache)
+unfolding plan taken command clap_on_literals
+load_of_caches = refl
 
 upgrade_one : plan (codes "upgrade" ∷ a ∷ []) ≡ Some (Upgrade a)
 unfolding plan taken command clap_on_literals
 upgrade_one = refl
 
-history_of_run : plan (codes "run" ∷ a ∷ codes "--history" ∷ codes "--high" ∷ []) ≡ Some (Source a (Run 10000 true TwoSteps false Rings))
+history_of_run : plan (codes "run" ∷ a ∷ codes "--history" ∷ codes "--high" ∷ []) ≡ Some (Source a (Run 10000 true TwoSteps false Rings Central))
 unfolding plan taken command clap_on_literals
 history_of_run = refl
 
-links_of_run : plan (codes "run" ∷ a ∷ codes "--links" ∷ codes "tray" ∷ codes "--serial" ∷ []) ≡ Some (Source a (Run 10000 false Absent true Tray))
+links_of_run : plan (codes "run" ∷ a ∷ codes "--links" ∷ codes "tray" ∷ codes "--serial" ∷ []) ≡ Some (Source a (Run 10000 false Absent true Tray Central))
 unfolding plan taken command clap_on_literals
 links_of_run = refl
 
-inbox_of_run : plan (codes "run" ∷ a ∷ codes "--links" ∷ codes "inbox" ∷ []) ≡ Some (Source a (Run 10000 false Absent false Inbox))
+inbox_of_run : plan (codes "run" ∷ a ∷ codes "--links" ∷ codes "inbox" ∷ []) ≡ Some (Source a (Run 10000 false Absent false Inbox Central))
 unfolding plan taken command clap_on_literals
 inbox_of_run = refl
 
-load_one : plan (codes "load" ∷ codes "1" ∷ []) ≡ Some (Load 1 false Rings)
+load_one : plan (codes "load" ∷ codes "1" ∷ []) ≡ Some (Load 1 false Rings Central)
 unfolding plan taken command clap_on_literals
 load_one = refl
 
-load_serial : plan (codes "load" ∷ codes "100" ∷ codes "--serial" ∷ codes "--links=tray" ∷ []) ≡ Some (Load 100 true Tray)
+load_serial : plan (codes "load" ∷ codes "100" ∷ codes "--serial" ∷ codes "--links=tray" ∷ []) ≡ Some (Load 100 true Tray Central)
 unfolding plan taken command clap_on_literals
 load_serial = refl
 
@@ -249,9 +261,13 @@ other_infrastructure : plan (codes "low" ∷ a ∷ codes "--infra" ∷ codes "ca
 unfolding plan taken command clap_on_literals
 other_infrastructure = refl
 
-infrastructure_of_run : plan (codes "run" ∷ a ∷ codes "--infra" ∷ codes "central" ∷ []) ≡ None
+other_infrastructure_of_run : plan (codes "run" ∷ a ∷ codes "--infra" ∷ codes "caches" ∷ []) ≡ None
 unfolding plan taken command clap_on_literals
-infrastructure_of_run = refl
+other_infrastructure_of_run = refl
+
+infrastructure_of_high : plan (codes "high" ∷ a ∷ codes "--infra" ∷ codes "central" ∷ []) ≡ None
+unfolding plan taken command clap_on_literals
+infrastructure_of_high = refl
 
 unknown_option : plan (codes "run" ∷ a ∷ codes "--fast" ∷ []) ≡ None
 unfolding plan taken command clap_on_literals

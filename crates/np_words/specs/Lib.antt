@@ -1,4 +1,5 @@
 pub mod Arguments
+pub mod Formats
 pub mod Modes
 pub mod Plans
 pub mod Laws

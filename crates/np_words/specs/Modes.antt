@@ -32,7 +32,7 @@ abbrev pub no_options : Options
 no_options = record { budget = false; history = false; high = false; serial = false; links = false; infrastructure = false; line = false; one = false }
 
 abbrev pub run_options : Options
-run_options = record no_options { budget = true; history = true; high = true; serial = true; links = true; one = true }
+run_options = record no_options { budget = true; history = true; high = true; serial = true; links = true; infrastructure = true; one = true }
 
 abbrev pub high_options : Options
 high_options = record no_options { budget = true; history = true; one = true }
@@ -45,10 +45,10 @@ abbrev pub past_options : Options
 past_options = record no_options { infrastructure = true; line = true }
 
 abbrev pub resume_options : Options
-resume_options = record no_options { budget = true; history = true; high = true; serial = true; links = true }
+resume_options = record no_options { budget = true; history = true; high = true; serial = true; links = true; infrastructure = true }
 
 abbrev pub load_options : Options
-load_options = record no_options { serial = true; links = true }
+load_options = record no_options { serial = true; links = true; infrastructure = true }
 
 -- a mode that has no SECOND
 abbrev pub alone : Mode → Options → Entry

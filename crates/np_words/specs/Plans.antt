@@ -80,7 +80,8 @@ run_of given = do
   budget ← budget_of given.budget
   high ← high_text given.high given.one
   links ← kind_of given.links
-  Some (tasks.Run budget given.history high given.serial links)
+  infrastructure ← infrastructure_given given.infrastructure
+  Some (tasks.Run budget given.history high given.serial links infrastructure)
 
 abbrev pub high_of : Given → Option Task
 high_of given = do
@@ -115,7 +116,8 @@ resume_of file given = do
   saved ← given.second
   budget ← budget_of given.budget
   links ← kind_of given.links
-  Some (plans.Resume file saved budget given.history given.high given.serial links)
+  infrastructure ← infrastructure_given given.infrastructure
+  Some (plans.Resume file saved budget given.history given.high given.serial links infrastructure)
 
 -- the past of the line that the words say
 abbrev pub past_of : Given → Option View
@@ -134,7 +136,8 @@ abbrev pub load_of : Text → Given → Option Plan
 load_of file given = do
   agents ← number_of MOST_DIGITS MOST_AGENTS file
   links ← kind_of given.links
-  Some (plans.Load agents given.serial links)
+  infrastructure ← infrastructure_given given.infrastructure
+  Some (plans.Load agents given.serial links infrastructure)
 
 -- FILE is a history
 abbrev pub upgrade_of : Text → Option Plan
@@ -167,7 +170,7 @@ plan words = taken words >>= planned
 
 -- a run has a budget that the words may say
 abbrev pub HasBudget : Task → Type 0
-HasBudget (tasks.Run budget history high serial links) = (1 ≤ budget) × (budget ≤ LARGEST_BUDGET)
+HasBudget (tasks.Run budget history high serial links infrastructure) = (1 ≤ budget) × (budget ≤ LARGEST_BUDGET)
 HasBudget _ = Unit {0}
 
 -- lines are counted from 1
@@ -180,9 +183,9 @@ HasLine (views.Past line) = 1 ≤ line
 abbrev pub IsWithinLimits : Plan → Type 0
 IsWithinLimits (plans.Source file task) = HasBudget task
 IsWithinLimits (plans.Replay source history infrastructure view) = HasLine view
-IsWithinLimits (plans.Resume source saved budget history high serial links) = (1 ≤ budget) × (budget ≤ LARGEST_BUDGET)
+IsWithinLimits (plans.Resume source saved budget history high serial links infrastructure) = (1 ≤ budget) × (budget ≤ LARGEST_BUDGET)
 IsWithinLimits (plans.Generate agents) = (1 ≤ agents) × (agents ≤ MOST_AGENTS)
-IsWithinLimits (plans.Load agents serial links) = (1 ≤ agents) × (agents ≤ MOST_AGENTS)
+IsWithinLimits (plans.Load agents serial links infrastructure) = (1 ≤ agents) × (agents ≤ MOST_AGENTS)
 IsWithinLimits _ = Unit {0}
 
 -- a plan exactly where the words have one, and a usage fault exactly where they have none; memory aside

@@ -83,6 +83,7 @@ const RUN_OPTIONS: Options = Options {
     high: true,
     serial: true,
     links: true,
+    infrastructure: true,
     one: true,
     ..NO_OPTIONS
 };
@@ -112,12 +113,14 @@ const RESUME_OPTIONS: Options = Options {
     high: true,
     serial: true,
     links: true,
+    infrastructure: true,
     ..NO_OPTIONS
 };
 
 const LOAD_OPTIONS: Options = Options {
     serial: true,
     links: true,
+    infrastructure: true,
     ..NO_OPTIONS
 };
 

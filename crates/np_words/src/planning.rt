@@ -20,15 +20,16 @@ use std::alloc::Global;
 /// What is done with a source.
 #[derive(Clone, Copy, Debug, PartialEq, Eq)]
 pub enum Task {
-    /// Its low program is run on the sites, each of which makes at most `budget` events: one after another with `serial`,
-    /// or each on a thread of its own. With `history` the report has the merged history, and `high` says whether it has the
-    /// run of the high level that is read off it.
+    /// Its low program of this infrastructure is run on the sites, each of which makes at most `budget` events: one after
+    /// another with `serial`, or each on a thread of its own. With `history` the report has the merged history, and `high` says
+    /// whether it has the run of the high level that is read off it.
     Run {
         budget: u32,
         history: bool,
         high: HighText,
         serial: bool,
         links: Links,
+        infrastructure: Infrastructure,
     },
     /// It is run at the high level, with at most `budget` events. `history` says whether the report has them.
     High {
@@ -76,6 +77,7 @@ pub enum Plan {
         high: bool,
         serial: bool,
         links: Links,
+        infrastructure: Infrastructure,
     },
     Upgrade {
         history: Word,
@@ -88,6 +90,7 @@ pub enum Plan {
         agents: u32,
         serial: bool,
         links: Links,
+        infrastructure: Infrastructure,
     },
 }
 
@@ -187,6 +190,7 @@ fn run_of(given: &Given<'_>) -> Option<Task>
         high: high_text(given.high, given.one)?,
         serial: given.serial,
         links: kind_of(given.links)?,
+        infrastructure: infrastructure_given(given.infrastructure)?,
     })
 }
 
@@ -251,6 +255,7 @@ fn resume_of(alloc: Global, file: &str, given: &Given<'_>) -> Result<Plan, PlanF
     let saved = given.second.ok_or(PlanFail::Usage)?;
     let budget = budget_of(given.budget).ok_or(PlanFail::Usage)?;
     let links = kind_of(given.links).ok_or(PlanFail::Usage)?;
+    let infrastructure = infrastructure_given(given.infrastructure).ok_or(PlanFail::Usage)?;
     Ok(Plan::Resume {
         source: Word::new(alloc, file)?,
         saved: Word::new(alloc, saved)?,
@@ -259,6 +264,7 @@ fn resume_of(alloc: Global, file: &str, given: &Given<'_>) -> Result<Plan, PlanF
         high: given.high,
         serial: given.serial,
         links,
+        infrastructure,
     })
 }
 
@@ -299,10 +305,12 @@ fn load_of(file: &str, given: &Given<'_>) -> Result<Plan, PlanFail>
 {
     let agents = number_of(MOST_DIGITS, MOST_AGENTS, file).ok_or(PlanFail::Usage)?;
     let links = kind_of(given.links).ok_or(PlanFail::Usage)?;
+    let infrastructure = infrastructure_given(given.infrastructure).ok_or(PlanFail::Usage)?;
     Ok(Plan::Load {
         agents,
         serial: given.serial,
         links,
+        infrastructure,
     })
 }
 

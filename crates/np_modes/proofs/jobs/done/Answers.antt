@@ -11,7 +11,7 @@ pub returns-in-Source-clause-refused : goal.returns-in-Source-clause-refused
 returns-in-Source-clause-refused g c = rw c.in-Source.is c.on_source.ensures.refused
 
 pub returns-in-Load-clause-made : goal.returns-in-Load-clause-made
-returns-in-Load-clause-made g c = rw c.in-Load.is (load_made _ c.load_of.result c.load_of.ensures.short c.load_of.ensures.made)
+returns-in-Load-clause-made g c = rw c.in-Load.is (load_made _ _ c.load_of.result c.load_of.ensures.short c.load_of.ensures.made)
 
 pub returns-in-Load-clause-refused : goal.returns-in-Load-clause-refused
-returns-in-Load-clause-refused g c = rw c.in-Load.is (load_refused _ c.load_of.result c.load_of.ensures.short c.load_of.ensures.refused)
+returns-in-Load-clause-refused g c = rw c.in-Load.is (load_refused _ _ c.load_of.result c.load_of.ensures.short c.load_of.ensures.refused)

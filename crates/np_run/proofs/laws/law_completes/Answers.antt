@@ -1,7 +1,6 @@
 use Rattle.std.proofs.Common.{ℕ, ◌≤◌, List, length, inl, inr, subst, arith}
 use Rattle.np_syntax.specs.declared.limits.TheConstants.{LONGEST_SOURCE}
 use Rattle.np_syntax.specs.declared.program.LowProgram.{LowProgram}
-use Rattle.np_words.specs.declared.modes.Infrastructure.TheVariants.{Central}
 use Rattle.np_words.specs.declared.planning.Plan.{Plan}
 use Rattle.np_words.specs.declared.planning.Plan.TheVariants as plans
 use Rattle.np_sources.specs.Reaches.{Reach, TakenTo, reach_of}
@@ -37,17 +36,19 @@ module _ (sources : source_laws.HaveOneAnswer) (histories : history_laws.HaveOne
       of_source (Reach.low infra) a.bytes refusal a.short (a.low, a.lowered) (source_says call source (Reach.low infra) a.bytes refusal a.told r)
   of_plan call (plans.Replay source h infra view) refusal a (inr r) =
       of_history (Purpose.replay a.low view) a.run refusal a.short_run a.replays
-      (subst (λ (low : LowProgram). history.SaysHistory (Purpose.replay low view) a.run refusal) (history.same_low sources infra call source a.bytes a.low r.low a.told a.lowered r.lowered)
+      (subst (λ (low : LowProgram). history.SaysHistory (Purpose.replay low view) a.run refusal)
+      (history.same_low sources infra call source a.bytes a.low r.low a.told a.lowered r.lowered)
       (history.run_says call h r.low view a.run refusal a.told_run r.run))
-  of_plan call (plans.Resume source h budget shows high serial links) refusal a (inl r) =
-      of_source (Reach.low Central) a.bytes refusal a.short (a.low, a.lowered) (source_says call source (Reach.low Central) a.bytes refusal a.told r)
-  of_plan call (plans.Resume source h budget shows high serial links) refusal a (inr r) =
+  of_plan call (plans.Resume source h budget shows high serial links infra) refusal a (inl r) =
+      of_source (Reach.low infra) a.bytes refusal a.short (a.low, a.lowered) (source_says call source (Reach.low infra) a.bytes refusal a.told r)
+  of_plan call (plans.Resume source h budget shows high serial links infra) refusal a (inr r) =
       of_history (Purpose.resume a.low budget) a.run refusal a.short_run a.fit
-      (subst (λ (low : LowProgram). history.SaysHistory (Purpose.resume low budget) a.run refusal) (history.same_low sources Central call source a.bytes a.low r.low a.told a.lowered r.lowered)
+      (subst (λ (low : LowProgram). history.SaysHistory (Purpose.resume low budget) a.run refusal)
+      (history.same_low sources infra call source a.bytes a.low r.low a.told a.lowered r.lowered)
       (history.saved_says call h r.low budget a.run refusal a.told_run r.run))
   of_plan call (plans.Upgrade h) refusal a r = of_history Purpose.events a.bytes refusal a.short a.accepted (history.history_says call h a.bytes refusal a.told r)
   of_plan call (plans.Generate agents) refusal a r = r
-  of_plan call (plans.Load agents serial links) refusal a r = sources.not_both (Reach.sites LOAD_BUDGET) (generated agents) refusal a r.faulty
+  of_plan call (plans.Load agents serial links infra) refusal a r = sources.not_both (Reach.sites infra LOAD_BUDGET) (generated agents) refusal a r.faulty
 
 pub returns : goal.returns
 returns c = λ call answer asked h planned a no_out no_err.

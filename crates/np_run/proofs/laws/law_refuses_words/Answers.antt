@@ -2,7 +2,6 @@ use Rattle.std.proofs.Common.{◌≡◌, ℕ, List, ◌⊎◌, inl, inr, None, a
 use Rattle.np_syntax.specs.declared.limits.TheConstants.{LONGEST_SOURCE}
 use Rattle.np_syntax.specs.declared.program.LowProgram.{LowProgram}
 use Rattle.np_words.specs.Plans.{plan}
-use Rattle.np_words.specs.declared.modes.Infrastructure.TheVariants.{Central}
 use Rattle.np_words.specs.declared.planning.Plan.{Plan}
 use Rattle.np_words.specs.declared.planning.View.{View}
 use Rattle.np_words.specs.declared.planning.Plan.TheVariants as plans
@@ -54,11 +53,11 @@ module _ (sources : source_laws.HaveOneAnswer) (histories : history_laws.HaveOne
   of_plan texts (plans.Source file task) r = of_source texts file (reach_of task) r.cause
   of_plan texts (plans.Replay source history infra view) (inl r) = of_source texts source (Reach.low infra) r.cause
   of_plan texts (plans.Replay source history infra view) (inr r) = of_run texts history r.low view r.run
-  of_plan texts (plans.Resume source saved budget history high serial links) (inl r) = of_source texts source (Reach.low Central) r.cause
-  of_plan texts (plans.Resume source saved budget history high serial links) (inr r) = of_saved texts saved r.low budget r.run
+  of_plan texts (plans.Resume source saved budget history high serial links infra) (inl r) = of_source texts source (Reach.low infra) r.cause
+  of_plan texts (plans.Resume source saved budget history high serial links infra) (inr r) = of_saved texts saved r.low budget r.run
   of_plan texts (plans.Upgrade history) r = of_history texts history r
   of_plan texts (plans.Generate agents) r = r
-  of_plan texts (plans.Load agents serial links) r = sources.not_usage (Reach.sites LOAD_BUDGET) (generated agents) r.faulty
+  of_plan texts (plans.Load agents serial links infra) r = sources.not_usage (Reach.sites infra LOAD_BUDGET) (generated agents) r.faulty
 
   -- usage stands where the words ask for nothing that the program does
   unplanned_words : (call : Call) → Stands call.words call.texts Usage → plan call.words ≡ None

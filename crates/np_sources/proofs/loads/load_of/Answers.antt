@@ -20,8 +20,8 @@ pub returns-in-Ok-clause-refused : goal.returns-in-Ok-clause-refused
 returns-in-Ok-clause-refused g c =
     let is : c.as_slice.result.now ≡ generated c.args.agents = c.as_slice.ensures ∙ c.in-Ok.ensures in
     let made = c.job_on_sites in
-    subst (λ (b : List ℕ). IfErr made.result (λ refusal. refusal ≢ Memory → FaultyTo (Reach.sites LOAD_BUDGET) b refusal)) is
-    (refused_absent (Reach.sites LOAD_BUDGET) c.as_slice.result.now made.result made.ensures.refused)
+    subst (λ (b : List ℕ). IfErr made.result (λ refusal. refusal ≢ Memory → FaultyTo (Reach.sites c.args.infrastructure LOAD_BUDGET) b refusal)) is
+    (refused_absent (Reach.sites c.args.infrastructure LOAD_BUDGET) c.as_slice.result.now made.result made.ensures.refused)
 
 pub returns-in-Err-clause-short : goal.returns-in-Err-clause-short
 returns-in-Err-clause-short g c = short c.args.agents c.requires.within

@@ -15,15 +15,18 @@ its P o x is h = subst (λ o. IfSome o P) is h
 
 pub job_of_kept-requires-clause-run : goal.job_of_kept-requires-clause-run
 job_of_kept-requires-clause-run g c =
-    let budget = c.args.course.budget in let p = c.args.checked.now in let low = c.args.low.now in let kept = c.in-Some.kept in
-    read_off c.law_source_runs.ensures budget p low kept (its (RunsOnSites budget p low) c.in_ok-kept.field-0 kept c.in-Some.is c.in_ok-kept.ensures.made)
+    let infrastructure = c.args.course.infrastructure in let budget = c.args.course.budget in
+    let p = c.args.checked.now in let low = c.args.low.now in let kept = c.in-Some.kept in
+    read_off c.law_source_runs.ensures infrastructure budget p low kept
+    (its (RunsOnSites infrastructure budget p low) c.in_ok-kept.field-0 kept c.in-Some.is c.in_ok-kept.ensures.made)
 
 pub returns-in-Ok-clause-made : goal.returns-in-Ok-clause-made
 returns-in-Ok-clause-made g c =
     let e = c.in-Ok.ensures in let k = c.in_ok-kept.ensures in let is = c.in-Some.is in let o = c.in_ok-kept.field-0 in
-    let budget = c.args.course.budget in let p = c.args.checked.now in let low = c.args.low.now in let events = c.args.events.now in let kept = c.in-Some.kept in
-    keeps_resumed c.args.shown p kept c.law_source_runs.ensures budget low c.args._bytes.now events c.requires.typed c.requires.free
-    (its (RunsOnSites budget p low) o kept is k.made)
+    let infrastructure = c.args.course.infrastructure in let budget = c.args.course.budget in
+    let p = c.args.checked.now in let low = c.args.low.now in let events = c.args.events.now in let kept = c.in-Some.kept in
+    keeps_resumed infrastructure c.args.shown p kept c.law_source_runs.ensures budget low c.args._bytes.now events c.requires.typed c.requires.free
+    (its (RunsOnSites infrastructure budget p low) o kept is k.made)
     (its (λ _. IsSome (run (start_low low) events)) o kept is k.run)
     (its (λ _. CanGoOn budget low events) o kept is k.can)
     (its (λ (x : Record). IsResumed events (past x.histories)) o kept is k.resumed)

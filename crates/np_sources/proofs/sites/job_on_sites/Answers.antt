@@ -6,10 +6,12 @@ returns-in_err-checked-clause-refused g c = residual c.from_residual.result c.in
 
 pub returns-clause-made : goal.returns-clause-made
 returns-clause-made g c =
-    kept_of c.law_source_runs.ensures c.args.course.budget c.args.shown c.args.bytes.now c.in_ok-checked.checked c.in_ok-checked.ensures.found c.in_ok-checked.ensures.free
+    let course = c.args.course in let checked = c.in_ok-checked in
+    kept_of c.law_source_runs.ensures course.infrastructure course.budget c.args.shown c.args.bytes.now checked.checked checked.ensures.found checked.ensures.free
     c.job_of_program-made.result c.job_of_program-made.ensures.made
 
 pub returns-clause-refused : goal.returns-clause-refused
 returns-clause-refused g c =
-    refused_of c.args.course.budget _ c.args.bytes.now c.in_ok-checked.checked c.in_ok-checked.ensures.found c.in_ok-checked.ensures.free
+    let course = c.args.course in let checked = c.in_ok-checked in
+    refused_of course.infrastructure course.budget _ c.args.bytes.now checked.checked checked.ensures.found checked.ensures.free
     c.job_of_program-made.result c.job_of_program-made.ensures.refused

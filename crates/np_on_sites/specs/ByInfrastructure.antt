@@ -1,0 +1,35 @@
+-- What the infrastructure of a run decides: the low program, the run of the high level that is read off, and what is said of the posts of a run
+-- (docs/LANGUAGE.md, "Translation and daemon").
+use Rattle.std.specs.Prelude.{List}
+use Rattle.np_syntax.specs.declared.event.Event.{Event}
+use Rattle.np_syntax.specs.declared.program.LowProgram.{LowProgram}
+use Rattle.np_syntax.specs.declared.program.Program.{Program}
+use Rattle.np_calculus.specs.Config.{Config}
+use Rattle.daemon_encode.specs.Encoded.{encoded}
+use Rattle.cache_encode.specs.Encoded.{encoded_cached}
+use Rattle.np_lift.specs.Lift.{lift}
+use Rattle.np_lift.specs.Posts.{IsAllHanded, IsPaired}
+use Rattle.cache_lift.specs.Lift.{lift_cached}
+use Rattle.cache_lift.specs.Posts.{IsAllHandedCached, IsPairedCached}
+use Rattle.np_words.specs.declared.modes.Infrastructure.{Infrastructure}
+use Rattle.np_words.specs.declared.modes.Infrastructure.TheVariants.{Cache, Central}
+
+-- the low program of a program
+abbrev pub low_by : Infrastructure → Program → LowProgram
+low_by Central p = encoded p
+low_by Cache p = encoded_cached p
+
+-- the events of the high level that are read off events of the low level
+abbrev pub lift_by : Infrastructure → List Event → List Event
+lift_by Central events = lift events
+lift_by Cache events = lift_cached events
+
+-- each message to an agent wherever it is was handed over once at most, and as it was sent: with caches by a messenger too
+abbrev pub IsPairedBy : Infrastructure → Config → List Event → Type 0
+IsPairedBy Central start events = IsPaired start events
+IsPairedBy Cache start events = IsPairedCached start events
+
+-- and each was handed over
+abbrev pub IsAllHandedBy : Infrastructure → Config → List Event → Type 0
+IsAllHandedBy Central start events = IsAllHanded start events
+IsAllHandedBy Cache start events = IsAllHandedCached start events
