@@ -20,6 +20,7 @@ use Rattle.np_rest.proofs.Highs.{rests-together}
 use Rattle.np_simulation.proofs.Lodged.{runs-are-lodged}
 use Rattle.np_simulation.proofs.Runs.{runs-are-lifted, stays-well}
 use Rattle.simulate_laws.specs.Cached.{ShowsCached}
+use Rattle.simulate_laws.proofs.Locks.{free-locks}
 
 module _ (p : Program) (accepted : IsAccepted p) (events : List Event) where
   of : IsLowOf Infrastructure.cached p (encoded_cached p)
@@ -50,6 +51,7 @@ module _ (p : Program) (accepted : IsAccepted p) (events : List Event) where
               idle = subst Idle same r.0;
               handed = cached-rests-all-handed p (encoded_cached p) of accepted events h.0 h.1 idle;
               infrastructure = r.1;
+              locks = free-locks l.coupled lodged idle r.1;
               caches = subst (λ d. HasCacheRest h.0 d l.view) same (r.2 refl);
             };
       }

@@ -1,5 +1,6 @@
 -- What the law of caches answers of a run of a compiled program.
-use Rattle.std.specs.Prelude.{◌≡◌, ℕ, List, None, Some, length}
+use Rattle.std.specs.Prelude.{◌≡◌, ℕ, List, [], ◌∷◌, None, Some, length}
+use Rattle.std.specs.FinMap as map
 use Rattle.np_syntax.specs.declared.value.Name.{Name}
 use Rattle.np_syntax.specs.declared.event.Event.{Event}
 use Rattle.np_syntax.specs.declared.program.Program.{Program}
@@ -13,6 +14,7 @@ use Rattle.cache_lift.specs.Lift.{at_first}
 use Rattle.cache_lift.specs.Posts.{IsAllHandedCached, IsPairedCached, deeds_from}
 use Rattle.cache_encode.specs.Encoded.{encoded_cached}
 use Rattle.daemon_encode.specs.Infrastructures.{Infrastructure}
+use Rattle.np_things.specs.Things.{Thing}
 use Rattle.np_levels.specs.Coupled.{View}
 use Rattle.np_rest.specs.Laws.{HasCacheRest, HasRest}
 use Rattle.np_simulation.specs.Laws.{IsLifted}
@@ -24,6 +26,8 @@ pub record ShowsCachedRest (p : Program) (events : List Event) (low high : Confi
   pub idle : Idle high
   pub handed : IsAllHandedCached (start_low (encoded_cached p)) events
   pub infrastructure : HasRest v
+  -- the lock of each agent in the daemon's map is free
+  pub locks : (a l : Name) → v.lock a ≡ Some l → (m : Name) × (s : ℕ) × (map.get v.things m ≡ Some (Thing.free l s ∷ []))
   pub caches : HasCacheRest low high v
 
 -- the configuration that the lifted events of a run of the compiled program with caches leave
