@@ -1,13 +1,11 @@
 //! What goes from site to site: an agent with its atoms, or a packet under its mark.
 #![tactic(auto)]
 
-mod carrying;
 mod item;
 mod laws;
 mod load;
 mod packing;
 
-pub use carrying::{put_item, take_load};
 pub use item::Item;
 pub use laws::law_loads;
 pub use load::Load;

@@ -10,7 +10,7 @@ use Rattle.np_calculus.specs.declared.config.Atom.{Atom}
 use Rattle.np_tables.specs.Mapped.{mapped}
 use Rattle.np_tables.proofs.Mapped.{get-mapped}
 use Rattle.np_tables.proofs.Keyed.{alike-same}
-use Rattle.np_tables.proofs.Tables.{same_name-is, same_name-swap}
+use Rattle.np_tables.proofs.Tables.{same_name-is, same_name-itself, same_name-swap}
 use Rattle.np_code.specs.Programs.{ProgramTable}
 use Rattle.agent_index.specs.declared.wait.Wait.TheVariants as wait
 use Rattle.agent_index.specs.contracts.wait.WaitPartialEq.TheImpl as waits
@@ -124,3 +124,9 @@ same_wait-is wait.Stuck wait.Acts h = absurd cc
 same_wait-is wait.Stuck (wait.Gives d) h = absurd cc
 same_wait-is wait.Stuck (wait.Takes d) h = absurd cc
 same_wait-is wait.Stuck wait.Stuck h = refl
+
+pub same_wait-itself : (w : Wait) → same_wait w w ≡ true
+same_wait-itself wait.Acts = refl
+same_wait-itself (wait.Gives c) = alike-same c c ∙ same_name-itself c
+same_wait-itself (wait.Takes c) = alike-same c c ∙ same_name-itself c
+same_wait-itself wait.Stuck = refl

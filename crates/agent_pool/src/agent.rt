@@ -120,6 +120,7 @@ impl Agent {
         ensures atoms { OnOk result (self.new.atoms ≡ map.insert self.old.atoms mark (wait.Gives chan, held.Given chan value tag)) }
         ensures name { self.new.name ≡ self.old.name }
         ensures filed { (code : ProgramTable) → IsFiled code.processes self.old.atoms → IsFiled code.processes self.new.atoms }
+        ensures spare { self.old.spare ≤ self.new.spare + 1 }
         ensures err { OnErr result (Unchanged self.old self.new) }
         ensures returned { IfErr result (λ refused. refused.0 ≡ value) }
         ensures room { 1 ≤ self.old.spare → IsOk result }

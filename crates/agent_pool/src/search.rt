@@ -1,4 +1,4 @@
-ghost use Rattle.std.specs.Prelude.{◌≡◌, false, IfSome, IfNone, IsTrue, None, length};
+ghost use Rattle.std.specs.Prelude.{◌≡◌, ◌↔◌, false, IfSome, IfNone, IsTrue, None, length};
 ghost use Rattle.np_syntax.specs.declared.value.Name.{Name as Named};
 ghost use Rattle.np_tables.specs.Mapped.{mapped};
 ghost use Rattle.agent_pool.specs.Calm.{NoOutput, CalmAt};
@@ -107,7 +107,7 @@ fn gives(atoms: &Index<Held>, chan: Name) -> bool
 
 /// Whether the two wait for the same.
 pub fn same(first: Wait, second: Wait) -> bool
-    ensures { IsTrue result → first ≡ second }
+    ensures { IsTrue result ↔ (first ≡ second) }
 {
     first == second
 }

@@ -1,11 +1,11 @@
 -- Who waits in a queue after its steps.
-use Rattle.std.proofs.Common.{◌≡◌, ℕ, zero, suc, Bool, true, false, not, ◌||◌, List, [], ◌∷◌, ◌++◌, refl, sym, ap, subst, ◌∙◌}
+use Rattle.std.proofs.Common.{◌≡◌, ℕ, zero, suc, Bool, true, false, ◌||◌, List, [], ◌∷◌, ◌++◌, length, Option, None, Some, IsSome, OnSome, refl, sym, ap, subst, ◌∙◌, arith}
 use Rattle.std.specs.Prelude.{slice_index_or, remove}
 use Rattle.std.proofs.lemmas.List.Folds.{list_any-append}
 use Rattle.np_syntax.specs.declared.value.Name.{Name}
 use Rattle.np_tables.specs.Names.{same_name}
-use Rattle.np_tables.proofs.Keyed.{alike, alike-same}
-use Rattle.np_tables.proofs.Tables.{same_name-is, same_name-itself}
+use Rattle.np_tables.proofs.Tables.{same_name-itself}
+use Rattle.np_tables.proofs.Walks.{Before}
 use Rattle.site_agents.specs.Queues.{Waiting, listed, waits, Keeps, KeepsBut}
 
 or_true : (b : Bool) → (b || true) ≡ true
@@ -42,17 +42,6 @@ drop_or false b e h = h
 pub keeps_pop : (names : List Name) (lost : Bool) (n : Name) → KeepsBut n (waiting (n ∷ names) lost) (waiting names lost)
 keeps_pop names lost n = record { each = λ q apart h. or_left lost _ _ h (drop_or (same_name q n) (listed names q) apart) }
 
-or_false : (b : Bool) → (b || false) ≡ b
-or_false true = refl
-or_false false = refl
-
-shorter : (q : Name) (names : List Name) (n : Name) → same_name q n ≡ false → listed (names ++ n ∷ []) q ≡ true → listed names q ≡ true
-shorter q names n apart h =
-    sym (or_false (listed names q)) ∙ sym (ap (λ b. listed names q || (b || false)) apart) ∙ sym (list_any-append (same_name q) names (n ∷ [])) ∙ h
-
-pub keeps_pop_back : (names : List Name) (lost : Bool) (n : Name) → KeepsBut n (waiting (names ++ n ∷ []) lost) (waiting names lost)
-keeps_pop_back names lost n = record { each = λ q apart h. or_left lost _ _ h (shorter q names n apart) }
-
 cut_listed : (q : Name) (names : List Name) (i : ℕ) (n : Name) → n ≡ slice_index_or names i n → same_name q n ≡ false → listed names q ≡ true → listed (remove names i) q ≡ true
 cut_listed q [] i n e apart h = absurd cc
 cut_listed q (x ∷ xs) zero n e apart h = drop_or (same_name q x) (listed xs q) (subst (λ y. same_name q y ≡ false) e apart) h
@@ -70,23 +59,20 @@ pub keeps_again : (old now new : Waiting) (n : Name) → KeepsBut n old now → 
 keeps_again old now new n but keeps here same =
     record { each = λ q h. tie (same_name q n) (waits new q) (λ t. subst (λ y. waits new y ≡ true) (sym (same q t)) here) (λ f. keeps.each q (but.each q f h)) }
 
--- what keeps all keeps all but a name
-pub keeps_then : (old now new : Waiting) (n : Name) → Keeps old now → KeepsBut n now new → KeepsBut n old new
-keeps_then old now new n keeps but = record { each = λ q apart h. but.each q apart (keeps.each q h) }
-
-pub keeps_but : (old new : Waiting) (n : Name) → Keeps old new → KeepsBut n old new
-keeps_but old new n keeps = record { each = λ q apart h. keeps.each q h }
-
 pub keeps_cut_to : (names new : List Name) (lost : Bool) (i : ℕ) (n : Name) → n ≡ slice_index_or names i n → new ≡ remove names i → KeepsBut n (waiting names lost) (waiting new lost)
 keeps_cut_to names new lost i n e r = subst (λ ns. KeepsBut n (waiting names lost) (waiting ns lost)) (sym r) (keeps_cut names lost i n e)
 
-not_false : (r b : Bool) → r ≡ not b → r ≡ false → b ≡ true
-not_false r true e f = refl
-not_false r false e f = absurd (let x = sym f ∙ e in cc)
+-- ---- where a name stands
 
--- a name that the derived comparison does not tell from another is that one
-pub same_by_test : (a b : Name) (r : Bool) → r ≡ not (alike a b) → r ≡ false → a ≡ b
-same_by_test a b r e f = same_name-is a b (sym (alike-same a b) ∙ not_false r (alike a b) e f)
+pub met : {A : Type 0} (o : Option A) (X : Type 0) → IsSome o → OnSome o X → X
+met None X h f = absurd cc
+met (Some x) X h f = f
 
-pub keeps_pop_back_to : (old names : List Name) (lost : Bool) (n : Name) → old ≡ names ++ n ∷ [] → KeepsBut n (waiting old lost) (waiting names lost)
-keeps_pop_back_to old names lost n e = subst (λ ns. KeepsBut n (waiting ns lost) (waiting names lost)) (sym e) (keeps_pop_back names lost n)
+or_none : (a b : Bool) → a ≡ false → b ≡ false → (a || b) ≡ false
+or_none true b e f = e
+or_none false b e f = f
+
+-- a name that a walk to the end did not meet is not in the list
+pub not_listed : (names : List Name) (q : Name) → Before (λ x. same_name q x ≡ false) names (length names) → listed names q ≡ false
+not_listed [] q none = refl
+not_listed (x ∷ xs) q none = or_none (same_name q x) (listed xs q) (none 0 x (omega arith)) (not_listed xs q (λ k d less. none (suc k) d (omega arith)))

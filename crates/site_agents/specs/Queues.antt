@@ -1,5 +1,5 @@
 -- What contracts see of a queue of names.
-use Rattle.std.specs.Prelude.{◌≡◌, Bool, true, false, ◌||◌, List, refl}
+use Rattle.std.specs.Prelude.{◌≡◌, ◌⊎◌, ℕ, Bool, true, false, ◌||◌, List, [], ◌∷◌, ◌++◌, ◌<◌, length, slice_index_or, remove, Option, None, Some, refl}
 use Rattle.std.specs.List.{list_any}
 use Rattle.std.specs.Coded.{Coded, code_by, coded×, coded_bool, coded_list}
 use Rattle.np_syntax.specs.declared.value.Name.{Name}
@@ -21,6 +21,26 @@ listed names q = list_any (same_name q) names
 -- the name waits, or is one that may be missing
 abbrev pub waits : Waiting → Name → Bool
 waits w q = w.lost || listed w.names q
+
+-- the name stands behind all others; or there was no room for it, and it is said that one is missing
+abbrev pub ComesLast : Name → Waiting → Waiting → Type 0
+ComesLast name old new = (new ≡ record old { names = old.names ++ name ∷ [] }) ⊎ (new ≡ record old { lost = true })
+
+-- the name stands at this place
+pub record StandsAt (names : List Name) (at : ℕ) (name : Name) : Type 0 where
+  pub within : at < length names
+  pub is : name ≡ slice_index_or names at name
+
+-- the name went from this place, and the others stand in their order; or it stood nowhere
+abbrev pub IsCut : Name → Option ℕ → List Name → List Name → Type 0
+IsCut name None old new = (listed old name ≡ false) × (new ≡ old)
+IsCut name (Some at) old new = StandsAt old at name × (new ≡ remove old at)
+
+-- the name went once, if it waited
+pub record Leaves (name : Name) (old new : Waiting) : Type 0 where
+  pub place : Option ℕ
+  pub names : IsCut name place old.names new.names
+  pub lost : new.lost ≡ old.lost
 
 -- whoever waited waits
 pub record Keeps (old new : Waiting) : Type 0 where

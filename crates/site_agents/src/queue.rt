@@ -1,5 +1,5 @@
-ghost use Rattle.std.specs.Prelude.{◌≡◌, ◌<◌, length, [], false, true, MatchOption, IfSome, IsTrue, ◌↔◌};
-ghost use Rattle.site_agents.specs.Queues.{waits, Keeps, KeepsBut};
+ghost use Rattle.std.specs.Prelude.{◌≡◌, ◌<◌, ◌-◌, length, [], ◌∷◌, false, true, MatchOption, IfSome, IsTrue, ◌↔◌};
+ghost use Rattle.site_agents.specs.Queues.{listed, waits, ComesLast, StandsAt, Leaves, Keeps, KeepsBut};
 
 use np_syntax::{Memory, Name};
 use std::alloc::Global;
@@ -26,7 +26,8 @@ impl Model for Queue {
 impl Queue {
     /// No names, which takes no memory.
     pub fn new(alloc: Global) -> Queue
-        ensures { result.lost ≡ false }
+        ensures names { result.names ≡ [] }
+        ensures lost { result.lost ≡ false }
     {
         Queue {
             names: VecDeque::new(alloc),
@@ -54,6 +55,7 @@ impl Queue {
 
     /// A name comes last.
     pub fn push(&mut self, name: Name)
+        ensures last { ComesLast name self.old self.new }
         ensures waits { waits self.new name ≡ true }
         ensures keeps { Keeps self.old self.new }
     {
@@ -65,6 +67,7 @@ impl Queue {
     /// Takes the first name.
     pub fn pop(&mut self) -> Option<Name>
         ensures first { MatchOption result ((self.old.names ≡ []) × (self.new ≡ self.old)) (λ first. KeepsBut first self.old self.new) }
+        ensures order { IfSome result (λ first. self.old ≡ record self.new { names = first ∷ self.new.names }) }
         ensures fewer { IfSome result (λ first. length self.new.names < length self.old.names) }
     {
         self.names.pop_front()
@@ -72,37 +75,34 @@ impl Queue {
 
     /// A name goes, wherever it stands. One that came last is found at once.
     pub fn leave(&mut self, name: Name)
-        ensures { KeepsBut name self.old self.new }
+        ensures gone { Leaves name self.old self.new }
+        ensures keeps { KeepsBut name self.old self.new }
     {
-        let Some(last) = self.names.pop_back() else {
-            return;
-        };
-        if last != name {
-            self.push(last);
-            self.cut(name);
-        }
-    }
-
-    /// A name goes that may stand anywhere.
-    fn cut(&mut self, name: Name)
-        ensures { KeepsBut name self.old self.new }
-    {
-        let Some(at) = place_of(&self.names, name) else {
-            return;
-        };
-        let Some(gone) = self.names.remove(at) else {
-            return;
-        };
-        if gone != name {
-            self.push(gone);
+        if let Some(at) = place_of(&self.names, name) {
+            let _ = self.names.remove(at);
         }
     }
 }
 
-/// The first place at which the name stands.
-fn place_of(names: &VecDeque<Name>, name: Name) -> Option<usize> {
+/// Whether the name stands last.
+fn is_last(names: &VecDeque<Name>, name: Name) -> bool
+    ensures { IsTrue result ↔ StandsAt names.now.items (length names.now.items - 1) name }
+{
+    match names.back() {
+        Some(last) => *last == name,
+        None => false,
+    }
+}
+
+/// A place at which the name stands. The last is looked at first.
+fn place_of(names: &VecDeque<Name>, name: Name) -> Option<usize>
+    ensures { MatchOption result (listed names.now.items name ≡ false) (λ at. StandsAt names.now.items at name) }
+{
+    if is_last(names, name) {
+        return Some(names.len() - 1);
+    }
     for at in 0..names.len() {
-        if names.get(at).copied() == Some(name) {
+        if names[at] == name {
             return Some(at);
         }
     }

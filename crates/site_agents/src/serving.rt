@@ -1,6 +1,6 @@
 ghost use Rattle.std.specs.Prelude.{◌≡◌, ◌<◌, ◌≤◌, ◌↔◌, length, [], false, true, IfSome, IfNone, IsTrue, Some};
 ghost use Rattle.std.specs.FinMap as map;
-ghost use Rattle.site_agents.specs.Queues.{waits, Keeps, KeepsBut};
+ghost use Rattle.site_agents.specs.Queues.{waits, Keeps, KeepsBut, Leaves};
 ghost use Rattle.site_agents.specs.Rounds.{GoesOn, with_changed, doubted, called, settled};
 ghost use Rattle.site_agents.specs.Standings.{agents_of, CanDo, CanNothing, NoneCan, NoneCanDo, IdleAt, AreIdle};
 ghost use Rattle.site_agents.specs.declared.seat.Seat.{Seat as Sat};
@@ -184,6 +184,7 @@ pub fn take_seat(seats: &mut Seats<Seat>, turns: &mut Queue, name: Name) -> Opti
     ensures agent { result ≡ map.get (agents_of seats.old.items) name }
     ensures items { seats.new.items ≡ map.remove seats.old.items name }
     ensures spare { seats.old.spare ≤ seats.new.spare }
+    ensures gone { (s : Sat) → map.get seats.old.items name ≡ Some s → IsTrue s.queued → Leaves name turns.old turns.new }
     ensures turns { KeepsBut name turns.old turns.new }
 {
     match seats.take(name) {
@@ -197,7 +198,8 @@ pub fn take_seat(seats: &mut Seats<Seat>, turns: &mut Queue, name: Name) -> Opti
 
 /// A name goes, if it stands in the queue.
 fn leave(queue: &mut Queue, name: Name, stands: bool)
-    ensures { KeepsBut name queue.old queue.new }
+    ensures gone { IsTrue stands → Leaves name queue.old queue.new }
+    ensures keeps { KeepsBut name queue.old queue.new }
 {
     if stands {
         queue.leave(name);

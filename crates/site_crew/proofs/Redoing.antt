@@ -1,12 +1,13 @@
 -- What one seat does where an event of a list is done again.
 use Rattle.std.proofs.Common.{◌≡◌, ◌<◌, ◌≤◌, ◌+◌, ◌-◌, ℕ, Bool, true, false, inl, inr, List, [], ◌∷◌, ◌++◌, length, set, get_or, Option, None, Some, Result, Ok, Err, IfOk, OnOk, OnErr, refl, sym, ap, subst, ◌∙◌, arith, length-append, length-set}
-use Rattle.std.specs.Prelude.{slice_get}
+use Rattle.std.specs.Prelude.{max, slice_get}
 use Rattle.std.proofs.lemmas.Bool.{eqb-true}
 use Rattle.std.proofs.lemmas.Option.{slice_get_within, slice_get-get_or}
 use Rattle.std.specs.Option.{option_eq}
 use Rattle.std.specs.Prelude.{eqb}
-use denote.Enum.Bare.{sameb, same_true}
-use Rattle.np_syntax.proofs.Bools.{and-out}
+use Rattle.std.proofs.Common.{eq-eqb}
+use denote.Enum.Bare.{sameb, same_true, true_same}
+use Rattle.np_syntax.proofs.Bools.{and-in, and-out}
 use Rattle.np_syntax.specs.declared.memory.Memory.{Memory}
 use Rattle.np_syntax.specs.declared.value.Name.{Name}
 use Rattle.np_syntax.specs.contracts.value.NamePartialEq.TheImpl as names
@@ -22,14 +23,15 @@ use Rattle.stamp_history.specs.Histories.{IsHistory, Recorded}
 use Rattle.site_links.specs.declared.port.Port as Port
 use Rattle.site_links.proofs.Rows.{get-push_at, get-set_same}
 use Rattle.np_code.specs.Programs.{ProgramTable}
+use Rattle.agent_pool.specs.declared.ready.Ready.{Ready}
 use Rattle.agent_move.specs.declared.item.Item.{Item}
-use Rattle.site_state.specs.Doing.{HasDone, HasDoneEvent, HasTaken, IsRedone}
+use Rattle.site_state.specs.Doing.{HasDoneEvent, HasTaken, IsRedone, event_at}
 use Rattle.site_state.specs.Standings.{Standing, Stays, with_clock}
 use Rattle.site_turn.specs.declared.seat.Seat.{Seat}
 use Rattle.site_turn.specs.Turns.{Accepts, SetsAside, Turned}
 use Rattle.site_turn.proofs.Holdings.{later_weaker, not_recorded, recorded_events}
 use Rattle.site_turn.proofs.Steps.{turned_done, turned_stays}
-use Rattle.site_crew.specs.Following.{Adds, AllRest, HasAccepted, HaveAdded, IsLast, IsNotEarly, Moves, Rests, StandBut}
+use Rattle.site_crew.specs.Following.{Adds, AllRest, HasAccepted, HasNotAdded, HaveAdded, IsLast, IsNotEarly, Moves, Rests, StandBut}
 use Rattle.site_crew.specs.Links.{AreSettledIn}
 use Rattle.site_crew.specs.Seats.{Stand}
 use Rattle.site_crew.proofs.Pairs.{some_is}
@@ -44,6 +46,10 @@ on_ok (Err m) f h = tt
 pub on_yes : {X Y : Type 0} (r : Result Bool Memory) → (X → Y) → IfOk r (λ is. is ≡ true → X) → IfOk r (λ is. is ≡ true → Y)
 on_yes (Ok is) f h = λ yes. f (h yes)
 on_yes (Err m) f h = tt
+
+pub on_no : {X Y : Type 0} (r : Result Bool Memory) → (X → Y) → IfOk r (λ is. is ≡ false → X) → IfOk r (λ is. is ≡ false → Y)
+on_no (Ok is) f h = λ none. f (h none)
+on_no (Err m) f h = tt
 
 -- ---- events are compared
 
@@ -92,6 +98,23 @@ event-is e f h =
     let made : e.made ≡ f.made = made-is e.made f.made t.1 in
     λ i. record { site = site i; kind = kind i; actor = actor i; other = other i; tag = record { node = node i; role = role i }; made = made i }
 
+same-itself : (a : Name) → names.eq-value.it a a ≡ true
+same-itself a = and-in (eq-eqb a.site a.site refl) (eq-eqb a.n a.n refl)
+
+other-itself : (o : Option Name) → option_eq names.eq-value.it o o ≡ true
+other-itself None = refl
+other-itself (Some a) = same-itself a
+
+made-itself : (m : Made) → mades.eq-value.it m m ≡ true
+made-itself made.Nothing = refl
+made-itself (made.One a) = same-itself a
+made-itself (made.Two a b) = and-in (same-itself a) (same-itself b)
+
+pub event-itself : (e : Event) → events.eq-value.it e e ≡ true
+event-itself e =
+    and-in (eq-eqb e.site e.site refl) (and-in (true_same kinds.the_type e.kind e.kind refl) (and-in (same-itself e.actor) (and-in (other-itself e.other)
+    (and-in (and-in (eq-eqb e.tag.node e.tag.node refl) (true_same roles.the_type e.tag.role e.tag.role refl)) (made-itself e.made)))))
+
 -- the last of a list with one more element is that
 last-is : {T : Type 0} (xs ys : List T) (x y : T) → ys ≡ xs ++ y ∷ [] → IsLast ys x → x ≡ y
 last-is xs ys x y e last =
@@ -107,6 +130,18 @@ last_found xs d stamp e r some stamped told is =
     let event : (get_or xs (length xs - 1) d).event ≡ e = event-is (get_or xs (length xs - 1) d).event e (sym told ∙ is) in
     let same : get_or xs (length xs - 1) d ≡ record { stamp = stamp; event = e } = λ i. record { stamp = stamped i; event = event i } in
     record { before = length xs - 1; count = omega arith; last = slice_get-get_or xs (length xs - 1) d less ∙ ap Some same }
+
+-- it was found not to be
+pub last_missed : (xs : List Stamped) (d : Stamped) (stamp : ℕ) (e : Event) (r : Bool) → r ≡ events.eq-value.it (get_or xs (length xs - 1) d).event e → r ≡ false
+    → IsLast xs (record { stamp = stamp; event = e }) → ⊥
+last_missed xs d stamp e r told missed last =
+    let x : Stamped = record { stamp = stamp; event = e } in
+    let count : length xs ≡ last.before + 1 = last.count in
+    let less : length xs - 1 < length xs = omega arith in
+    let place : last.before ≡ length xs - 1 = omega arith in
+    let there : get_or xs (length xs - 1) d ≡ x =
+    some_is (slice_get xs (length xs - 1)) (get_or xs (length xs - 1) d) x (slice_get-get_or xs (length xs - 1) d less) (subst (λ i. slice_get xs i ≡ Some x) place last.last) in
+    let same : false ≡ true = sym missed ∙ told ∙ ap (λ (y : Stamped). events.eq-value.it y.event e) there ∙ event-itself e in absurd cc
 
 -- ---- an event of the site's own
 
@@ -190,6 +225,52 @@ module _ {P : Type 0} where
         sound = λ was. ok;
       }
 
+-- an event that was added is the last
+pub added_last : {P : Type 0} {e : Event} {stamp : ℕ} {a b : Seat P} → Adds e stamp a b → IsLast b.site.history.events (record { stamp = stamp; event = e })
+added_last {P} {e} {stamp} {a} {b} adds =
+    let es = a.site.history.events in
+    let x : Stamped = record { stamp = stamp; event = e } in record {
+      before = length es;
+      count = ap length adds.events ∙ length-append es (x ∷ []);
+      last = ap (λ l. slice_get l (length es)) adds.events ∙ get-push_at es (length es) x refl;
+    }
+
+-- where the history is as it was, none was added
+pub none_added : {P : Type 0} {e : Event} {stamp : ℕ} {a b : Seat P} → b.site.history ≡ a.site.history → Adds e stamp a b → ⊥
+none_added {P} {e} {stamp} {a} {b} same adds =
+    let es = a.site.history.events in
+    let x : Stamped = record { stamp = stamp; event = e } in
+    let grown : length es ≡ length es + 1 = ap (λ (h : Recorded). length h.events) (sym same) ∙ ap length adds.events ∙ length-append es (x ∷ []) in absurd (omega arith)
+
+-- so it is among all seats
+pub not_added_at : {P : Type 0} (e : Event) (stamp : ℕ) (xs : List (Seat P)) (a c : Seat P) → slice_get xs e.site ≡ Some a → (a.failed ≡ false → Adds e stamp a c → ⊥)
+    → HasNotAdded e stamp xs (set xs e.site c)
+not_added_at {P} e stamp xs a c at none = record {
+  there = λ x y was is ok adds.
+      let first : a ≡ x = some_is (slice_get xs e.site) a x at was in
+      let last : c ≡ y = some_is (slice_get (set xs e.site c) e.site) c y (get-set_same xs e.site c (slice_get_within xs e.site a at)) is in
+      none (subst (λ (v : Seat P). v.failed ≡ false) (sym first) ok) (subst (λ (v : Seat P). Adds e stamp v c) (sym first) (subst (λ (v : Seat P). Adds e stamp x v) (sym last) adds));
+}
+
+-- and where no event was made before or after
+pub not_added_between : {P : Type 0} {late stamp : ℕ} {e : Event} {xs ys zs ws : List (Seat P)} → AllRest late xs ys → HasNotAdded e stamp ys zs → AllRest 0 zs ws → HasNotAdded e stamp xs ws
+not_added_between {P} {late} {stamp} {e} {xs} {ys} {zs} {ws} before none after = record {
+  there = λ a b was is ok adds.
+      let y = there_too xs ys e.site a before.count was in
+      let z = there_too ws zs e.site b (sym after.count) is in
+      let r = before.each e.site a y.0 was y.1 in
+      let q = after.each e.site z.0 b z.1 is in
+      let low : b.site.clock ≤ max z.0.site.clock 0 = q.clock in
+      let high : z.0.site.clock ≤ b.site.clock = q.later in
+      let at : b.site.clock ≡ stamp = adds.clock in
+      let x : Stamped = record { stamp = stamp; event = e } in
+      none.there y.0 z.0 y.1 z.1 (r.failed ∙ ok) (record {
+        events = ap (λ (h : Recorded). h.events) (sym q.history) ∙ adds.events ∙ ap (λ (h : Recorded). h.events ++ x ∷ []) (sym r.history);
+        clock = omega arith;
+        sound = λ sound. sym q.failed ∙ adds.sound (sym r.failed ∙ sound);
+      });
+}
+
 -- ---- all seats
 
 module _ {P : Type 0} where
@@ -217,20 +298,20 @@ module _ {P : Type 0} where
 -- ---- an event that is tried again
 
 module _ {P R : Type 0} {g : Port.Ghosts P R Item} {code : ProgramTable} where
-  pub turned_redone : (a b : Seat P) (stamp : ℕ) (r : Result Bool Memory) → a.site.clock < stamp → IfOk r (IsRedone code stamp a.site b.site) → OnErr r (Stays code a.site b.site)
+  pub turned_redone : (a b : Seat P) (asked : Ready) (stamp : ℕ) (r : Result Bool Memory) → a.site.clock < stamp → IfOk r (IsRedone code asked stamp a.site b.site) → OnErr r (Stays code a.site b.site)
       → length a.site.outgoing ≡ length code.sites → b.port ≡ a.port → b.aside ≡ a.aside → b.budget ≡ a.budget → b.failed ≡ a.failed → Turned g code a b
-  turned_redone a b stamp (Ok true) above done stays lines port aside budget failed =
-      turned_late a b (stamp - 1) done.0.event (omega arith) (record { out = done.0.out; did = done.0.did }) lines port aside budget failed
-  turned_redone a b stamp (Ok false) above done stays lines port aside budget failed = turned_stays done.same port aside budget (λ h. sym failed ∙ h)
-  turned_redone a b stamp (Err m) above done stays lines port aside budget failed = turned_stays stays.same port aside budget (λ h. sym failed ∙ h)
+  turned_redone a b asked stamp (Ok true) above done stays lines port aside budget failed =
+      turned_late a b (stamp - 1) (event_at code a.site done.agent asked) (omega arith) done.done lines port aside budget failed
+  turned_redone a b asked stamp (Ok false) above done stays lines port aside budget failed = turned_stays done.0.same port aside budget (λ h. sym failed ∙ h)
+  turned_redone a b asked stamp (Err m) above done stays lines port aside budget failed = turned_stays stays.same port aside budget (λ h. sym failed ∙ h)
 
 -- what was done is the event, where that is the last
-pub adds_redone : {P : Type 0} (code : ProgramTable) (e : Event) (stamp : ℕ) (a b : Seat P) → HasDone code (with_clock a.site (stamp - 1)) b.site → b.failed ≡ a.failed
+pub adds_redone : {P : Type 0} (code : ProgramTable) (e deed : Event) (stamp : ℕ) (a b : Seat P) → HasDoneEvent code (with_clock a.site (stamp - 1)) b.site deed → b.failed ≡ a.failed
     → IsLast b.site.history.events (record { stamp = stamp; event = e }) → Adds e stamp a b
-adds_redone code e stamp a b done failed last =
-    let events = ap (λ (h : Recorded). h.events) done.did.history ∙ recorded_events a.site.history (record { stamp = b.site.clock; event = done.event }) done.did.value in
-    let same : record { stamp = stamp; event = e } ≡ record { stamp = b.site.clock; event = done.event } =
-    last-is a.site.history.events b.site.history.events (record { stamp = stamp; event = e }) (record { stamp = b.site.clock; event = done.event }) events last in
+adds_redone code e deed stamp a b done failed last =
+    let events = ap (λ (h : Recorded). h.events) done.did.history ∙ recorded_events a.site.history (record { stamp = b.site.clock; event = deed }) done.did.value in
+    let same : record { stamp = stamp; event = e } ≡ record { stamp = b.site.clock; event = deed } =
+    last-is a.site.history.events b.site.history.events (record { stamp = stamp; event = e }) (record { stamp = b.site.clock; event = deed }) events last in
     record {
       events = events ∙ ap (λ (x : Stamped). a.site.history.events ++ x ∷ []) (sym same);
       clock = ap (λ (x : Stamped). x.stamp) (sym same);

@@ -57,6 +57,10 @@ pub record HaveAdded {P : Type 0} (e : Event) (stamp late : ℕ) (xs ys : List (
   pub there : (a b : Seat P) → slice_get xs e.site ≡ Some a → slice_get ys e.site ≡ Some b → Adds e stamp a b
   pub others : (i : ℕ) (a b : Seat P) → i ≢ e.site → slice_get xs i ≡ Some a → slice_get ys i ≡ Some b → Rests late a b
 
+-- the site of the event has not recorded it as its last with this stamp, if memory had not run out before
+pub record HasNotAdded {P : Type 0} (e : Event) (stamp : ℕ) (xs ys : List (Seat P)) : Type 0 where
+  pub there : (a b : Seat P) → slice_get xs e.site ≡ Some a → slice_get ys e.site ≡ Some b → a.failed ≡ false → Adds e stamp a b → ⊥
+
 -- where no site has made an event, the stamp is 0
 pub record IsNotEarly {P : Type 0} (stamp : ℕ) (xs : List (Seat P)) : Type 0 where
   pub none : ((i : ℕ) (s : Seat P) → slice_get xs i ≡ Some s → s.site.history.events ≡ []) → stamp ≡ 0

@@ -1,7 +1,7 @@
 //! The seats of a crew do the events of a list again, as far as they can.
-ghost use Rattle.std.specs.Prelude.{◌≡◌, ◌<◌, ◌≤◌, ◌+◌, ◌^◌, true, length, take, Some, slice_get, IfOk};
+ghost use Rattle.std.specs.Prelude.{◌≡◌, ◌<◌, ◌≤◌, ◌+◌, ◌^◌, true, false, length, take, Some, slice_get, IfOk};
 ghost use Rattle.site_crew.specs.Crews.{NoneFailed};
-ghost use Rattle.site_crew.specs.Following.{Adds, AreAt, HaveAdded, HaveDone};
+ghost use Rattle.site_crew.specs.Following.{Adds, AreAt, HasNotAdded, HaveAdded, HaveDone};
 ghost use Rattle.site_crew.specs.Seats.{AllGrow, Stand, event_count, histories};
 ghost use Rattle.site_turn.specs.declared.seat.Seat.{Seat as OneSeat};
 ghost use Rattle.site_turn.specs.Turns.{Seated, Turned};
@@ -31,6 +31,7 @@ fn redo<R, P: Port<R, Item>>(
     ensures turned { Turned P.Port code.now seat.old seat.new }
     ensures port { (seat.new.port ≡ seat.old.port) × (seat.new.waits ≡ seat.old.waits) }
     ensures ok { IfOk result (λ is. is ≡ true → Adds event stamp seat.old seat.new) }
+    ensures no { IfOk result (λ is. is ≡ false → Adds event stamp seat.old seat.new → ⊥) }
 {
     if !has_room::<R, P>(code, seat) {
         return Ok(false);
@@ -58,6 +59,7 @@ fn redo_at<R, P: Port<R, Item>>(
     ensures stand { Stand P.Port code.now _budget seats.new }
     ensures grow { AllGrow (histories seats.old) (histories seats.new) }
     ensures ok { IfOk result (λ is. is ≡ true → HaveAdded event stamp 0 seats.old seats.new) }
+    ensures no { IfOk result (λ is. is ≡ false → HasNotAdded event stamp seats.old seats.new) }
 {
     let at = event.site as usize;
     let done = redo(rt, alloc, code, &mut seats[at], event, stamp);

@@ -1,6 +1,6 @@
 //! An item that comes to a site again: it goes from the line of its sender over the link, and is accepted.
-ghost use Rattle.std.specs.Prelude.{◌≡◌, ◌<◌, ◌≤◌, ◌-◌, ◌^◌, ℕ, true, length, slice_get, Some, OnOk};
-ghost use Rattle.site_crew.specs.Following.{Adds, AllRest, HasAccepted, HaveAdded, IsLast, IsNotEarly, Moves, Rests, StandBut};
+ghost use Rattle.std.specs.Prelude.{◌≡◌, ◌<◌, ◌≤◌, ◌-◌, ◌^◌, ℕ, true, false, length, slice_get, Some, OnErr, OnOk};
+ghost use Rattle.site_crew.specs.Following.{Adds, AllRest, HasAccepted, HasNotAdded, HaveAdded, IsLast, IsNotEarly, Moves, Rests, StandBut};
 ghost use Rattle.site_crew.specs.Seats.{AllGrow, Stand, histories};
 ghost use Rattle.site_turn.specs.declared.seat.Seat.{Seat as OneSeat};
 ghost use Rattle.site_turn.specs.Turns.{Seated};
@@ -88,6 +88,7 @@ fn take<R, P: Port<R, Item>>(rt: &R, code: &Code, seat: &mut Seat<P>) -> bool
     requires { Seated P.Port code.now seat.old }
     ensures moves { (i : ℕ) → Moves P.Port code.now i i seat.old seat.new }
     ensures yes { result ≡ true → HasAccepted seat.old seat.new }
+    ensures no { result ≡ false → seat.new.site.history ≡ seat.old.site.history }
 {
     if seat.aside.is_some() || !has_room::<R, P>(code, seat) {
         return false;
@@ -100,7 +101,8 @@ fn take<R, P: Port<R, Item>>(rt: &R, code: &Code, seat: &mut Seat<P>) -> bool
 
 /// Whether the last event of a site is this one, with this stamp.
 pub fn is_last<P>(seat: &Seat<P>, event: Event, stamp: u64) -> bool
-    ensures { result ≡ true → IsLast seat.now.site.history.events (record { stamp = stamp; event = event }) }
+    ensures yes { result ≡ true → IsLast seat.now.site.history.events (record { stamp = stamp; event = event }) }
+    ensures no { result ≡ false → IsLast seat.now.site.history.events (record { stamp = stamp; event = event }) → ⊥ }
 {
     let events = seat.site.history().events();
     let n = events.len();
@@ -125,8 +127,15 @@ fn take_for<R, P: Port<R, Item>>(
     requires { Seated P.Port code.now seat.old }
     ensures moves { (i : ℕ) → Moves P.Port code.now i i seat.old seat.new }
     ensures yes { result ≡ true → Adds event stamp seat.old seat.new }
+    ensures no { result ≡ false → seat.old.failed ≡ false → Adds event stamp seat.old seat.new → ⊥ }
 {
-    take(rt, code, seat) && !seat.failed && is_last(seat, event, stamp)
+    if !take(rt, code, seat) {
+        return false;
+    }
+    if seat.failed {
+        return false;
+    }
+    is_last(seat, event, stamp)
 }
 
 /// The site of an event takes an item that comes, and tells whether this was the event.
@@ -144,6 +153,7 @@ fn take_at<R, P: Port<R, Item>>(
     ensures grow { AllGrow (histories seats.old) (histories seats.new) }
     ensures count { length seats.new ≡ length seats.old }
     ensures yes { result ≡ true → HaveAdded event stamp 0 seats.old seats.new }
+    ensures no { result ≡ false → HasNotAdded event stamp seats.old seats.new }
 {
     let at = event.site as usize;
     let took = take_for(rt, code, &mut seats[at], event, stamp);
@@ -188,6 +198,7 @@ pub fn bring<R, P: Port<R, Item>>(
     ensures stand { Stand P.Port code.now budget seats.new }
     ensures grow { AllGrow (histories seats.old) (histories seats.new) }
     ensures yes { result ≡ true → HaveAdded event stamp (stamp - 1) seats.old seats.new }
+    ensures no { result ≡ false → HasNotAdded event stamp seats.old seats.new }
 {
     let at = event.site as usize;
     catch_at(rt, code, budget, seats, at, stamp - 1);
@@ -213,6 +224,7 @@ pub fn bring_at<R, P: Port<R, Item>>(
     ensures stand { Stand P.Port code.now budget seats.new }
     ensures grow { AllGrow (histories seats.old) (histories seats.new) }
     ensures ok { OnOk result (HaveAdded event stamp (stamp - 1) seats.old seats.new) }
+    ensures err { OnErr result (HasNotAdded event stamp seats.old seats.new) }
 {
     if bring(rt, code, budget, seats, event, stamp) {
         Ok(())

@@ -1,10 +1,11 @@
-ghost use Rattle.std.specs.Prelude.{◌≡◌, ◌≤◌, true, false, length, map, None, Some, IfErr, IfOk, IfSome, IsSome, OnOk, OnErr};
+ghost use Rattle.std.specs.Prelude.{◌≡◌, ◌≤◌, true, false, length, map, None, Some, IfErr, IfNone, IfOk, IfSome, IsSome, OnOk, OnErr};
 ghost use Rattle.np_syntax.specs.declared.limits.TheConstants.{LARGEST_BUDGET, MOST_SITES};
 ghost use Rattle.np_code.specs.Programs.{program};
 ghost use Rattle.np_calculus.specs.Reductions.{run};
 ghost use Rattle.np_calculus.specs.Starts.{start_low};
 ghost use Rattle.site_crew.specs.Crews.{AddsLater, GoesOn, HasEnded, HasRun, IsJudged, IsRoundOf, NoneFailed};
 ghost use Rattle.site_crew.specs.Lists.{HasFailed, HasFollowed, HasRedone, IsToFollow};
+ghost use Rattle.site_crew.specs.Quiet.{AllQuiet, AreOver};
 ghost use Rattle.site_crew.specs.Runs.{IsProgram};
 ghost use Rattle.site_crew.specs.Seats.{event_count, histories};
 
@@ -180,13 +181,17 @@ impl<R, P: Port<R, Item>> Crew<R, P> {
         ensures on { GoesOn self.old self.new }
         ensures run { HasRun self.new }
         ensures ok { IfOk result (λ all. all ≡ true → HasRedone events.now self.new) }
+        ensures no { IfOk result (λ all. all ≡ false → self.new.failed ≡ true) }
+        ensures err { OnErr result (self.new.failed ≡ true) }
     {
         let alloc = self.alloc;
         let sites = self.code.sites();
         if events.len() > u32::MAX as usize {
+            self.failed = true;
             return Ok(false);
         }
         if !are_within(events, sites, self.budget) {
+            self.failed = true;
             return Ok(false);
         }
         let done = redo_all(
@@ -322,7 +327,8 @@ where
 
 /// Whether a seat wanted for memory.
 fn any_failed<P>(seats: &[Seat<P>]) -> bool
-    ensures { result ≡ false → NoneFailed seats.now }
+    ensures none { result ≡ false → NoneFailed seats.now }
+    ensures some { result ≡ true → NoneFailed seats.now → ⊥ }
 {
     for i in 0..seats.len() {
         if seats[i].failed {
@@ -336,7 +342,8 @@ fn any_failed<P>(seats: &[Seat<P>]) -> bool
 /// that be, since what waits for it is taken in its next turn, but this is no more than checked here.
 fn judged<P>(code: &Code, budget: u32, went: bool, seats: &[Seat<P>]) -> Option<Round>
     requires { length seats.now ≤ MOST_SITES }
-    ensures { IfSome result (IsJudged code.now budget went seats.now) }
+    ensures some { IfSome result (IsJudged code.now budget went seats.now) }
+    ensures none { IfNone result ((went ≡ false) × (AllQuiet code.now seats.now → ⊥) × (AreOver code.now budget seats.now → ⊥)) }
 {
     if went {
         Some(Round::Went)

@@ -1,5 +1,5 @@
 //! Whether a crew does the events of a list again.
-ghost use Rattle.std.specs.Prelude.{◌≡◌, true, length, IfErr, IsSome, OnOk, MatchOption};
+ghost use Rattle.std.specs.Prelude.{◌≡◌, true, false, length, IfErr, IsSome, OnOk, MatchOption};
 ghost use Rattle.np_calculus.specs.Reductions.{run};
 ghost use Rattle.np_calculus.specs.Starts.{start_low};
 ghost use Rattle.np_following.specs.Following.{events_at};
@@ -37,7 +37,8 @@ fn first_past(events: &[Event], sites: u32, budget: u32) -> Option<u32>
 
 /// Whether none of so many sites has more events in a list than the budget.
 pub fn are_within(events: &[Event], sites: u32, budget: u32) -> bool
-    ensures { result ≡ true → AreWithin sites budget events.now }
+    ensures yes { result ≡ true → AreWithin sites budget events.now }
+    ensures no { result ≡ false → AreWithin sites budget events.now → ⊥ }
 {
     first_past(events, sites, budget).is_none()
 }

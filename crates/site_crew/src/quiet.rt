@@ -24,22 +24,17 @@ fn is_quiet<P>(code: &Code, seat: &Seat<P>) -> bool
     ensures yes { result ≡ true → IsQuietSeat code.now seat.now }
     ensures no { result ≡ false → IsQuietSeat code.now seat.now → ⊥ }
 {
-    if seat.waits {
+    if !is_resting(code, seat) {
         return false;
     }
-    if seat.aside.is_some() {
-        return false;
-    }
-    if !seat.site.all_sent() {
-        return false;
-    }
-    seat.site.idle(code)
+    seat.site.all_sent()
 }
 
 /// Whether each site that has made fewer events than the budget can do nothing.
 pub fn are_over<P>(code: &Code, budget: u32, seats: &[Seat<P>]) -> bool
     requires { length seats.now ≤ MOST_SITES }
-    ensures { result ≡ true → AreOver code.now budget seats.now }
+    ensures yes { result ≡ true → AreOver code.now budget seats.now }
+    ensures no { result ≡ false → AreOver code.now budget seats.now → ⊥ }
 {
     for i in 0..seats.len() {
         if !is_over(code, budget, seats, i) {
@@ -53,22 +48,36 @@ pub fn are_over<P>(code: &Code, budget: u32, seats: &[Seat<P>]) -> bool
 fn is_over<P>(code: &Code, budget: u32, seats: &[Seat<P>], i: usize) -> bool
     requires few { length seats.now ≤ MOST_SITES }
     requires place { i < length seats.now }
-    ensures { result ≡ true → IsOver code.now budget seats.now i }
+    ensures yes { result ≡ true → IsOver code.now budget seats.now i }
+    ensures no { result ≡ false → IsOver code.now budget seats.now i → ⊥ }
 {
-    seats[i].site.history().len() >= budget
-        || (is_resting(code, &seats[i]) && none_sends(seats, i as u32))
+    if seats[i].site.history().len() >= budget {
+        return true;
+    }
+    if !is_resting(code, &seats[i]) {
+        return false;
+    }
+    none_sends(seats, i as u32)
 }
 
 /// Whether a site's agents are idle, and nothing waits for it.
 fn is_resting<P>(code: &Code, seat: &Seat<P>) -> bool
-    ensures { result ≡ true → IsResting code.now seat.now }
+    ensures yes { result ≡ true → IsResting code.now seat.now }
+    ensures no { result ≡ false → IsResting code.now seat.now → ⊥ }
 {
-    !seat.waits && seat.aside.is_none() && seat.site.idle(code)
+    if seat.waits {
+        return false;
+    }
+    if seat.aside.is_some() {
+        return false;
+    }
+    seat.site.idle(code)
 }
 
 /// Whether no site has an item for this one that is still to be put on its link.
 fn none_sends<P>(seats: &[Seat<P>], to: u32) -> bool
-    ensures { result ≡ true → NoneSends seats.now to }
+    ensures yes { result ≡ true → NoneSends seats.now to }
+    ensures no { result ≡ false → NoneSends seats.now to → ⊥ }
 {
     for k in 0..seats.len() {
         if !seats[k].site.has_none_for(to) {

@@ -21,7 +21,7 @@ use Rattle.agent_move.specs.Items.{item_of}
 use Rattle.site_state.specs.declared.stepping.Stepped.{Stepped}
 use Rattle.site_state.specs.declared.stepping.Stepped.TheVariants as stepped
 use Rattle.site_state.specs.Lines.{Waiting, IsPut, SameLines}
-use Rattle.site_agents.specs.Standings.{CanDo, NoneCan}
+use Rattle.site_agents.specs.Standings.{CanDo, NoneCan, NoneCanDo}
 use Rattle.site_state.specs.Standings.{IsQuiet, KeepsQuiet, Standing, Stays, holding_of, with_clock}
 
 -- an event with the item that it takes and the one that it puts out
@@ -102,10 +102,17 @@ IsTried code old new stepped.Did = HasRoom old × HasDone code old new
 IsTried code old new stepped.Quiet = HasRoom old × Stays code old new
 IsTried code old new stepped.Spent = (length old.history.events ≡ old.history.budget) × Stays code old new
 
--- at this stamp an event was done by given marks, or nothing was
-abbrev pub IsRedone : ProgramTable → ℕ → Standing → Standing → Bool → Type 0
-IsRedone code stamp old new true = HasDone code (with_clock old (stamp - 1)) new × (new.clock ≡ stamp)
-IsRedone code stamp old new false = Stays code old new
+-- at this stamp an agent that stands here has done what is asked, as one event of the site
+pub record HasDoneAsked (code : ProgramTable) (r : Ready) (stamp : ℕ) (old new : Standing) : Type 0 where
+  pub agent : Name
+  pub can : CanDo code old.agents agent r
+  pub done : HasDoneEvent code (with_clock old (stamp - 1)) new (event_at code old agent r)
+  pub clock : new.clock ≡ stamp
+
+-- an agent has done what is asked, or none that stands here can
+abbrev pub IsRedone : ProgramTable → Ready → ℕ → Standing → Standing → Bool → Type 0
+IsRedone code r stamp old new true = HasDoneAsked code r stamp old new
+IsRedone code r stamp old new false = Stays code old new × NoneCanDo code old.agents r
 
 -- an item was taken, whatever the code of as many sites
 pub record HasTaken (old new : Standing) (x : Item) : Type 0 where

@@ -69,7 +69,7 @@ impl Site {
         requires room { HasRoom self.old }
         requires above { self.old.clock < stamp }
         requires stamp { stamp ≤ 2 ^ 40 }
-        ensures ok { IfOk result (IsRedone code.now stamp self.old self.new) }
+        ensures ok { IfOk result (IsRedone code.now (ready_of event) stamp self.old self.new) }
         ensures err { OnErr result (Stays code.now self.old self.new) }
     {
         match self.agents.who_can(code, ready_of(event)) {
@@ -92,7 +92,7 @@ impl Site {
         requires can { CanDo code.now self.old.agents name r }
         requires above { self.old.clock < stamp }
         requires stamp { stamp ≤ 2 ^ 40 }
-        ensures ok { IfOk result (IsRedone code.now stamp self.old self.new) }
+        ensures ok { IfOk result (IsRedone code.now r stamp self.old self.new) }
         ensures err { OnErr result (Stays code.now self.old self.new) }
     {
         match self.do_late(alloc, code, name, r, stamp) {

@@ -31,7 +31,8 @@ impl Model for Outgoing {
 impl Outgoing {
     /// No items for any of the sites.
     pub fn new(alloc: Global, sites: u32) -> Result<Outgoing, Memory>
-        ensures { IfOk result (λ outgoing. AreEmpty sites outgoing.lines) }
+        ensures lines { IfOk result (λ outgoing. AreEmpty sites outgoing.lines) }
+        ensures sure { IfOk result (λ outgoing. outgoing.sure ≡ PLACES) }
     {
         let lines = lines_for(alloc, sites)?;
         Ok(Outgoing {
@@ -68,6 +69,7 @@ impl Outgoing {
     /// Makes sure of room for one more item, whatever site it is for.
     pub fn reserve(&mut self) -> Result<(), Memory>
         ensures lines { SameLines self.old.lines self.new.lines }
+        ensures sure { self.old.sure ≤ self.new.sure }
         ensures ok { OnOk result (0 < self.new.sure) }
     {
         if self.sure == 0 {
@@ -81,7 +83,8 @@ impl Outgoing {
     pub fn put(&mut self, to: u32, item: Item)
         requires to { to < length self.old.lines }
         requires room { 0 < self.old.sure }
-        ensures { IsPut self.old.lines to item self.new.lines }
+        ensures put { IsPut self.old.lines to item self.new.lines }
+        ensures sure { self.old.sure ≡ self.new.sure + 1 }
     {
         self.sure -= 1;
         self.lines[to as usize].put(item);
@@ -90,7 +93,8 @@ impl Outgoing {
     /// Takes the first item for a site, if there is one.
     pub fn take(&mut self, to: u32) -> Option<Item>
         requires { to < length self.old.lines }
-        ensures { MatchOption result ((queue_at self.old.lines to ≡ []) × SameLines self.old.lines self.new.lines) (λ item. IsTaken self.old.lines to item self.new.lines) }
+        ensures taken { MatchOption result ((queue_at self.old.lines to ≡ []) × SameLines self.old.lines self.new.lines) (λ item. IsTaken self.old.lines to item self.new.lines) }
+        ensures sure { self.new.sure ≡ self.old.sure }
     {
         self.lines[to as usize].take()
     }
@@ -99,7 +103,8 @@ impl Outgoing {
     pub fn put_first(&mut self, to: u32, item: Item)
         requires to { to < length self.old.lines }
         requires room { 0 < room_at self.old.lines to }
-        ensures { IsTaken self.new.lines to item self.old.lines }
+        ensures first { IsTaken self.new.lines to item self.old.lines }
+        ensures sure { self.old.sure ≤ self.new.sure + 1 }
     {
         self.sure = self.sure.saturating_sub(1);
         self.lines[to as usize].put_first(item);

@@ -1,9 +1,12 @@
 -- What a turn leaves of a site and its port (docs/LANGUAGE.md, "History text").
-use Rattle.std.specs.Prelude.{◌≡◌, ◌<◌, ◌≤◌, ◌^◌, ℕ, false, List, ◌++◌, length, map, Option, None, Some, IfSome, option_map, option_to_list}
+use Rattle.std.specs.Prelude.{◌≡◌, ◌<◌, ◌≤◌, ◌+◌, ◌^◌, ◌⊎◌, min, ℕ, Bool, true, false, List, [], ◌∷◌, ◌++◌, length, map, Option, None, Some, IfSome, option_map, option_to_list}
 use Rattle.std.specs.List.{AllByRecursion}
+use Rattle.np_syntax.specs.declared.event.Kind.{Kind}
+use Rattle.np_syntax.specs.declared.event.Kind.TheVariants as kind
 use Rattle.stamp_history.specs.declared.stamped.Stamped.{Stamped}
 use Rattle.stamp_history.specs.Histories.{Recorded}
-use Rattle.site_links.specs.Words.{Begins, Keeps}
+use Rattle.site_links.specs.Words.{Begins, Keeps, only_at}
+use Rattle.site_links.specs.declared.places.TheConstants.{PLACES}
 use Rattle.site_links.specs.declared.port.Port as Port
 use Rattle.np_stamped_run.specs.Deeds.{Deed, StampedItem, clock_after, put_for}
 use Rattle.np_holdings.specs.Holdings.{Holding}
@@ -11,9 +14,12 @@ use Rattle.np_site_runs.specs.Accounts.{Came, IsAccount, came_on}
 use Rattle.np_code.specs.Programs.{ProgramTable}
 use Rattle.agent_move.specs.declared.item.Item.{Item}
 use Rattle.agent_move.specs.Items.{item_of}
-use Rattle.site_state.specs.Doing.{HasTaken}
+use Rattle.site_agents.specs.Standings.{NoneCan}
+use Rattle.site_state.specs.declared.stepping.Stepped.{Stepped}
+use Rattle.site_state.specs.declared.stepping.Stepped.TheVariants as stepped
+use Rattle.site_state.specs.Doing.{HasDone, HasRoom, HasTaken}
 use Rattle.site_state.specs.Lines.{queue_at}
-use Rattle.site_state.specs.Standings.{StaysForAll, holding_of}
+use Rattle.site_state.specs.Standings.{IsOut, IsQuiet, KeepsQuiet, SameAgents, SameRecords, SameSite, Standing, Stays, StaysForAll, holding_of}
 use Rattle.site_turn.specs.declared.seat.Seat.{Seat}
 
 -- items as the calculus sees them
@@ -41,6 +47,29 @@ pub record IsLater (was : ℕ) (old : List Stamped) (is : ℕ) (new : List Stamp
   pub begins : Begins new old
   pub above : AllByRecursion (λ e. was < e.stamp) begins.rest
 
+-- the site has made one event more
+pub record MakesOne (old new : Standing) : Type 0 where
+  pub event : Stamped
+  pub events : new.history.events ≡ old.history.events ++ event ∷ []
+
+-- The site has made no event: of what contracts see of it, no more has changed than room, what was found to be quiet, and what is still to be put on its
+-- links.
+pub record MakesNone (code : ProgramTable) (old new : Standing) : Type 0 where
+  pub agents : SameAgents old.agents new.agents
+  pub quiet : KeepsQuiet code old new
+  pub records : SameRecords old new
+
+-- an event of this kind puts an item out
+abbrev pub PutsOut : Kind → Type 0
+PutsOut k = (k ≡ kind.Depart) ⊎ (k ≡ kind.Send)
+
+-- the last event of the site put an item out
+pub record HasPut (s : Standing) : Type 0 where
+  pub before : List Stamped
+  pub last : Stamped
+  pub events : s.history.events ≡ before ++ last ∷ []
+  pub puts : PutsOut last.event.kind
+
 module _ {P : Type 0} where
   -- if memory did not run out, an item that is set aside is one that the site cannot accept
   abbrev pub AsideIsStrange : Seat P → Type 0
@@ -62,6 +91,13 @@ module _ {P : Type 0} where
     pub aside : new.aside ≡ Some item
     pub site : StaysForAll old.site new.site
     pub strange : AsideIsStrange new
+
+  -- By a step the site did an event of its own; or it found none, and where it `walks` no agent can do anything, if each that was found to be quiet can do
+  -- nothing; or there was no room for an event, or memory ran out.
+  abbrev pub Steps : ProgramTable → Bool → Seat P → Seat P → Stepped → Type 0
+  Steps code walks old new stepped.Did = HasRoom old.site × HasDone code old.site new.site
+  Steps code walks old new stepped.Quiet = HasRoom old.site × Stays code old.site new.site × (walks ≡ true → IsQuiet code old.site → NoneCan code old.site.agents)
+  Steps code walks old new stepped.Spent = Stays code old.site new.site × ((length old.site.history.events ≡ old.site.history.budget) ⊎ (new.failed ≡ true))
 
 module _ {P R : Type 0} (g : Port.Ghosts P R Item) (code : ProgramTable) where
   -- the port is the site's
@@ -105,3 +141,85 @@ module _ {P R : Type 0} (g : Port.Ghosts P R Item) (code : ProgramTable) where
     pub later : IsLater old.site.clock old.site.history.events new.site.clock new.site.history.events
     pub aside : AsideIsStrange old → AsideIsStrange new
     pub kept : (start : Holding) → Kept start old → Kept start new
+
+  -- ---- sending
+
+  -- the first item for a site went from its line to the port
+  pub record Sends (to : ℕ) (old new : Seat P) : Type 0 where
+    pub item : Item
+    pub out : IsOut to item old.site new.site
+    pub sent : (k : ℕ) → g.sent new.port k ≡ g.sent old.port k ++ only_at k to item
+    pub room : (k : ℕ) → g.room old.port k ≤ g.room new.port k + length (only_at k to item)
+
+  -- no item went: none was there for the site, or no place on its link was known to be free
+  pub record SendsNone (to : ℕ) (old new : Seat P) : Type 0 where
+    pub why : (queue_at old.site.outgoing to ≡ []) ⊎ (g.room old.port to ≡ 0)
+    pub site : SameSite old.site new.site
+    pub sent : (k : ℕ) → g.sent new.port k ≡ g.sent old.port k
+    pub room : (k : ℕ) → g.room new.port k ≡ g.room old.port k
+
+  -- all that was outgoing for a site went, or as many items as places on its link were known to be free, or as many as a link has places
+  pub record SendsFor (to : ℕ) (old new : Seat P) : Type 0 where
+    pub most : (queue_at new.site.outgoing to ≡ []) ⊎ (length (g.sent old.port to) + min PLACES (g.room old.port to) ≤ length (g.sent new.port to))
+
+  -- so it is for each site
+  pub record SendsAll (old new : Seat P) : Type 0 where
+    pub each : (to : ℕ) → to < length code.sites → SendsFor to old new
+
+  -- of the link to a site nothing has changed, but that more places may be known to be free
+  pub record LeavesLink (k : ℕ) (old new : Seat P) : Type 0 where
+    pub queue : queue_at new.site.outgoing k ≡ queue_at old.site.outgoing k
+    pub sent : g.sent new.port k ≡ g.sent old.port k
+    pub room : g.room old.port k ≤ g.room new.port k
+
+  -- it made no event, and got nothing: it has at most put on its links some of what was outgoing
+  pub record OnlySends (old new : Seat P) : Type 0 where
+    pub site : MakesNone code old.site new.site
+    pub known : (k : ℕ) → g.known new.port k ≡ g.known old.port k
+    pub aside : new.aside ≡ old.aside
+    pub failed : new.failed ≡ old.failed
+
+  -- ---- receiving
+
+  -- an item was taken from the port, and the site has accepted it
+  pub record Receives (old new : Seat P) : Type 0 where
+    pub item : Item
+    pub from : ℕ
+    pub got : (k : ℕ) → g.got new.port k ≡ g.got old.port k ++ only_at k from item
+    pub site : HasTaken old.site new.site item
+
+  -- the item that was taken from the port is set aside, and the site is as it was
+  pub record ReceivesAside (old new : Seat P) : Type 0 where
+    pub item : Item
+    pub from : ℕ
+    pub got : (k : ℕ) → g.got new.port k ≡ g.got old.port k ++ only_at k from item
+    pub aside : new.aside ≡ Some item
+    pub site : StaysForAll old.site new.site
+
+  -- no item was taken: one is set aside already, or there is no room for an event, or none was known to wait
+  pub record TakesNone (old new : Seat P) : Type 0 where
+    pub site : new.site ≡ old.site
+    pub aside : new.aside ≡ old.aside
+    pub failed : new.failed ≡ old.failed
+    pub got : (k : ℕ) → g.got new.port k ≡ g.got old.port k
+    pub none : old.aside ≡ None → HasRoom old.site → (k : ℕ) → g.known old.port k ≡ []
+
+  -- no item was accepted
+  abbrev pub ReceivesNone : Seat P → Seat P → Type 0
+  ReceivesNone old new = TakesNone old new ⊎ ReceivesAside old new
+
+  -- where it polls it receives an item, or none; else it does nothing
+  abbrev pub Polls : Bool → Seat P → Seat P → Bool → Type 0
+  Polls true old new true = Receives old new
+  Polls true old new false = ReceivesNone old new
+  Polls false old new answer = (answer ≡ false) × (new ≡ old)
+
+  -- nothing was known to wait for it, if it had room for an event, and if memory did not run out and no item is set aside
+  pub record HadNoneWaiting (old new : Seat P) : Type 0 where
+    pub none : new.failed ≡ false → new.aside ≡ None → HasRoom old.site → (k : ℕ) → g.known old.port k ≡ []
+
+  -- A seat that made no event had nothing to do: if it had room for an event, and if memory did not run out and no item is set aside, then nothing was known
+  -- to wait for it; and then, where it `walks`, no agent could do anything, if each that was found to be quiet can do nothing.
+  pub record HadNothing (walks : Bool) (old new : Seat P) : Type 0 where
+    pub waits : HadNoneWaiting old new
+    pub agents : walks ≡ true → new.failed ≡ false → new.aside ≡ None → HasRoom old.site → IsQuiet code old.site → NoneCan code old.site.agents

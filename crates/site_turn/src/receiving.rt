@@ -1,7 +1,7 @@
 //! How a site takes what comes to it.
 ghost use Rattle.std.specs.Prelude.{◌≡◌, ◌↔◌, true, false, None, IsTrue};
 ghost use Rattle.site_state.specs.Doing.{HasRoom};
-ghost use Rattle.site_turn.specs.Turns.{Accepts, Placed, Seated, SetsAside, Turned};
+ghost use Rattle.site_turn.specs.Turns.{Accepts, Placed, Receives, ReceivesNone, Seated, SetsAside, Turned};
 
 use crate::seat::Seat;
 use agent_move::Item;
@@ -23,7 +23,9 @@ pub fn has_room<R, P: Port<R, Item>>(code: &Code, seat: &Seat<P>) -> bool
 /// is set aside.
 pub fn receive<R, P: Port<R, Item>>(rt: &R, code: &Code, seat: &mut Seat<P>) -> bool
     requires { Seated P.Port code.now seat.old }
-    ensures { Turned P.Port code.now seat.old seat.new }
+    ensures turned { Turned P.Port code.now seat.old seat.new }
+    ensures yes { result ≡ true → Receives P.Port code.now seat.old seat.new }
+    ensures no { result ≡ false → ReceivesNone P.Port code.now seat.old seat.new }
 {
     if seat.aside.is_some() || !has_room::<R, P>(code, seat) {
         return false;

@@ -1,6 +1,6 @@
 //! How a site puts out what is for others.
-ghost use Rattle.std.specs.Prelude.{◌≡◌, ◌<◌, length};
-ghost use Rattle.site_turn.specs.Turns.{Seated, Turned};
+ghost use Rattle.std.specs.Prelude.{ℕ, ◌≡◌, ◌≢◌, ◌<◌, ◌↔◌, IsTrue, true, false, length};
+ghost use Rattle.site_turn.specs.Turns.{HasPut, LeavesLink, OnlySends, Seated, Sends, SendsAll, SendsFor, SendsNone, Turned};
 
 use crate::seat::Seat;
 use agent_move::Item;
@@ -13,7 +13,9 @@ use site_state::Site;
 #[tactic(auto, using(crate::proofs::Steps::turned_refl))]
 pub fn send<R, P: Port<R, Item>>(rt: &R, code: &Code, seat: &mut Seat<P>)
     requires { Seated P.Port code.now seat.old }
-    ensures { Turned P.Port code.now seat.old seat.new }
+    ensures turned { Turned P.Port code.now seat.old seat.new }
+    ensures only { OnlySends P.Port code.now seat.old seat.new }
+    ensures all { SendsAll P.Port code.now seat.old seat.new }
 {
     for to in 0..code.sites() {
         send_to(rt, code, seat, to);
@@ -25,9 +27,12 @@ pub fn send<R, P: Port<R, Item>>(rt: &R, code: &Code, seat: &mut Seat<P>)
 fn send_to<R, P: Port<R, Item>>(rt: &R, code: &Code, seat: &mut Seat<P>, to: u32)
     requires seated { Seated P.Port code.now seat.old }
     requires to { to < length code.now.sites }
-    ensures { Turned P.Port code.now seat.old seat.new }
+    ensures turned { Turned P.Port code.now seat.old seat.new }
+    ensures only { OnlySends P.Port code.now seat.old seat.new }
+    ensures most { SendsFor P.Port code.now to seat.old seat.new }
+    ensures others { (k : ℕ) → k ≢ to → LeavesLink P.Port code.now k seat.old seat.new }
 {
-    for _ in 0..PLACES {
+    for number in 0..PLACES {
         if !send_one(rt, code, seat, to) {
             return;
         }
@@ -38,7 +43,10 @@ fn send_to<R, P: Port<R, Item>>(rt: &R, code: &Code, seat: &mut Seat<P>, to: u32
 fn send_one<R, P: Port<R, Item>>(rt: &R, _code: &Code, seat: &mut Seat<P>, to: u32) -> bool
     requires seated { Seated P.Port _code.now seat.old }
     requires to { to < length _code.now.sites }
-    ensures { Turned P.Port _code.now seat.old seat.new }
+    ensures turned { Turned P.Port _code.now seat.old seat.new }
+    ensures only { OnlySends P.Port _code.now seat.old seat.new }
+    ensures yes { result ≡ true → Sends P.Port _code.now to seat.old seat.new }
+    ensures no { result ≡ false → SendsNone P.Port _code.now to seat.old seat.new }
 {
     if seat.site.has_none_for(to) {
         return false;
@@ -59,7 +67,9 @@ fn send_one<R, P: Port<R, Item>>(rt: &R, _code: &Code, seat: &mut Seat<P>, to: u
 #[tactic(auto, using(crate::proofs::Steps::turned_refl))]
 pub fn send_new<R, P: Port<R, Item>>(rt: &R, code: &Code, seat: &mut Seat<P>)
     requires { Seated P.Port code.now seat.old }
-    ensures { Turned P.Port code.now seat.old seat.new }
+    ensures turned { Turned P.Port code.now seat.old seat.new }
+    ensures only { OnlySends P.Port code.now seat.old seat.new }
+    ensures all { HasPut seat.old.site → SendsAll P.Port code.now seat.old seat.new }
 {
     if has_put(&seat.site) {
         send(rt, code, seat);
@@ -67,7 +77,9 @@ pub fn send_new<R, P: Port<R, Item>>(rt: &R, code: &Code, seat: &mut Seat<P>)
 }
 
 /// Whether the last event of a site put an item out.
-fn has_put(site: &Site) -> bool {
+fn has_put(site: &Site) -> bool
+    ensures { IsTrue result ↔ HasPut site.now }
+{
     match site.history().events().last() {
         Some(last) => matches!(last.event.kind, Kind::Depart | Kind::Send),
         None => false,

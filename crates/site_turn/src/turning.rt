@@ -1,6 +1,6 @@
 //! A turn of a site.
-ghost use Rattle.std.specs.Prelude.{◌≡◌, ◌<◌, length};
-ghost use Rattle.site_turn.specs.Turns.{Seated, Turned};
+ghost use Rattle.std.specs.Prelude.{◌≡◌, ◌≤◌, ◌+◌, true, false, length};
+ghost use Rattle.site_turn.specs.Turns.{HadNoneWaiting, HadNothing, MakesNone, MakesOne, Polls, Seated, Steps, Turned};
 
 use crate::effort::Effort;
 use crate::gate::Gate;
@@ -33,7 +33,10 @@ pub fn turn<R, P: Port<R, Item>, G: Gate>(
     seat: &mut Seat<P>,
 )
     requires { Seated P.Port code.now seat.old }
-    ensures { Turned P.Port code.now seat.old seat.new }
+    ensures turned { Turned P.Port code.now seat.old seat.new }
+    ensures most { length seat.new.site.history.events ≤ length seat.old.site.history.events + EVENTS }
+    ensures idle { seat.new.site.history.events ≡ seat.old.site.history.events → HadNothing P.Port code.now effort.walks seat.old seat.new }
+    ensures failed { seat.old.failed ≡ true → seat.new ≡ seat.old }
 {
     if !seat.failed {
         events(rt, alloc, code, gate, effort, seat);
@@ -51,7 +54,9 @@ fn events<R, P: Port<R, Item>, G: Gate>(
     seat: &mut Seat<P>,
 )
     requires { Seated P.Port code.now seat.old }
-    ensures { Turned P.Port code.now seat.old seat.new }
+    ensures turned { Turned P.Port code.now seat.old seat.new }
+    ensures most { length seat.new.site.history.events ≤ length seat.old.site.history.events + EVENTS }
+    ensures idle { seat.new.site.history.events ≡ seat.old.site.history.events → HadNothing P.Port code.now effort.walks seat.old seat.new }
 {
     send(rt, code, seat);
     for number in 0..EVENTS {
@@ -74,7 +79,10 @@ fn event<R, P: Port<R, Item>>(
     seat: &mut Seat<P>,
 ) -> bool
     requires { Seated P.Port code.now seat.old }
-    ensures { Turned P.Port code.now seat.old seat.new }
+    ensures turned { Turned P.Port code.now seat.old seat.new }
+    ensures yes { result ≡ true → MakesOne seat.old.site seat.new.site }
+    ensures no { result ≡ false → MakesNone code.now seat.old.site seat.new.site }
+    ensures idle { result ≡ false → HadNothing P.Port code.now effort.walks seat.old seat.new }
 {
     if poll(rt, code, polls, seat) {
         return true;
@@ -93,7 +101,8 @@ fn event<R, P: Port<R, Item>>(
 #[tactic(auto, using(crate::proofs::Steps::turned_refl))]
 fn poll<R, P: Port<R, Item>>(rt: &R, code: &Code, polls: bool, seat: &mut Seat<P>) -> bool
     requires { Seated P.Port code.now seat.old }
-    ensures { Turned P.Port code.now seat.old seat.new }
+    ensures turned { Turned P.Port code.now seat.old seat.new }
+    ensures polled { Polls P.Port code.now polls seat.old seat.new result }
 {
     if polls {
         return receive(rt, code, seat);
@@ -110,7 +119,9 @@ fn step<R, P: Port<R, Item>>(
     seat: &mut Seat<P>,
 ) -> Stepped
     requires { Seated P.Port code.now seat.old }
-    ensures { Turned P.Port code.now seat.old seat.new }
+    ensures turned { Turned P.Port code.now seat.old seat.new }
+    ensures stepped { Steps code.now effort.walks seat.old seat.new result }
+    ensures apart { (seat.new.port ≡ seat.old.port) × (seat.new.aside ≡ seat.old.aside) }
 {
     if effort.walks {
         step_surely(rt, alloc, code, seat)
@@ -127,7 +138,9 @@ fn step_surely<R, P: Port<R, Item>>(
     seat: &mut Seat<P>,
 ) -> Stepped
     requires { Seated P.Port code.now seat.old }
-    ensures { Turned P.Port code.now seat.old seat.new }
+    ensures turned { Turned P.Port code.now seat.old seat.new }
+    ensures stepped { Steps code.now true seat.old seat.new result }
+    ensures apart { (seat.new.port ≡ seat.old.port) × (seat.new.aside ≡ seat.old.aside) }
 {
     match seat.site.step(alloc, code) {
         Ok(stepped) => stepped,
@@ -146,7 +159,9 @@ fn step_likely<R, P: Port<R, Item>>(
     seat: &mut Seat<P>,
 ) -> Stepped
     requires { Seated P.Port code.now seat.old }
-    ensures { Turned P.Port code.now seat.old seat.new }
+    ensures turned { Turned P.Port code.now seat.old seat.new }
+    ensures stepped { Steps code.now false seat.old seat.new result }
+    ensures apart { (seat.new.port ≡ seat.old.port) × (seat.new.aside ≡ seat.old.aside) }
 {
     match seat.site.step_likely(alloc, code) {
         Ok(stepped) => stepped,
@@ -157,13 +172,16 @@ fn step_likely<R, P: Port<R, Item>>(
     }
 }
 
-/// Looks so often for an item, after a first look.
+/// Looks for an item so often, and once more.
 #[tactic(auto, using(crate::proofs::Steps::turned_trans, crate::proofs::Steps::turned_refl, crate::proofs::Steps::seated_after))]
 fn look<R, P: Port<R, Item>>(rt: &R, code: &Code, looks: u32, seat: &mut Seat<P>) -> bool
     requires { Seated P.Port code.now seat.old }
-    ensures { Turned P.Port code.now seat.old seat.new }
+    ensures turned { Turned P.Port code.now seat.old seat.new }
+    ensures yes { result ≡ true → MakesOne seat.old.site seat.new.site }
+    ensures no { result ≡ false → MakesNone code.now seat.old.site seat.new.site }
+    ensures waits { result ≡ false → HadNoneWaiting P.Port code.now seat.old seat.new }
 {
-    for _ in 0..=looks {
+    for _ in 0..looks {
         if receive(rt, code, seat) {
             return true;
         }
@@ -171,5 +189,5 @@ fn look<R, P: Port<R, Item>>(rt: &R, code: &Code, looks: u32, seat: &mut Seat<P>
             return false;
         }
     }
-    false
+    receive(rt, code, seat)
 }

@@ -1,25 +1,36 @@
 use Rattle.std.proofs.Common.{Bool, refl, subst}
-use Rattle.site_state.specs.Doing.{IsRedone}
+use Rattle.site_state.specs.Doing.{IsRedone, ready_of}
 use Rattle.site_turn.proofs.Steps.{turned_refl}
-use Rattle.site_crew.proofs.Redoing.{adds_redone, turned_redone}
+use Rattle.site_crew.proofs.Redoing.{added_last, adds_redone, none_added, turned_redone}
 use Rattle.site_crew.proofs.again.redo.Goals as goal
 
 pub returns-then-not-has_room-clause-turned : goal.returns-then-not-has_room-clause-turned
 returns-then-not-has_room-clause-turned g c = turned_refl _
 
+pub returns-then-not-has_room-clause-no : goal.returns-then-not-has_room-clause-no
+returns-then-not-has_room-clause-no g c = λ e. none_added refl
+
+pub returns-then-did-clause-no : goal.returns-then-did-clause-no
+returns-then-did-clause-no g c = λ e adds. c.is_last.ensures.no e (added_last adds)
+
+pub returns-else-did-clause-no : goal.returns-else-did-clause-no
+returns-else-did-clause-no g c = λ e.
+    let stays = subst (λ (did : Bool). IsRedone c.args.code.now (ready_of c.args.event) c.args.stamp c.args.seat.now.site c.redo.new.self did) c.if-did.false c.in-Ok.ensures.ok in
+    none_added stays.0.same.history
+
 pub returns-then-did-clause-turned : goal.returns-then-did-clause-turned
 returns-then-did-clause-turned g c =
-    turned_redone c.args.seat.now _ c.args.stamp c.redo.result c.requires.above c.redo.ensures.ok c.redo.ensures.err c.requires.seated.placed.lines refl refl refl refl
+    turned_redone c.args.seat.now _ (ready_of c.args.event) c.args.stamp c.redo.result c.requires.above c.redo.ensures.ok c.redo.ensures.err c.requires.seated.placed.lines refl refl refl refl
 
 pub returns-then-did-clause-ok : goal.returns-then-did-clause-ok
 returns-then-did-clause-ok g c = λ last.
-    let done = subst (λ (did : Bool). IsRedone c.args.code.now c.args.stamp c.args.seat.now.site c.redo.new.self did) c.if-did.true c.in-Ok.ensures.ok in
-    adds_redone c.args.code.now c.args.event c.args.stamp c.args.seat.now _ done.0 refl (c.is_last.ensures last)
+    let done = subst (λ (did : Bool). IsRedone c.args.code.now (ready_of c.args.event) c.args.stamp c.args.seat.now.site c.redo.new.self did) c.if-did.true c.in-Ok.ensures.ok in
+    adds_redone c.args.code.now c.args.event _ c.args.stamp c.args.seat.now _ done.done refl (c.is_last.ensures.yes last)
 
 pub returns-else-did-clause-turned : goal.returns-else-did-clause-turned
 returns-else-did-clause-turned g c =
-    turned_redone c.args.seat.now _ c.args.stamp c.redo.result c.requires.above c.redo.ensures.ok c.redo.ensures.err c.requires.seated.placed.lines refl refl refl refl
+    turned_redone c.args.seat.now _ (ready_of c.args.event) c.args.stamp c.redo.result c.requires.above c.redo.ensures.ok c.redo.ensures.err c.requires.seated.placed.lines refl refl refl refl
 
 pub returns-in-Err-clause-turned : goal.returns-in-Err-clause-turned
 returns-in-Err-clause-turned g c =
-    turned_redone c.args.seat.now _ c.args.stamp c.redo.result c.requires.above c.redo.ensures.ok c.redo.ensures.err c.requires.seated.placed.lines refl refl refl refl
+    turned_redone c.args.seat.now _ (ready_of c.args.event) c.args.stamp c.redo.result c.requires.above c.redo.ensures.ok c.redo.ensures.err c.requires.seated.placed.lines refl refl refl refl

@@ -1,6 +1,6 @@
 use Rattle.std.proofs.Common.{◌<◌, ◌-◌, ◌∙◌, subst, sym}
 use Rattle.site_crew.proofs.Doing.{added_after, added_before}
-use Rattle.site_crew.proofs.Redoing.{rest_of_settled}
+use Rattle.site_crew.proofs.Redoing.{not_added_between, rest_of_settled}
 use Rattle.site_crew.proofs.Replacing.{all_rest_later, all_rest_trans, but_none, grows_rest, stand_settled}
 use Rattle.site_crew.proofs.Running.{grow_trans}
 use Rattle.site_crew.proofs.bringing.bring.Goals as goal
@@ -33,3 +33,8 @@ returns-clause-yes g c = λ yes.
     let late = c.args.stamp - 1 in
     let before = all_rest_trans c.catch_at.ensures.rest (all_rest_later late c.put_for.ensures.rest) in
     added_before (added_after before (c.take_at-took.ensures.yes yes)) (rest_of_settled c.settle_to.ensures)
+
+pub returns-clause-no : goal.returns-clause-no
+returns-clause-no g c = λ none.
+    let before = all_rest_trans c.catch_at.ensures.rest (all_rest_later (c.args.stamp - 1) c.put_for.ensures.rest) in
+    not_added_between before (c.take_at-took.ensures.no none) (rest_of_settled c.settle_to.ensures)

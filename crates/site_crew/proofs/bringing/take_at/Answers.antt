@@ -5,7 +5,7 @@ use Rattle.std.proofs.lemmas.Option.{slice_get-get_or}
 use Rattle.stamp_history.specs.Histories.{IsHistory}
 use Rattle.site_turn.specs.declared.seat.Seat.{Seat}
 use Rattle.site_crew.proofs.Goings.{seat_seated}
-use Rattle.site_crew.proofs.Redoing.{added_one}
+use Rattle.site_crew.proofs.Redoing.{added_one, not_added_at}
 use Rattle.site_crew.proofs.Replacing.{grows_moved, stand_moved}
 use Rattle.site_crew.proofs.bringing.take_at.Goals as goal
 
@@ -34,3 +34,9 @@ returns-clause-yes g c = λ e.
     let xs = c.args.seats.now in let i = c.args.event.site in let a = get_or xs i c.index-seats-at.result in
     let at : slice_get xs i ≡ Some a = slice_get-get_or xs i c.index-seats-at.result c.requires.at in
     added_one c.args.event c.args.stamp xs a c.take_for-took.new.seat at (c.take_for-took.ensures.yes e)
+
+pub returns-clause-no : goal.returns-clause-no
+returns-clause-no g c = λ e.
+    let xs = c.args.seats.now in let i = c.args.event.site in let a = get_or xs i c.index-seats-at.result in
+    let at : slice_get xs i ≡ Some a = slice_get-get_or xs i c.index-seats-at.result c.requires.at in
+    not_added_at c.args.event c.args.stamp xs a c.take_for-took.new.seat at (c.take_for-took.ensures.no e)

@@ -18,6 +18,6 @@ loop-i-preserved g c = λ k s at h.
       | inr w ↦ c.loop-i.invariant k s at (omega arith)
     ]
 
-pub returns : goal.returns
-returns g c = λ e.
+pub returns-clause-none : goal.returns-clause-none
+returns-clause-none g c = λ e.
     record { each = λ i s at. let h : i < length c.args.seats.now = slice_get_within c.args.seats.now i s at in c.loop-i.invariant i s at (omega arith) }

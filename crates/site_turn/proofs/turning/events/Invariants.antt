@@ -1,5 +1,11 @@
-use Rattle.site_turn.specs.Turns.{Seated, Turned}
+use Rattle.std.proofs.Common.{◌≡◌, ◌+◌, length}
+use Rattle.site_turn.specs.Turns.{OnlySends, Seated, Turned}
 use Rattle.site_turn.proofs.turning.events.Given as goal
 
 abbrev pub invariant-loop-number : goal.invariant-loop-number
-invariant-loop-number g l = record { turned : Turned g.P.Port l.code l.fn.seat l.seat; seated : Seated g.P.Port l.code l.seat }
+invariant-loop-number g l = record {
+  turned : Turned g.P.Port l.code l.fn.seat l.seat;
+  seated : Seated g.P.Port l.code l.seat;
+  count : length l.seat.site.history.events ≡ length l.fn.seat.site.history.events + l.number;
+  first : l.number ≡ 0 → OnlySends g.P.Port l.code l.fn.seat l.seat;
+}

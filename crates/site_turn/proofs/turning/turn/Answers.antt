@@ -1,5 +1,10 @@
+use Rattle.std.proofs.Common.{sym, ◌∙◌}
+use Rattle.site_turn.proofs.Events.{had_failed}
 use Rattle.site_turn.proofs.Steps.{turned_refl}
 use Rattle.site_turn.proofs.turning.turn.Goals as goal
 
-pub returns-else-not-seat : goal.returns-else-not-seat
-returns-else-not-seat g c = turned_refl _
+pub returns-else-not-seat-clause-turned : goal.returns-else-not-seat-clause-turned
+returns-else-not-seat-clause-turned g c = turned_refl _
+
+pub returns-else-not-seat-clause-idle : goal.returns-else-not-seat-clause-idle
+returns-else-not-seat-clause-idle g c = λ same. had_failed c.args.seat.now c.args.seat.now c.args.effort.walks (λ ok free. (let e = sym c.if-not-seat.false ∙ ok in absurd cc))

@@ -1,10 +1,9 @@
-use Rattle.np_tables.proofs.Tables.{same_name-is}
-use Rattle.site_agents.proofs.Lines.{keeps_again, keeps_then, keeps_pop_back_to}
+use Rattle.std.proofs.Common.{arith}
+use Rattle.site_agents.proofs.Lines.{keeps_cut_to, met}
 use Rattle.site_agents.proofs.queue.Queue.leave.Goals as goal
 
-pub returns-then-ne : goal.returns-then-ne
-returns-then-ne c =
+pub returns-in-Some-clause-keeps : goal.returns-in-Some-clause-keeps
+returns-in-Some-clause-keeps c =
     rw (← c.self.view_is) (
-    keeps_then _ _ _ c.args.name
-    (keeps_again _ _ _ c.in-Some.last (keeps_pop_back_to _ _ c.self.inside.lost _ c.in-Some.ensures.items) c.push.ensures.keeps c.push.ensures.waits (λ q t. same_name-is q _ t)) c.cut.ensures
+    keeps_cut_to c.self.inside.names.items _ c.self.inside.lost c.in-Some.at c.args.name c.in-Some.ensures.is (met c.remove.result _ (c.remove.ensures.variant.1 (omega (arith, c.in-Some.ensures.within))) c.remove.ensures.items)
     )

@@ -5,7 +5,6 @@ use Rattle.site_turn.specs.declared.seat.Seat.{Seat}
 use Rattle.site_crew.specs.Runs.{IsCrewRun}
 use Rattle.site_crew.specs.Seats.{clocks, histories}
 use Rattle.site_crew.proofs.Doing.{has_redone, on_redone}
-use Rattle.site_crew.specs.Crews.{HasRun}
 use Rattle.site_crew.specs.Lists.{AreWithin}
 use Rattle.site_crew.proofs.Crewing.{has_run, slice_whole}
 use Rattle.site_crew.proofs.CrewRuns.{crew_run}
@@ -26,12 +25,12 @@ returns-clause-ok g c =
     let now = c.redo_all-done.new.seats in
     let same = sym (long-histories now) ∙ c.redo_all-done.ensures.grow.count ∙ long-histories c.as_mut_slice.result.now ∙ ap length c.as_mut_slice.ensures.value in
     let whole = slice_whole was.seats.items now was.seats.len was.seats.ok.0 same in
-    let within = subst (λ (n : ℕ). AreWithin n was.budget c.args.events.now) c.sites-sites.ensures (c.are_within.ensures c.if-not-are_within.false) in
+    let within = subst (λ (n : ℕ). AreWithin n was.budget c.args.events.now) c.sites-sites.ensures (c.are_within.ensures.yes c.if-not-are_within.false) in
     on_redone c.redo_all-done.result c.all_done.result _ (λ done at all. has_redone c.args.events.now _ now (ap histories whole) (ap clocks whole) (ap not all) within done at)
     c.redo_all-done.ensures.done c.redo_all-done.ensures.clocks c.all_done.ensures.ok
 
 pub returns-then-events-clause-run : goal.returns-then-events-clause-run
-returns-then-events-clause-run g c = subst HasRun c.self.view_is (has_run c.self.invariant)
+returns-then-events-clause-run g c = has_run c.self.invariant
 
 pub returns-then-not-are_within-clause-run : goal.returns-then-not-are_within-clause-run
-returns-then-not-are_within-clause-run g c = subst HasRun c.self.view_is (has_run c.self.invariant)
+returns-then-not-are_within-clause-run g c = has_run c.self.invariant

@@ -48,7 +48,7 @@ returns-clause-ok c =
       clock = c.tick-stamp.ensures.clock ∙ c.tick-stamp.ensures.stamp;
       history = c.push.ensures.history ∙ (λ i. with_event s.history.history (record { stamp = (sym c.tick-stamp.ensures.clock) i; event = c.event_of-event.ensures i }));
       quiet = λ q. same_quiet code _ _ refl refl (c.send_in.ensures.keeps.quiet code (same_quiet code _ _ refl refl q));
-      outgoing = put_after _ _ _ c.in_ok-packet.packet.to c.pack_packet-item.result c.in_ok-reserve.ensures.lines c.put.ensures;
+      outgoing = put_after _ _ _ c.in_ok-packet.packet.to c.pack_packet-item.result c.in_ok-reserve.ensures.lines c.put.ensures.put;
       stamp = c.pack_packet-item.ensures.stamp ∙ sym c.tick-stamp.ensures.clock;
       from = c.pack_packet-item.ensures.from;
       to_is = c.pack_packet-item.ensures.to;

@@ -11,4 +11,4 @@ returns c = rw (← c.self.view_is) (match_weaker c.take.result
         quiet = λ code q. record { each = q.each };
       };
     })
-    (λ item h. record { agents = refl; quiet = refl; same = record { site = refl; next = refl; clock = refl; history = refl }; outgoing = h }) c.take.ensures)
+    (λ item h. record { agents = refl; quiet = refl; same = record { site = refl; next = refl; clock = refl; history = refl }; outgoing = h }) c.take.ensures.taken)
