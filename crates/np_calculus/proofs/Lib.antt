@@ -1,6 +1,7 @@
 pub mod Acting
 pub mod AgentForms
 pub mod AgentValues
+pub mod BornKept
 pub mod Common
 pub mod Enabled
 pub mod ExampleRuns

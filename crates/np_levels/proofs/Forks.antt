@@ -38,7 +38,7 @@ use Rattle.np_things.specs.Things.{IsHeaded, Stage, Thing, first_atom_of, first_
 use Rattle.np_things.proofs.Acting.{thing-begins}
 use Rattle.np_levels.specs.Coupled.{Coupled, IsShaped, KnowsOnly, View, chips, is_channel, is_child_of, may_know, scene, IsCarrier, shown}
 use Rattle.np_levels.proofs.Applies.{takes_nothing}
-use Rattle.np_levels.proofs.Born.{born-kept, made-kept}
+use Rattle.np_calculus.proofs.BornKept.{born-kept, made-kept}
 use Rattle.np_protocol.specs.Phases.{Phase}
 use Rattle.np_protocol.specs.Protocol.{Protocol}
 use Rattle.np_protocol.proofs.Steps.{all_left, all_right}

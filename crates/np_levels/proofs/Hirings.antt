@@ -48,7 +48,7 @@ use Rattle.np_things.specs.Things.{Stage, Thing}
 use Rattle.np_levels.specs.Coupled.{Coupled, IsCarrier, View, chips, is_child_of, scene}
 use Rattle.np_levels.specs.Laws.{MessengersAreHired, post_of}
 use Rattle.np_levels.specs.Letters.{IsHiringFor, as_letter, first_letter_of, letter_under}
-use Rattle.np_levels.proofs.Born.{born-kept, made-kept}
+use Rattle.np_calculus.proofs.BornKept.{born-kept, made-kept}
 use Rattle.np_levels.proofs.Caches.{by_step, carry_put, low_grows}
 use Rattle.np_levels.proofs.Creations.{IsCreating, created, creating, same_parts}
 use Rattle.np_levels.proofs.Outputs.{is-own}

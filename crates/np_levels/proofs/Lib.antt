@@ -3,7 +3,6 @@ pub mod Applies
 pub mod Arrivals
 pub mod Becomes
 pub mod Bodies
-pub mod Born
 pub mod CacheLookups
 pub mod Caches
 pub mod Comms

@@ -26,7 +26,7 @@ use Rattle.daemon_encode.specs.Infrastructures.{Infrastructure}
 use Rattle.np_things.specs.Things.{Thing, first_atom_of, first_packet_of, shows_caches, high_atom, high_packet, show_all, show_all_caches, shows}
 use Rattle.np_levels.specs.Coupled.{Coupled, IsCarrier, IsShaped, KnowsOnly, View, chips, is_channel, is_child_of, levels, may_know, scene, shown, cache_chips}
 use Rattle.np_levels.specs.Letters.{SameLetters, first_letter_of, letter_under}
-use Rattle.np_levels.proofs.Born.{born-kept, made-kept}
+use Rattle.np_calculus.proofs.BornKept.{born-kept, made-kept}
 use Rattle.np_levels.proofs.Caches.{by_step, carry_put, AllCarry, KeepsHints, carry_cut, handed_on}
 use Rattle.np_levels.proofs.Orders.{entries_at, entries_put, flat, permuted}
 use Rattle.np_levels.proofs.Quiet.{Next, knows_more, or_cases, or_second, any_kept, quiet, SamePlaces}

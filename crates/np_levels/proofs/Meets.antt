@@ -40,7 +40,7 @@ use Rattle.np_things.specs.Shapes.{Are}
 use Rattle.np_things.specs.Things.{IsHeaded, Thing, first_atom_of, first_packet_of, show_all, show_all_caches, shows, shows_caches}
 use Rattle.np_levels.specs.Coupled.{Coupled, IsShaped, KnowsOnly, View, chips, is_channel, is_child_of, may_know, scene, IsCarrier, levels, shown}
 use Rattle.np_levels.proofs.Applies.{takes}
-use Rattle.np_levels.proofs.Born.{born-kept, made-kept}
+use Rattle.np_calculus.proofs.BornKept.{born-kept, made-kept}
 use Rattle.np_levels.proofs.Letters.{low-carries-none}
 use Rattle.np_levels.proofs.Marks.{reshape}
 use Rattle.np_levels.proofs.Orders.{and_then, behind, entries_at, entries_put, flat, permuted}

@@ -39,7 +39,7 @@ use Rattle.np_levels.proofs.Shapes.{of_actor, same_role}
 use Rattle.np_levels.proofs.Stops.{stopping}
 use Rattle.np_levels.proofs.Orders.{kept}
 use Rattle.np_levels.proofs.Arrivals.{arriving}
-use Rattle.np_levels.proofs.Born.{born-kept, made-kept}
+use Rattle.np_calculus.proofs.BornKept.{born-kept, made-kept}
 
 module _ {i : Infrastructure} {n from first : ℕ} {low high : Config} {v : View} (c : Coupled i n from first low high v) where
   abbrev Done : Config → Type 0

@@ -52,7 +52,7 @@ use Rattle.np_levels.specs.Laws.{PostsAreEvents, post_of}
 use Rattle.np_levels.specs.Letters.{IsPosting, as_letter, first_letter_of}
 use Rattle.np_levels.specs.Mirrors.{Mirrors}
 use Rattle.np_levels.proofs.Posting.{IsPosted, PostAbove, post_above}
-use Rattle.np_levels.proofs.Born.{born-kept, made-kept}
+use Rattle.np_calculus.proofs.BornKept.{born-kept, made-kept}
 use Rattle.np_levels.proofs.Letters.{letter-put}
 use Rattle.np_levels.proofs.Marks.{may_know_more, reshape, step_at}
 use Rattle.np_levels.proofs.Quiet.{any_kept, knows_more}

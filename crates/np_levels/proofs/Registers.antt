@@ -56,7 +56,7 @@ use Rattle.np_things.specs.Things.{Stage, Thing, first_atom_of, first_packet_of,
 use Rattle.np_things.specs.CacheShapes.{IsAdding}
 use Rattle.np_levels.specs.Coupled.{Coupled, IsShaped, KnowsOnly, View, chips, is_channel, is_child_of, may_know, scene, IsCarrier}
 use Rattle.np_levels.proofs.Becomes.{cancel, becomes}
-use Rattle.np_levels.proofs.Born.{born-kept, made-kept}
+use Rattle.np_calculus.proofs.BornKept.{born-kept, made-kept}
 use Rattle.np_levels.proofs.Letters.{same-letters}
 use Rattle.np_levels.proofs.Marks.{may_know_more, reshape, step_at, same_chips}
 use Rattle.np_levels.proofs.Orders.{and_then, behind, permuted, swapped}

@@ -26,7 +26,7 @@ use Rattle.np_things.specs.Mail.{Posted}
 use Rattle.np_things.specs.Things.{Thing, carried, first_atom_of, first_packet_of}
 use Rattle.np_levels.specs.Coupled.{Coupled, IsCarrier, IsShaped, KnowsLetter, KnowsOnly, View, chips, is_channel, may_know, scene, is_high}
 use Rattle.np_levels.specs.Mirrors.{Mirrors}
-use Rattle.np_levels.proofs.Born.{born-kept, made-kept}
+use Rattle.np_calculus.proofs.BornKept.{born-kept, made-kept}
 use Rattle.np_levels.proofs.Caches.{KeepsHints, both_grow}
 use Rattle.np_levels.proofs.Quiet.{or_cases, or_second, things_born}
 

@@ -48,7 +48,7 @@ use Rattle.np_levels.specs.Laws.{MessengersTry}
 use Rattle.np_levels.specs.Letters.{IsFinding, IsMissing, first_letter_of, letter_under}
 use Rattle.np_levels.proofs.Actors.{known_apart}
 use Rattle.np_levels.proofs.Becomes.{becomes, cancel}
-use Rattle.np_levels.proofs.Born.{born-kept, made-kept}
+use Rattle.np_calculus.proofs.BornKept.{born-kept, made-kept}
 use Rattle.np_levels.proofs.Caches.{by_step, carry_put, handed_on, low_grows}
 use Rattle.np_levels.proofs.Locals.{FindsIt, IsLocating, Misses, locating}
 use Rattle.np_levels.proofs.Marks.{step_at}

@@ -1,4 +1,5 @@
 pub mod Equations
+pub mod Joining
 pub mod Pieces
 pub mod Canon
 pub mod CanonProc

@@ -1,6 +1,6 @@
 -- What is written piece by piece.
-use Rattle.std.proofs.Common.{Bool, true, false, ◌≡◌, ℕ, List, [], ◌++◌, refl, sym, ap, ◌∙◌, append_assoc, append-nil, nat_lt, subst, Result, OnOk}
-use Rattle.std.specs.Prelude.{codes, if◌then◌else◌}
+use Rattle.std.proofs.Common.{Bool, true, false, ◌≡◌, ℕ, List, ◌++◌, sym, ap, ◌∙◌, append_assoc, nat_lt}
+use Rattle.std.specs.Prelude.{codes}
 use Rattle.np_syntax.specs.declared.expression.Op.{Op}
 use Rattle.np_syntax.specs.declared.types.Cap.{Cap}
 use Rattle.np_syntax.specs.declared.types.Ty.{Ty}
@@ -15,42 +15,9 @@ use Rattle.np_tree.specs.declared.tree.RawProc.{RawProc}
 use Rattle.np_tree.specs.declared.tree.RawProcForm.{RawProcForm}
 use Rattle.np_tree.specs.declared.tree.RawProcForm as form
 use Rattle.np_tree.specs.Grammar.{cap_sign}
-use Rattle.np_show.specs.Shown.{bracketed, type_text, pat_text, op_sign, strength, left, right, joined, expr_text, expr_form_text, message_text, proc_text, proc_form_text}
+use Rattle.np_show.specs.Shown.{type_text, pat_text, op_sign, strength, left, right, joined, expr_text, expr_form_text, message_text, proc_text, proc_form_text}
+use Rattle.np_show.proofs.Joining.{glue, behind, four, five, six, eight, opened, closed, bracketed_is}
 use Rattle.np_show.proofs.Equations.{text-chan, text-bin, text-par, text-new, text-inp, text-rep, text-agent, text-migrate, text-iflocal, text-if, text-let}
-
--- what an Ok ensures, with what is written in another form
-pub on_same : {A E : Type 0} (r : Result A E) (a : List ℕ) {b c : List ℕ} → b ≡ c → OnOk r (a ≡ b) → OnOk r (a ≡ c)
-on_same r a e h = subst (λ b. OnOk r (a ≡ b)) e h
-
--- the last piece goes behind those that were written, and all of them are the text
-glue : (out written last pieces text : List ℕ) {now : List ℕ} → now ≡ written → written ++ last ≡ out ++ pieces → text ≡ pieces → now ++ last ≡ out ++ text
-glue out written last pieces text e d f = ap (λ now. now ++ last) e ∙ d ∙ ap (λ l. out ++ l) (sym f)
-
--- a part and what stands behind it, after what was written
-behind : (written part tail : List ℕ) {before now : List ℕ} → before ≡ written → now ≡ before ++ part ++ tail → now ≡ written ++ part ++ tail
-behind written part tail e d = d ∙ ap (λ l. l ++ part ++ tail) e
-
-four : (o a b c d : List ℕ) → o ++ a ++ b ++ c ++ d ≡ o ++ (a ++ b ++ c ++ d)
-four o a b c d = simp append_assoc
-
-five : (o a b c d e : List ℕ) → o ++ a ++ b ++ c ++ d ++ e ≡ o ++ (a ++ b ++ c ++ d ++ e)
-five o a b c d e = simp append_assoc
-
-six : (o a b c d e f : List ℕ) → o ++ a ++ b ++ c ++ d ++ e ++ f ≡ o ++ (a ++ b ++ c ++ d ++ e ++ f)
-six o a b c d e f = simp append_assoc
-
-eight : (o a b c d e f g h : List ℕ) → o ++ a ++ b ++ c ++ d ++ e ++ f ++ g ++ h ≡ o ++ (a ++ b ++ c ++ d ++ e ++ f ++ g ++ h)
-eight o a b c d e f g h = simp append_assoc
-
-abbrev pub opened : Bool → List ℕ
-opened round = if round then codes "(" else []
-
-abbrev pub closed : Bool → List ℕ
-closed round = if round then codes ")" else []
-
-bracketed_is : (r : Bool) (t : List ℕ) → bracketed r t ≡ opened r ++ (t ++ closed r)
-bracketed_is true t = refl
-bracketed_is false t = sym (append-nil t)
 
 -- ---- types and expressions
 

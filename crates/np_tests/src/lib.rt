@@ -11,8 +11,6 @@ mod copies;
 #[cfg(test)]
 mod gates;
 #[cfg(test)]
-mod inboxes;
-#[cfg(test)]
 mod levels;
 #[cfg(test)]
 mod links;

@@ -2,38 +2,41 @@
 
 ghost use Rattle.std.specs.Prelude.{◌≡◌, ◌<◌};
 
-use np_syntax::Memory;
-use site_links::{Addressed, Port, Rings, Tray};
+use agent_move::{Item, pack_packet};
+use crew_inboxes::Inboxes;
+use np_calculus::Packet;
+use np_syntax::{Memory, Name, Role, Tag, Value};
+use site_links::{Port, Rings, Tray};
 use std::alloc::Global;
 use std::sync::atomic::{AtomicBool, Ordering};
 use std::thread::{Threads, join_mut};
 
 /// How often a thread looks for what the other does before it gives up.
-pub(crate) const LOOKS: u32 = 100_000_000;
+const LOOKS: u32 = 100_000_000;
 
-/// A number on its way.
-#[derive(Drop)]
-struct Parcel {
-    from: u32,
-    to: u32,
-    number: u32,
+/// A packet on its way, which has its number as its stamp.
+fn parcel(from: u32, to: u32, number: u32) -> Item
+    ensures { (result.from ≡ from) × (result.to ≡ to) }
+{
+    let name = Name {
+        site: from,
+        n: number,
+    };
+    let tag = Tag {
+        node: 0,
+        role: Role::Plain,
+    };
+    let packet = Packet {
+        to,
+        agent: name,
+        chan: name,
+        value: Value::Truth(true),
+        tag,
+    };
+    pack_packet(name, packet, number as u64, from)
 }
 
-impl Addressed for Parcel {
-    ghost sender = { λ parcel. parcel.from };
-
-    ghost receiver = { λ parcel. parcel.to };
-
-    fn from_site(&self) -> u32 {
-        self.from
-    }
-
-    fn to_site(&self) -> u32 {
-        self.to
-    }
-}
-
-pub(crate) fn is_seen(flag: &AtomicBool) -> bool {
+fn is_seen(flag: &AtomicBool) -> bool {
     for _ in 0..LOOKS {
         if flag.load(Ordering::SeqCst) {
             return true;
@@ -43,7 +46,7 @@ pub(crate) fn is_seen(flag: &AtomicBool) -> bool {
 }
 
 /// Puts one item, and a second once the first was taken.
-fn send_both<R, P: Port<R, Parcel>>(
+fn send_both<R, P: Port<R, Item>>(
     rt: &R,
     port: &mut P,
     from: u32,
@@ -52,40 +55,32 @@ fn send_both<R, P: Port<R, Parcel>>(
 ) -> bool
     requires { (to < P.among port.old) × (from ≡ P.site port.old) }
 {
-    let first = Parcel {
-        from,
-        to,
-        number: 1,
-    };
+    let first = parcel(from, to, 1);
     if port.put(rt, to, first).is_err() || !is_seen(taken) {
         return false;
     }
-    let second = Parcel {
-        from,
-        to,
-        number: 2,
-    };
+    let second = parcel(from, to, 2);
     port.put(rt, to, second).is_ok()
 }
 
-fn take_within<R, P: Port<R, Parcel>>(rt: &R, port: &mut P) -> Option<u32> {
+fn take_within<R, P: Port<R, Item>>(rt: &R, port: &mut P) -> Option<u64> {
     for _ in 0..LOOKS {
-        if let Some(parcel) = port.take(rt) {
-            return Some(parcel.number);
+        if let Some(item) = port.take(rt) {
+            return Some(item.stamp());
         }
     }
     None
 }
 
 /// Takes both items, and tells when it has the first.
-fn take_both<R, P: Port<R, Parcel>>(rt: &R, port: &mut P, taken: &AtomicBool) -> bool {
+fn take_both<R, P: Port<R, Item>>(rt: &R, port: &mut P, taken: &AtomicBool) -> bool {
     let first = take_within(rt, port);
     taken.store(true, Ordering::SeqCst);
     let second = take_within(rt, port);
     first == Some(1) && second == Some(2)
 }
 
-fn on_two_threads<R: Threads + Sync, P: Port<R, Parcel>>(
+fn on_two_threads<R: Threads + Sync, P: Port<R, Item>>(
     rt: &R,
     sender: &mut P,
     receiver: &mut P,
@@ -106,7 +101,7 @@ fn on_two_threads<R: Threads + Sync, P: Port<R, Parcel>>(
 }
 
 /// Whether two items go from the first of two sites to the second within one round.
-fn goes_within_a_round<R: Threads + Sync, P: Port<R, Parcel>>(
+fn goes_within_a_round<R: Threads + Sync, P: Port<R, Item>>(
     rt: &R,
     alloc: Global,
 ) -> Result<bool, Memory> {
@@ -118,36 +113,33 @@ fn goes_within_a_round<R: Threads + Sync, P: Port<R, Parcel>>(
 #[test]
 fn rings_carry_items_within_a_round(rt: HostRuntime) {
     assert_eq!(rt;
-        goes_within_a_round::<HostRuntime, Rings<Parcel>>(&rt, rt.alloc()),
+        goes_within_a_round::<HostRuntime, Rings<Item>>(&rt, rt.alloc()),
+        Ok(true)
+    );
+}
+
+#[test]
+fn inboxes_carry_items_within_a_round(rt: HostRuntime) {
+    assert_eq!(rt;
+        goes_within_a_round::<HostRuntime, Inboxes>(&rt, rt.alloc()),
         Ok(true)
     );
 }
 
 /// Puts one item, settles the link, and takes it.
-fn passes<R, P: Port<R, Parcel>>(
-    rt: &R,
-    sender: &mut P,
-    receiver: &mut P,
-    from: u32,
-    to: u32,
-) -> bool
+fn passes<R, P: Port<R, Item>>(rt: &R, sender: &mut P, receiver: &mut P, from: u32, to: u32) -> bool
     requires { (to < P.among sender.old) × (from ≡ P.site sender.old) × ∥ P.linked sender.old receiver.old ∥₁ }
 {
-    let parcel = Parcel {
-        from,
-        to,
-        number: 1,
-    };
-    let put = sender.put(rt, to, parcel).is_ok();
+    let put = sender.put(rt, to, parcel(from, to, 1)).is_ok();
     sender.settle(rt, receiver);
     match receiver.take(rt) {
-        Some(parcel) => put && parcel.number == 1,
+        Some(item) => put && item.stamp() == 1,
         None => false,
     }
 }
 
 /// Whether an item goes from the first of two sites to the second where their link is settled.
-fn goes_by_settling<R, P: Port<R, Parcel>>(rt: &R, alloc: Global) -> Result<bool, Memory> {
+fn goes_by_settling<R, P: Port<R, Item>>(rt: &R, alloc: Global) -> Result<bool, Memory> {
     let mut ports = P::make(alloc, 2)?;
     let (left, right) = ports.as_mut_slice().split_at_mut(1);
     Ok(passes(rt, &mut left[0], &mut right[0], 0, 1))
@@ -156,11 +148,11 @@ fn goes_by_settling<R, P: Port<R, Parcel>>(rt: &R, alloc: Global) -> Result<bool
 #[test]
 fn settled_links_give_what_was_put(rt: HostRuntime) {
     assert_eq!(rt;
-        goes_by_settling::<HostRuntime, Rings<Parcel>>(&rt, rt.alloc()),
+        goes_by_settling::<HostRuntime, Rings<Item>>(&rt, rt.alloc()),
         Ok(true)
     );
     assert_eq!(rt;
-        goes_by_settling::<HostRuntime, Tray<Parcel>>(&rt, rt.alloc()),
+        goes_by_settling::<HostRuntime, Tray<Item>>(&rt, rt.alloc()),
         Ok(true)
     );
 }

@@ -20,7 +20,7 @@ use Rattle.np_calculus.proofs.Writes.{every-map, inside-effect, left-by}
 use Rattle.np_views.specs.Past.{IsCause, IsLast, Thing, Trace, agent_of_atom, is_among, is_in, is_written}
 use Rattle.np_views.specs.Past.{later_names, made_agent, made_names, names_of, trace, trace_at, writes}
 use Rattle.np_views.proofs.Among.{Same, agrees-on, among-cases, among-either, among-first}
-use Rattle.np_views.proofs.StartBorn.{born-kept}
+use Rattle.np_calculus.proofs.BornKept.{born-kept}
 use Rattle.np_views.proofs.Traced.{Traced, land-alone, traced}
 
 pub false-true : {R : Type 0} (b : Bool) → b ≡ true → b ≡ false → R

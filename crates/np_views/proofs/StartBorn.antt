@@ -1,53 +1,24 @@
 -- What stands in a configuration is born, from the low start on.
-use Rattle.std.proofs.Common.{◌≡◌, ◌⊎◌, inl, inr, ⊎_elim, ℕ, true, [], ◌∷◌, length, map, Option, None, Some, IsSome, refl, sym, ap, subst, ◌∙◌}
+use Rattle.std.proofs.Common.{◌≡◌, ◌⊎◌, inl, inr, ⊎_elim, ℕ, true, [], ◌∷◌, length, map, Option, None, Some, IsSome, refl, ap, ◌∙◌}
 use Rattle.std.specs.FinMap as table
 use Rattle.std.specs.FinSet as set
-use mathlib.Core.Path.{fun_ext}
-use Rattle.np_syntax.specs.declared.event.Event.{Event}
 use Rattle.np_syntax.specs.declared.program.LowProgram.{LowProgram}
-use Rattle.np_syntax.proofs.Options.{done}
 use Rattle.np_tables.specs.Names.{NameMap}
 use Rattle.np_tables.proofs.Tables.{born_here, get-none, put_cases}
-use Rattle.np_calculus.proofs.Common.{Config, Name, Proc, inside, apply}
+use Rattle.np_calculus.proofs.Common.{Config, Name, Proc, inside}
 use Rattle.np_calculus.specs.declared.config.Atom.{Atom}
 use Rattle.np_calculus.specs.declared.config.Packet.{Packet}
 use Rattle.np_calculus.specs.declared.config.Place.{Place}
 use Rattle.np_calculus.specs.declared.config.Place.TheVariants as place
-use Rattle.np_calculus.specs.Parts.{AreBorn, IsWhole, nothing}
+use Rattle.np_calculus.specs.Parts.{AreBorn}
 use Rattle.np_calculus.specs.Starts.{daemon_agent, daemon_mark, first_atom, main_agent, main_mark, names_alone, own, own_names, with_agent}
 unfoldable use Rattle.np_calculus.specs.Starts.{start_low}
 use Rattle.np_views.specs.Laws.{HasSingleMarks}
-use Rattle.np_calculus.proofs.FrameRule.{frame_rule}
 use Rattle.np_calculus.proofs.OwnNames.{daemon_mark-born, mark-born, with_all-keeps}
-use Rattle.np_calculus.proofs.Steps.{row-step}
-use Rattle.np_calculus.proofs.Writes.{either-none}
 
 there-is : {X : Type 0} (o : Option X) → IsSome o → (x : X) × (o ≡ Some x)
 there-is None h = absurd cc
 there-is (Some x) h = (x, refl)
-
-no_value : {A : Type 0} {x : A} → None ≡ Some x → ⊥
-no_value e = cc
-
--- a configuration is one of itself and nothing
-whole : (c : Config) → AreBorn c → IsWhole c c nothing
-whole c born = record {
-  sites = refl;
-  split = record {
-    is = λ i. record {
-      place = fun_ext (λ q. sym (either-none ((inside c).place q))) i;
-      atom = fun_ext (λ q. sym (either-none ((inside c).atom q))) i;
-      packet = fun_ext (λ q. sym (either-none ((inside c).packet q))) i;
-    };
-    apart = record { agents = λ q h. refl; marks = λ q h. record { atom = refl; packet = refl } };
-  };
-  born = born;
-}
-
-pub born-kept : (c d : Config) (e : Event) → AreBorn c → apply c e ≡ Some d → AreBorn d
-born-kept c d e born h =
-    let f = frame_rule c c d nothing e (whole c born) (record { each = λ m a h. absurd (no_value h) }) (record { none = λ a h. no_value h }) (row-step c e d e.kind h).new h in
-    subst AreBorn (sym (done (sym f.applies ∙ h))) f.is.born
 
 main-born : (n : ℕ) → set.contains (own_names n) (main_agent n) ≡ true
 main-born n = with_all-keeps _ (map (own n) (1 ∷ 2 ∷ 3 ∷ 4 ∷ 5 ∷ 6 ∷ 7 ∷ 8 ∷ 9 ∷ 10 ∷ 11 ∷ 12 ∷ 13 ∷ 14 ∷ 15 ∷ 16 ∷ [])) (main_agent n) (born_here _ (main_agent n))

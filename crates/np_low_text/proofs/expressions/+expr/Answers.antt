@@ -1,7 +1,8 @@
 use Rattle.std.proofs.Common.{◌≡◌, ap, ◌∙◌}
 use Rattle.np_low_text.specs.LowText.{expr_form_text}
 use Rattle.np_low_text.proofs.Equations.{text-tuple}
-use Rattle.np_low_text.proofs.Pieces.{on_same, bin_steps, pack_steps, with_steps}
+use Rattle.np_show.proofs.Joining.{on_same}
+use Rattle.np_low_text.proofs.Pieces.{bin_steps, pack_steps, with_steps}
 use Rattle.np_low_text.proofs.expressions.+expr.Goals as goal
 
 pub put_expr-returns-in-Tuple : goal.put_expr-returns-in-Tuple

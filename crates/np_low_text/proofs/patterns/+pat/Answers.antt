@@ -1,7 +1,7 @@
 use Rattle.std.proofs.Common.{◌≡◌, ap, ◌∙◌}
 use Rattle.np_low_text.specs.LowText.{pat_form_text}
 use Rattle.np_low_text.proofs.Equations.{text-tuple_pat}
-use Rattle.np_low_text.proofs.Pieces.{on_same}
+use Rattle.np_show.proofs.Joining.{on_same}
 use Rattle.np_low_text.proofs.patterns.+pat.Goals as goal
 
 pub put_pat-returns-in-Tuple : goal.put_pat-returns-in-Tuple

@@ -1,7 +1,7 @@
 use denote.Exit.{no}
 use denote.Param.Send.{arg_send, param_send}
 use Rattle.crew_inboxes.proofs.Items.{inboxes_send}
-use Rattle.np_tests.proofs.inboxes.inboxes_carry_items_within_a_round.Goals as goal
+use Rattle.np_tests.proofs.links.inboxes_carry_items_within_a_round.Goals as goal
 
 pub goes_within_a_round-requires-send-P : goal.goes_within_a_round-requires-send-P
 goes_within_a_round-requires-send-P g c κs = param_send 1 _ (arg_send _ no _ inboxes_send)
