@@ -137,6 +137,12 @@ pub(crate) fn past_told(
     ensures refused { IfErr result (λ refusal. refusal ≢ Refusal.Memory
         → Stops (start_low low.now) events.now refusal ⊎ LacksLine low.now events.now line refusal) }
 {
-    let last = end_of(alloc, low, events)?;
-    told_of(alloc, format, low, events, last.said(), line)
+    match end_of(alloc, low, events) {
+        Ok(last) => {
+            let report = told_of(alloc, format, low, events, last.said(), line);
+            drop(last);
+            report
+        }
+        Err(refusal) => Err(refusal),
+    }
 }

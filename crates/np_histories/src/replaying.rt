@@ -59,8 +59,14 @@ fn replayed_events(alloc: Global, low: &LowProgram, events: &[Event]) -> Result<
     ensures made { IfOk result (Ends low.now events.now) }
     ensures refused { IfErr result (λ refusal. refusal ≢ Refusal.Memory → Stops (start_low low.now) events.now refusal) }
 {
-    let last = end_of(alloc, low, events)?;
-    report_of(alloc, low, &last, events.len())
+    match end_of(alloc, low, events) {
+        Ok(last) => {
+            let report = report_of(alloc, low, &last, events.len());
+            drop(last);
+            report
+        }
+        Err(refusal) => Err(refusal),
+    }
 }
 
 /// Replays the events of a low program, and makes the report of what is to be shown.

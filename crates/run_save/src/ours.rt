@@ -39,6 +39,12 @@ pub fn ours_until(alloc: Global, low: &LowProgram, events: &[Event]) -> Result<O
     ensures ours { IfOk result (λ until. IsNone until ↔ IsOurs low.now events.now) }
     ensures until { IfOk result (λ until. IfSome until (StopsBeingOurs (start_low low.now) events.now)) }
 {
-    let mut reached = start_low(alloc, low)?;
-    first_not_ours(alloc, &mut reached, events)
+    match start_low(alloc, low) {
+        Ok(mut reached) => {
+            let until = first_not_ours(alloc, &mut reached, events);
+            drop(reached);
+            until
+        }
+        Err(memory) => Err(memory),
+    }
 }

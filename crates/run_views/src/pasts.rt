@@ -25,8 +25,14 @@ pub fn past(
     requires print { IsPrint (slice_get events.now index) }
     ensures { IfOk result (IsPastRun low.now events.now index) }
 {
-    let mut start = start_low(alloc, low)?;
-    past_on(alloc, &mut start, events, index as usize)
+    match start_low(alloc, low) {
+        Ok(mut start) => {
+            let led = past_on(alloc, &mut start, events, index as usize);
+            drop(start);
+            led
+        }
+        Err(memory) => Err(memory),
+    }
 }
 
 /// The past of a place of a run that goes on from a configuration.

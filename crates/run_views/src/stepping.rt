@@ -22,8 +22,14 @@ pub fn one_step(alloc: Global, p: &Checked, high: &[Event]) -> Result<List<Event
     requires free { tests p.now.main ≡ [] }
     ensures { IfOk result (IsStepped p.now high.now) }
 {
-    let mut start = start_high(alloc, p.program())?;
-    one_step_on(alloc, &mut start, high)
+    match start_high(alloc, p.program()) {
+        Ok(mut start) => {
+            let made = one_step_on(alloc, &mut start, high);
+            drop(start);
+            made
+        }
+        Err(memory) => Err(memory),
+    }
 }
 
 /// The same of a run that goes on from a configuration.

@@ -22,9 +22,9 @@ no_refusal : (low : LowProgram) (events : List Event) (r : Result (List ℕ) Ref
 no_refusal low events (Ok text) is = tt
 no_refusal low events (Err e) is = λ some. absurd (some is)
 
-pub returns-clause-made : goal.returns-clause-made
-returns-clause-made c =
-    ends c.args.low.now c.args.events.now c.in_ok-last.last c.in_ok-last.ensures.reached c.report_of.result c.report_of.ensures.made
+pub returns-in-Ok-clause-made : goal.returns-in-Ok-clause-made
+returns-in-Ok-clause-made c =
+    ends c.args.low.now c.args.events.now c.in-Ok.last c.in-Ok.ensures.reached c.report_of-report.result c.report_of-report.ensures.made
 
-pub returns-clause-refused : goal.returns-clause-refused
-returns-clause-refused c = no_refusal c.args.low.now c.args.events.now c.report_of.result c.report_of.ensures.refused
+pub returns-in-Ok-clause-refused : goal.returns-in-Ok-clause-refused
+returns-in-Ok-clause-refused c = no_refusal c.args.low.now c.args.events.now c.report_of-report.result c.report_of-report.ensures.refused

@@ -4,14 +4,14 @@ use Rattle.run_save.specs.Ours.{IsOursFrom, StopsBeingOurs}
 use Rattle.run_save.proofs.RunLaws.{none-exactly, stops-until}
 use Rattle.run_save.proofs.ours.ours_until.Goals as goal
 
-pub returns-clause-ours : goal.returns-clause-ours
-returns-clause-ours c =
+pub returns-in-Ok-clause-ours : goal.returns-in-Ok-clause-ours
+returns-in-Ok-clause-ours c =
     let events = c.args.events.now in
-    subst (λ start. IfOk c.first_not_ours.result (λ until. IsNone until ↔ IsOursFrom start events)) c.in_ok-reached.ensures
-    (IfOk-weaker c.first_not_ours.result _ _ (none-exactly c.in_ok-reached.reached events) c.first_not_ours.ensures)
+    subst (λ start. IfOk c.first_not_ours-until.result (λ until. IsNone until ↔ IsOursFrom start events)) c.in-Ok.ensures
+    (IfOk-weaker c.first_not_ours-until.result _ _ (none-exactly c.in-Ok.reached events) c.first_not_ours-until.ensures)
 
-pub returns-clause-until : goal.returns-clause-until
-returns-clause-until c =
+pub returns-in-Ok-clause-until : goal.returns-in-Ok-clause-until
+returns-in-Ok-clause-until c =
     let events = c.args.events.now in
-    subst (λ start. IfOk c.first_not_ours.result (λ until. IfSome until (StopsBeingOurs start events))) c.in_ok-reached.ensures
-    (IfOk-weaker c.first_not_ours.result _ _ (stops-until c.in_ok-reached.reached events) c.first_not_ours.ensures)
+    subst (λ start. IfOk c.first_not_ours-until.result (λ until. IfSome until (StopsBeingOurs start events))) c.in-Ok.ensures
+    (IfOk-weaker c.first_not_ours-until.result _ _ (stops-until c.in-Ok.reached events) c.first_not_ours-until.ensures)

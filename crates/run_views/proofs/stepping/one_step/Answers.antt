@@ -6,9 +6,9 @@ use Rattle.run_views.specs.Stepped.{IsStepped}
 use Rattle.run_views.proofs.Steppings.{is-stepped}
 use Rattle.run_views.proofs.stepping.one_step.Goals as goal
 
-pub returns : goal.returns
-returns c =
+pub returns-in-Ok : goal.returns-in-Ok
+returns-in-Ok c =
     let p = c.args.p.now in
     let events = c.args.high.now in
-    let start = c.in_ok-start.ensures ∙ ap start_high c.program.ensures.value in
-    IfOk-weaker c.one_step_on.result _ (IsStepped p events) (λ made is. is-stepped p events made c.requires.free c.requires.run (is ∙ ap (λ s. one_step s events) start)) c.one_step_on.ensures
+    let start = c.in-Ok.ensures ∙ ap start_high c.program.ensures.value in
+    IfOk-weaker c.one_step_on-made.result _ (IsStepped p events) (λ made is. is-stepped p events made c.requires.free c.requires.run (is ∙ ap (λ s. one_step s events) start)) c.one_step_on-made.ensures
