@@ -1,4 +1,4 @@
-ghost use Rattle.std.specs.Prelude.{◌≡◌, ◌↔◌, ◌+◌, ◌≤◌, Some, IfOk};
+ghost use Rattle.std.specs.Prelude.{◌≡◌, ◌↔◌, ◌+◌, ◌≤◌, [], Some, IfOk};
 ghost use Rattle.np_calculus.specs.Begins.{AreNew};
 ghost use Rattle.np_calculus.specs.Idle.{Idle};
 ghost use Rattle.np_calculus.specs.Parts.{IsLodged};
@@ -51,20 +51,41 @@ fn run_from(alloc: Global, start: Cfg, at: u32, budget: u32) -> Result<SerialRun
     requires fresh { AreFresh start.born start.sites 0 }
     ensures { IfOk result (λ r. IsSerialRun start budget r.events r.last r.end) }
 {
-    let beyond = beyond(&start);
     let mut last = start;
     let mut events = List::new(alloc);
+    match run_on(alloc, &mut last, &mut events, at, budget) {
+        Ok(end) => Ok(SerialRun { events, last, end }),
+        Err(memory) => {
+            drop(last);
+            drop(events);
+            Err(memory)
+        }
+    }
+}
+
+/// Makes the events of a run, and notes them.
+fn run_on(
+    alloc: Global,
+    last: &mut Cfg,
+    events: &mut List<Event>,
+    at: u32,
+    budget: u32,
+) -> Result<End, Memory>
+    requires runs { RunsWell last.old at }
+    requires fresh { AreFresh last.old.born last.old.sites 0 }
+    requires none { events.old ≡ [] }
+    ensures { IfOk result (λ end. IsSerialRun last.old budget events.new last.new end) }
+{
+    let beyond = beyond(last);
     for n in 0..budget {
         let Some(step) = last.next() else {
-            let end = End::Rest;
-            return Ok(SerialRun { events, last, end });
+            return Ok(End::Rest);
         };
         let first = Name { site: at, n };
         let second = Name { site: beyond, n };
-        advance(alloc, &mut last, &mut events, step, first, second)?;
+        advance(alloc, last, events, step, first, second)?;
     }
-    let end = end_of(&mut last);
-    Ok(SerialRun { events, last, end })
+    Ok(end_of(last))
 }
 
 /// Makes the event of the next step, which makes no names but these, and notes it behind the others.

@@ -50,9 +50,30 @@ fn run(
     ensures { IfOk result (λ made. IsRunOf budget high checked.now made.0 made.1) }
 {
     law_runs_well();
-    let made = run_serial(alloc, checked.program(), budget)?;
-    let text = report_of(alloc, high, checked, &made)?;
-    Ok((made, text))
+    match run_serial(alloc, checked.program(), budget) {
+        Ok(made) => with_report(alloc, high, checked, made),
+        Err(memory) => Err(memory),
+    }
+}
+
+/// A run and its report.
+fn with_report(
+    alloc: Global,
+    high: HighText,
+    checked: &Checked,
+    made: SerialRun,
+) -> Result<(SerialRun, Text), Memory>
+    requires free { barred high checked.now ≡ None }
+    requires run { HasRun checked.now made }
+    ensures { IfOk result (λ both. (both.0 ≡ made) × IsReportOf high checked.now made both.1) }
+{
+    match report_of(alloc, high, checked, &made) {
+        Ok(text) => Ok((made, text)),
+        Err(memory) => {
+            drop(made);
+            Err(memory)
+        }
+    }
 }
 
 /// The report of a run.
@@ -96,7 +117,25 @@ fn run_encoded(alloc: Global, budget: u32, low: &LowProgram) -> Result<(SerialRu
     ensures run { IfOk result (λ made. IsSerialRun (start_low low.now) budget made.0.events made.0.last made.0.end) }
     ensures report { IfOk result (λ made. made.1 ≡ report_text low.now.sites made.0.last.said [] made.0.end) }
 {
-    let made = run_serial_low(alloc, low, budget)?;
-    let text = report(alloc, &low.sites, made.last.said(), b"", made.end)?;
-    Ok((made, text))
+    match run_serial_low(alloc, low, budget) {
+        Ok(made) => with_low_report(alloc, low, made),
+        Err(memory) => Err(memory),
+    }
+}
+
+/// A run of a low program and its report.
+fn with_low_report(
+    alloc: Global,
+    low: &LowProgram,
+    made: SerialRun,
+) -> Result<(SerialRun, Text), Memory>
+    ensures { IfOk result (λ both. (both.0 ≡ made) × (both.1 ≡ report_text low.now.sites made.last.said [] made.end)) }
+{
+    match report(alloc, &low.sites, made.last.said(), b"", made.end) {
+        Ok(text) => Ok((made, text)),
+        Err(memory) => {
+            drop(made);
+            Err(memory)
+        }
+    }
 }

@@ -1,9 +1,11 @@
 use Rattle.std.proofs.Common.{sym, subst}
+use Rattle.std.proofs.lemmas.Result.{IfOk-weaker}
 use Rattle.np_syntax.specs.declared.program.Program.{Program}
 use Rattle.np_calculus.specs.Runs.{RunsWell}
 use Rattle.np_calculus.specs.Starts.{start_high}
 use Rattle.np_serial.specs.Serial.{IsSerialRun}
-use Rattle.np_sources.specs.Makes.{HasRun}
+use Rattle.np_serial.specs.declared.serial.SerialRun.{SerialRun}
+use Rattle.np_sources.specs.Makes.{HasRun, IsReportOf, IsRunOf}
 use Rattle.np_sources.proofs.runs.run.Goals as goal
 
 pub run_serial-requires : goal.run_serial-requires
@@ -11,16 +13,20 @@ run_serial-requires c =
     let of = c.program.ensures in
     subst (λ (p : Program). RunsWell (start_high p) p.at) (sym of.value) (c.law_runs_well.ensures _ of.accepted)
 
-pub report_of-requires-clause-run : goal.report_of-requires-clause-run
-report_of-requires-clause-run c =
-    let made = c.in_ok-made.made in
-    subst (λ (p : Program). HasRun p made) c.program.ensures.value c.in_ok-made.ensures.reaches
+pub with_report-requires-clause-run : goal.with_report-requires-clause-run
+with_report-requires-clause-run c =
+    let made = c.in-Ok.made in
+    subst (λ (p : Program). HasRun p made) c.program.ensures.value c.in-Ok.ensures.reaches
 
-pub returns : goal.returns
-returns c =
-    let made = c.in_ok-made.made in
-    let same = c.program.ensures.value in
-    record {
-      run = subst (λ (p : Program). IsSerialRun (start_high p) c.args.budget made.events made.last made.end) same c.in_ok-made.ensures;
-      report = c.in_ok-text.ensures;
-    }
+pub returns-in-Ok : goal.returns-in-Ok
+returns-in-Ok c =
+    let made = c.in-Ok.made in
+    let p = c.args.checked.now in
+    let high = c.args.high in
+    let budget = c.args.budget in
+    let ran = subst (λ (q : Program). IsSerialRun (start_high q) budget made.events made.last made.end) c.program.ensures.value c.in-Ok.ensures in
+    IfOk-weaker c.with_report.result _ (λ both. IsRunOf budget high p both.0 both.1)
+    (λ both is. record {
+      run = subst (λ (m : SerialRun). IsSerialRun (start_high p) budget m.events m.last m.end) (sym is.0) ran;
+      report = subst (λ (m : SerialRun). IsReportOf high p m both.1) (sym is.0) is.1;
+    }) c.with_report.ensures

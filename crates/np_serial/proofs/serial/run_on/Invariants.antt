@@ -1,11 +1,11 @@
 use Rattle.std.proofs.Common.{◌≡◌, length, Some}
 use Rattle.np_calculus.specs.Reductions.{run}
 use Rattle.np_serial.specs.Serial.{AreFresh}
-use Rattle.np_serial.proofs.serial.run_from.Given as goal
+use Rattle.np_serial.proofs.serial.run_on.Given as goal
 
 abbrev pub invariant-loop-n : goal.invariant-loop-n
 invariant-loop-n l = record {
-  reaches : run l.fn.start l.events ≡ Some l.last;
+  reaches : run l.fn.last l.events ≡ Some l.last;
   made : length l.events ≡ l.n;
-  fresh : AreFresh l.last.born l.fn.start.sites l.n;
+  fresh : AreFresh l.last.born l.fn.last.sites l.n;
 }
