@@ -25,13 +25,13 @@ use Rattle.site_links.proofs.Rows.{get-push_at, get-set_same}
 use Rattle.np_code.specs.Programs.{ProgramTable}
 use Rattle.agent_pool.specs.declared.ready.Ready.{Ready}
 use Rattle.agent_move.specs.declared.item.Item.{Item}
-use Rattle.site_state.specs.Doing.{HasDoneEvent, HasTaken, IsRedone, event_at}
+use Rattle.site_state.specs.Doing.{HasDoneAsked, HasDoneEvent, HasTaken, IsRedone, event_at, ready_of}
 use Rattle.site_state.specs.Standings.{Standing, Stays, with_clock}
 use Rattle.site_turn.specs.declared.seat.Seat.{Seat}
 use Rattle.site_turn.specs.Turns.{Accepts, SetsAside, Turned}
 use Rattle.site_turn.proofs.Holdings.{later_weaker, not_recorded, recorded_events}
 use Rattle.site_turn.proofs.Steps.{turned_done, turned_stays}
-use Rattle.site_crew.specs.Following.{Adds, AllRest, HasAccepted, HasNotAdded, HaveAdded, IsLast, IsNotEarly, Moves, Rests, StandBut}
+use Rattle.site_crew.specs.Following.{Adds, AllRest, HasAccepted, HasNotAdded, HasNotRedone, HaveAdded, HaveNotRedone, IsLast, IsNotEarly, Moves, Rests, StandBut}
 use Rattle.site_crew.specs.Links.{AreSettledIn}
 use Rattle.site_crew.specs.Seats.{Stand}
 use Rattle.site_crew.proofs.Pairs.{some_is}
@@ -225,15 +225,17 @@ module _ {P : Type 0} where
         sound = λ was. ok;
       }
 
+-- what stands behind all others is the last
+last_behind : (es later : List Stamped) (x : Stamped) → later ≡ es ++ x ∷ [] → IsLast later x
+last_behind es later x is = record {
+  before = length es;
+  count = ap length is ∙ length-append es (x ∷ []);
+  last = ap (λ l. slice_get l (length es)) is ∙ get-push_at es (length es) x refl;
+}
+
 -- an event that was added is the last
 pub added_last : {P : Type 0} {e : Event} {stamp : ℕ} {a b : Seat P} → Adds e stamp a b → IsLast b.site.history.events (record { stamp = stamp; event = e })
-added_last {P} {e} {stamp} {a} {b} adds =
-    let es = a.site.history.events in
-    let x : Stamped = record { stamp = stamp; event = e } in record {
-      before = length es;
-      count = ap length adds.events ∙ length-append es (x ∷ []);
-      last = ap (λ l. slice_get l (length es)) adds.events ∙ get-push_at es (length es) x refl;
-    }
+added_last {P} {e} {stamp} {a} {b} adds = last_behind a.site.history.events b.site.history.events (record { stamp = stamp; event = e }) adds.events
 
 -- where the history is as it was, none was added
 pub none_added : {P : Type 0} {e : Event} {stamp : ℕ} {a b : Seat P} → b.site.history ≡ a.site.history → Adds e stamp a b → ⊥
@@ -317,3 +319,25 @@ adds_redone code e deed stamp a b done failed last =
       clock = ap (λ (x : Stamped). x.stamp) (sym same);
       sound = λ ok. failed ∙ ok;
     }
+
+-- what was done is another event, where that is not the last
+pub differs_redone : {P : Type 0} {code : ProgramTable} {e : Event} {stamp : ℕ} {a b : Seat P} → HasDoneAsked code (ready_of e) stamp a.site b.site
+    → (IsLast b.site.history.events (record { stamp = stamp; event = e }) → ⊥) → HasNotRedone code e stamp a b
+differs_redone {P} {code} {e} {stamp} {a} {b} done missed = HasNotRedone.differs done (λ same.
+    let deed : Event = event_at code a.site done.agent (ready_of e) in
+    let x : Stamped = record { stamp = b.site.clock; event = deed } in
+    let did = done.done.did in
+    let is : x ≡ record { stamp = stamp; event = e } = λ i. record { stamp = done.clock i; event = same i } in
+    let events = ap (λ (h : Recorded). h.events) did.history ∙ recorded_events a.site.history x did.value in
+    let all = events ∙ ap (λ (y : Stamped). a.site.history.events ++ y ∷ []) is in
+    missed (last_behind a.site.history.events b.site.history.events (record { stamp = stamp; event = e }) all))
+
+-- so it is among all seats
+pub not_redone_at : {P : Type 0} (code : ProgramTable) (e : Event) (stamp : ℕ) (xs : List (Seat P)) (a c : Seat P) → slice_get xs e.site ≡ Some a
+    → HasNotRedone code e stamp a c → HaveNotRedone code e stamp xs (set xs e.site c)
+not_redone_at {P} code e stamp xs a c at none = record {
+  there = λ x y was is.
+      let first : a ≡ x = some_is (slice_get xs e.site) a x at was in
+      let last : c ≡ y = some_is (slice_get (set xs e.site c) e.site) c y (get-set_same xs e.site c (slice_get_within xs e.site a at)) is in
+      subst (λ (v : Seat P). HasNotRedone code e stamp v y) first (subst (λ (v : Seat P). HasNotRedone code e stamp a v) last none);
+}

@@ -1,16 +1,19 @@
 -- What seats are while the events of a list are done again (docs/LANGUAGE.md, "History text").
-use Rattle.std.specs.Prelude.{◌≡◌, ◌≢◌, ◌<◌, ◌≤◌, ◌+◌, ℕ, false, max, List, [], ◌∷◌, ◌++◌, length, Some, slice_get}
+use Rattle.std.specs.Prelude.{◌≡◌, ◌≢◌, ◌<◌, ◌≤◌, ◌+◌, ℕ, true, false, max, List, [], ◌∷◌, ◌++◌, length, take, Some, slice_get}
 use Rattle.np_syntax.specs.declared.event.Event.{Event}
 use Rattle.site_links.specs.declared.port.Port as Port
+use Rattle.np_calculus.specs.NotEnabled.{by_atom}
 use Rattle.np_code.specs.Programs.{ProgramTable}
 use Rattle.np_following.specs.Following.{AreOf}
 use Rattle.agent_move.specs.declared.item.Item.{Item}
-use Rattle.site_state.specs.Doing.{HasRoom, IsPossible}
+use Rattle.site_agents.specs.Standings.{NoneCanDo}
+use Rattle.site_state.specs.Doing.{HasDoneAsked, HasRoom, IsPossible, event_at, ready_of}
+use Rattle.site_state.specs.Standings.{Stays}
 use Rattle.site_turn.specs.declared.seat.Seat.{Seat}
 use Rattle.site_turn.specs.Turns.{Turned}
 use Rattle.site_crew.specs.Crews.{NoneFailed}
 use Rattle.site_crew.specs.Links.{IsSettledTo}
-use Rattle.site_crew.specs.Seats.{AreFresh, AreSeats, AreWhole, Stand, histories}
+use Rattle.site_crew.specs.Seats.{AllGrow, AreFresh, AreSeats, AreWhole, Stand, histories}
 
 -- ---- one seat
 
@@ -44,6 +47,14 @@ pub record CanForce {P : Type 0} (code : ProgramTable) (e : Event) (stamp : ℕ)
   pub possible : IsPossible code s.site e
   pub above : s.site.clock < stamp
 
+-- Its site has not done the event of its own: there was no room for it, or no agent there can do it by its marks, and nothing was done; or an agent has
+-- done what the event asks, and with the names that it made this is another event.
+pub data HasNotRedone {P : Type 0} (code : ProgramTable) (e : Event) (stamp : ℕ) (old new : Seat P) : Type 0 where
+  full : (HasRoom old.site → ⊥) → new ≡ old → HasNotRedone code e stamp old new
+  unable : NoneCanDo code old.site.agents (ready_of e) → Stays code old.site new.site → HasNotRedone code e stamp old new
+  differs : (done : HasDoneAsked code (ready_of e) stamp old.site new.site) → event_at code old.site done.agent (ready_of e) ≢ e
+      → HasNotRedone code e stamp old new
+
 -- ---- all seats
 
 pub record AllRest {P : Type 0} (late : ℕ) (xs ys : List (Seat P)) : Type 0 where
@@ -60,6 +71,22 @@ pub record HaveAdded {P : Type 0} (e : Event) (stamp late : ℕ) (xs ys : List (
 -- the site of the event has not recorded it as its last with this stamp, if memory had not run out before
 pub record HasNotAdded {P : Type 0} (e : Event) (stamp : ℕ) (xs ys : List (Seat P)) : Type 0 where
   pub there : (a b : Seat P) → slice_get xs e.site ≡ Some a → slice_get ys e.site ≡ Some b → a.failed ≡ false → Adds e stamp a b → ⊥
+
+-- the site of the event, which is of its own, has not done it
+pub record HaveNotRedone {P : Type 0} (code : ProgramTable) (e : Event) (stamp : ℕ) (xs ys : List (Seat P)) : Type 0 where
+  pub there : (a b : Seat P) → slice_get xs e.site ≡ Some a → slice_get ys e.site ≡ Some b → HasNotRedone code e stamp a b
+
+-- the event was not done: no seat is its site's, or it is the coming of an item, and this item has not come, or its site has not done it of its own
+pub data HaveMissed {P : Type 0} (code : ProgramTable) (e : Event) (stamp : ℕ) (xs ys : List (Seat P)) : Type 0 where
+  nowhere : length xs ≤ e.site → HaveMissed code e stamp xs ys
+  coming : by_atom e.kind ≡ false → HasNotAdded e stamp xs ys → HaveMissed code e stamp xs ys
+  own : by_atom e.kind ≡ true → HaveNotRedone code e stamp xs ys → HaveMissed code e stamp xs ys
+
+-- the event in this place of a list was not done after those before it
+pub record HaveMissedAt {P : Type 0} (code : ProgramTable) (events : List Event) (k : ℕ) (xs ys : List (Seat P)) : Type 0 where
+  pub event : Event
+  pub at : slice_get events k ≡ Some event
+  pub missed : HaveMissed code event (k + 1) xs ys
 
 -- where no site has made an event, the stamp is 0
 pub record IsNotEarly {P : Type 0} (stamp : ℕ) (xs : List (Seat P)) : Type 0 where
@@ -94,3 +121,11 @@ module _ {P R : Type 0} (g : Port.Ghosts P R Item) (code : ProgramTable) where
     pub of : AreOf events (histories xs)
     pub clocks : (i : ℕ) (s : Seat P) → slice_get xs i ≡ Some s → s.site.clock ≤ length events
     pub sound : NoneFailed xs
+
+  -- the events of the list were done up to some place, and the one in that place was not
+  pub record StopsAt (budget : ℕ) (events : List Event) (xs : List (Seat P)) : Type 0 where
+    pub place : ℕ
+    pub mid : List (Seat P)
+    pub done : HaveDone budget (take place events) mid
+    pub grow : AllGrow (histories mid) (histories xs)
+    pub missed : HaveMissedAt code events place mid xs

@@ -1,7 +1,7 @@
 //! The seats of a crew do the events of a list again, as far as they can.
 ghost use Rattle.std.specs.Prelude.{◌≡◌, ◌<◌, ◌≤◌, ◌+◌, ◌^◌, true, false, length, take, Some, slice_get, IfOk};
 ghost use Rattle.site_crew.specs.Crews.{NoneFailed};
-ghost use Rattle.site_crew.specs.Following.{Adds, AreAt, HasNotAdded, HaveAdded, HaveDone};
+ghost use Rattle.site_crew.specs.Following.{Adds, AreAt, HasNotRedone, HaveAdded, HaveDone, HaveMissedAt, HaveNotRedone, StopsAt};
 ghost use Rattle.site_crew.specs.Seats.{AllGrow, Stand, event_count, histories};
 ghost use Rattle.site_turn.specs.declared.seat.Seat.{Seat as OneSeat};
 ghost use Rattle.site_turn.specs.Turns.{Seated, Turned};
@@ -31,7 +31,7 @@ fn redo<R, P: Port<R, Item>>(
     ensures turned { Turned P.Port code.now seat.old seat.new }
     ensures port { (seat.new.port ≡ seat.old.port) × (seat.new.waits ≡ seat.old.waits) }
     ensures ok { IfOk result (λ is. is ≡ true → Adds event stamp seat.old seat.new) }
-    ensures no { IfOk result (λ is. is ≡ false → Adds event stamp seat.old seat.new → ⊥) }
+    ensures why { IfOk result (λ is. is ≡ false → HasNotRedone code.now event stamp seat.old seat.new) }
 {
     if !has_room::<R, P>(code, seat) {
         return Ok(false);
@@ -59,7 +59,7 @@ fn redo_at<R, P: Port<R, Item>>(
     ensures stand { Stand P.Port code.now _budget seats.new }
     ensures grow { AllGrow (histories seats.old) (histories seats.new) }
     ensures ok { IfOk result (λ is. is ≡ true → HaveAdded event stamp 0 seats.old seats.new) }
-    ensures no { IfOk result (λ is. is ≡ false → HasNotAdded event stamp seats.old seats.new) }
+    ensures why { IfOk result (λ is. is ≡ false → HaveNotRedone code.now event stamp seats.old seats.new) }
 {
     let at = event.site as usize;
     let done = redo(rt, alloc, code, &mut seats[at], event, stamp);
@@ -83,6 +83,7 @@ fn redo_one<R, P: Port<R, Item>>(
     ensures stand { Stand P.Port code.now budget seats.new }
     ensures grow { AllGrow (histories seats.old) (histories seats.new) }
     ensures ok { IfOk result (λ is. is ≡ true → HaveDone P.Port code.now budget (take (k + 1) events.now) seats.new) }
+    ensures why { IfOk result (λ is. is ≡ false → HaveMissedAt code.now events.now k seats.old seats.new) }
 {
     let event = events[k];
     let stamp = k as u64 + 1;
@@ -114,6 +115,7 @@ pub fn redo_all<R, P: Port<R, Item>>(
     ensures grow { AllGrow (histories seats.old) (histories seats.new) }
     ensures done { IfOk result (λ all. all ≡ true → HaveDone P.Port code.now budget events.now seats.new) }
     ensures clocks { IfOk result (λ all. all ≡ true → AreAt (length events.now) seats.new) }
+    ensures why { IfOk result (λ all. all ≡ false → StopsAt P.Port code.now budget events.now seats.new) }
 {
     for k in 0..events.len() {
         if !redo_one(rt, alloc, code, budget, seats, events, k)? {

@@ -1,22 +1,25 @@
-use Rattle.std.proofs.Common.{Bool, refl, subst}
+use Rattle.std.proofs.Common.{◌≡◌, Bool, true, false, refl, subst}
 use Rattle.site_state.specs.Doing.{IsRedone, ready_of}
 use Rattle.site_turn.proofs.Steps.{turned_refl}
-use Rattle.site_crew.proofs.Redoing.{added_last, adds_redone, none_added, turned_redone}
+use Rattle.site_crew.specs.Following.{HasNotRedone}
+use Rattle.site_crew.proofs.Redoing.{adds_redone, differs_redone, turned_redone}
 use Rattle.site_crew.proofs.again.redo.Goals as goal
 
 pub returns-then-not-has_room-clause-turned : goal.returns-then-not-has_room-clause-turned
 returns-then-not-has_room-clause-turned g c = turned_refl _
 
-pub returns-then-not-has_room-clause-no : goal.returns-then-not-has_room-clause-no
-returns-then-not-has_room-clause-no g c = λ e. none_added refl
+pub returns-then-not-has_room-clause-why : goal.returns-then-not-has_room-clause-why
+returns-then-not-has_room-clause-why g c = λ e. HasNotRedone.full (λ room. let full : false ≡ true = c.if-not-has_room.ensures.1 room in absurd cc) refl
 
-pub returns-then-did-clause-no : goal.returns-then-did-clause-no
-returns-then-did-clause-no g c = λ e adds. c.is_last.ensures.no e (added_last adds)
+pub returns-then-did-clause-why : goal.returns-then-did-clause-why
+returns-then-did-clause-why g c = λ e.
+    let done = subst (λ (did : Bool). IsRedone c.args.code.now (ready_of c.args.event) c.args.stamp c.args.seat.now.site c.redo.new.self did) c.if-did.true c.in-Ok.ensures.ok in
+    differs_redone done (c.is_last.ensures.no e)
 
-pub returns-else-did-clause-no : goal.returns-else-did-clause-no
-returns-else-did-clause-no g c = λ e.
+pub returns-else-did-clause-why : goal.returns-else-did-clause-why
+returns-else-did-clause-why g c = λ e.
     let stays = subst (λ (did : Bool). IsRedone c.args.code.now (ready_of c.args.event) c.args.stamp c.args.seat.now.site c.redo.new.self did) c.if-did.false c.in-Ok.ensures.ok in
-    none_added stays.0.same.history
+    HasNotRedone.unable stays.1 stays.0
 
 pub returns-then-did-clause-turned : goal.returns-then-did-clause-turned
 returns-then-did-clause-turned g c =

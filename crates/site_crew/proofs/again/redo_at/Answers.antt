@@ -5,7 +5,7 @@ use Rattle.std.proofs.lemmas.Option.{slice_get-get_or}
 use Rattle.stamp_history.specs.Histories.{IsHistory}
 use Rattle.site_turn.specs.declared.seat.Seat.{Seat}
 use Rattle.site_crew.proofs.Goings.{seat_seated}
-use Rattle.site_crew.proofs.Redoing.{added_one, not_added_at, on_no, on_yes, stand_alone}
+use Rattle.site_crew.proofs.Redoing.{added_one, not_redone_at, on_no, on_yes, stand_alone}
 use Rattle.site_crew.proofs.Replacing.{grows_moved}
 use Rattle.site_crew.proofs.again.redo_at.Goals as goal
 
@@ -40,8 +40,8 @@ returns-clause-ok g c =
     let at : slice_get xs i ≡ Some a = slice_get-get_or xs i c.index-seats-at.result c.requires.at in
     on_yes c.redo-done.result (added_one c.args.event c.args.stamp xs a c.redo-done.new.seat at) c.redo-done.ensures.ok
 
-pub returns-clause-no : goal.returns-clause-no
-returns-clause-no g c =
+pub returns-clause-why : goal.returns-clause-why
+returns-clause-why g c =
     let xs = c.args.seats.now in let i = c.args.event.site in let a = get_or xs i c.index-seats-at.result in
     let at : slice_get xs i ≡ Some a = slice_get-get_or xs i c.index-seats-at.result c.requires.at in
-    on_no c.redo-done.result (λ none. not_added_at c.args.event c.args.stamp xs a c.redo-done.new.seat at (λ ok. none)) c.redo-done.ensures.no
+    on_no c.redo-done.result (not_redone_at c.args.code.now c.args.event c.args.stamp xs a c.redo-done.new.seat at) c.redo-done.ensures.why

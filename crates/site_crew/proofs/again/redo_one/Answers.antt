@@ -1,9 +1,10 @@
 use Rattle.std.proofs.Common.{◌≡◌, ◌+◌, ◌-◌, ◌≤◌, Some, get_or, take, length, arith}
 use Rattle.std.specs.Prelude.{slice_get}
 use Rattle.std.proofs.lemmas.Option.{slice_get-get_or}
+use Rattle.site_crew.specs.Following.{HaveMissed}
 use Rattle.site_crew.proofs.Doing.{not_early}
-use Rattle.site_crew.proofs.Enabled.{followed_one, no_event, take-length}
-use Rattle.site_crew.proofs.Redoing.{on_yes}
+use Rattle.site_crew.proofs.Enabled.{followed_one, is_coming, is_own, no_event, take-length}
+use Rattle.site_crew.proofs.Redoing.{on_no, on_yes}
 use Rattle.site_crew.proofs.again.redo_one.Goals as goal
 
 pub bring-requires-clause-early : goal.bring-requires-clause-early
@@ -30,3 +31,16 @@ returns-else-comes-clause-ok g c =
     let at : slice_get es k ≡ Some e = slice_get-get_or es k no_event c.requires.at in
     let low : 0 ≤ k = omega arith in
     on_yes c.redo_at.result (followed_one g.P.Port c.args.code.now es k e 0 c.requires.done at c.redo_at.ensures.stand low) c.redo_at.ensures.ok
+
+pub returns-then-comes-clause-why : goal.returns-then-comes-clause-why
+returns-then-comes-clause-why g c =
+    let es = c.args.events.now in let k = c.args.k in let e = get_or es k no_event in
+    let at : slice_get es k ≡ Some e = slice_get-get_or es k no_event c.requires.at in
+    λ none. record { event = e; at = at; missed = HaveMissed.coming (is_coming e.kind c.comes.result c.comes.ensures c.if-comes.true) (c.bring.ensures.no none) }
+
+pub returns-else-comes-clause-why : goal.returns-else-comes-clause-why
+returns-else-comes-clause-why g c =
+    let es = c.args.events.now in let k = c.args.k in let e = get_or es k no_event in
+    let at : slice_get es k ≡ Some e = slice_get-get_or es k no_event c.requires.at in
+    let own = is_own e.kind c.comes.result c.comes.ensures c.if-comes.false in
+    on_no c.redo_at.result (λ none. record { event = e; at = at; missed = HaveMissed.own own none }) c.redo_at.ensures.why
