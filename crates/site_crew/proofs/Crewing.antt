@@ -20,7 +20,8 @@ use Rattle.site_crew.specs.declared.round.Round.{Round}
 use Rattle.site_crew.specs.declared.round.Round.TheVariants as round
 use Rattle.site_crew.specs.Links.{AllStill}
 use Rattle.site_crew.specs.Runs.{IsCrewRun, IsProgram, OnlySpentCan}
-use Rattle.site_crew.specs.Seats.{AllGrow, AllLater, AllTurned, AreFirst, Stand, clocks, event_count, histories}
+use Rattle.crew_ends.specs.Starts.{AreFirst}
+use Rattle.site_crew.specs.Seats.{AllGrow, AllLater, AllTurned, Stand, clocks, event_count, histories}
 use Rattle.site_crew.proofs.Goings.{turned_at}
 use Rattle.site_crew.proofs.Standing.{stand_first}
 use Rattle.site_crew.proofs.Spending.{IsEndOf, crew_end}

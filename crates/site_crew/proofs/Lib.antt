@@ -4,7 +4,6 @@ pub mod CrewRuns
 pub mod Directed
 pub mod Doing
 pub mod Enabled
-pub mod First
 pub mod Goings
 pub mod Pairs
 pub mod Possible

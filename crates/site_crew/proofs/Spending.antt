@@ -10,7 +10,7 @@ use Rattle.np_code.specs.Programs.{ProgramTable, program}
 use Rattle.agent_move.specs.declared.item.Item.{Item}
 use Rattle.site_links.specs.declared.port.Port as Port
 use Rattle.site_turn.specs.declared.seat.Seat.{Seat}
-use Rattle.site_crew.specs.Quiet.{AllQuiet, AreOver}
+use Rattle.crew_ends.specs.Quiet.{AllQuiet, AreOver}
 use Rattle.site_crew.specs.Runs.{IsCrewRun, IsProgram, IsSpent, OnlySpentCan}
 use Rattle.site_crew.specs.Seats.{Stand, histories}
 use Rattle.site_crew.proofs.Directed.{are_directed}

@@ -17,7 +17,8 @@ use Rattle.site_state.specs.Standings.{Standing}
 use Rattle.site_turn.specs.declared.seat.Seat.{Seat}
 use Rattle.site_turn.specs.Turns.{IsStrange, Kept, came_from, shown}
 use Rattle.site_crew.specs.Links.{AllStill, AreSettled}
-use Rattle.site_crew.specs.Seats.{AllTurned, AreFirst, AreFresh, AreSeats, AreWhole, IsFirst, Stand}
+use Rattle.crew_ends.specs.Starts.{AreFirst, IsFirst}
+use Rattle.site_crew.specs.Seats.{AllTurned, AreFresh, AreSeats, AreWhole, Stand}
 use Rattle.site_crew.proofs.Pairs.{linked_after, some_is}
 use Rattle.site_crew.proofs.Goings.{seat_still, seats_turned, turned_at}
 

@@ -19,7 +19,7 @@ use Rattle.site_state.specs.Lines.{Waiting, queue_at}
 use Rattle.site_state.specs.Standings.{holding_of}
 use Rattle.site_turn.specs.declared.seat.Seat.{Seat}
 use Rattle.site_turn.specs.Turns.{came_from, shown}
-use Rattle.site_crew.specs.Quiet.{AllQuiet, IsQuietSeat}
+use Rattle.crew_ends.specs.Quiet.{AllQuiet, IsQuietSeat}
 use Rattle.site_crew.specs.Runs.{IsProgram}
 use Rattle.site_crew.specs.Seats.{Stand, histories}
 use Rattle.site_crew.proofs.Pairs.{some_is}

@@ -13,7 +13,7 @@ use Rattle.agent_move.specs.declared.item.Item.{Item}
 use Rattle.site_turn.specs.declared.seat.Seat.{Seat}
 use Rattle.site_crew.specs.declared.round.Round.{Round}
 use Rattle.site_crew.specs.declared.round.Round.TheVariants as round
-use Rattle.site_crew.specs.Quiet.{AllQuiet, AreOver}
+use Rattle.crew_ends.specs.Quiet.{AllQuiet, AreOver}
 use Rattle.site_crew.specs.Runs.{IsCrewRun, IsProgram, OnlySpentCan}
 use Rattle.site_crew.specs.Seats.{AllGrow, AllLater, Stand, event_count}
 

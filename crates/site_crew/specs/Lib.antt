@@ -2,7 +2,5 @@ pub mod Crews
 pub mod Following
 pub mod Links
 pub mod Lists
-pub mod Quiet
 pub mod Runs
 pub mod Seats
-pub mod Starts

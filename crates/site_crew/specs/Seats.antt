@@ -1,12 +1,10 @@
 -- The seats of a crew between rounds.
-use Rattle.std.specs.Prelude.{◌≡◌, ◌<◌, ◌+◌, ℕ, false, List, [], ◌∷◌, length, map, get_or, None, Some, slice_get}
-use Rattle.stamp_history.specs.Histories.{IsHistory, Recorded, without_events}
+use Rattle.std.specs.Prelude.{◌≡◌, ◌<◌, ◌+◌, ℕ, List, [], ◌∷◌, length, map, get_or, Some, slice_get}
+use Rattle.stamp_history.specs.Histories.{IsHistory, Recorded}
 use Rattle.site_links.specs.declared.port.Port as Port
 use Rattle.np_site_runs.specs.Starting.{start_holding}
 use Rattle.np_code.specs.Programs.{ProgramTable, program}
 use Rattle.agent_move.specs.declared.item.Item.{Item}
-use Rattle.site_state.specs.Lines.{AreEmpty}
-use Rattle.site_state.specs.Standings.{Standing, holding_of}
 use Rattle.site_turn.specs.declared.seat.Seat.{Seat}
 use Rattle.site_turn.specs.Turns.{AsideIsStrange, HistoryGrows, IsLater, Kept, Placed, Turned}
 use Rattle.site_crew.specs.Links.{AreLinked, AreSettled}
@@ -23,28 +21,6 @@ clocks = map (λ s. s.site.clock)
 abbrev pub event_count : List Recorded → ℕ
 event_count [] = 0
 event_count (h ∷ hs) = length h.events + event_count hs
-
--- a site that holds what it holds at the low start, and has done nothing
-pub record IsFirstSite (code : ProgramTable) (limit k : ℕ) (s : Standing) : Type 0 where
-  pub number : s.site ≡ k
-  pub holding : holding_of code s ≡ start_holding (program code) k
-  pub clock : s.clock ≡ 0
-  pub history : s.history ≡ without_events k limit
-  pub outgoing : AreEmpty (length code.sites) s.outgoing
-
--- at its port
-pub record IsFirst {P : Type 0} (code : ProgramTable) (limit k : ℕ) (p : P) (s : Seat P) : Type 0 where
-  pub site : IsFirstSite code limit k s.site
-  pub port : s.port ≡ p
-  pub aside : s.aside ≡ None
-  pub budget : s.budget ≡ limit
-  pub failed : s.failed ≡ false
-  pub waits : s.waits ≡ false
-
--- a seat for each port, in order
-pub record AreFirst {P : Type 0} (code : ProgramTable) (budget : ℕ) (ports : List P) (seats : List (Seat P)) : Type 0 where
-  pub count : length seats ≡ length ports
-  pub each : (k : ℕ) (s : Seat P) → slice_get seats k ≡ Some s → (p : P) × (slice_get ports k ≡ Some p) × IsFirst code budget k p s
 
 -- each history keeps to what histories keep to
 pub record AreWhole {P : Type 0} (xs : List (Seat P)) : Type 0 where

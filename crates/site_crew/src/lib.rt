@@ -10,11 +10,9 @@ mod following;
 mod forcing;
 mod laws;
 mod past;
-mod quiet;
 mod round;
 mod rounds;
 mod settling;
-mod starting;
 mod turns;
 
 pub use counting::events_of;
@@ -25,5 +23,4 @@ pub use laws::law_crew_run;
 pub use round::Round;
 pub use rounds::{serial_round, threads_round};
 pub use settling::settle_all;
-pub use starting::seats_for;
 pub use turns::{serial_turns, threads_turns};

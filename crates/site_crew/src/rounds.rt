@@ -4,10 +4,10 @@ ghost use Rattle.np_syntax.specs.declared.limits.TheConstants.{MOST_SITES};
 ghost use Rattle.site_crew.specs.Seats.{AllGrow, AllLater, Stand, clocks, event_count, histories};
 
 use crate::counting::events_of;
-use crate::quiet::are_over;
 use crate::settling::settle_all;
 use crate::turns::{serial_turns, threads_turns};
 use agent_move::Item;
+use crew_ends::are_over;
 use np_code::Code;
 use site_links::Port;
 use site_turn::{Gate, Seat};

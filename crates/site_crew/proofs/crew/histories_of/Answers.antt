@@ -3,7 +3,7 @@ use Rattle.std.proofs.lemmas.List.{map-append}
 use Rattle.stamp_history.specs.Histories.{Stored}
 use Rattle.site_turn.specs.declared.seat.Seat.{Seat}
 use Rattle.site_crew.specs.Seats.{histories}
-use Rattle.site_crew.proofs.First.{whole_end, whole_more}
+use Rattle.crew_ends.proofs.First.{whole_end, whole_more}
 use Rattle.site_crew.proofs.crew.histories_of.Goals as goal
 
 pub loop-seat-preserved : goal.loop-seat-preserved

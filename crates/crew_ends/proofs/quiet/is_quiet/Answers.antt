@@ -1,5 +1,5 @@
 use Rattle.std.proofs.Common.{refl}
-use Rattle.site_crew.proofs.quiet.is_quiet.Goals as goal
+use Rattle.crew_ends.proofs.quiet.is_quiet.Goals as goal
 
 pub returns-then-not-is_resting-clause-no : goal.returns-then-not-is_resting-clause-no
 returns-then-not-is_resting-clause-no g c = λ e quiet. c.if-not-is_resting.ensures.no refl (record { idle = quiet.idle; waits = quiet.waits; aside = quiet.aside })

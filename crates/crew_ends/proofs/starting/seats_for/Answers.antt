@@ -1,7 +1,7 @@
 use Rattle.std.proofs.Common.{◌++◌, ◌∷◌, [], sym, ◌∙◌, arith}
 use Rattle.std.proofs.lemmas.List.{length_push}
-use Rattle.site_crew.proofs.First.{seated_push, seated_whole, whole_end, whole_length, whole_more}
-use Rattle.site_crew.proofs.starting.seats_for.Goals as goal
+use Rattle.crew_ends.proofs.First.{seated_push, seated_whole, whole_end, whole_length, whole_more}
+use Rattle.crew_ends.proofs.starting.seats_for.Goals as goal
 
 pub loop-port-preserved : goal.loop-port-preserved
 loop-port-preserved g c =

@@ -1,7 +1,7 @@
 use Rattle.std.proofs.Common.{refl}
-use Rattle.site_crew.proofs.First.{has_first}
-use Rattle.site_crew.proofs.starting.settle_first.Goals.{in-Ok, in-Err}
-use Rattle.site_crew.proofs.starting.settle_first.Goals as goal
+use Rattle.crew_ends.proofs.First.{has_first}
+use Rattle.crew_ends.proofs.starting.settle_first.Goals.{in-Ok, in-Err}
+use Rattle.crew_ends.proofs.starting.settle_first.Goals as goal
 
 pub returns : goal.returns
 returns c = elim c.match-settle_agent.branch [

@@ -1,8 +1,8 @@
 use Rattle.std.proofs.Common.{ℕ, length, subst}
 use Rattle.site_state.specs.Standings.{IsNew}
 use Rattle.np_calculus.specs.Starts.{daemon_agent, main_agent}
-use Rattle.site_crew.proofs.First.{agents_apart, first_is, none_there, still_free}
-use Rattle.site_crew.proofs.starting.first_site.Goals as goal
+use Rattle.crew_ends.proofs.First.{agents_apart, first_is, none_there, still_free}
+use Rattle.crew_ends.proofs.starting.first_site.Goals as goal
 
 pub settle_main-requires-clause-free : goal.settle_main-requires-clause-free
 settle_main-requires-clause-free c = none_there c.in_ok-site.site (main_agent (length c.args.code.now.sites)) c.in_ok-site.ensures.agents

@@ -20,8 +20,7 @@ use Rattle.agent_pool.specs.declared.held.Held.TheVariants as held
 use Rattle.agent_pool.specs.Pools.{Pool, atoms_of, seen_as}
 use Rattle.site_state.specs.Standings.{IsNew, IsSettled, Standing}
 use Rattle.site_turn.specs.declared.seat.Seat.{Seat}
-use Rattle.site_crew.specs.Seats.{AreFirst, IsFirst, IsFirstSite}
-use Rattle.site_crew.specs.Starts.{HasFirst}
+use Rattle.crew_ends.specs.Starts.{AreFirst, HasFirst, IsFirst, IsFirstSite}
 
 first-atoms : (ts : List Proc) (agent mark : Name) (root : ℕ) → mapped (seen_as ts agent) (table.insert table.empty mark (wait.Acts, held.Node root table.empty)) ≡ alone agent mark (nth ts root)
 first-atoms ts agent mark root =

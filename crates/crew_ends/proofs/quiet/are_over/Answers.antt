@@ -1,7 +1,7 @@
 use Rattle.std.proofs.Common.{ℕ, arith, subst, sym, inl, inr, refl}
 use Rattle.std.proofs.lemmas.Bool.Decides.{eqb_tells}
-use Rattle.site_crew.specs.Quiet.{IsOver}
-use Rattle.site_crew.proofs.quiet.are_over.Goals as goal
+use Rattle.crew_ends.specs.Quiet.{IsOver}
+use Rattle.crew_ends.proofs.quiet.are_over.Goals as goal
 
 pub loop-i-preserved : goal.loop-i-preserved
 loop-i-preserved g c = λ k h.

@@ -3,8 +3,7 @@ ghost use Rattle.np_calculus.specs.Starts.{daemon_agent, daemon_mark, main_agent
 ghost use Rattle.std.specs.Prelude.{◌==◌, true, ◌≡◌, ◌<◌, ◌≤◌, ◌^◌, None, length, IfOk, OnOk};
 ghost use Rattle.std.specs.FinMap as map;
 ghost use Rattle.np_syntax.specs.declared.limits.TheConstants.{LARGEST_BUDGET};
-ghost use Rattle.site_crew.specs.Seats.{AreFirst, IsFirst, IsFirstSite};
-ghost use Rattle.site_crew.specs.Starts.{HasFirst};
+ghost use Rattle.crew_ends.specs.Starts.{AreFirst, HasFirst, IsFirst, IsFirstSite};
 
 use agent_pool::Agent;
 use np_code::Code;

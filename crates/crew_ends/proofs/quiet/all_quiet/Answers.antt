@@ -3,8 +3,8 @@ use Rattle.std.specs.Prelude.{slice_get}
 use Rattle.std.proofs.lemmas.Bool.Decides.{eqb_tells}
 use Rattle.std.proofs.lemmas.Option.{get_or_from_slice_get, slice_get_within}
 use Rattle.site_turn.specs.declared.seat.Seat.{Seat}
-use Rattle.site_crew.specs.Quiet.{IsQuietSeat}
-use Rattle.site_crew.proofs.quiet.all_quiet.Goals as goal
+use Rattle.crew_ends.specs.Quiet.{IsQuietSeat}
+use Rattle.crew_ends.proofs.quiet.all_quiet.Goals as goal
 
 pub loop-i-preserved : goal.loop-i-preserved
 loop-i-preserved g c = λ k s at h.

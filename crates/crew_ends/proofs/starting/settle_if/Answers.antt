@@ -1,5 +1,5 @@
-use Rattle.site_crew.proofs.First.{has_none}
-use Rattle.site_crew.proofs.starting.settle_if.Goals as goal
+use Rattle.crew_ends.proofs.First.{has_none}
+use Rattle.crew_ends.proofs.starting.settle_if.Goals as goal
 
 pub returns-then-here : goal.returns-then-here
 returns-then-here c = rw c.if-here.true c.settle_first.ensures

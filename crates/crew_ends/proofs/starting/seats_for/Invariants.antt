@@ -1,6 +1,6 @@
 use Rattle.std.proofs.Common.{◌≡◌, ◌++◌, length}
-use Rattle.site_crew.specs.Seats.{AreFirst}
-use Rattle.site_crew.proofs.starting.seats_for.Given as goal
+use Rattle.crew_ends.specs.Starts.{AreFirst}
+use Rattle.crew_ends.proofs.starting.seats_for.Given as goal
 
 abbrev pub invariant-loop-port : goal.invariant-loop-port
 invariant-loop-port g l = record {

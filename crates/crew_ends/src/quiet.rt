@@ -1,7 +1,7 @@
 //! Whether nothing is left to do.
 ghost use Rattle.std.specs.Prelude.{◌≡◌, ◌≤◌, ◌<◌, true, false, length};
 ghost use Rattle.np_syntax.specs.declared.limits.TheConstants.{MOST_SITES};
-ghost use Rattle.site_crew.specs.Quiet.{AllQuiet, AreOver, IsOver, IsQuietSeat, IsResting, NoneSends};
+ghost use Rattle.crew_ends.specs.Quiet.{AllQuiet, AreOver, IsOver, IsQuietSeat, IsResting, NoneSends};
 
 use np_code::Code;
 use site_turn::Seat;
