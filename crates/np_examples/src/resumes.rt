@@ -52,9 +52,15 @@ pub(crate) fn is_resumed<R: Threads + Wait + Sync>(
     )
 }
 
-/// On threads with every third budget, and with the others one site after another.
-fn way_of(budget: usize) -> &'static str {
-    if budget % 3 == 0 { "" } else { " --serial" }
+/// With one budget for each kind of links on threads, and with the others one site after another.
+fn way_of(budget: usize, links: &str) -> &'static str {
+    let on_threads = match budget {
+        20 => links == "tray",
+        40 => links == "rings",
+        60 => links == "inbox",
+        _ => false,
+    };
+    if on_threads { "" } else { " --serial" }
 }
 
 /// Whether the run that a budget cuts off, with one kind of links, is resumed as it has to be.
@@ -65,7 +71,7 @@ fn is_resumed_over<R: Threads + Wait + Sync>(
     budget: usize,
     links: &str,
 ) -> Result<bool, ExampleFail> {
-    let way = way_of(budget);
+    let way = way_of(budget, links);
     let option = option_of(run.example);
     let options = format!(in alloc; "--history --links {links}{way}{option}")?;
     let words = format!(in alloc; "run a {options} --budget {budget}")?;
