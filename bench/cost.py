@@ -2,7 +2,7 @@
 """Prints what a check of the repository costs: processor seconds by crate, for the proofs of its code, its tests, its
 must-fail edits and the rest.
 
-    bench/cost.py COMMAND WORD..        for example: bench/cost.py rt ci --anew
+    bench/cost.py COMMAND WORD..        for example: bench/cost.py rt ci
 
 It runs the command and looks at the prover's processes below it twice a second; a process that lasts less is missed, and
 what a longer one does after the last look. docs/COST.md says how to read the table. It ends with the command's status.
