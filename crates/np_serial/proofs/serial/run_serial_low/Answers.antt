@@ -1,4 +1,4 @@
-use Rattle.std.proofs.Common.{subst, sym, ◌∙◌, arith}
+use Rattle.std.proofs.Common.{subst, sym, arith}
 use Rattle.std.specs.Prelude.{IfOk}
 use Rattle.np_calculus.specs.Config.{Config}
 use Rattle.np_calculus.specs.Runs.{RunsWell}

@@ -35,7 +35,8 @@ returns-then-is_some-clause-no g c = λ e. inl (record {
 pub returns-in-None-clause-turned : goal.returns-in-None-clause-turned
 returns-in-None-clause-turned g c =
     let h = c.in-None.ensures in
-    turned_still (record { number = refl; holding = refl; clock = refl; history = refl; aside = refl; got = λ k. (h.taken k).0; put = λ t. ap (λ l. l ++ queue_at c.args.seat.now.site.outgoing t) (h.putting t).0 }) h.keeps refl refl (λ f. f)
+    turned_still (record { number = refl; holding = refl; clock = refl; history = refl; aside = refl; got = λ k. (h.taken k).0; put = λ t. ap (λ l. l ++ queue_at c.args.seat.now.site.outgoing t) (h.putting t).0 })
+    h.keeps refl refl (λ f. f)
 
 pub returns-in-None-clause-no : goal.returns-in-None-clause-no
 returns-in-None-clause-no g c = λ e. let h = c.in-None.ensures in inl (record { site = refl; aside = refl; failed = refl; got = λ k. (h.taken k).0; none = λ free room k. (h.taken k).1 })

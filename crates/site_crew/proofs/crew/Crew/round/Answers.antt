@@ -28,7 +28,8 @@ returns-clause-ok g c =
     let whole = slice_whole was.seats.items now was.seats.len was.seats.ok.0 same in
     let judged =
     subst (λ (xs : List (Seat _)). IfSome c.judged-round.result (IsJudged was.code was.budget (nat_lt c.events_of-before.result c.threads_round-after.result) xs)) (c.as_slice-2.ensures.value ∙ whole) c.judged-round.ensures.some in
-    told_ok c.judged-round.result c.told.result (λ r. IsJudged was.code was.budget (nat_lt c.events_of-before.result c.threads_round-after.result) now r) _ judged c.told.ensures.ok (round_told g.P.Port was.code was.budget _ _ now c.threads_round-after.ensures.stand c.self.invariant.program
+    told_ok c.judged-round.result c.told.result (λ r. IsJudged was.code was.budget (nat_lt c.events_of-before.result c.threads_round-after.result) now r) _ judged c.told.ensures.ok
+    (round_told g.P.Port was.code was.budget _ _ now c.threads_round-after.ensures.stand c.self.invariant.program
     refl refl (ap histories whole) _ _
     (c.events_of-before.ensures.total ∙ ap (λ xs. event_count (histories xs)) c.as_slice.ensures.value ∙ ap (λ s. event_count s.histories) c.self.view_is)
     (c.threads_round-after.ensures.total ∙ ap (λ xs. event_count (histories xs)) (sym whole)))
