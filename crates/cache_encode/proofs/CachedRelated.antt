@@ -1,8 +1,8 @@
 -- What the translation with caches makes of a process is a low process of it.
 use Rattle.std.proofs.Common.{◌≤◌, ℕ, ◌+◌, length, ◌∙◌, arith}
 use Rattle.np_syntax.specs.declared.process.ProcForm as form
-use Rattle.daemon_encode.specs.Infrastructures.{Infrastructure}
-use Rattle.daemon_encode.specs.Pieces.{variable}
+use Rattle.infrastructure_texts.specs.Infrastructures.{Infrastructure}
+use Rattle.infrastructure_texts.specs.Pieces.{variable}
 use Rattle.daemon_encode.specs.Translates.{Translates, source}
 use Rattle.daemon_encode.proofs.Related.{IsRelated, made_so, numbered-low, related}
 use Rattle.cache_encode.specs.Encoded.{cached}

@@ -7,13 +7,13 @@ use Rattle.np_syntax.specs.declared.process.ProcForm as form
 use Rattle.np_syntax.specs.declared.program.Program.{Program}
 use Rattle.np_scope.specs.Sound.{Among, IsSound}
 use Rattle.np_scope.specs.Written.{IsSourceType, IsChannelType}
-use Rattle.daemon_encode.specs.Pieces.{variable, pair, two_names, main}
+use Rattle.infrastructure_texts.specs.Pieces.{variable, pair, two_names, main}
 use Rattle.daemon_encode.specs.LowSound.{IsLowValue, IsLowExpr, Enters, IsLowProc, IsLowSound}
 use Rattle.daemon_encode.specs.Translates.{source}
 use Rattle.daemon_encode.proofs.LowSounds.{Within, wider-expr, its, two, one-name, both-names, told, mailed, low-server, begun, registered, low-creation, low-main}
 use Rattle.daemon_encode.proofs.LowSounds.{held, freed, noted, found_in, low-daemon, written, IsTranslation, low-proc}
-use Rattle.daemon_encode.specs.CacheTexts.{keeps, empty_cache, found_server, with_cache, asks, hands_back, goes_by_hint, goes_by_daemon, post_text, agent_text, main_text}
-use Rattle.daemon_encode.specs.CacheDaemon.{where_server, cached_daemon}
+use Rattle.infrastructure_texts.specs.CacheTexts.{keeps, empty_cache, found_server, with_cache, asks, hands_back, goes_by_hint, goes_by_daemon, post_text, agent_text, main_text}
+use Rattle.infrastructure_texts.specs.CacheDaemon.{where_server, cached_daemon}
 use Rattle.cache_encode.specs.Encoded.{cached, encoded_cached}
 use Rattle.cache_encode.proofs.Forms.{cached-form, form-agent, form-post}
 use Rattle.cache_encode.proofs.KeptForms.{cached-keeps}

@@ -11,10 +11,10 @@ use Rattle.np_types.proofs.Subs.{sub-itself}
 use Rattle.np_check.specs.Faults.{lock_type}
 use Rattle.np_safety.specs.Low.{pair as pair_type}
 use Rattle.np_safety.proofs.Forms.{Good}
-use Rattle.daemon_encode.specs.Pieces.{variable}
+use Rattle.infrastructure_texts.specs.Pieces.{variable}
 use Rattle.daemon_encode.proofs.Making.{slot_here, slot_past, good-made, least-variable, least-pair, an_agent, a_site, a_map, sends-on, takes-from, cover-name, cover-two}
 use Rattle.daemon_encode.proofs.DaemonTyped.{low, its-channel, two, freed, held, noted, good-daemon}
-use Rattle.daemon_encode.specs.CacheDaemon.{hints, where_server, cached_daemon}
+use Rattle.infrastructure_texts.specs.CacheDaemon.{hints, where_server, cached_daemon}
 
 -- a binder keeps its type where a later one is bound
 past : (types : Types) (k : ℕ) (v : Ty) (q : ℕ) (u : Ty) → q < k → table.get types q ≡ Some u → table.get (table.insert types k v) q ≡ Some u

@@ -13,14 +13,14 @@ use Rattle.np_syntax.specs.declared.process.Proc.{Proc}
 use Rattle.np_syntax.specs.declared.process.ProcForm as form
 use Rattle.np_syntax.specs.declared.process.ProcForm.TheBlock as block
 use Rattle.np_low_text.specs.LowText.{line_text, proc_text}
-use Rattle.daemon_encode.specs.Pieces.{gives, here, main, site}
-use Rattle.daemon_encode.specs.Daemon.{first_places, register_server, migrating_server, migrated_server, message_server, dack_server}
+use Rattle.infrastructure_texts.specs.Pieces.{gives, here, main, site}
+use Rattle.infrastructure_texts.specs.Daemon.{first_places, register_server, migrating_server, migrated_server, message_server, dack_server}
 use Rattle.daemon_encode.specs.declared.translated.Translated.{Translated}
 use Rattle.daemon_encode.specs.Encoded.{kept}
 use Rattle.daemon_encode.specs.Examples.{prints_seven}
-use Rattle.daemon_encode.specs.CacheDaemon.{where_server, cached_daemon}
+use Rattle.infrastructure_texts.specs.CacheDaemon.{where_server, cached_daemon}
 use Rattle.cache_encode.specs.Encoded.{cached, encoded_cached}
-use Rattle.daemon_encode.specs.CacheTexts.{main_text}
+use Rattle.infrastructure_texts.specs.CacheTexts.{main_text}
 use Rattle.cache_encode.specs.Examples.{main_line, daemon_line, LowTextOfSeven, TextOfPost, TextOfCreation}
 use Rattle.cache_encode.proofs.Forms.{cached-form, form-print}
 use Rattle.np_syntax.proofs.Texts.{text-int, text-site}

@@ -20,7 +20,7 @@ use Rattle.np_check.specs.Faults.{lock_type}
 use Rattle.np_safety.proofs.Forms.{Good, GoodForm, Tested, good-form}
 use Rattle.np_safety.proofs.Narrowing.{Narrower, weaker, narrower-put, same_world}
 use Rattle.np_safety.proofs.Processes.{ProcHyps, proc_of, proc_ind}
-use Rattle.daemon_encode.specs.Pieces.{variable}
+use Rattle.infrastructure_texts.specs.Pieces.{variable}
 use Rattle.daemon_encode.specs.Encoded.{Translation}
 use Rattle.daemon_encode.proofs.Binding.{Free, without, taken, clean, clean_step, Cleans, cleans, clean-out}
 use Rattle.daemon_encode.proofs.DaemonTyped.{low}

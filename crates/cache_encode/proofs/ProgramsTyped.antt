@@ -3,7 +3,7 @@ use Rattle.std.proofs.Common.{◌≡◌, ◌<◌, ℕ, true, length, nat_lt, ari
 use Rattle.std.specs.FinMap as table
 use Rattle.np_safety.specs.Low.{infrastructure}
 use Rattle.np_safety.proofs.Starts.{accepted, below-is}
-use Rattle.daemon_encode.specs.Pieces.{main}
+use Rattle.infrastructure_texts.specs.Pieces.{main}
 use Rattle.daemon_encode.proofs.ProgramsTyped.{own_binders, at_first, clean-main}
 use Rattle.cache_encode.specs.Typed.{CachedFaultless}
 use Rattle.cache_encode.proofs.DaemonTyped.{good-cached_daemon}

@@ -22,14 +22,14 @@ use Rattle.np_check.specs.Faults.{lock_type}
 use Rattle.np_safety.specs.Low.{pair as pair_type}
 use Rattle.np_safety.proofs.Evaluates.{places-kind}
 use Rattle.np_safety.proofs.Forms.{Good, Tested, Sending}
-use Rattle.daemon_encode.specs.Pieces.{variable, gives}
-use Rattle.daemon_encode.specs.Texts.{letter}
+use Rattle.infrastructure_texts.specs.Pieces.{variable, gives}
+use Rattle.infrastructure_texts.specs.Texts.{letter}
 use Rattle.daemon_encode.proofs.Making.{slot_here, slot_past, good-made, least-variable, least-unit, least-pair, an_agent, a_site, a_map, sends-on, takes-from, least-with_lock}
 use Rattle.daemon_encode.proofs.Making.{cover-nothing, cover-name, cover-two}
 use Rattle.daemon_encode.proofs.DaemonTyped.{low, its-channel, two, given}
 use Rattle.daemon_encode.proofs.TextsTyped.{agent_sub, agent_nodes, sub_pair, told, least-letter, settled, good-server, created}
 use Rattle.daemon_encode.proofs.TextsTyped as plain
-use Rattle.daemon_encode.specs.CacheTexts.{keeps, empty_cache, replaces, adds, found_server, with_cache, asks, hands_back, messenger_text, goes_by_hint, goes_by_daemon, post_text, agent_text, main_text}
+use Rattle.infrastructure_texts.specs.CacheTexts.{keeps, empty_cache, replaces, adds, found_server, with_cache, asks, hands_back, messenger_text, goes_by_hint, goes_by_daemon, post_text, agent_text, main_text}
 
 -- the types of binders where m, where l too, where s too, and where t too is bound
 abbrev pub with_map : Types → ℕ → Types

@@ -8,10 +8,10 @@ use Rattle.np_syntax.specs.declared.process.Proc.{Proc, fold-Proc}
 use Rattle.np_syntax.specs.declared.process.ProcForm.{ProcForm, ProcForm-F, fold-ProcForm}
 use Rattle.np_syntax.specs.declared.program.Program.{Program}
 use Rattle.np_syntax.specs.declared.program.LowProgram.{LowProgram}
-use Rattle.daemon_encode.specs.Pieces.{variable, main}
+use Rattle.infrastructure_texts.specs.Pieces.{variable, main}
 use Rattle.daemon_encode.specs.Encoded.{Translation, becomes, translate_step}
-use Rattle.daemon_encode.specs.CacheTexts.{post_text, agent_text, main_text}
-use Rattle.daemon_encode.specs.CacheDaemon.{cached_daemon}
+use Rattle.infrastructure_texts.specs.CacheTexts.{post_text, agent_text, main_text}
+use Rattle.infrastructure_texts.specs.CacheDaemon.{cached_daemon}
 
 -- m, l, s and t
 abbrev pub posting : ℕ → ℕ → Expr → Expr → Expr → Translation

@@ -6,9 +6,9 @@ use Rattle.np_syntax.specs.declared.expression.ExprForm as expr
 use Rattle.np_syntax.specs.declared.process.Proc.{Proc}
 use Rattle.np_low_text.specs.LowText.{low_text, proc_text}
 use Rattle.daemon_encode.specs.Examples.{prints_seven}
-use Rattle.daemon_encode.specs.Pieces.{expression, variable, main, stop}
+use Rattle.infrastructure_texts.specs.Pieces.{expression, variable, main, stop}
 use Rattle.cache_encode.specs.Encoded.{encoded_cached}
-use Rattle.daemon_encode.specs.CacheTexts.{post_text, agent_text}
+use Rattle.infrastructure_texts.specs.CacheTexts.{post_text, agent_text}
 
 abbrev pub main_line : List ℕ
 main_line =

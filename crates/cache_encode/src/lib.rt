@@ -1,13 +1,8 @@
 //! The translation for agents with caches: the low program of a checked program, and the daemon's process.
 #![tactic(auto)]
 
-mod caches;
-mod creations;
 mod laws;
-mod own_names;
-mod posts;
 mod programs;
-mod servers;
 mod translator;
 
 pub use laws::{

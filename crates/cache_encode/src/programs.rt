@@ -3,10 +3,10 @@
 ghost use Rattle.std.specs.Prelude.{◌≡◌, ◌<◌, ◌^◌, length, IfOk};
 ghost use Rattle.cache_encode.specs.Encoded.{encoded_cached, main_of};
 
-use super::creations::main_text;
-use super::servers::cached_daemon;
 use super::translator::translate;
-use daemon_encode::{MAIN, Translator, Writer, behind};
+use daemon_encode::{Translator, behind};
+use infrastructure_texts::cached_creations::main_text;
+use infrastructure_texts::{MAIN, Writer, cached_daemon};
 use np_check::Checked;
 use np_syntax::{Boxed, LowProgram, Memory, Proc, Program, copy_texts};
 use std::alloc::Global;

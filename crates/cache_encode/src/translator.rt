@@ -2,13 +2,14 @@
 
 ghost use Rattle.std.specs.Prelude.{◌≡◌, ◌+◌, IfOk};
 ghost use Rattle.daemon_encode.specs.Encoded as central;
-ghost use Rattle.daemon_encode.specs.Pieces as piece;
+ghost use Rattle.infrastructure_texts.specs.Pieces as piece;
 ghost use Rattle.cache_encode.specs.Encoded as spec;
-ghost use Rattle.daemon_encode.specs.CacheTexts as text;
+ghost use Rattle.infrastructure_texts.specs.CacheTexts as text;
 
-use super::creations::agent_text;
-use super::posts::post_text;
-use daemon_encode::{Translated, Translator, behind, variable};
+use daemon_encode::{Translated, Translator, behind};
+use infrastructure_texts::cached_creations::agent_text;
+use infrastructure_texts::cached_posts::post_text;
+use infrastructure_texts::variable;
 use np_syntax::{Boxed, Expr, Memory, Proc, ProcForm, Tag};
 
 /// The low process of a process of this agent, whose new binders are numbered from the next on.

@@ -26,8 +26,8 @@ use Rattle.np_safety.specs.Channels.{world}
 use Rattle.np_safety.specs.Low.{carried, infrastructure, pair as pair_type}
 use Rattle.np_safety.proofs.Evaluates.{places-kind}
 use Rattle.np_safety.proofs.Forms.{Good, Sending}
-use Rattle.daemon_encode.specs.Pieces.{variable, site, channel, beside, gives}
-use Rattle.daemon_encode.specs.Daemon.{first_places, frees, acks, notes, looks_up, register_server, migrating_server, migrated_server, message_server, dack_server, daemon_text}
+use Rattle.infrastructure_texts.specs.Pieces.{variable, site, channel, beside, gives}
+use Rattle.infrastructure_texts.specs.Daemon.{first_places, frees, acks, notes, looks_up, register_server, migrating_server, migrated_server, message_server, dack_server, daemon_text}
 use Rattle.daemon_encode.proofs.Making.{slot_here, slot_past, listed, carries, good-made, least-variable, least-channel, least-site, least-unit}
 use Rattle.daemon_encode.proofs.Making.{least-pair, an_agent, a_site, a_map, sends-on, takes-from, least-with_lock, cover-name, cover-two}
 

@@ -13,11 +13,11 @@ use Rattle.np_syntax.specs.declared.process.Proc.{Proc}
 use Rattle.np_syntax.specs.declared.process.ProcForm as form
 use Rattle.np_syntax.specs.declared.process.ProcForm.TheBlock as block
 use Rattle.np_low_text.specs.LowText.{line_text, proc_text}
-use Rattle.daemon_encode.specs.Pieces.{gives, here, main, site}
-use Rattle.daemon_encode.specs.Daemon.{first_places, register_server, migrating_server, migrated_server, message_server, dack_server, daemon_text}
+use Rattle.infrastructure_texts.specs.Pieces.{gives, here, main, site}
+use Rattle.infrastructure_texts.specs.Daemon.{first_places, register_server, migrating_server, migrated_server, message_server, dack_server, daemon_text}
 use Rattle.daemon_encode.specs.declared.translated.Translated.{Translated}
 use Rattle.daemon_encode.specs.Encoded.{kept, translated, encoded}
-use Rattle.daemon_encode.specs.Texts.{main_text}
+use Rattle.infrastructure_texts.specs.Texts.{main_text}
 use Rattle.daemon_encode.specs.Examples.{prints_seven, main_line, daemon_line, LowTextOfSeven}
 use Rattle.daemon_encode.proofs.Forms.{translated-form, form-print}
 use Rattle.np_syntax.proofs.Texts.{text-int, text-site}

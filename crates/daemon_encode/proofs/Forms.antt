@@ -9,7 +9,7 @@ use Rattle.np_syntax.specs.declared.process.ProcForm.{ProcForm, ProcForm-F, out-
 use Rattle.np_syntax.specs.declared.process.ProcForm as form
 use Rattle.np_syntax.specs.declared.process.ProcForm.TheVariants as layer
 use Rattle.daemon_encode.specs.declared.translated.Translated.{Translated}
-use Rattle.daemon_encode.specs.Texts.{post_text}
+use Rattle.infrastructure_texts.specs.Texts.{post_text}
 use Rattle.daemon_encode.specs.Encoded.{Translation, kept, becomes, around, around_both, migration, creation, translate_step, translated, translated_form}
 
 pub translated-form : (n : ℕ) (p : Proc) (a : Expr) (next : ℕ) → translated n p a next ≡ translated_form n p.form p.tag p.at a next

@@ -15,9 +15,9 @@ use Rattle.np_scope.specs.Sound.{Among, IsSound, IsSoundExpr, AreSoundExprs, Bin
 use Rattle.np_scope.specs.Written.{IsSourceType, IsChannelType}
 use Rattle.np_safety.specs.Low.{carried}
 use Rattle.daemon_encode.specs.declared.translated.Translated.{Translated}
-use Rattle.daemon_encode.specs.Pieces.{variable, name, pair, two_names, site, channel, main, daemon, register, message, currentloc, process, gives, takes, tells, finds}
-use Rattle.daemon_encode.specs.Texts.{letter, settles, migrate_text, server_text, begins, agent_text, main_text}
-use Rattle.daemon_encode.specs.Daemon.{acks, frees, notes, looks_up, daemon_text}
+use Rattle.infrastructure_texts.specs.Pieces.{variable, name, pair, two_names, site, channel, main, daemon, register, message, currentloc, process, gives, takes, tells, finds}
+use Rattle.infrastructure_texts.specs.Texts.{letter, settles, migrate_text, server_text, begins, agent_text, main_text}
+use Rattle.infrastructure_texts.specs.Daemon.{acks, frees, notes, looks_up, daemon_text}
 use Rattle.daemon_encode.specs.Encoded.{Translation, translate_step, translated, encoded}
 use Rattle.daemon_encode.specs.LowSound.{is_listed, IsLowValue, IsLowExpr, AreLowExprs, Enters, EnterAll, IsLowProc, IsLowSound}
 use Rattle.daemon_encode.specs.Translates.{source}

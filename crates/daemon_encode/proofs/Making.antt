@@ -38,7 +38,7 @@ use Rattle.np_safety.proofs.Forms.{Good, GoodForm, Tested, OnChannel, Sending, T
 use Rattle.np_safety.proofs.Matches.{slot_put}
 use Rattle.np_types.proofs.ValueTypes.{kind-out}
 use Rattle.np_syntax.specs.declared.value.Value.TheVariants.{outs-Site as site-value}
-use Rattle.daemon_encode.specs.Pieces.{expression, variable, name, nothing, unit, pair, two_names, site, agent, channel}
+use Rattle.infrastructure_texts.specs.Pieces.{expression, variable, name, nothing, unit, pair, two_names, site, agent, channel}
 
 -- ---- binders in types
 

@@ -35,7 +35,7 @@ use Rattle.np_safety.proofs.Forms.{Good, GoodForm, Tested, good-form}
 use Rattle.np_safety.proofs.Narrowing.{Narrower, weaker, weak_tested, narrower-put, same_world}
 use Rattle.np_safety.proofs.Processes.{ProcHyps, proc_of, proc_ind}
 use Rattle.daemon_encode.specs.declared.translated.Translated.{Translated}
-use Rattle.daemon_encode.specs.Pieces.{variable}
+use Rattle.infrastructure_texts.specs.Pieces.{variable}
 use Rattle.daemon_encode.specs.Encoded.{Translation, around_both, translate_step, translated, translated_form}
 use Rattle.daemon_encode.proofs.Binding.{Free, without, taken, taken_all, taken_step, after, clean, clean_step, Takes, takens, taken-out, Cleans, cleans, clean-out}
 use Rattle.daemon_encode.proofs.DaemonTyped.{low}

@@ -13,7 +13,7 @@ use Rattle.np_types.specs.Sub.{is_agent}
 use Rattle.np_check.specs.Faults.{IsAccepted}
 use Rattle.np_safety.specs.Low.{IsFaultless, infrastructure}
 use Rattle.np_safety.proofs.Starts.{accepted, below-is}
-use Rattle.daemon_encode.specs.Pieces.{main}
+use Rattle.infrastructure_texts.specs.Pieces.{main}
 use Rattle.daemon_encode.specs.Encoded.{encoded}
 use Rattle.daemon_encode.specs.LowSound.{IsLowSound}
 use Rattle.daemon_encode.specs.Typed.{EncodesFaultless}

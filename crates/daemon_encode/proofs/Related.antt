@@ -12,10 +12,10 @@ use Rattle.np_syntax.specs.declared.program.LowProgram.{LowProgram}
 use Rattle.np_eval.specs.Forms.{Layer, layer}
 use Rattle.np_safety.proofs.Processes.{ProcHyps, proc_of, proc_ind}
 use Rattle.daemon_encode.specs.declared.translated.Translated.{Translated}
-use Rattle.daemon_encode.specs.Pieces.{variable, main}
+use Rattle.infrastructure_texts.specs.Pieces.{variable, main}
 use Rattle.daemon_encode.specs.Encoded.{Translation, translate_step, translated}
-use Rattle.daemon_encode.specs.Infrastructures.{Infrastructure}
-use Rattle.daemon_encode.specs.InfrastructureTexts.{main_of, daemon_of}
+use Rattle.infrastructure_texts.specs.Infrastructures.{Infrastructure}
+use Rattle.infrastructure_texts.specs.InfrastructureTexts.{main_of, daemon_of}
 use Rattle.daemon_encode.specs.Translates.{Translates, IsLowOf, TranslatesItself, EncodesItself, source}
 use Rattle.daemon_encode.proofs.Forms.{translated-form, form-agent, form-post}
 use Rattle.daemon_encode.proofs.KeptForms.{IsShared, steps, KeepsForms, translated-keeps}

@@ -22,9 +22,9 @@ use Rattle.np_types.proofs.Leasts.{least-form, least-pack}
 use Rattle.np_types.proofs.Subs.{sub-out, sub-itself}
 use Rattle.np_safety.specs.Low.{carried, pair as pair_type}
 use Rattle.np_safety.proofs.Forms.{Good, Tested, Sending}
-use Rattle.daemon_encode.specs.Pieces.{variable, nothing, site, main, daemon}
-use Rattle.daemon_encode.specs.Pieces.{channel, process, takes, tells}
-use Rattle.daemon_encode.specs.Texts.{letter, post_text, settles, migrate_text, server_text, agent_text, main_text}
+use Rattle.infrastructure_texts.specs.Pieces.{variable, nothing, site, main, daemon}
+use Rattle.infrastructure_texts.specs.Pieces.{channel, process, takes, tells}
+use Rattle.infrastructure_texts.specs.Texts.{letter, post_text, settles, migrate_text, server_text, agent_text, main_text}
 use Rattle.daemon_encode.proofs.Making.{slot_here, slot_past, listed, good-made, least-variable, least-agent, least-site, least-unit}
 use Rattle.daemon_encode.proofs.Making.{least-pair, tested-variable, an_agent, a_site, sends-on, takes-from, cover-nothing, cover-name, cover-two}
 use Rattle.daemon_encode.proofs.DaemonTyped.{low, its-channel, two, given}

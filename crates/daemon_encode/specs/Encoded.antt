@@ -9,9 +9,9 @@ use Rattle.np_syntax.specs.declared.process.ProcForm as form
 use Rattle.np_syntax.specs.declared.program.Program.{Program}
 use Rattle.np_syntax.specs.declared.program.LowProgram.{LowProgram}
 use Rattle.daemon_encode.specs.declared.translated.Translated.{Translated}
-use Rattle.daemon_encode.specs.Pieces.{variable, main}
-use Rattle.daemon_encode.specs.Texts.{post_text, migrate_text, agent_text, main_text}
-use Rattle.daemon_encode.specs.Daemon.{daemon_text}
+use Rattle.infrastructure_texts.specs.Pieces.{variable, main}
+use Rattle.infrastructure_texts.specs.Texts.{post_text, migrate_text, agent_text, main_text}
+use Rattle.infrastructure_texts.specs.Daemon.{daemon_text}
 
 -- the agent that a process stands in and the next binder give its low process and the binder that is next behind it
 abbrev pub Translation : Type 0

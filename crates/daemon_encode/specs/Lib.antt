@@ -1,10 +1,3 @@
-pub mod Pieces
-pub mod Texts
-pub mod Daemon
-pub mod CacheTexts
-pub mod CacheDaemon
-pub mod Infrastructures
-pub mod InfrastructureTexts
 pub mod Encoded
 pub mod Translates
 pub mod LowSound

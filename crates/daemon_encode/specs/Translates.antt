@@ -10,10 +10,10 @@ use Rattle.np_syntax.specs.declared.process.ProcForm.{ProcForm}
 use Rattle.np_syntax.specs.declared.process.ProcForm as form
 use Rattle.np_syntax.specs.declared.program.Program.{Program}
 use Rattle.np_syntax.specs.declared.program.LowProgram.{LowProgram}
-use Rattle.daemon_encode.specs.Pieces.{variable, main}
-use Rattle.daemon_encode.specs.Texts.{migrate_text}
-use Rattle.daemon_encode.specs.Infrastructures.{Infrastructure}
-use Rattle.daemon_encode.specs.InfrastructureTexts.{post_of, agent_text_of, main_of, daemon_of}
+use Rattle.infrastructure_texts.specs.Pieces.{variable, main}
+use Rattle.infrastructure_texts.specs.Texts.{migrate_text}
+use Rattle.infrastructure_texts.specs.Infrastructures.{Infrastructure}
+use Rattle.infrastructure_texts.specs.InfrastructureTexts.{post_of, agent_text_of, main_of, daemon_of}
 use Rattle.daemon_encode.specs.Encoded.{translated, encoded}
 
 -- a source process, with its tag and its offset

@@ -5,10 +5,8 @@ ghost use Rattle.np_safety.specs.Low.{IsFaultless};
 ghost use Rattle.daemon_encode.specs.Encoded.{encoded, main_of};
 ghost use Rattle.daemon_encode.specs.LowSound.{IsLowSound};
 
-use super::own_names::MAIN;
-use super::servers::daemon;
 use super::translator::{Translator, behind};
-use super::writer::Writer;
+use infrastructure_texts::{MAIN, Writer, daemon};
 use np_check::Checked;
 use np_syntax::{LowProgram, Memory, Proc, Program, copy_texts};
 use std::alloc::Global;

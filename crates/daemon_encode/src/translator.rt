@@ -2,14 +2,12 @@
 
 ghost use Rattle.std.specs.Prelude.{◌≡◌, ◌+◌, IfOk};
 ghost use Rattle.daemon_encode.specs.Encoded as spec;
-ghost use Rattle.daemon_encode.specs.Texts as text;
-ghost use Rattle.daemon_encode.specs.Pieces as piece;
+ghost use Rattle.infrastructure_texts.specs.Texts as text;
+ghost use Rattle.infrastructure_texts.specs.Pieces as piece;
 ghost use Rattle.np_syntax.specs.declared.process.ProcForm as shape;
 
-use super::pieces::variable;
-use super::texts::Made;
 use super::translated::Translated;
-use super::writer::Writer;
+use infrastructure_texts::{Made, Writer, variable};
 use np_syntax::{Boxed, Expr, Memory, Pat, Proc, ProcForm, Tag, Ty};
 use std::alloc::Global;
 

@@ -28,7 +28,7 @@ use Rattle.np_eval.specs.Forms.{Layer, layer}
 use Rattle.np_scope.specs.Sound.{IsSoundExpr}
 use Rattle.np_scope.specs.Written.{IsLiteral}
 use Rattle.np_scope.proofs.SoundParts.{ProcParts, proc-parts}
-use Rattle.daemon_encode.specs.Infrastructures.{Infrastructure}
+use Rattle.infrastructure_texts.specs.Infrastructures.{Infrastructure}
 use Rattle.np_source_values.specs.Known.{IsKnown, Knows}
 use Rattle.np_source_values.proofs.Known.{value-is-known}
 use Rattle.np_source_values.proofs.Values.{same-value}

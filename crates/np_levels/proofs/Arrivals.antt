@@ -26,7 +26,7 @@ use Rattle.np_protocol.specs.Protocol.{Protocol}
 use Rattle.np_protocol.specs.Rules.{Rule}
 use Rattle.np_protocol.specs.Scenes.{Whereabouts, with_place}
 use Rattle.np_protocol.proofs.Keeps.{keeps-protocol}
-use Rattle.daemon_encode.specs.Infrastructures.{Infrastructure}
+use Rattle.infrastructure_texts.specs.Infrastructures.{Infrastructure}
 use Rattle.np_levels.specs.Coupled.{Coupled, View, chips, scene, whereabouts}
 use Rattle.np_levels.specs.Laws.{ArrivalsAreEvents}
 use Rattle.np_levels.proofs.Places.{put_another}

@@ -26,10 +26,10 @@ use Rattle.np_protocol.specs.Rules.{IsKnowledge, IsLearnt, Rule}
 use Rattle.np_protocol.proofs.Keeps.{keeps-protocol}
 use Rattle.cache_rule.specs.Steps.{CacheStep}
 use Rattle.np_scope.proofs.SoundParts.{ProcParts, proc-parts}
-use Rattle.daemon_encode.specs.Pieces.{beside, daemon, gives, name, nothing, pair, site, takes, variable}
-use Rattle.daemon_encode.specs.Texts as central
-use Rattle.daemon_encode.specs.CacheTexts.{adds, asking, asks, goes_by_daemon, goes_by_hint, keeps, makes_messenger, replaces}
-use Rattle.daemon_encode.specs.Infrastructures.{Infrastructure}
+use Rattle.infrastructure_texts.specs.Pieces.{beside, daemon, gives, name, nothing, pair, site, takes, variable}
+use Rattle.infrastructure_texts.specs.Texts as central
+use Rattle.infrastructure_texts.specs.CacheTexts.{adds, asking, asks, goes_by_daemon, goes_by_hint, keeps, makes_messenger, replaces}
+use Rattle.infrastructure_texts.specs.Infrastructures.{Infrastructure}
 use Rattle.np_source_values.specs.Known.{Knows}
 use Rattle.np_source_values.proofs.Known.{value-is-known}
 use Rattle.np_source_values.proofs.Values.{same-value}

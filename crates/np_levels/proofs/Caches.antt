@@ -24,7 +24,7 @@ use Rattle.cache_rule.specs.Levels.{NamesGrow}
 use Rattle.cache_rule.specs.Rule.{CacheRule}
 use Rattle.cache_rule.specs.Steps.{CacheStep}
 use Rattle.cache_rule.proofs.Keeps.{keeps-rule}
-use Rattle.daemon_encode.specs.Infrastructures.{Infrastructure}
+use Rattle.infrastructure_texts.specs.Infrastructures.{Infrastructure}
 use Rattle.np_things.specs.Things.{Thing, carried}
 use Rattle.np_levels.specs.Coupled.{IsCarrier, cache_chips, levels}
 use Rattle.np_levels.proofs.Orders.{Reordered, permuted}

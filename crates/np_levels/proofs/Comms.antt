@@ -42,14 +42,14 @@ use Rattle.np_protocol.proofs.Moves.{only-zero}
 use Rattle.np_protocol.proofs.Tallies.{only}
 use Rattle.np_protocol.proofs.Steps.{all_taken}
 use Rattle.np_syntax.specs.declared.expression.ExprForm as expr
-use Rattle.daemon_encode.specs.Pieces.{ack, beside, currentloc, daemon, deliver, expression, gives, lock, migrating, name, nothing, pair, process, sends as sends_text, site, takes, tells, unit, variable}
-use Rattle.daemon_encode.specs.Texts.{migrate_text, move_text, settles}
-use Rattle.daemon_encode.specs.Daemon.{acks}
-use Rattle.daemon_encode.specs.Infrastructures.{Infrastructure}
-use Rattle.daemon_encode.specs.InfrastructureTexts.{agent_text_of, child_of, post_of}
+use Rattle.infrastructure_texts.specs.Pieces.{ack, beside, currentloc, daemon, deliver, expression, gives, lock, migrating, name, nothing, pair, process, sends as sends_text, site, takes, tells, unit, variable}
+use Rattle.infrastructure_texts.specs.Texts.{migrate_text, move_text, settles}
+use Rattle.infrastructure_texts.specs.Daemon.{acks}
+use Rattle.infrastructure_texts.specs.Infrastructures.{Infrastructure}
+use Rattle.infrastructure_texts.specs.InfrastructureTexts.{agent_text_of, child_of, post_of}
 use Rattle.daemon_encode.specs.Translates.{Translates, source}
-use Rattle.daemon_encode.specs.CacheTexts.{cache, goes_by_daemon, goes_by_hint, looks, makes_messenger, post_text, found}
-use Rattle.daemon_encode.specs.CacheDaemon.{hints}
+use Rattle.infrastructure_texts.specs.CacheTexts.{cache, goes_by_daemon, goes_by_hint, looks, makes_messenger, post_text, found}
+use Rattle.infrastructure_texts.specs.CacheDaemon.{hints}
 use Rattle.np_things.specs.Acting.{begins}
 use Rattle.np_things.specs.Desks.{Took, desk}
 use Rattle.np_things.specs.Mail.{Mail, on_channel, receiver}

@@ -49,11 +49,11 @@ use Rattle.np_protocol.specs.Scenes.{Whereabouts, with_place}
 use Rattle.np_protocol.specs.Steps.{Step}
 use Rattle.np_protocol.proofs.Keeps.{keeps-protocol}
 use Rattle.np_protocol.proofs.Steps.{all_taken}
-use Rattle.daemon_encode.specs.Pieces.{beside, daemon, pair, register, site, variable}
-use Rattle.daemon_encode.specs.Texts.{begins as begins_text, server_text, settles}
-use Rattle.daemon_encode.specs.Infrastructures.{Infrastructure}
-use Rattle.daemon_encode.specs.InfrastructureTexts.{child_of}
-use Rattle.daemon_encode.specs.CacheTexts.{empty_cache, found_server, registers, with_cache}
+use Rattle.infrastructure_texts.specs.Pieces.{beside, daemon, pair, register, site, variable}
+use Rattle.infrastructure_texts.specs.Texts.{begins as begins_text, server_text, settles}
+use Rattle.infrastructure_texts.specs.Infrastructures.{Infrastructure}
+use Rattle.infrastructure_texts.specs.InfrastructureTexts.{child_of}
+use Rattle.infrastructure_texts.specs.CacheTexts.{empty_cache, found_server, registers, with_cache}
 use Rattle.np_source_values.specs.Known.{IsKnown, Knows}
 use Rattle.np_source_values.specs.Sources.{Agrees, Names}
 use Rattle.np_things.specs.Acting.{begins}

@@ -44,9 +44,9 @@ use Rattle.np_protocol.specs.Rules.{Rule}
 use Rattle.np_protocol.specs.Scenes.{Whereabouts, with_place}
 use Rattle.np_protocol.specs.Steps.{Step}
 use Rattle.np_protocol.proofs.Keeps.{keeps-protocol}
-use Rattle.daemon_encode.specs.Pieces.{beside, daemon, migrated, pair, site, tells}
-use Rattle.daemon_encode.specs.Texts.{settles}
-use Rattle.daemon_encode.specs.Infrastructures.{Infrastructure}
+use Rattle.infrastructure_texts.specs.Pieces.{beside, daemon, migrated, pair, site, tells}
+use Rattle.infrastructure_texts.specs.Texts.{settles}
+use Rattle.infrastructure_texts.specs.Infrastructures.{Infrastructure}
 use Rattle.np_source_values.proofs.Values.{same-value}
 use Rattle.np_things.specs.Acting.{begins}
 use Rattle.np_things.specs.Mail.{Mail}

@@ -6,7 +6,7 @@ use Rattle.np_syntax.specs.declared.process.ProcForm.{ProcForm-F}
 use Rattle.np_syntax.specs.declared.process.ProcForm.TheVariants as forms
 use Rattle.np_syntax.specs.declared.process.Role.TheVariants as role
 use Rattle.np_eval.specs.Forms.{Layer, layer}
-use Rattle.daemon_encode.specs.Infrastructures.{Infrastructure}
+use Rattle.infrastructure_texts.specs.Infrastructures.{Infrastructure}
 use Rattle.daemon_encode.specs.Translates.{Translates}
 use Rattle.np_things.proofs.Acting.{PostBegins, post-begins}
 

@@ -9,7 +9,7 @@ use Rattle.np_calculus.specs.Config.{Config}
 use Rattle.np_calculus.specs.Reductions.{apply, becomes}
 use Rattle.cache_lift.specs.Lift.{stands_for}
 use Rattle.np_eval.specs.Eval.{Env}
-use Rattle.daemon_encode.specs.Infrastructures.{Infrastructure}
+use Rattle.infrastructure_texts.specs.Infrastructures.{Infrastructure}
 use Rattle.np_source_values.specs.Known.{Knows}
 use Rattle.np_source_values.proofs.Known.{known-more}
 use Rattle.np_things.specs.Shapes.{IsOfSource}

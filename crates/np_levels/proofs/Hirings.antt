@@ -36,9 +36,9 @@ use Rattle.np_protocol.proofs.Keeps.{keeps-protocol}
 use Rattle.cache_lift.specs.Lift.{stands_for, with_messenger, Standing}
 use Rattle.cache_lift.specs.Posts.{letter_carried, letter_given, letter_hired, letter_tried}
 use Rattle.cache_lift.proofs.Standings.{stands-as_before, stands-new}
-use Rattle.daemon_encode.specs.Pieces.{stop, variable}
-use Rattle.daemon_encode.specs.CacheTexts.{hands_back, messenger_text, tries}
-use Rattle.daemon_encode.specs.Infrastructures.{Infrastructure}
+use Rattle.infrastructure_texts.specs.Pieces.{stop, variable}
+use Rattle.infrastructure_texts.specs.CacheTexts.{hands_back, messenger_text, tries}
+use Rattle.infrastructure_texts.specs.Infrastructures.{Infrastructure}
 use Rattle.cache_rule.specs.Steps.{CacheStep}
 use Rattle.np_things.specs.Acting.{begins}
 use Rattle.np_things.specs.CacheShapes.{IsHiring}

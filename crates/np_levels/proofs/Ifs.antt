@@ -23,7 +23,7 @@ use Rattle.np_calculus.proofs.Steps.{Acts, acting-step, is-none, row-step, step-
 use Rattle.cache_lift.specs.Lift.{stands_for}
 use Rattle.np_eval.specs.Eval.{as_truth, truth_of}
 use Rattle.np_eval.specs.Forms.{layer}
-use Rattle.daemon_encode.specs.Infrastructures.{Infrastructure}
+use Rattle.infrastructure_texts.specs.Infrastructures.{Infrastructure}
 use Rattle.daemon_encode.specs.Translates.{Translates}
 use Rattle.np_source_values.specs.Sources.{IsSource}
 use Rattle.np_things.specs.Shapes.{IsOfSource, StandsFor}

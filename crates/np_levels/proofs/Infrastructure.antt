@@ -16,7 +16,7 @@ unfoldable use Rattle.np_calculus.proofs.Common.{act, arrive_row}
 use Rattle.np_calculus.proofs.Rows.{parts}
 use Rattle.np_calculus.proofs.Steps.{acting-step, row-step}
 use Rattle.np_eval.specs.Forms.{layer}
-use Rattle.daemon_encode.specs.Infrastructures.{Infrastructure}
+use Rattle.infrastructure_texts.specs.Infrastructures.{Infrastructure}
 use Rattle.np_things.specs.Acting.{begins}
 use Rattle.np_things.specs.Things.{Stage, Thing}
 use Rattle.np_things.specs.Shapes.{Is}

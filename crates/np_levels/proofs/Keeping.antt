@@ -15,7 +15,7 @@ use Rattle.cache_lift.specs.Lift.{stands_for}
 use Rattle.np_protocol.specs.Chips.{Chip}
 use Rattle.np_protocol.specs.Scenes.{Locks}
 use Rattle.np_protocol.specs.Steps.{Step}
-use Rattle.daemon_encode.specs.Infrastructures.{Infrastructure}
+use Rattle.infrastructure_texts.specs.Infrastructures.{Infrastructure}
 use Rattle.np_things.specs.Things.{Thing}
 use Rattle.np_levels.specs.Coupled.{Coupled, KnowsOnly, View, is_channel, is_child_of, may_know, shown, is_high}
 use Rattle.np_levels.proofs.Marks.{may_know_more}

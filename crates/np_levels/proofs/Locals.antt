@@ -26,7 +26,7 @@ use Rattle.np_calculus.proofs.Steps.{Acts, acting-step, is-none, is-one, one-new
 use Rattle.cache_lift.specs.Lift.{stands_for}
 use Rattle.np_eval.specs.Eval.{agent_of, as_agent, as_chan, chan_of, eval}
 use Rattle.np_eval.specs.Forms.{layer}
-use Rattle.daemon_encode.specs.Infrastructures.{Infrastructure}
+use Rattle.infrastructure_texts.specs.Infrastructures.{Infrastructure}
 use Rattle.np_things.specs.Mail.{Posted, as_output}
 use Rattle.np_things.specs.Shapes.{IsAgents, IsOfSource}
 use Rattle.np_things.specs.Things.{Thing}

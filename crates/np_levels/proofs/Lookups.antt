@@ -36,10 +36,10 @@ use Rattle.np_protocol.specs.Steps.{Step}
 use Rattle.np_protocol.proofs.Keeps.{keeps-protocol}
 use Rattle.np_protocol.proofs.Kept.{phase_of}
 use Rattle.np_protocol.proofs.Steps.{all_taken, sum_before}
-use Rattle.daemon_encode.specs.Pieces.{ack, beside, gives, name, stop, takes, unit, variable, finds}
-use Rattle.daemon_encode.specs.Daemon.{acks, frees}
-use Rattle.daemon_encode.specs.Infrastructures.{Infrastructure}
-use Rattle.daemon_encode.specs.CacheDaemon.{reads_locks}
+use Rattle.infrastructure_texts.specs.Pieces.{ack, beside, gives, name, stop, takes, unit, variable, finds}
+use Rattle.infrastructure_texts.specs.Daemon.{acks, frees}
+use Rattle.infrastructure_texts.specs.Infrastructures.{Infrastructure}
+use Rattle.infrastructure_texts.specs.CacheDaemon.{reads_locks}
 use Rattle.np_things.specs.Desks.{Took, desk, looks_back}
 use Rattle.np_things.specs.Mail.{Mail}
 use Rattle.np_things.specs.Shapes.{Are, IsLooking, delivering}

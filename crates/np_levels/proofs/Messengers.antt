@@ -20,8 +20,8 @@ use Rattle.np_calculus.specs.Reductions.{apply, goes, row}
 use Rattle.np_calculus.specs.Starts.{daemon_agent}
 use Rattle.np_calculus.proofs.OwnNames.{not_true}
 use Rattle.np_eval.specs.Forms.{layer}
-use Rattle.daemon_encode.specs.CacheTexts.{tries}
-use Rattle.daemon_encode.specs.Infrastructures.{Infrastructure}
+use Rattle.infrastructure_texts.specs.CacheTexts.{tries}
+use Rattle.infrastructure_texts.specs.Infrastructures.{Infrastructure}
 use Rattle.np_things.specs.Acting.{begins}
 use Rattle.np_things.specs.CacheShapes.{IsCarrying}
 use Rattle.np_things.specs.Mail.{Posted}

@@ -30,7 +30,7 @@ use Rattle.np_calculus.proofs.Steps.{Acts, acting-step, is-one, one-new, row-ste
 use Rattle.cache_lift.specs.Lift.{stands_for}
 use Rattle.np_eval.specs.Eval.{Env}
 use Rattle.np_eval.specs.Forms.{layer}
-use Rattle.daemon_encode.specs.Infrastructures.{Infrastructure}
+use Rattle.infrastructure_texts.specs.Infrastructures.{Infrastructure}
 use Rattle.np_source_values.specs.Known.{IsKnown}
 use Rattle.np_levels.specs.Coupled.{Coupled, View, is_channel}
 use Rattle.np_levels.specs.Laws.{IsEvent, event_of}

@@ -24,7 +24,7 @@ use Rattle.std.proofs.lemmas.Bool.{eqb-true}
 use Rattle.np_levels.proofs.Quiet.{or_cases}
 use Rattle.np_eval.specs.Eval.{as_chan, chan_of, eval}
 use Rattle.np_eval.specs.Forms.{Layer, as_out, layer}
-use Rattle.daemon_encode.specs.Infrastructures.{Infrastructure}
+use Rattle.infrastructure_texts.specs.Infrastructures.{Infrastructure}
 use Rattle.daemon_encode.specs.Translates.{Translates}
 use Rattle.np_source_values.specs.Known.{IsKnown, Knows}
 use Rattle.np_source_values.proofs.Known.{value-is-known}

@@ -25,7 +25,7 @@ use Rattle.np_calculus.proofs.Steps.{is-none, row-step}
 use Rattle.cache_lift.specs.Lift.{stands_for}
 use Rattle.np_eval.specs.Eval.{agent_of, as_agent, as_chan, as_site, chan_of, eval}
 use Rattle.np_eval.specs.Forms.{layer}
-use Rattle.daemon_encode.specs.Infrastructures.{Infrastructure}
+use Rattle.infrastructure_texts.specs.Infrastructures.{Infrastructure}
 use Rattle.np_things.specs.Mail.{Posted, as_output}
 use Rattle.np_things.specs.Shapes.{IsUnderWay}
 use Rattle.np_things.specs.Things.{Stage, Thing, first_atom_of, first_packet_of}

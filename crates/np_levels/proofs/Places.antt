@@ -11,7 +11,7 @@ use Rattle.np_calculus.specs.Starts.{daemon_agent}
 use Rattle.np_calculus.proofs.OwnNames.{not_true}
 use Rattle.np_protocol.specs.Phases.{Phase, is_present, is_registered}
 use Rattle.np_protocol.specs.Scenes.{is_there}
-use Rattle.daemon_encode.specs.Infrastructures.{Infrastructure}
+use Rattle.infrastructure_texts.specs.Infrastructures.{Infrastructure}
 use Rattle.np_levels.specs.Coupled.{Coupled, View, whereabouts}
 
 pub some_there : (o : Option Place) → is_there (whereabouts o) ≡ true → IsSome o

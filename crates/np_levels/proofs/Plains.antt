@@ -13,7 +13,7 @@ use Rattle.np_syntax.proofs.Options.{done}
 use Rattle.np_calculus.specs.Begins.{begun_by}
 use Rattle.np_calculus.specs.Reductions.{no_other, role_index, same_tag}
 use Rattle.np_eval.specs.Forms.{Layer, layer}
-use Rattle.daemon_encode.specs.Infrastructures.{Infrastructure}
+use Rattle.infrastructure_texts.specs.Infrastructures.{Infrastructure}
 use Rattle.daemon_encode.specs.Translates.{Translates}
 use Rattle.np_things.proofs.Acting.{PostBegins, post-begins}
 

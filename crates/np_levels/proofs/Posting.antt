@@ -28,7 +28,7 @@ use Rattle.np_eval.specs.Eval.{Env, agent_of, as_agent, as_chan, chan_of, eval}
 use Rattle.np_eval.specs.Forms.{layer}
 use Rattle.np_scope.specs.Sound.{IsSoundExpr}
 use Rattle.np_scope.proofs.SoundParts.{ProcParts, proc-parts}
-use Rattle.daemon_encode.specs.Infrastructures.{Infrastructure}
+use Rattle.infrastructure_texts.specs.Infrastructures.{Infrastructure}
 use Rattle.daemon_encode.specs.Translates.{source}
 use Rattle.np_source_values.specs.Known.{IsKnown, Knows}
 use Rattle.np_source_values.specs.Sources.{Agrees, Names}

@@ -26,9 +26,9 @@ use Rattle.np_calculus.specs.Reductions.{apply, row}
 use Rattle.np_calculus.specs.Starts.{daemon_agent, own}
 use Rattle.np_eval.specs.Eval.{eval}
 use Rattle.np_eval.specs.Forms.{layer}
-use Rattle.daemon_encode.specs.Pieces.{daemon, message, pair, site}
-use Rattle.daemon_encode.specs.Texts.{letter, post_text}
-use Rattle.daemon_encode.specs.Infrastructures.{Infrastructure}
+use Rattle.infrastructure_texts.specs.Pieces.{daemon, message, pair, site}
+use Rattle.infrastructure_texts.specs.Texts.{letter, post_text}
+use Rattle.infrastructure_texts.specs.Infrastructures.{Infrastructure}
 use Rattle.daemon_encode.specs.Translates.{Translates, source}
 use Rattle.np_things.specs.Acting.{begins}
 use Rattle.np_things.specs.Shapes.{Is, StandsFor}

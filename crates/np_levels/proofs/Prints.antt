@@ -21,7 +21,7 @@ use Rattle.np_calculus.proofs.Steps.{Acts, acting-step, is-none, row-step, step-
 use Rattle.cache_lift.specs.Lift.{stands_for}
 use Rattle.np_eval.specs.Eval.{eval}
 use Rattle.np_eval.specs.Forms.{layer}
-use Rattle.daemon_encode.specs.Infrastructures.{Infrastructure}
+use Rattle.infrastructure_texts.specs.Infrastructures.{Infrastructure}
 use Rattle.np_levels.specs.Coupled.{Coupled, View}
 use Rattle.np_levels.specs.Laws.{IsEvent, event_of}
 use Rattle.np_levels.proofs.Actors.{Actor, actor, parts_of, same_here}

@@ -44,10 +44,10 @@ use Rattle.np_protocol.specs.Scenes.{Locks, changed, with_lock}
 use Rattle.np_protocol.specs.Steps.{Step}
 use Rattle.np_protocol.proofs.Keeps.{keeps-protocol}
 use Rattle.np_protocol.proofs.Steps.{all_taken}
-use Rattle.daemon_encode.specs.Pieces.{ack, beside, gives, lock, unit, variable}
-use Rattle.daemon_encode.specs.Daemon.{acks, enters, with_lock as with_text}
-use Rattle.daemon_encode.specs.Infrastructures.{Infrastructure}
-use Rattle.daemon_encode.specs.CacheTexts.{cache}
+use Rattle.infrastructure_texts.specs.Pieces.{ack, beside, gives, lock, unit, variable}
+use Rattle.infrastructure_texts.specs.Daemon.{acks, enters, with_lock as with_text}
+use Rattle.infrastructure_texts.specs.Infrastructures.{Infrastructure}
+use Rattle.infrastructure_texts.specs.CacheTexts.{cache}
 use Rattle.np_things.specs.Acting.{begins}
 use Rattle.np_things.specs.Desks.{Took, desk}
 use Rattle.np_things.specs.Mail.{Mail}

@@ -25,7 +25,7 @@ use Rattle.np_eval.specs.Forms.{Layer, layer}
 use Rattle.np_protocol.specs.Chips.{Service}
 use Rattle.np_scope.specs.Sound.{IsSoundProc}
 use Rattle.np_scope.proofs.SoundParts.{ProcParts, proc-parts}
-use Rattle.daemon_encode.specs.Infrastructures.{Infrastructure}
+use Rattle.infrastructure_texts.specs.Infrastructures.{Infrastructure}
 use Rattle.daemon_encode.specs.Translates.{Translates}
 use Rattle.np_things.specs.Desks.{desk}
 use Rattle.np_things.specs.Mail.{Mail}

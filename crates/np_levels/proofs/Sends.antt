@@ -40,7 +40,7 @@ use Rattle.np_protocol.specs.Scenes.{Scene, Whereabouts}
 use Rattle.np_protocol.specs.Steps.{Step}
 use Rattle.np_protocol.proofs.Keeps.{keeps-protocol}
 use Rattle.np_protocol.proofs.Steps.{all_taken}
-use Rattle.daemon_encode.specs.Infrastructures.{Infrastructure}
+use Rattle.infrastructure_texts.specs.Infrastructures.{Infrastructure}
 use Rattle.np_things.specs.Acting.{begins}
 use Rattle.np_things.specs.Mail.{Mail, content, on_channel, packet_of, receiver as receiver_of, to_site}
 use Rattle.np_things.specs.Shapes.{Is, IsSender, Mails}

@@ -39,9 +39,9 @@ use Rattle.np_protocol.specs.Protocol.{IsTrueOf}
 use Rattle.np_protocol.specs.Rules.{IsKnowledge, IsLearnt, Rule}
 use Rattle.np_protocol.proofs.Steps.{all_taken}
 use Rattle.np_protocol.proofs.Keeps.{keeps-protocol}
-use Rattle.daemon_encode.specs.Pieces.{beside, daemon, dack, deliver, expression, infra, name, pair, site, tells, two_names, variable, takes as takes_text}
-use Rattle.daemon_encode.specs.Infrastructures.{Infrastructure}
-use Rattle.daemon_encode.specs.CacheTexts.{cache, found}
+use Rattle.infrastructure_texts.specs.Pieces.{beside, daemon, dack, deliver, expression, infra, name, pair, site, tells, two_names, variable, takes as takes_text}
+use Rattle.infrastructure_texts.specs.Infrastructures.{Infrastructure}
+use Rattle.infrastructure_texts.specs.CacheTexts.{cache, found}
 use Rattle.np_syntax.specs.declared.process.ProcForm as form
 use Rattle.np_things.proofs.Starts.{constant-is}
 use Rattle.np_things.specs.Acting.{begins}

@@ -14,7 +14,7 @@ use Rattle.np_eval.specs.Eval.{Env, eval}
 use Rattle.np_eval.specs.Forms.{layer}
 use Rattle.np_scope.specs.Sound.{Among, AllBelow, Binds, IsSoundExpr, NoneTwice}
 use Rattle.np_scope.proofs.SoundParts.{ProcParts, proc-parts}
-use Rattle.daemon_encode.specs.Pieces.{name, variable}
+use Rattle.infrastructure_texts.specs.Pieces.{name, variable}
 use Rattle.np_source_values.specs.Known.{IsKnown, Knows}
 use Rattle.np_source_values.specs.Sources.{Agrees, IsSource, Names}
 use Rattle.np_source_values.proofs.Known.{keeps-known}

@@ -11,7 +11,7 @@ use Rattle.np_calculus.specs.Config.{Config}
 use Rattle.np_calculus.specs.Reductions.{apply, goes, row}
 use Rattle.cache_lift.specs.Lift.{stands_for}
 use Rattle.np_eval.specs.Forms.{layer}
-use Rattle.daemon_encode.specs.Infrastructures.{Infrastructure}
+use Rattle.infrastructure_texts.specs.Infrastructures.{Infrastructure}
 use Rattle.daemon_encode.specs.Translates.{Translates}
 use Rattle.np_things.specs.Shapes.{IsOfSource}
 use Rattle.np_things.specs.Things.{Thing}

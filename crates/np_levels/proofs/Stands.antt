@@ -46,7 +46,7 @@ use Rattle.cache_lift.specs.Lift.{stands_for}
 use Rattle.cache_rule.specs.Steps.{CacheStep}
 use Rattle.np_protocol.specs.Phases.{Phase}
 use Rattle.np_protocol.specs.Protocol.{Protocol}
-use Rattle.daemon_encode.specs.Infrastructures.{Infrastructure}
+use Rattle.infrastructure_texts.specs.Infrastructures.{Infrastructure}
 use Rattle.np_things.specs.Shapes.{Are, Is, IsUnderWay}
 use Rattle.np_things.specs.Things.{Thing, carried, first_atom_of, first_packet_of, high_atom, high_packet, show_all, shows, show_all_caches, shows_caches}
 use Rattle.np_levels.specs.Coupled.{Coupled, IsShaped, KnowsOnly, View, chips, is_channel, is_child_of, may_know, scene, IsCarrier, cache_chips, shown, is_high}

@@ -41,7 +41,7 @@ use Rattle.np_protocol.proofs.Scenes.{same_scene}
 use Rattle.np_protocol.proofs.Starts.{starts-in-order, serves-more}
 use Rattle.np_eval.specs.Eval.{find_place}
 use Rattle.np_scope.specs.Sound.{IsSound}
-use Rattle.daemon_encode.specs.Infrastructures.{Infrastructure}
+use Rattle.infrastructure_texts.specs.Infrastructures.{Infrastructure}
 use Rattle.daemon_encode.specs.Translates.{IsLowOf}
 use Rattle.np_things.specs.Laws.{HasStartThings}
 use Rattle.np_things.specs.Starts.{daemon_things, main_things, first_cache, tells_where}

@@ -31,7 +31,7 @@ use Rattle.np_scope.proofs.SoundParts.{BodyParts, ProcParts, proc-parts}
 use Rattle.np_source_values.specs.Known.{IsKnown, Knows}
 use Rattle.np_source_values.proofs.Known.{value-is-known}
 use Rattle.np_source_values.proofs.Values.{same-value}
-use Rattle.daemon_encode.specs.Infrastructures.{Infrastructure}
+use Rattle.infrastructure_texts.specs.Infrastructures.{Infrastructure}
 use Rattle.daemon_encode.specs.Translates.{Translates}
 use Rattle.np_things.specs.Mail.{Posted, as_output}
 use Rattle.np_things.specs.Shapes.{Is, IsAgents, IsOfSource, IsOpened}

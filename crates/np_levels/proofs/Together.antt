@@ -20,7 +20,7 @@ use Rattle.np_calculus.specs.declared.config.Packet.{Packet}
 use Rattle.cache_lift.specs.Lift.{stands_for}
 use Rattle.np_protocol.specs.Phases.{Phase}
 use Rattle.np_protocol.specs.Protocol.{Protocol}
-use Rattle.daemon_encode.specs.Infrastructures.{Infrastructure}
+use Rattle.infrastructure_texts.specs.Infrastructures.{Infrastructure}
 use Rattle.np_source_values.proofs.Known.{more_known}
 use Rattle.np_things.specs.Mail.{Posted}
 use Rattle.np_things.specs.Things.{Thing, carried, first_atom_of, first_packet_of}

@@ -33,10 +33,10 @@ use Rattle.np_protocol.proofs.Keeps.{keeps-protocol}
 use Rattle.np_protocol.proofs.Steps.{all_taken}
 use Rattle.cache_lift.specs.Lift.{Standing, stands_for, with_mark}
 use Rattle.cache_lift.proofs.Standings.{stands-as_before, stands-new}
-use Rattle.daemon_encode.specs.Texts.{letter}
-use Rattle.daemon_encode.specs.Pieces.{daemon, message, pair, site, stop, tells}
-use Rattle.daemon_encode.specs.CacheTexts.{asking, asks, hands_back}
-use Rattle.daemon_encode.specs.Infrastructures.{Infrastructure}
+use Rattle.infrastructure_texts.specs.Texts.{letter}
+use Rattle.infrastructure_texts.specs.Pieces.{daemon, message, pair, site, stop, tells}
+use Rattle.infrastructure_texts.specs.CacheTexts.{asking, asks, hands_back}
+use Rattle.infrastructure_texts.specs.Infrastructures.{Infrastructure}
 use Rattle.np_things.specs.Acting.{begins}
 use Rattle.np_things.specs.CacheShapes.{IsTrying}
 use Rattle.np_things.specs.Mail.{Mail, Posted, as_output}

@@ -22,8 +22,8 @@ use Rattle.np_calculus.proofs.OwnNames.{not_true}
 use Rattle.np_calculus.specs.Starts.{own}
 use Rattle.np_calculus.specs.Reductions.{sends, goes_under}
 use Rattle.np_calculus.specs.declared.config.Atom.{Atom}
-use Rattle.daemon_encode.specs.Pieces.{expression, name, pair, two_names, variable, gives, channel}
-use Rattle.daemon_encode.specs.Texts.{letter}
+use Rattle.infrastructure_texts.specs.Pieces.{expression, name, pair, two_names, variable, gives, channel}
+use Rattle.infrastructure_texts.specs.Texts.{letter}
 use Rattle.np_source_values.specs.Sources.{Names}
 use Rattle.np_things.proofs.Starts.{constant-is}
 use Rattle.np_things.specs.Shapes.{StandsFor}

@@ -23,7 +23,7 @@ use Rattle.np_protocol.specs.Chips.{Chip}
 use Rattle.np_protocol.specs.Phases.{Phase}
 use Rattle.np_protocol.specs.Protocol.{Protocol}
 use Rattle.np_protocol.specs.Scenes.{Locks, Scene, Whereabouts}
-use Rattle.daemon_encode.specs.Infrastructures.{Infrastructure}
+use Rattle.infrastructure_texts.specs.Infrastructures.{Infrastructure}
 use Rattle.np_source_values.specs.Known.{IsKnown, Knows}
 use Rattle.np_things.specs.Mail.{Posted}
 use Rattle.np_things.specs.Shapes.{Are, IsUnderWay}

@@ -16,7 +16,7 @@ use Rattle.np_syntax.specs.declared.process.Role.TheVariants as role
 use Rattle.cache_lift.specs.Lift.{at_first, posted, renamed}
 use Rattle.np_calculus.specs.Starts.{start_high, start_low}
 use Rattle.np_scope.specs.Sound.{IsSound}
-use Rattle.daemon_encode.specs.Infrastructures.{Infrastructure}
+use Rattle.infrastructure_texts.specs.Infrastructures.{Infrastructure}
 use Rattle.daemon_encode.specs.Translates.{IsLowOf}
 use Rattle.np_levels.specs.Coupled.{Coupled, View}
 use Rattle.np_levels.specs.Letters.{IsFinding, IsHiringFor, IsMissing, IsPosting, LettersAfter, NoLetters, SameLetters}

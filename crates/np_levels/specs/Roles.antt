@@ -4,7 +4,7 @@ use Rattle.np_syntax.specs.declared.event.Kind.{Kind}
 use Rattle.np_syntax.specs.declared.event.Kind.TheVariants as kind
 use Rattle.np_syntax.specs.declared.process.Role.{Role}
 use Rattle.np_syntax.specs.declared.process.Role.TheVariants as role
-use Rattle.daemon_encode.specs.Infrastructures.{Infrastructure}
+use Rattle.infrastructure_texts.specs.Infrastructures.{Infrastructure}
 
 -- The infrastructure splits, makes locks, takes what is there, serves, sends, opens letters and looks up. A post is sent, and lands. The source's own
 -- events are none that only the infrastructure has, and no Post: a post is sent.

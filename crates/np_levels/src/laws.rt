@@ -1,5 +1,5 @@
 ghost use Rattle.std.specs.Prelude.{◌≡◌};
-ghost use Rattle.daemon_encode.specs.Infrastructures.{Infrastructure};
+ghost use Rattle.infrastructure_texts.specs.Infrastructures.{Infrastructure};
 ghost use Rattle.np_levels.specs.Laws.{ArrivalsAreEvents, IsEvent, IsQuiet, MessengersAreHired, MessengersArrive, MessengersTry, PostsAreEvents, RolesOfEvents, StartsCoupled};
 ghost use Rattle.np_syntax.specs.declared.event.Kind.{Kind};
 ghost use Rattle.np_syntax.specs.declared.event.Kind.TheVariants as kind;

@@ -11,7 +11,7 @@ use Rattle.cache_encode.specs.Encoded.{encoded_cached}
 use Rattle.cache_encode.specs.Related.{CachedEncodesItself}
 use Rattle.cache_encode.specs.Typed.{CachedRunsWell}
 use Rattle.daemon_encode.specs.Encoded.{encoded}
-use Rattle.daemon_encode.specs.Infrastructures.{Infrastructure as Encoding}
+use Rattle.infrastructure_texts.specs.Infrastructures.{Infrastructure as Encoding}
 use Rattle.daemon_encode.specs.Translates as translates
 use Rattle.daemon_encode.specs.Typed.{EncodesRunsWell}
 use Rattle.cache_lift.specs.Lift.{Standing}

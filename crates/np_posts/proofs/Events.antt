@@ -23,7 +23,7 @@ use Rattle.cache_lift.specs.Laws.{adds_mark}
 use Rattle.cache_lift.specs.Lift.{Standing, is_dropped, lifted, lifted_by, stands_for, with_mark}
 use Rattle.cache_lift.specs.Posts.{deed_from, letter_hired}
 use Rattle.cache_lift.proofs.Standings.{stands-as_before, stands-new}
-use Rattle.daemon_encode.specs.Infrastructures.{Infrastructure}
+use Rattle.infrastructure_texts.specs.Infrastructures.{Infrastructure}
 use Rattle.np_things.specs.Things.{Thing}
 use Rattle.np_levels.specs.Coupled.{View}
 use Rattle.np_levels.specs.Letters.{IsFinding, IsHanding, IsHiringFor, IsMissing, IsPosting, as_letter, first_letter_of, letter_under}

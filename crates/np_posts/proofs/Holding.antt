@@ -29,7 +29,7 @@ use Rattle.cache_lift.specs.Lift.{Standing, at_first, is_dropped, lifted_by, sta
 use Rattle.cache_lift.specs.Laws.{adds_mark}
 use Rattle.cache_lift.specs.Posts.{letter_given}
 use Rattle.cache_lift.proofs.Standings.{stands-itself}
-use Rattle.daemon_encode.specs.Infrastructures.{Infrastructure}
+use Rattle.infrastructure_texts.specs.Infrastructures.{Infrastructure}
 use Rattle.np_things.specs.Acting.{begins}
 use Rattle.np_things.specs.Mail.{Mail, Posted}
 use Rattle.np_things.specs.Shapes.{Are, Is, IsUnderWay}

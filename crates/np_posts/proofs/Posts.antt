@@ -18,7 +18,7 @@ use Rattle.cache_lift.specs.Lift.{at_first, lifted, stands_for}
 use Rattle.cache_lift.specs.Posts.{and_from, deed_from, deeds_from}
 use Rattle.cache_lift.proofs.Standings.{stands-itself}
 use Rattle.np_check.specs.Faults.{IsAccepted}
-use Rattle.daemon_encode.specs.Infrastructures.{Infrastructure}
+use Rattle.infrastructure_texts.specs.Infrastructures.{Infrastructure}
 use Rattle.daemon_encode.specs.Translates.{IsLowOf}
 use Rattle.np_things.specs.Mail.{as_output}
 use Rattle.np_things.specs.Things.{Thing, carried, high_atom}

@@ -11,7 +11,7 @@ use Rattle.np_calculus.specs.Config.{Config}
 use Rattle.np_calculus.proofs.OwnNames.{not_true}
 use Rattle.np_lift.specs.Posts.{Deed, Hands, Letter, deeds_to, prepended}
 use Rattle.cache_lift.specs.Lift.{stands_for}
-use Rattle.daemon_encode.specs.Infrastructures.{Infrastructure}
+use Rattle.infrastructure_texts.specs.Infrastructures.{Infrastructure}
 use Rattle.np_things.specs.Mail.{Posted, as_output}
 use Rattle.np_things.specs.Things.{Thing, carried}
 use Rattle.np_levels.specs.Coupled.{Coupled, View, is_high}

@@ -15,7 +15,7 @@ use Rattle.np_lift.specs.Posts.{IsAllHanded, IsPaired, Letter, deeds, deeds_to}
 use Rattle.cache_lift.specs.Lift.{at_first, lift_cached, stands_for}
 use Rattle.cache_lift.specs.Posts.{IsAllHandedCached, IsPairedCached, deeds_from}
 use Rattle.np_check.specs.Faults.{IsAccepted}
-use Rattle.daemon_encode.specs.Infrastructures.{Infrastructure}
+use Rattle.infrastructure_texts.specs.Infrastructures.{Infrastructure}
 use Rattle.daemon_encode.specs.Translates.{IsLowOf}
 use Rattle.np_rest.specs.Laws.{HasCacheRest, HasRest}
 use Rattle.np_simulation.specs.Laws.{IsCentralLifted, IsLifted}

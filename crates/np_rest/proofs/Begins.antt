@@ -9,10 +9,10 @@ use Rattle.np_syntax.specs.declared.process.ProcForm as form
 use Rattle.np_syntax.specs.declared.process.Tag.{Tag}
 use Rattle.np_calculus.specs.Idle.{waits}
 use Rattle.np_eval.specs.Forms.{Layer, given_on, layer, taken_on}
-use Rattle.daemon_encode.specs.CacheTexts.{cache}
-use Rattle.daemon_encode.specs.InfrastructureTexts.{post_of}
-use Rattle.daemon_encode.specs.Pieces.{currentloc}
-use Rattle.daemon_encode.specs.Infrastructures.{Infrastructure}
+use Rattle.infrastructure_texts.specs.CacheTexts.{cache}
+use Rattle.infrastructure_texts.specs.InfrastructureTexts.{post_of}
+use Rattle.infrastructure_texts.specs.Pieces.{currentloc}
+use Rattle.infrastructure_texts.specs.Infrastructures.{Infrastructure}
 use Rattle.daemon_encode.specs.Translates.{Translates, source}
 
 -- as itself, where it waits; by taking `currentloc`, where it is to move or to make an agent; by taking the cache, where it is a post and agents have

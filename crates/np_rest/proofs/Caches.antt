@@ -25,8 +25,8 @@ use Rattle.np_eval.specs.Forms.{layer, taken_on}
 use Rattle.cache_rule.specs.Chips.{CacheChip, is_cache_of, is_hint}
 use Rattle.cache_rule.specs.Rule.{CacheRule, FindsHints}
 use Rattle.np_protocol.proofs.Steps.{all_taken}
-use Rattle.daemon_encode.specs.CacheTexts.{cache}
-use Rattle.daemon_encode.specs.Infrastructures.{Infrastructure}
+use Rattle.infrastructure_texts.specs.CacheTexts.{cache}
+use Rattle.infrastructure_texts.specs.Infrastructures.{Infrastructure}
 use Rattle.np_things.specs.Shapes.{Is}
 use Rattle.np_things.specs.Things.{Thing, show_all_caches, shows_caches}
 use Rattle.np_levels.specs.Coupled.{Coupled, View, cache_chips, levels}

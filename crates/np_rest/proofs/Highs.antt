@@ -29,8 +29,8 @@ use Rattle.np_protocol.specs.Protocol.{IsTrueOf}
 use Rattle.np_protocol.specs.Scenes.{is_there}
 use Rattle.np_scope.specs.Sound.{IsSoundExpr}
 use Rattle.np_scope.proofs.SoundParts.{ProcParts, proc-parts}
-use Rattle.daemon_encode.specs.Pieces.{currentloc}
-use Rattle.daemon_encode.specs.Infrastructures.{Infrastructure}
+use Rattle.infrastructure_texts.specs.Pieces.{currentloc}
+use Rattle.infrastructure_texts.specs.Infrastructures.{Infrastructure}
 use Rattle.np_source_values.proofs.Values.{same-value}
 use Rattle.np_things.specs.Mail.{Mail, Posted, as_output}
 use Rattle.np_things.specs.Shapes.{Is, IsOfSource}

@@ -19,7 +19,7 @@ use Rattle.np_protocol.specs.Columns.{Column, times}
 use Rattle.np_protocol.specs.Phases.{Phase, is_moving, is_registered, line}
 use Rattle.np_protocol.specs.Protocol.{IsTrueOf, one_if}
 use Rattle.np_protocol.proofs.Steps.{sum_before}
-use Rattle.daemon_encode.specs.Infrastructures.{Infrastructure}
+use Rattle.infrastructure_texts.specs.Infrastructures.{Infrastructure}
 use Rattle.np_things.specs.Mail.{Mail}
 use Rattle.np_things.specs.Shapes.{Is}
 use Rattle.np_things.specs.Things.{Stage, Thing, show_all, shows}

@@ -18,7 +18,7 @@ use Rattle.np_eval.specs.Forms.{layer}
 use Rattle.np_protocol.specs.Chips.{Chip, Service, always_serves}
 use Rattle.np_protocol.specs.Protocol.{IsTrueOf}
 use Rattle.np_protocol.specs.Scenes.{is_there}
-use Rattle.daemon_encode.specs.Infrastructures.{Infrastructure}
+use Rattle.infrastructure_texts.specs.Infrastructures.{Infrastructure}
 use Rattle.np_things.specs.Mail.{Mail, Posted}
 use Rattle.np_things.specs.Shapes.{Gives, HasTaken, Is, IsMail, WaitsFor}
 use Rattle.np_things.specs.Things.{Stage, Thing}

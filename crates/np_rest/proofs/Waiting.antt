@@ -21,9 +21,9 @@ use Rattle.np_calculus.specs.Sight.{inside}
 use Rattle.np_calculus.specs.Starts.{own}
 use Rattle.np_eval.specs.Eval.{chan_of}
 use Rattle.np_eval.specs.Forms.{given_on, layer, taken_on}
-use Rattle.daemon_encode.specs.Pieces.{ack, beside, channel, currentloc, gives, nothing, sends, serves as serves_text, takes as takes_text, unit, variable}
-use Rattle.daemon_encode.specs.Texts.{move_text}
-use Rattle.daemon_encode.specs.Infrastructures.{Infrastructure}
+use Rattle.infrastructure_texts.specs.Pieces.{ack, beside, channel, currentloc, gives, nothing, sends, serves as serves_text, takes as takes_text, unit, variable}
+use Rattle.infrastructure_texts.specs.Texts.{move_text}
+use Rattle.infrastructure_texts.specs.Infrastructures.{Infrastructure}
 use Rattle.np_things.specs.Shapes.{Are, Gives, Is, IsAsking, IsBeginning, IsSettling}
 use Rattle.np_things.specs.Things.{Thing}
 use Rattle.np_levels.specs.Coupled.{Coupled, IsShaped, View}

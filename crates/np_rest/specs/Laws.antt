@@ -12,7 +12,7 @@ use Rattle.np_calculus.specs.Parts.{IsLodged}
 use Rattle.np_calculus.specs.Sight.{inside}
 use Rattle.np_eval.specs.Eval.{find_place}
 use Rattle.np_protocol.specs.Phases.{Phase}
-use Rattle.daemon_encode.specs.Infrastructures.{Infrastructure}
+use Rattle.infrastructure_texts.specs.Infrastructures.{Infrastructure}
 use Rattle.np_things.specs.Things.{Thing, carried}
 use Rattle.np_levels.specs.Coupled.{Coupled, View}
 

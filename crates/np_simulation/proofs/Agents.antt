@@ -22,7 +22,7 @@ use Rattle.np_calculus.proofs.Steps.{row-step}
 use Rattle.np_calculus.proofs.Writes.{agent-changed, inside-effect}
 use Rattle.cache_lift.specs.Lift.{Standing, at_first, renamed, stands_for, with_mark, with_messenger}
 use Rattle.cache_lift.proofs.Standings.{stands-as_before, stands-itself}
-use Rattle.daemon_encode.specs.Infrastructures.{Infrastructure}
+use Rattle.infrastructure_texts.specs.Infrastructures.{Infrastructure}
 use Rattle.np_levels.specs.Coupled.{Coupled, View}
 use Rattle.np_levels.proofs.Arrivals.{arriving}
 use Rattle.np_levels.proofs.Creations.{creating}

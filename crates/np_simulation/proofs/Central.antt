@@ -16,7 +16,7 @@ use Rattle.np_calculus.specs.Starts.{start_high, start_low}
 use Rattle.cache_lift.specs.Laws.{AddsNoMark, adds_mark}
 use Rattle.cache_lift.proofs.WithoutMessengers.{lift-without-messengers, standing-without-messengers}
 use Rattle.np_check.specs.Faults.{IsAccepted}
-use Rattle.daemon_encode.specs.Infrastructures.{Infrastructure}
+use Rattle.infrastructure_texts.specs.Infrastructures.{Infrastructure}
 use Rattle.daemon_encode.specs.Translates.{IsLowOf}
 use Rattle.np_levels.specs.Roles.{occurs}
 use Rattle.np_simulation.specs.Laws.{CentralRunsAreLifted, IsCentralLifted, IsLifted}

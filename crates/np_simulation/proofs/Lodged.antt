@@ -22,7 +22,7 @@ unfoldable use Rattle.np_calculus.specs.Starts.{start_low}
 use Rattle.np_calculus.specs.Starts.{daemon_agent, daemon_mark, first_atom, main_agent, main_mark}
 use Rattle.np_calculus.proofs.FrameRule.{keeps_lodged}
 use Rattle.np_calculus.proofs.Writes.{each-written}
-use Rattle.daemon_encode.specs.Infrastructures.{Infrastructure}
+use Rattle.infrastructure_texts.specs.Infrastructures.{Infrastructure}
 use Rattle.np_levels.specs.Coupled.{View}
 use Rattle.np_levels.specs.Roles.{may_occur}
 use Rattle.np_simulation.specs.Laws.{RunsAreLodged}

@@ -13,7 +13,7 @@ use Rattle.np_calculus.specs.Sight.{inside}
 use Rattle.np_lift.specs.Posts.{prepended}
 use Rattle.cache_lift.specs.Lift.{Standing, at_first, lift_from, lifted, standing_after}
 use Rattle.np_check.specs.Faults.{IsAccepted}
-use Rattle.daemon_encode.specs.Infrastructures.{Infrastructure}
+use Rattle.infrastructure_texts.specs.Infrastructures.{Infrastructure}
 use Rattle.daemon_encode.specs.Translates.{IsLowOf}
 use Rattle.np_safety.proofs.Starts.{runs-well, well-typed}
 use Rattle.np_levels.specs.Coupled.{Coupled, View}

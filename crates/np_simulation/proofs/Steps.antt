@@ -18,7 +18,7 @@ use Rattle.np_lift.specs.Posts.{prepended}
 use Rattle.cache_lift.specs.Lift.{Standing, lifted}
 use Rattle.cache_lift.specs.Laws.{adds_mark, becomes, nothing}
 use Rattle.cache_lift.proofs.Table.{lifted-by-table}
-use Rattle.daemon_encode.specs.Infrastructures.{Infrastructure}
+use Rattle.infrastructure_texts.specs.Infrastructures.{Infrastructure}
 use Rattle.np_levels.specs.Coupled.{Coupled, View}
 use Rattle.np_levels.specs.Laws.{IsEvent, event_of, post_of}
 use Rattle.np_levels.specs.Roles.{may_occur, occurs, occurs_of_messengers}

@@ -1,4 +1,4 @@
-ghost use Rattle.daemon_encode.specs.Infrastructures.{Infrastructure};
+ghost use Rattle.infrastructure_texts.specs.Infrastructures.{Infrastructure};
 ghost use Rattle.np_simulation.specs.Laws.{CentralRunsAreLifted, RunsAreLifted, RunsAreLodged};
 
 /// From the low start of an accepted program each run leads to a configuration with the same printed values as the one to

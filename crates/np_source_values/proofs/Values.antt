@@ -19,7 +19,7 @@ use Rattle.np_eval.proofs.Evals.{eval-form, eval-val, eval-var, eval-bin, eval-t
 use Rattle.np_eval.proofs.Binds.{bind-form, bind-any, bind-bind, bind-tuple}
 use Rattle.np_calculus.proofs.AgentValues.{slot_put}
 use Rattle.np_scope.specs.Sound.{Among, AllBelow, Binds, BindAll, IsSoundExpr, AreSoundExprs}
-use Rattle.daemon_encode.specs.Pieces.{main, variable}
+use Rattle.infrastructure_texts.specs.Pieces.{main, variable}
 use Rattle.daemon_encode.proofs.SoundBinds.{among-below}
 use Rattle.np_source_values.specs.Laws.{AgentStays, BoundAlike, SameBinding, SameValue}
 use Rattle.np_source_values.specs.Sources.{Agrees, Names}

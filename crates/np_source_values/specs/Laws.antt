@@ -9,7 +9,7 @@ use Rattle.np_syntax.specs.declared.program.Program.{Program}
 use Rattle.np_eval.specs.Eval.{Env, bind, eval}
 use Rattle.np_calculus.specs.Starts.{main_agent}
 use Rattle.np_scope.specs.Sound.{Among, AllBelow, Binds, IsSound, IsSoundExpr}
-use Rattle.daemon_encode.specs.Pieces.{main}
+use Rattle.infrastructure_texts.specs.Pieces.{main}
 use Rattle.np_source_values.specs.Known.{IsKnown, Knows}
 use Rattle.np_source_values.specs.Sources.{Agrees, IsSource, Names}
 

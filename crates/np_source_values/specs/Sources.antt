@@ -5,7 +5,7 @@ use Rattle.np_syntax.specs.declared.expression.Expr.{Expr}
 use Rattle.np_syntax.specs.declared.process.Proc.{Proc}
 use Rattle.np_eval.specs.Eval.{Env}
 use Rattle.np_scope.specs.Sound.{Among, AllBelow, NoneTwice, IsSoundProc}
-use Rattle.daemon_encode.specs.Pieces.{main, variable}
+use Rattle.infrastructure_texts.specs.Pieces.{main, variable}
 
 -- the environments of the low and the high level have the same values of the binders of a source, which are below a number
 pub record Agrees (from : ℕ) (low high : Env) : Type 0 where

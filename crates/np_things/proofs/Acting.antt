@@ -18,8 +18,8 @@ use Rattle.np_eval.specs.Eval.{chan_of, eval}
 use Rattle.np_eval.specs.Forms.{Layer, as_out, layer}
 use Rattle.np_protocol.specs.Chips.{Service}
 use Rattle.np_scope.specs.Sound.{IsSoundProc}
-use Rattle.daemon_encode.specs.Infrastructures.{Infrastructure}
-use Rattle.daemon_encode.specs.InfrastructureTexts.{post_of}
+use Rattle.infrastructure_texts.specs.Infrastructures.{Infrastructure}
+use Rattle.infrastructure_texts.specs.InfrastructureTexts.{post_of}
 use Rattle.daemon_encode.specs.Translates.{Translates}
 use Rattle.np_things.specs.Acting.{BeginsByThing, begins}
 use Rattle.np_things.specs.Desks.{desk}

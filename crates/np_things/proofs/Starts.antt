@@ -20,13 +20,13 @@ use Rattle.np_eval.specs.Eval.{Env, eval}
 use Rattle.np_eval.proofs.Evals.{eval-form, eval-val}
 use Rattle.np_protocol.specs.Chips.{Service}
 use Rattle.np_scope.specs.Sound.{IsSound}
-use Rattle.daemon_encode.specs.Pieces.{beside, currentloc, expression, gives, here, main, site}
-use Rattle.daemon_encode.specs.Texts.{server_text}
-use Rattle.daemon_encode.specs.Daemon.{first_places, daemon_text}
-use Rattle.daemon_encode.specs.Infrastructures.{Infrastructure}
-use Rattle.daemon_encode.specs.InfrastructureTexts.{main_of, daemon_of}
+use Rattle.infrastructure_texts.specs.Pieces.{beside, currentloc, expression, gives, here, main, site}
+use Rattle.infrastructure_texts.specs.Texts.{server_text}
+use Rattle.infrastructure_texts.specs.Daemon.{first_places, daemon_text}
+use Rattle.infrastructure_texts.specs.Infrastructures.{Infrastructure}
+use Rattle.infrastructure_texts.specs.InfrastructureTexts.{main_of, daemon_of}
 use Rattle.daemon_encode.specs.Translates.{IsLowOf}
-use Rattle.daemon_encode.specs.CacheTexts.{empty_cache, found_server}
+use Rattle.infrastructure_texts.specs.CacheTexts.{empty_cache, found_server}
 use Rattle.np_source_values.specs.Sources.{Names}
 use Rattle.np_source_values.proofs.Sources.{sound-is-source}
 use Rattle.np_things.specs.Desks.{desk, server}

@@ -12,10 +12,10 @@ use Rattle.np_syntax.specs.declared.process.ProcForm as form
 use Rattle.np_calculus.specs.declared.config.Atom.{Atom}
 use Rattle.np_calculus.specs.Starts.{daemon_agent}
 use Rattle.np_eval.specs.Eval.{Env, agent_of, chan_of, eval}
-use Rattle.daemon_encode.specs.Pieces.{beside, gives, name, nothing, stop, takes, variable}
-use Rattle.daemon_encode.specs.Texts as central
-use Rattle.daemon_encode.specs.CacheTexts.{adds, cache, found_server, goes_by_daemon, goes_by_hint, looks, makes_messenger, messenger_text, replaces, tries}
-use Rattle.daemon_encode.specs.CacheDaemon.{hints, reads_locks}
+use Rattle.infrastructure_texts.specs.Pieces.{beside, gives, name, nothing, stop, takes, variable}
+use Rattle.infrastructure_texts.specs.Texts as central
+use Rattle.infrastructure_texts.specs.CacheTexts.{adds, cache, found_server, goes_by_daemon, goes_by_hint, looks, makes_messenger, messenger_text, replaces, tries}
+use Rattle.infrastructure_texts.specs.CacheDaemon.{hints, reads_locks}
 use Rattle.daemon_encode.specs.Translates.{source}
 use Rattle.np_things.specs.Desks.{looks_back}
 use Rattle.np_things.specs.Mail.{Posted}

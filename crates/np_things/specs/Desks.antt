@@ -10,10 +10,10 @@ use Rattle.np_syntax.specs.declared.process.ProcForm as form
 use Rattle.np_eval.specs.Eval.{Env}
 use Rattle.np_check.specs.Faults.{lock_type}
 use Rattle.np_protocol.specs.Chips.{Service}
-use Rattle.daemon_encode.specs.Pieces.{variable, name, pair, two_names, register, migrating, migrated, message, deliver, dack, lock, infra, beside, gives, takes, serves, sends, finds}
-use Rattle.daemon_encode.specs.Daemon.{acks, enters, frees}
-use Rattle.daemon_encode.specs.CacheTexts.{asking}
-use Rattle.daemon_encode.specs.CacheDaemon.{reads_locks}
+use Rattle.infrastructure_texts.specs.Pieces.{variable, name, pair, two_names, register, migrating, migrated, message, deliver, dack, lock, infra, beside, gives, takes, serves, sends, finds}
+use Rattle.infrastructure_texts.specs.Daemon.{acks, enters, frees}
+use Rattle.infrastructure_texts.specs.CacheTexts.{asking}
+use Rattle.infrastructure_texts.specs.CacheDaemon.{reads_locks}
 use Rattle.np_things.specs.Mail.{Mail}
 
 -- a server: its channel and pattern, the binder of the map, and what it does then

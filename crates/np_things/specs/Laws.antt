@@ -4,13 +4,13 @@ use Rattle.np_syntax.specs.declared.program.Program.{Program}
 use Rattle.np_syntax.specs.declared.program.LowProgram.{LowProgram}
 use Rattle.np_calculus.specs.Starts.{daemon_agent, first_atom, main_agent}
 use Rattle.np_scope.specs.Sound.{IsSound}
-use Rattle.daemon_encode.specs.Infrastructures.{Infrastructure}
+use Rattle.infrastructure_texts.specs.Infrastructures.{Infrastructure}
 use Rattle.daemon_encode.specs.Translates.{IsLowOf}
 use Rattle.np_things.specs.Shapes.{Are}
 use Rattle.np_things.specs.Starts.{daemon_things, main_things}
 use Rattle.np_protocol.specs.Chips.{Service}
-use Rattle.daemon_encode.specs.Pieces.{beside, gives, here, site}
-use Rattle.daemon_encode.specs.Daemon.{daemon_text, first_places}
+use Rattle.infrastructure_texts.specs.Pieces.{beside, gives, here, site}
+use Rattle.infrastructure_texts.specs.Daemon.{daemon_text, first_places}
 use Rattle.np_things.specs.Desks.{desk, server}
 
 -- the daemon has its map, main's lock and its five servers

@@ -20,11 +20,11 @@ use Rattle.np_calculus.specs.Starts.{own, daemon_agent}
 use Rattle.np_eval.specs.Eval.{agent_of, chan_of, eval, letter_of}
 use Rattle.np_eval.specs.Forms.{layer}
 use Rattle.np_protocol.specs.Chips.{Service}
-use Rattle.daemon_encode.specs.Pieces.{variable, nothing, name, pair, ack, deliver, beside, process, takes, sends as sends_text}
-use Rattle.daemon_encode.specs.Texts.{begins, move_text, server_text, settles}
-use Rattle.daemon_encode.specs.Daemon.{acks}
-use Rattle.daemon_encode.specs.Infrastructures.{Infrastructure}
-use Rattle.daemon_encode.specs.InfrastructureTexts.{child_of}
+use Rattle.infrastructure_texts.specs.Pieces.{variable, nothing, name, pair, ack, deliver, beside, process, takes, sends as sends_text}
+use Rattle.infrastructure_texts.specs.Texts.{begins, move_text, server_text, settles}
+use Rattle.infrastructure_texts.specs.Daemon.{acks}
+use Rattle.infrastructure_texts.specs.Infrastructures.{Infrastructure}
+use Rattle.infrastructure_texts.specs.InfrastructureTexts.{child_of}
 use Rattle.daemon_encode.specs.Translates.{Translates, source}
 use Rattle.np_source_values.specs.Sources.{Agrees, IsSource, Names}
 use Rattle.np_things.specs.CacheShapes.{IsAdding, IsCalling, IsCarrying, IsEnded, IsHiring, IsHoping, IsKeeping, IsLookingBack, IsPassing, IsReading, IsReadingBack, IsReplacing, IsTelling, IsTold, IsTrying}

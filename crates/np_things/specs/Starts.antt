@@ -4,8 +4,8 @@ use Rattle.np_syntax.specs.declared.value.Name.{Name}
 use Rattle.np_syntax.specs.declared.process.Proc.{Proc}
 use Rattle.np_calculus.specs.Starts.{first_atom, main_agent, own}
 use Rattle.np_protocol.specs.Chips.{Service}
-use Rattle.daemon_encode.specs.Infrastructures.{Infrastructure}
-use Rattle.daemon_encode.specs.Pieces.{main}
+use Rattle.infrastructure_texts.specs.Infrastructures.{Infrastructure}
+use Rattle.infrastructure_texts.specs.Pieces.{main}
 use Rattle.np_things.specs.Things.{Thing}
 
 -- what keeps the cache of a new agent, and who tells where agents are: with caches alone

@@ -1,4 +1,4 @@
-ghost use Rattle.daemon_encode.specs.Infrastructures.{Infrastructure};
+ghost use Rattle.infrastructure_texts.specs.Infrastructures.{Infrastructure};
 ghost use Rattle.np_things.specs.Acting.{BeginsByThing};
 ghost use Rattle.np_things.specs.Laws.{DaemonByServers, StartsWithThings};
 

@@ -9,7 +9,7 @@ use Rattle.np_calculus.specs.Reductions.{run}
 use Rattle.np_calculus.specs.Starts.{start_high, start_low}
 use Rattle.np_calculus.specs.Well.{Has}
 use Rattle.np_check.specs.Faults.{IsAccepted}
-use Rattle.daemon_encode.specs.Infrastructures.{Infrastructure}
+use Rattle.infrastructure_texts.specs.Infrastructures.{Infrastructure}
 use Rattle.daemon_encode.specs.Translates.{IsLowOf}
 use Rattle.cache_encode.specs.Encoded.{encoded_cached}
 use Rattle.cache_encode.proofs.CachedRelated.{cached-encodes-itself}

@@ -10,7 +10,7 @@ use Rattle.np_calculus.specs.Starts.{start_high, start_low}
 use Rattle.np_calculus.specs.Well.{Has}
 use Rattle.np_check.specs.Faults.{IsAccepted}
 use Rattle.daemon_encode.specs.Encoded.{encoded}
-use Rattle.daemon_encode.specs.Infrastructures.{Infrastructure}
+use Rattle.infrastructure_texts.specs.Infrastructures.{Infrastructure}
 use Rattle.daemon_encode.proofs.LowAgents.{encodes-runs-well}
 use Rattle.daemon_encode.proofs.Related.{encodes-itself}
 use Rattle.np_lift.specs.Lift.{lift}

@@ -11,7 +11,7 @@ use Rattle.np_calculus.specs.Sight.{inside}
 use Rattle.np_protocol.specs.Chips.{has_lock}
 use Rattle.np_protocol.specs.Phases.{Phase, is_moving, is_registered}
 use Rattle.np_protocol.specs.Protocol.{one_if}
-use Rattle.daemon_encode.specs.Infrastructures.{Infrastructure}
+use Rattle.infrastructure_texts.specs.Infrastructures.{Infrastructure}
 use Rattle.np_things.specs.Things.{Thing, shows}
 use Rattle.np_levels.specs.Coupled.{Coupled, View, chips}
 use Rattle.np_rest.specs.Laws.{HasRest}

@@ -13,7 +13,7 @@ use Rattle.np_lift.specs.Posts.{Letter, deeds_to}
 use Rattle.cache_lift.specs.Lift.{at_first}
 use Rattle.cache_lift.specs.Posts.{IsAllHandedCached, IsPairedCached, deeds_from}
 use Rattle.cache_encode.specs.Encoded.{encoded_cached}
-use Rattle.daemon_encode.specs.Infrastructures.{Infrastructure}
+use Rattle.infrastructure_texts.specs.Infrastructures.{Infrastructure}
 use Rattle.np_things.specs.Things.{Thing}
 use Rattle.np_levels.specs.Coupled.{View}
 use Rattle.np_rest.specs.Laws.{HasCacheRest, HasRest}

@@ -9,11 +9,11 @@ use Rattle.np_syntax.specs.declared.process.Role.TheVariants as role
 use Rattle.np_syntax.specs.declared.process.Proc.{Proc}
 use Rattle.np_syntax.specs.declared.process.ProcForm as form
 use Rattle.np_check.specs.Faults.{lock_type}
-use Rattle.daemon_encode.specs.Pieces.{expression, variable, name, nothing, pair, two_names, channel, register, message, currentloc}
-use Rattle.daemon_encode.specs.Pieces.{process, infra, stop, beside, gives, takes, serves, tells}
-use Rattle.daemon_encode.specs.Texts.{letter, settles, begins, server_text}
-use Rattle.daemon_encode.specs.Texts as central
-use Rattle.daemon_encode.specs.Daemon.{with_lock}
+use Rattle.infrastructure_texts.specs.Pieces.{expression, variable, name, nothing, pair, two_names, channel, register, message, currentloc}
+use Rattle.infrastructure_texts.specs.Pieces.{process, infra, stop, beside, gives, takes, serves, tells}
+use Rattle.infrastructure_texts.specs.Texts.{letter, settles, begins, server_text}
+use Rattle.infrastructure_texts.specs.Texts as central
+use Rattle.infrastructure_texts.specs.Daemon.{with_lock}
 
 -- ---- the channels of a program of n sites that the caches use
 

@@ -1,10 +1,12 @@
 //! Agents with caches: a creation, and main's bracket.
 
 ghost use Rattle.std.specs.Prelude.{◌≡◌, ◌+◌, ◌≤◌, IfOk};
-ghost use Rattle.daemon_encode.specs.CacheTexts as spec;
+ghost use Rattle.infrastructure_texts.specs.CacheTexts as spec;
 
 use super::caches::with_cache;
-use daemon_encode::{CURRENTLOC, REGISTER, Writer, name, pair, variable};
+use super::own_names::{CURRENTLOC, REGISTER};
+use super::pieces::{name, pair, variable};
+use super::writer::Writer;
 use np_syntax::{Boxed, Expr, Memory, Proc, ProcForm};
 
 /// A new agent tells the daemon its site.

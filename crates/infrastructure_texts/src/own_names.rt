@@ -23,3 +23,9 @@ pub const CURRENTLOC: u32 = 9;
 pub const LOCK: u32 = 10;
 
 pub const HERE: u32 = 13;
+
+pub const CACHE: u32 = 14;
+
+pub const WHERE: u32 = 15;
+
+pub const FOUND: u32 = 16;

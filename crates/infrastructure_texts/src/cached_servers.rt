@@ -1,10 +1,12 @@
 //! The daemon's process.
 
 ghost use Rattle.std.specs.Prelude.{◌≡◌, ◌+◌, ◌≤◌, IfOk};
-ghost use Rattle.daemon_encode.specs.CacheDaemon as spec;
+ghost use Rattle.infrastructure_texts.specs.CacheDaemon as spec;
 
 use super::own_names::{FOUND, WHERE};
-use daemon_encode::{Writer, daemon, name, pair, two_names, variable};
+use super::pieces::{name, pair, two_names, variable};
+use super::servers::daemon;
+use super::writer::Writer;
 use np_syntax::{Boxed, Memory, Proc};
 use std::alloc::Global;
 

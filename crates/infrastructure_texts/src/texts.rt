@@ -1,8 +1,8 @@
 //! The three forms that are translated, and main's bracket.
 
 ghost use Rattle.std.specs.Prelude.{◌≡◌, IfOk};
-ghost use Rattle.daemon_encode.specs.Pieces as piece;
-ghost use Rattle.daemon_encode.specs.Texts as spec;
+ghost use Rattle.infrastructure_texts.specs.Pieces as piece;
+ghost use Rattle.infrastructure_texts.specs.Texts as spec;
 
 use super::own_names::{
     ACK, CURRENTLOC, DACK, DAEMON, DELIVER, MAIN, MESSAGE, MIGRATED, MIGRATING, REGISTER,

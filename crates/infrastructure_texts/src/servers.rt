@@ -1,8 +1,8 @@
 //! The daemon's process.
 
 ghost use Rattle.std.specs.Prelude.{◌≡◌, ◌+◌, ◌≤◌, IfOk};
-ghost use Rattle.daemon_encode.specs.Pieces as piece;
-ghost use Rattle.daemon_encode.specs.Daemon as spec;
+ghost use Rattle.infrastructure_texts.specs.Pieces as piece;
+ghost use Rattle.infrastructure_texts.specs.Daemon as spec;
 ghost use Rattle.np_check.specs.Faults.{lock_type};
 
 use super::own_names::{

@@ -7,8 +7,8 @@ use Rattle.np_syntax.specs.declared.expression.ExprForm as expr
 use Rattle.np_syntax.specs.declared.process.Role.TheVariants as role
 use Rattle.np_syntax.specs.declared.process.Proc.{Proc}
 use Rattle.np_syntax.specs.declared.process.ProcForm as form
-use Rattle.daemon_encode.specs.Pieces.{expression, variable, name, nothing, unit, pair, two_names, site, main, daemon, register, migrating, migrated, message}
-use Rattle.daemon_encode.specs.Pieces.{deliver, ack, dack, currentloc, process, infra, beside, gives, takes, serves, sends, posts, tells}
+use Rattle.infrastructure_texts.specs.Pieces.{expression, variable, name, nothing, unit, pair, two_names, site, main, daemon, register, migrating, migrated, message}
+use Rattle.infrastructure_texts.specs.Pieces.{deliver, ack, dack, currentloc, process, infra, beside, gives, takes, serves, sends, posts, tells}
 
 abbrev pub letter : Expr → Expr → Expr
 letter c v = expression (expr.Pack c v)

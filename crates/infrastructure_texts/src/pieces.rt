@@ -1,7 +1,7 @@
 //! Expressions and patterns that are written out, which have the offset 0.
 
 ghost use Rattle.std.specs.Prelude.{◌≡◌, IfOk};
-ghost use Rattle.daemon_encode.specs.Pieces as spec;
+ghost use Rattle.infrastructure_texts.specs.Pieces as spec;
 
 use np_syntax::{Expr, ExprForm, List, Memory, Pat, PatForm, Value};
 use std::alloc::Global;

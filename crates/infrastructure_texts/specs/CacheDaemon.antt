@@ -2,9 +2,9 @@
 -- a server that says where agents are. Here n is the number of sites.
 use Rattle.std.specs.Prelude.{ℕ, ◌+◌}
 use Rattle.np_syntax.specs.declared.process.Proc.{Proc}
-use Rattle.daemon_encode.specs.Pieces.{variable, name, pair, two_names, beside, gives, takes, sends, finds}
-use Rattle.daemon_encode.specs.Daemon.{frees, notes, daemon_text}
-use Rattle.daemon_encode.specs.CacheTexts.{asking, found}
+use Rattle.infrastructure_texts.specs.Pieces.{variable, name, pair, two_names, beside, gives, takes, sends, finds}
+use Rattle.infrastructure_texts.specs.Daemon.{frees, notes, daemon_text}
+use Rattle.infrastructure_texts.specs.CacheTexts.{asking, found}
 
 -- (k!u | <a@u>found![b s])
 abbrev pub hints : ℕ → ℕ → ℕ → ℕ → ℕ → ℕ → Proc

@@ -6,13 +6,13 @@ use Rattle.np_syntax.specs.declared.expression.Expr.{Expr}
 use Rattle.np_syntax.specs.declared.process.Role.TheVariants as role
 use Rattle.np_syntax.specs.declared.process.Proc.{Proc}
 use Rattle.np_syntax.specs.declared.process.ProcForm as form
-use Rattle.daemon_encode.specs.Pieces.{variable, name, currentloc, process, takes}
-use Rattle.daemon_encode.specs.Texts.{settles}
-use Rattle.daemon_encode.specs.Texts as plain
-use Rattle.daemon_encode.specs.Daemon.{daemon_text}
-use Rattle.daemon_encode.specs.CacheTexts as cache
-use Rattle.daemon_encode.specs.CacheDaemon.{cached_daemon}
-use Rattle.daemon_encode.specs.Infrastructures.{Infrastructure}
+use Rattle.infrastructure_texts.specs.Pieces.{variable, name, currentloc, process, takes}
+use Rattle.infrastructure_texts.specs.Texts.{settles}
+use Rattle.infrastructure_texts.specs.Texts as plain
+use Rattle.infrastructure_texts.specs.Daemon.{daemon_text}
+use Rattle.infrastructure_texts.specs.CacheTexts as cache
+use Rattle.infrastructure_texts.specs.CacheDaemon.{cached_daemon}
+use Rattle.infrastructure_texts.specs.Infrastructures.{Infrastructure}
 
 -- <b@?>c!v
 abbrev pub post_of : Infrastructure → ℕ → ℕ → Expr → Expr → Expr → Expr → ℕ → Proc

@@ -1,10 +1,12 @@
 //! What keeps the cache of an agent.
 
 ghost use Rattle.std.specs.Prelude.{◌≡◌, ◌+◌, ◌≤◌, IfOk};
-ghost use Rattle.daemon_encode.specs.CacheTexts as spec;
+ghost use Rattle.infrastructure_texts.specs.CacheTexts as spec;
 
 use super::own_names::{CACHE, FOUND};
-use daemon_encode::{Writer, expression, lock_type, name, nothing, two_names, variable};
+use super::pieces::{expression, name, nothing, two_names, variable};
+use super::servers::lock_type;
+use super::writer::Writer;
 use np_syntax::{Boxed, Expr, ExprForm, List, Memory, Proc, ProcForm, Value};
 
 /// The cache is put back.

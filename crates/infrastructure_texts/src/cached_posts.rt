@@ -2,14 +2,16 @@
 
 ghost use Rattle.std.specs.Prelude.{◌≡◌, ◌+◌, ◌≤◌, IfOk};
 ghost use Rattle.np_syntax.specs.declared.process.ProcForm as shape;
-ghost use Rattle.daemon_encode.specs.Pieces as piece;
-ghost use Rattle.daemon_encode.specs.Texts as central;
-ghost use Rattle.daemon_encode.specs.CacheTexts as spec;
+ghost use Rattle.infrastructure_texts.specs.Pieces as piece;
+ghost use Rattle.infrastructure_texts.specs.Texts as central;
+ghost use Rattle.infrastructure_texts.specs.CacheTexts as spec;
 
 use super::caches::{keeps, looks};
-use super::own_names::{CACHE, WHERE};
-use daemon_encode::{MESSAGE, Translated, Translator, Writer, name, pair, variable};
-use np_syntax::{Boxed, Expr, Memory, Proc, ProcForm, Role, Tag};
+use super::own_names::{CACHE, MESSAGE, WHERE};
+use super::pieces::{name, pair, variable};
+use super::writer::Writer;
+use np_syntax::process_forms::iflocal;
+use np_syntax::{Boxed, Expr, Memory, Proc, ProcForm, Role};
 
 /// The daemon is asked where an agent is.
 fn asks(writer: Writer, from: &Expr, to: &Expr) -> Result<Boxed<Proc>, Memory>
@@ -57,20 +59,8 @@ fn meets(
     ensures { IfOk result (λ p. p ≡ piece.infra writer.node (shape.IfLocal to.now chan.now value.now (piece.stop writer.node) unmet)) }
 {
     let stop = writer.infra(ProcForm::Stop)?;
-    let forms = Translator {
-        alloc: writer.alloc,
-        sites: writer.sites,
-    };
-    let tag = Tag {
-        node: writer.node,
-        role: Role::Infra,
-    };
-    let unmet = Translated {
-        proc: unmet,
-        next: 0,
-    };
-    let tried = forms.iflocal(tag, 0, to, chan, value, stop, unmet)?;
-    Ok(tried.proc)
+    let tried = iflocal(writer.alloc, to, chan, value, stop, unmet)?;
+    writer.infra(tried)
 }
 
 /// What a messenger does, whose hint is a site.

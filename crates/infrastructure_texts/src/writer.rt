@@ -3,7 +3,7 @@
 ghost use Rattle.std.specs.Prelude.{◌≡◌, IfOk};
 ghost use Rattle.np_calculus.specs.Starts.{own};
 ghost use Rattle.np_syntax.specs.declared.process.Role.TheVariants as role;
-ghost use Rattle.daemon_encode.specs.Pieces as spec;
+ghost use Rattle.infrastructure_texts.specs.Pieces as spec;
 
 use super::own_names::DAEMON;
 use super::pieces::{expression, site, variable};
