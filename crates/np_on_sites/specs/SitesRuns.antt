@@ -1,5 +1,5 @@
 -- A run of a low program on its sites (docs/LANGUAGE.md, "History text").
-use Rattle.std.specs.Prelude.{◌≡◌, ◌↔◌, ℕ, List, length, IsSome, Some}
+use Rattle.std.specs.Prelude.{◌≡◌, ◌↔◌, ℕ, List, length, Some}
 use Rattle.np_syntax.specs.declared.event.End.{End}
 use Rattle.np_syntax.specs.declared.event.End.TheVariants.{Rest, Spent}
 use Rattle.np_syntax.specs.declared.event.Event.{Event}
@@ -11,7 +11,6 @@ use Rattle.np_calculus.specs.Starts.{start_low}
 use Rattle.stamp_history.specs.Histories.{Recorded}
 use Rattle.run_merge.specs.Merged.{items, merged, said}
 use Rattle.run_save.specs.Ours.{IsOurs}
-use Rattle.site_crew.specs.Lists.{AreWithin}
 use Rattle.site_crew.specs.Runs.{AreHistoriesOf, OnlySpentCan}
 
 -- all events, by stamp and then by site
@@ -29,9 +28,3 @@ pub record IsSitesRun (low : LowProgram) (budget : ℕ) (histories : List Record
   pub ours : IsOurs low (events_of histories)
   pub rests : (end ≡ Rest) ↔ Idle last
   pub spent : end ≡ Spent → OnlySpentCan budget histories last
-
--- the events are a run of the low program within the budget that its sites make by themselves, so they can go on from them
-pub record IsToGoOn (low : LowProgram) (budget : ℕ) (events : List Event) : Type 0 where
-  pub runs : IsSome (run (start_low low) events)
-  pub within : AreWithin (length low.sites) budget events
-  pub ours : IsOurs low events

@@ -1,5 +1,5 @@
-use Rattle.np_on_sites.proofs.Kept.{have_later, in_place}
-use Rattle.np_on_sites.proofs.running.redone.Goals as goal
+use Rattle.crew_resumes.proofs.Later.{have_later, in_place}
+use Rattle.crew_resumes.proofs.going_on.redone.Goals as goal
 
 pub returns-in-Ok-clause-resumed : goal.returns-in-Ok-clause-resumed
 returns-in-Ok-clause-resumed g c =
