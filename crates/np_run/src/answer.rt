@@ -1,5 +1,5 @@
 ghost use Rattle.std.specs.Prelude.{◌≡◌};
-ghost use Rattle.np_run.specs.Answers.{events_of, told_of};
+ghost use Rattle.np_run.specs.Answers.{events_in, events_of, told_of};
 
 use np_on_sites::Record;
 use np_serial::SerialRun;
@@ -25,13 +25,22 @@ impl Answer {
     pub fn told(self) -> Told
         ensures { result ≡ told_of self }
     {
-        let status = self.status;
-        let events = match (&self.kept, &self.high) {
-            (Some(made), _) => Some(events_of(made.histories.as_slice())),
-            (None, Some(made)) => Some(made.events.len() as u64),
-            (None, None) => None,
-        };
+        let Answer { status, kept, high } = self;
+        let events = events_in(&kept, &high);
+        drop(kept);
+        drop(high);
         Told { status, events }
+    }
+}
+
+/// How many events the run has that is kept, if one is.
+fn events_in(kept: &Option<Record>, high: &Option<SerialRun>) -> Option<u64>
+    ensures { result ≡ events_in kept.now high.now }
+{
+    match (kept, high) {
+        (Some(made), _) => Some(events_of(made.histories.as_slice())),
+        (None, Some(made)) => Some(made.events.len() as u64),
+        (None, None) => None,
     }
 }
 
