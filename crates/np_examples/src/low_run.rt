@@ -1,9 +1,10 @@
 //! The low program of a source, run one event after another.
 
+use super::counting::count_of;
 use super::trial::{Came, sink_of};
 use history_text::write_history;
 use np_example_files::{Example, ExampleFail};
-use np_io::write_all;
+use np_io::{MemSink, write_all};
 use np_run::{BUDGET_SPENT, DONE, Infrastructure, Refusal, line, run_low, status};
 use np_serial::SerialRun;
 use np_syntax::{End, Event, Kind, LARGEST_BUDGET, LONGEST_SOURCE, List, Memory, Text};
@@ -21,24 +22,18 @@ struct LowRun {
     err: Text,
 }
 
-/// How many letters were opened: each is a message that was handed over.
-fn opens_in(events: &[Event]) -> usize {
-    events
-        .iter()
-        .filter(|event| event.kind == Kind::Open)
-        .count()
-}
-
-/// A run that was made.
+/// A run that was made. Each letter that was opened is a message that was handed over.
 fn ended(alloc: Global, made: SerialRun, out: Text) -> LowRun {
-    let status = match made.end {
+    let SerialRun { events, last, end } = made;
+    drop(last);
+    let status = match end {
         End::Rest => DONE,
         End::Spent => BUDGET_SPENT,
     };
     LowRun {
         status,
-        events: Some(made.events.len()),
-        opens: Some(opens_in(made.events.as_slice())),
+        events: Some(events.len()),
+        opens: Some(count_of(events.as_slice(), Kind::Open)),
         out,
         err: List::new(alloc),
     }
@@ -109,10 +104,15 @@ pub(crate) fn came_of_low(
     source: Option<&str>,
 ) -> Result<Came, ExampleFail> {
     let run = run_of(alloc, infrastructure_of(example), bytes_of(example, source))?;
-    let mut out = sink_of(alloc, example.devices.piece, &[])?;
-    let mut err = sink_of(alloc, example.devices.piece, &[])?;
-    let _ = write_all(&mut out, run.out.as_slice());
-    let _ = write_all(&mut err, run.err.as_slice());
+    let came = came_of_run(alloc, example, &run);
+    drop(run);
+    came
+}
+
+/// The same of a run that was made.
+fn came_of_run(alloc: Global, example: &Example, run: &LowRun) -> Result<Came, ExampleFail> {
+    let out = sink_with(alloc, example, run.out.as_slice())?;
+    let err = sink_with(alloc, example, run.err.as_slice())?;
     Ok(Came {
         status: run.status,
         events: run.events,
@@ -123,11 +123,26 @@ pub(crate) fn came_of_low(
     })
 }
 
+/// A sink to which this was written.
+fn sink_with(alloc: Global, example: &Example, bytes: &[u8]) -> Result<MemSink, ExampleFail> {
+    let mut sink = sink_of(alloc, example.devices.piece, &[])?;
+    let _ = write_all(&mut sink, bytes);
+    Ok(sink)
+}
+
 /// The events of a run, and its report. There are none where the source is refused.
 #[derive(Drop)]
 pub(crate) struct LowEvents {
     pub events: List<Event>,
     pub report: Text,
+}
+
+/// Those of no run.
+fn no_events(alloc: Global) -> LowEvents {
+    LowEvents {
+        events: List::new(alloc),
+        report: List::new(alloc),
+    }
 }
 
 /// The events of the run of the low program of these bytes.
@@ -136,12 +151,8 @@ fn events_of(
     infrastructure: Infrastructure,
     source: &[u8],
 ) -> Result<LowEvents, ExampleFail> {
-    let empty = LowEvents {
-        events: List::new(alloc),
-        report: List::new(alloc),
-    };
     if source.len() > LONGEST_SOURCE {
-        return Ok(empty);
+        return Ok(no_events(alloc));
     }
     match run_low(alloc, infrastructure, LARGEST_BUDGET, source) {
         Ok((SerialRun { events, last, .. }, report)) => {
@@ -149,7 +160,7 @@ fn events_of(
             Ok(LowEvents { events, report })
         }
         Err(Refusal::Memory) => Err(ExampleFail::Memory),
-        Err(_) => Ok(empty),
+        Err(_) => Ok(no_events(alloc)),
     }
 }
 

@@ -3,6 +3,7 @@
 //! source it prints the history of the run of the source's low program instead.
 #![tactic(auto)]
 
+mod counting;
 mod high_run;
 mod low_run;
 mod pasts;
@@ -23,7 +24,7 @@ use std::sync::Wait;
 use std::thread::Threads;
 use std::{env, fs};
 use tally::Tally;
-use trial::{Call, came_of};
+use trial::{Call, Came, came_of};
 use verdict::{meets, same_lines};
 
 fn main(rt: HostRuntime) -> Result<(), ExampleFail> {
@@ -148,17 +149,44 @@ fn try_low_run<R: Print + Threads + Wait + Sync>(
     source: Option<&str>,
 ) -> Result<bool, ExampleFail> {
     let came = came_of_low(alloc, example, source)?;
-    let mut passed = meets(example, &came);
+    let passed = judge_low_run(rt, alloc, file, example, source, &came);
+    drop(came);
+    passed
+}
+
+/// Whether it did, once it has come.
+fn judge_low_run<R: Print + Threads + Wait + Sync>(
+    rt: &R,
+    alloc: Global,
+    file: &str,
+    example: &Example,
+    source: Option<&str>,
+    came: &Came,
+) -> Result<bool, ExampleFail> {
+    let mut passed = meets(example, came);
     if example.as_high {
-        let call = call_of("high a --budget 200000", source);
-        let high = came_of(rt, alloc, example, &call)?;
-        passed = passed && same_lines(alloc, came.out.bytes(), high.out.bytes())?;
+        passed = passed && prints_as_high(rt, alloc, example, source, came.out.bytes())?;
     }
     if !passed {
         let call = call_of("low run", source);
-        tell_failure(rt, file, example, &call, &came)?;
+        tell_failure(rt, file, example, &call, came)?;
     }
     Ok(passed)
+}
+
+/// Whether the run at the high level prints the same lines, in any order.
+fn prints_as_high<R: Threads + Wait + Sync>(
+    rt: &R,
+    alloc: Global,
+    example: &Example,
+    source: Option<&str>,
+    printed: &[u8],
+) -> Result<bool, ExampleFail> {
+    let call = call_of("high a --budget 200000", source);
+    let high = came_of(rt, alloc, example, &call)?;
+    let same = same_lines(alloc, printed, high.out.bytes());
+    drop(high);
+    Ok(same?)
 }
 
 /// Whether a call does what the example wants. Where it does not, what was wanted and what came is printed.
@@ -170,12 +198,26 @@ fn try_call<R: Print + Threads + Wait + Sync>(
     call: &Call<'_>,
 ) -> Result<bool, ExampleFail> {
     let came = came_of(rt, alloc, example, call)?;
-    let mut passed = meets(example, &came);
+    let passed = judge_call(rt, alloc, file, example, call, &came);
+    drop(came);
+    passed
+}
+
+/// Whether it did, once something has come of it.
+fn judge_call<R: Print + Threads + Wait + Sync>(
+    rt: &R,
+    alloc: Global,
+    file: &str,
+    example: &Example,
+    call: &Call<'_>,
+    came: &Came,
+) -> Result<bool, ExampleFail> {
+    let mut passed = meets(example, came);
     if example.replays_itself {
-        passed = passed && replays_itself(rt, alloc, example, call, &came)?;
+        passed = passed && replays_itself(rt, alloc, example, call, came)?;
     }
     if !passed {
-        tell_failure(rt, file, example, call, &came)?;
+        tell_failure(rt, file, example, call, came)?;
     }
     Ok(passed)
 }

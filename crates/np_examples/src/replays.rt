@@ -1,7 +1,8 @@
 //! Histories of low runs, replayed as they are and changed.
 
+use super::counting::count_of;
 use super::low_run::{LowEvents, events_of_low, first_line_of, option_of};
-use super::pasts::{called, has_past};
+use super::pasts::{has_past, replay_of};
 use super::report::tell_replay;
 use super::resumes::is_resumed;
 use super::tally::Tally;
@@ -79,6 +80,18 @@ pub(crate) fn replays_itself<R: Threads + Wait + Sync>(
         history: Some(came.out.bytes()),
     };
     let again = came_of(rt, alloc, example, &call)?;
+    let is_replay = replays_the_same(alloc, example, came, &again);
+    drop(again);
+    Ok(is_replay?)
+}
+
+/// Whether what came again has the lines that came, and tells that it is a run of as many events.
+fn replays_the_same(
+    alloc: Global,
+    example: &Example,
+    came: &Came,
+    again: &Came,
+) -> Result<bool, AllocError> {
     let count = came.events.unwrap_or(0);
     let last = format!(in alloc; "a run of {count} events\n")?;
     let written = std::str::from_utf8(came.out.bytes()).unwrap_or("");
@@ -141,9 +154,7 @@ fn replayed<R: Threads + Wait + Sync>(
     events: &[Event],
 ) -> Result<Came, ExampleFail> {
     let history = write_history(alloc, events)?;
-    let option = option_of(run.example);
-    let words = format!(in alloc; "replay a h{option}")?;
-    called(rt, alloc, run, words.as_str(), history.as_slice())
+    replay_of(rt, alloc, run, history.as_slice())
 }
 
 /// Whether the first events are a run, which prints the first lines.
@@ -155,16 +166,25 @@ fn follows_cut<R: Threads + Wait + Sync>(
 ) -> Result<bool, ExampleFail> {
     let events = between(run.events, 0, place);
     let came = replayed(rt, alloc, run, events)?;
-    let wanted = text_of(alloc, run.report, events)?;
+    let is_report = is_report_of(alloc, run.report, events, &came);
+    drop(came);
+    Ok(is_report?)
+}
+
+/// Whether what has come is the report of these events.
+fn is_report_of(
+    alloc: Global,
+    report: &str,
+    events: &[Event],
+    came: &Came,
+) -> Result<bool, AllocError> {
+    let wanted = text_of(alloc, report, events)?;
     Ok(came.status == DONE && came.out.bytes() == wanted.as_bytes() && came.err.bytes().is_empty())
 }
 
 /// What is written of events that are a run: a line of the report for each Print, and how many they are.
 fn text_of(alloc: Global, report: &str, events: &[Event]) -> Result<String, AllocError> {
-    let prints = events
-        .iter()
-        .filter(|event| event.kind == Kind::Print)
-        .count();
+    let prints = count_of(events, Kind::Print);
     let mut text = String::new(alloc);
     for line in report.lines().take(prints) {
         text.push_str(line)?;

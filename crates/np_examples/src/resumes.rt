@@ -74,9 +74,20 @@ fn is_resumed_over<R: Threads + Wait + Sync>(
     let way = way_of(budget, links);
     let option = option_of(run.example);
     let options = format!(in alloc; "--history --links {links}{way}{option}")?;
-    let words = format!(in alloc; "run a {options} --budget {budget}")?;
-    let came = called(rt, alloc, run, words.as_str(), b"")?;
+    let came = cut_off(rt, alloc, run, options.as_str(), budget)?;
     is_resumed_from(rt, alloc, run, options.as_str(), &came, budget)
+}
+
+/// What comes of the run that a budget cuts off.
+fn cut_off<R: Threads + Wait + Sync>(
+    rt: &R,
+    alloc: Global,
+    run: &LowRun<'_>,
+    options: &str,
+    budget: usize,
+) -> Result<Came, ExampleFail> {
+    let words = format!(in alloc; "run a {options} --budget {budget}")?;
+    called(rt, alloc, run, words.as_str(), b"")
 }
 
 /// Whether a run that a budget cut off is resumed as it has to be from what it wrote, with these options.

@@ -109,6 +109,52 @@ fn reading_in(
     }
 }
 
+/// The texts of a call.
+fn texts_of(alloc: Global, example: &Example, call: &Call<'_>) -> Result<MemTexts, Memory> {
+    let mut texts = MemTexts::new(alloc);
+    hold_all(alloc, &mut texts, example, call)?;
+    Ok(texts)
+}
+
+/// Standard output and standard error of a call.
+fn sinks_of(alloc: Global, example: &Example) -> Result<(MemSink, MemSink), ExampleFail> {
+    let devices = &example.devices;
+    let out = sink_of(alloc, devices.piece, devices.out.as_slice())?;
+    let err = sink_of(alloc, devices.piece, devices.err.as_slice())?;
+    Ok((out, err))
+}
+
+/// What np tells of its answer, and what is seen of the run that it keeps.
+fn seen_of<R: Threads + Wait + Sync>(
+    rt: &R,
+    alloc: Global,
+    words: &[Word],
+    texts: &mut MemTexts,
+    out: &mut MemSink,
+    err: &mut MemSink,
+    source: Option<&[u8]>,
+) -> Result<(Told, Option<Reading>), ExampleFail> {
+    let answer = np(rt, alloc, words, texts, out, err);
+    let reading = reading_in(alloc, source, &answer.kept);
+    let told = answer.told();
+    Ok((told, reading?))
+}
+
+/// What is seen of a call that writes to these sinks.
+fn seen_into<R: Threads + Wait + Sync>(
+    rt: &R,
+    alloc: Global,
+    example: &Example,
+    call: &Call<'_>,
+    out: &mut MemSink,
+    err: &mut MemSink,
+) -> Result<(Told, Option<Reading>), ExampleFail> {
+    let words = words_of(alloc, call.words)?;
+    let mut texts = texts_of(alloc, example, call)?;
+    let source = source_of(example, call);
+    seen_of(rt, alloc, words.as_slice(), &mut texts, out, err, source)
+}
+
 /// What comes of a call.
 pub(crate) fn came_of<R: Threads + Wait + Sync>(
     rt: &R,
@@ -116,15 +162,9 @@ pub(crate) fn came_of<R: Threads + Wait + Sync>(
     example: &Example,
     call: &Call<'_>,
 ) -> Result<Came, ExampleFail> {
-    let words = words_of(alloc, call.words)?;
-    let mut texts = MemTexts::new(alloc);
-    hold_all(alloc, &mut texts, example, call)?;
-    let devices = &example.devices;
-    let mut out = sink_of(alloc, devices.piece, devices.out.as_slice())?;
-    let mut err = sink_of(alloc, devices.piece, devices.err.as_slice())?;
-    let answer = np(rt, alloc, words.as_slice(), &mut texts, &mut out, &mut err);
-    let reading = reading_in(alloc, source_of(example, call), &answer.kept)?;
-    let Told { status, events } = answer.told();
+    let (mut out, mut err) = sinks_of(alloc, example)?;
+    let (told, reading) = seen_into(rt, alloc, example, call, &mut out, &mut err)?;
+    let Told { status, events } = told;
     Ok(Came {
         status,
         events: events.map(|count| count as usize),

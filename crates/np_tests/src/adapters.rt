@@ -1,24 +1,33 @@
 //! Texts that are files, and sinks over writers.
 
-use np_io::{ErrSink, Fault, FileTexts, OutSink, Sink, Texts, Word};
+use np_io::{ErrSink, FileTexts, OutSink, Sink, Texts, Word};
 use std::fs;
 use std::io::{self, Write};
 use std::test::Fail;
+
+/// How many bytes each of three calls reads of a text, and none where its text or one of them cannot be read.
+fn read_thrice<T: Texts>(texts: &mut T, name: &Word, buffer: &mut [u8]) -> Option<[usize; 3]> {
+    if texts.begin(name).is_err() {
+        return None;
+    }
+    let first = texts.read(buffer).ok()?;
+    let second = texts.read(buffer).ok()?;
+    let third = texts.read(buffer).ok()?;
+    Some([first, second, third])
+}
 
 #[test]
 fn reads_a_file_and_misses_one(rt: HostRuntime) -> Result<(), Fail> {
     fs::write(&rt, "some", "seven bytes")?;
     let some = Word::new(rt.alloc(), "some")?;
     let missing = Word::new(rt.alloc(), "missing")?;
-    let mut texts = FileTexts::new(&rt);
     let mut buffer = [0u8; 8];
-    assert_eq!(rt; texts.begin(&some), Ok(()));
-    assert_eq!(rt; texts.read(&mut buffer), Ok(8));
-    assert_eq!(rt; &buffer, b"seven by");
-    assert_eq!(rt; texts.read(&mut buffer), Ok(3));
-    assert_eq!(rt; &buffer[..3], b"tes".as_slice());
-    assert_eq!(rt; texts.read(&mut buffer), Ok(0));
-    assert_eq!(rt; texts.begin(&missing), Err(Fault));
+    let mut texts = FileTexts::new(&rt);
+    let read = read_thrice(&mut texts, &some, &mut buffer);
+    let missed = read_thrice(&mut texts, &missing, &mut [0u8; 8]);
+    drop(texts);
+    assert_eq!(rt; (read, missed), (Some([8, 3, 0]), None));
+    assert_eq!(rt; &buffer, b"tesen by");
     Ok(())
 }
 
@@ -48,33 +57,37 @@ impl Write for Dripping<'_> {
     }
 }
 
+/// How many bytes each of four pieces is taken of, and none where a call fails.
+fn write_four<S: Sink>(sink: &mut S, pieces: [&[u8]; 4]) -> [Option<usize>; 4] {
+    let first = sink.write(pieces[0]).ok();
+    let second = sink.write(pieces[1]).ok();
+    let third = sink.write(pieces[2]).ok();
+    let fourth = sink.write(pieces[3]).ok();
+    [first, second, third, fourth]
+}
+
 #[test]
-fn out_passes_bytes_on_and_fails(rt: HostRuntime) -> Result<(), Fail> {
+fn out_passes_bytes_on_and_fails(rt: HostRuntime) {
     let mut bytes = Vec::new(rt.alloc());
     let mut sink = OutSink::new(Dripping {
         bytes: &mut bytes,
         calls: 0,
     });
-    assert_eq!(rt; sink.write(b"abc"), Ok(2));
-    assert_eq!(rt; sink.write(b"c"), Ok(1));
-    assert_eq!(rt; sink.write(b"d"), Err(Fault));
-    assert_eq!(rt; sink.write(b"d"), Err(Fault));
+    let taken = write_four(&mut sink, [b"abc", b"c", b"d", b"d"]);
     drop(sink);
+    assert_eq!(rt; taken, [Some(2), Some(1), None, None]);
     assert_eq!(rt; bytes.as_slice(), b"abc".as_slice());
-    Ok(())
 }
 
 #[test]
-fn err_passes_bytes_on_and_fails(rt: HostRuntime) -> Result<(), Fail> {
+fn err_passes_bytes_on_and_fails(rt: HostRuntime) {
     let mut bytes = Vec::new(rt.alloc());
     let mut sink = ErrSink::new(Dripping {
         bytes: &mut bytes,
         calls: 1,
     });
-    assert_eq!(rt; sink.write(b"abc"), Ok(2));
-    assert_eq!(rt; sink.write(b""), Ok(0));
-    assert_eq!(rt; sink.write(b"c"), Err(Fault));
+    let taken = write_four(&mut sink, [b"abc", b"", b"c", b"c"]);
     drop(sink);
+    assert_eq!(rt; taken, [Some(2), Some(0), None, None]);
     assert_eq!(rt; bytes.as_slice(), b"ab".as_slice());
-    Ok(())
 }

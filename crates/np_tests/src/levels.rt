@@ -57,7 +57,13 @@ struct Seen {
 
 /// How many of the events are of a kind.
 fn count(events: &[Event], kind: Kind) -> usize {
-    events.iter().filter(|event| event.kind == kind).count()
+    let mut count = 0usize;
+    for event in events {
+        if event.kind == kind {
+            count = count.saturating_add(1);
+        }
+    }
+    count
 }
 
 pub(crate) fn checked(alloc: Global, source: &str) -> Result<Checked, Memory> {
