@@ -6,9 +6,9 @@ use Rattle.np_tables.specs.Names.{NameMap, same_name}
 use Rattle.np_tables.proofs.Tables.{get-none, get-put, get-cut, same_name-is, same_name-itself}
 use Rattle.agent_index.specs.declared.wait.Wait.{Wait}
 use Rattle.agent_index.specs.declared.wait.Wait.TheVariants as wait
-use Rattle.agent_index.specs.Lines.{Waiting, times, without, in_line, inputs_in, outputs_in, is_bare, same_line, SetsLine, SameLines}
+use Rattle.agent_index.specs.Lines.{Waiting, times, without, in_line, inputs_in, outputs_in, same_line, SetsLine}
 use Rattle.agent_index.specs.Shelves.{Kept}
-use Rattle.agent_index.specs.InStep.{one, is_under, IsInStep, Lends, NoneWaits}
+use Rattle.agent_index.specs.InStep.{one, is_under, IsInStep}
 use Rattle.agent_index.proofs.Withouts.{times-more, times-without, times-once}
 
 same_line-is : (w f : Wait) → same_line w f ≡ true → w ≡ f
@@ -35,9 +35,6 @@ pub gone : {X : Type 0} (items old : NameMap X) (m : Name) → items ≡ map.rem
 gone items old m is = ap (λ t. map.get t m) is ∙ get-cut old m m ∙ ap (λ t. cond t None (map.get old m)) (same_name-itself m)
 
 module _ {X : Type 0} (items : NameMap (Kept X)) (lanes : NameMap Waiting) (step : IsInStep items lanes) where
-  pub step-same : (new : NameMap Waiting) → SameLines lanes new → IsInStep items new
-  step-same new same = record { at = λ f q. ap (times q) (same.at f) ∙ step.at f q }
-
   module _ (new : NameMap Waiting) (m : Name) (w : Wait) where
     -- a mark that was not there comes into the line of what it waits for
     pub step-put : (v : X) → map.get items m ≡ None → SetsLine lanes new w (in_line lanes w ++ m ∷ []) → IsInStep (map.insert items m (w, v)) new
@@ -79,21 +76,3 @@ module _ {X : Type 0} (items : NameMap (Kept X)) (lanes : NameMap Waiting) (step
       by : (f : Wait) (q : Name) (t : Bool) → same_name q m ≡ t → one (is_under (map.get items q) f) ≡ one (is_under (cond t None (map.get items q)) f)
       by f q true is = ap (λ o. one (is_under o f)) (ap (map.get items) (same_name-is q m is) ∙ absent)
       by f q false is = refl
-
-  none-is : (t : Bool) → 0 ≡ one t → t ≡ false
-  none-is true h = absurd (omega (arith, h))
-  none-is false h = refl
-
-  -- who waits on a channel
-  pub lent : (chan : Name) (w : Waiting) → Some w ≡ map.get lanes chan → is_bare w ≡ false → Lends items chan w
-  lent chan w is some = record {
-    inputs = λ q. ap (λ o. times q (inputs_in o)) is ∙ step.at (wait.Takes chan) q;
-    outputs = λ q. ap (λ o. times q (outputs_in o)) is ∙ step.at (wait.Gives chan) q;
-    some = some;
-  }
-
-  pub none-lent : (chan : Name) → None ≡ map.get lanes chan → NoneWaits items chan
-  none-lent chan is = record {
-    inputs = λ q. none-is (is_under (map.get items q) (wait.Takes chan)) (ap (λ o. times q (inputs_in o)) is ∙ step.at (wait.Takes chan) q);
-    outputs = λ q. none-is (is_under (map.get items q) (wait.Gives chan)) (ap (λ o. times q (outputs_in o)) is ∙ step.at (wait.Gives chan) q);
-  }

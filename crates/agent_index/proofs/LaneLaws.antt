@@ -1,5 +1,5 @@
 -- How one write of the table of lanes shows in the lines, in the rooms and in who waits.
-use Rattle.std.proofs.Common.{◌≡◌, ◌≤◌, ◌<◌, ◌+◌, Bool, true, false, cond, ◌&&◌, List, [], ◌∷◌, ◌++◌, Option, None, Some, Result, Ok, Err, OnOk, refl, sym, ap, subst, ◌∙◌, arith}
+use Rattle.std.proofs.Common.{◌≡◌, ◌≤◌, ◌+◌, Bool, true, false, cond, ◌&&◌, List, [], ◌∷◌, ◌++◌, Option, None, Some, Result, Ok, Err, OnOk, refl, sym, ap, subst, ◌∙◌, arith}
 use Rattle.std.specs.FinMap as map
 use Rattle.np_syntax.specs.declared.value.Name.{Name}
 use Rattle.np_syntax.proofs.Options.{done}
@@ -7,23 +7,8 @@ use Rattle.np_tables.specs.Names.{NameMap, same_name}
 use Rattle.np_tables.proofs.Tables.{get-none, get-put, get-cut, same_name-is, same_name-itself, same_name-swap, put-put, cut-put, put_here}
 use Rattle.agent_index.specs.declared.wait.Wait.{Wait}
 use Rattle.agent_index.specs.declared.wait.Wait.TheVariants as wait
-use Rattle.agent_index.specs.Lines.{Waiting, is_none, is_bare, inputs_in, outputs_in, in_line, same_line, SetsLine, SameLines}
+use Rattle.agent_index.specs.Lines.{Waiting, is_none, is_bare, inputs_in, outputs_in, in_line, same_line, SetsLine}
 use Rattle.agent_index.specs.Lanes.{free, owes, HasRooms, AreFilled, HadRoom, IsOpened, SameBut, OwesMore, IsGrown, BothGrown, AreGrown, IsPaid}
-
--- where at least one channel is owed nothing, no channel is owed more than one place
-pub owes-few : (f s : Option Name) (q : Name) → 1 ≤ free f + free s → owes f q + owes s q ≤ 1
-owes-few None None q h = omega arith
-owes-few None (Some d) q h = one (same_name d q)
-  where
-    one : (t : Bool) → 0 + cond t 1 0 ≤ 1
-    one true = omega arith
-    one false = omega arith
-owes-few (Some c) None q h = one (same_name c q)
-  where
-    one : (t : Bool) → cond t 1 0 + 0 ≤ 1
-    one true = omega arith
-    one false = omega arith
-owes-few (Some c) (Some d) q h = absurd (omega (arith, h))
 
 -- what was opened has a place
 pub opened-room : (lanes : NameMap Waiting) (f s : Option Name) (chan : Name) (w : Waiting) → HasRooms lanes f s → 1 ≤ free f + free s → IsOpened (map.get lanes chan) w
@@ -33,9 +18,6 @@ opened-room lanes f s chan w rooms h opened = by (map.get lanes chan) refl opene
     by : (o : Option Waiting) → map.get lanes chan ≡ o → HadRoom o w.room → 2 ≤ w.room + (owes f chan + owes s chan)
     by None is had = omega (arith, had)
     by (Some v) is had = let r = rooms.each chan v is in omega (arith, had, r)
-
-pub opened-place : (lanes : NameMap Waiting) (f s : Option Name) (chan : Name) (w : Waiting) → HasRooms lanes f s → 1 ≤ free f + free s → IsOpened (map.get lanes chan) w → 0 < w.room
-opened-place lanes f s chan w rooms h opened = let r = opened-room lanes f s chan w rooms h opened in let few = owes-few f s chan h in omega (arith, r, few)
 
 -- the table after a write for a channel: this stands for it, or nothing
 module _ (old after : NameMap Waiting) (chan : Name) (o : Option Waiting) (is : (q : Name) → map.get after q ≡ cond (same_name q chan) o (map.get old q)) where
@@ -150,75 +132,11 @@ more-inputs w xs m h = ap (λ ys. is_none ys && is_none w.outputs) h ∙ ap (λ 
 -- ---- rooms that grow
 
 module _ (old new : NameMap Waiting) (grown : AreGrown old new) where
-  pub same-lines : SameLines old new
-  same-lines = record { at = by }
-    where
-      ins : (o p : Option Waiting) → BothGrown o p → inputs_in p ≡ inputs_in o
-      ins None None h = refl
-      ins (Some v) (Some w) h = h.inputs
-      ins None (Some w) h = absurd h
-      ins (Some v) None h = absurd h
-
-      outs : (o p : Option Waiting) → BothGrown o p → outputs_in p ≡ outputs_in o
-      outs None None h = refl
-      outs (Some v) (Some w) h = h.outputs
-      outs None (Some w) h = absurd h
-      outs (Some v) None h = absurd h
-
-      by : (f : Wait) → in_line new f ≡ in_line old f
-      by (wait.Takes c) = ins (map.get old c) (map.get new c) (grown.each c)
-      by (wait.Gives c) = outs (map.get old c) (map.get new c) (grown.each c)
-      by wait.Acts = refl
-      by wait.Stuck = refl
-
   -- what stands there stood there, with no more room
   pub record Grew (q : Name) (w : Waiting) : Type 0 where
     pub before : Waiting
     pub stood : map.get old q ≡ Some before
     pub grew : IsGrown before w
-
-  pub grown-from : (q : Name) (w : Waiting) → map.get new q ≡ Some w → Grew q w
-  grown-from q w e = by (map.get old q) (map.get new q) refl e (grown.each q)
-    where
-      by : (o p : Option Waiting) → map.get old q ≡ o → p ≡ Some w → BothGrown o p → Grew q w
-      by (Some v) (Some x) is e h = record { before = v; stood = is; grew = subst (IsGrown v) (sym (done e)) h }
-      by None None is e h = absurd (let z = e in cc)
-      by None (Some x) is e h = absurd h
-      by (Some v) None is e h = absurd h
-
-  pub grown-rooms : (f s : Option Name) → HasRooms old f s → HasRooms new f s
-  grown-rooms f s rooms = record { each = λ q w e. let g = grown-from q w e in let r = rooms.each q g.before g.stood in let m = g.grew.room in omega (arith, r, m) }
-
-  pub grown-filled : AreFilled old → AreFilled new
-  grown-filled filled = record { each = λ q w e. let g = grown-from q w e in (λ i. is_none (g.grew.inputs i) && is_none (g.grew.outputs i)) ∙ filled.each q g.before g.stood }
-
-  pub grown-paid : (owed : Option Name) → IsPaid old owed → IsPaid new owed
-  grown-paid owed paid = record { each = λ q w h e. let g = grown-from q w e in let p = paid.each q g.before h g.stood in let m = g.grew.room in omega (arith, p, m) }
-
--- where what was owed is paid, each channel has two places
-pub all-paid : (lanes : NameMap Waiting) (f s : Option Name) → HasRooms lanes f s → IsPaid lanes f → IsPaid lanes s → HasRooms lanes None None
-all-paid lanes f s rooms first second = record { each = λ q w e. by q w e f s refl refl (rooms.each q w e) }
-  where
-    by : (q : Name) (w : Waiting) → map.get lanes q ≡ Some w → (g t : Option Name) → f ≡ g → s ≡ t → 2 ≤ w.room + (owes g q + owes t q) → 2 ≤ w.room + (0 + 0)
-    by q w e None None fs ss r = r
-    by q w e (Some c) t fs ss r = one (same_name c q) refl r
-      where
-        one : (u : Bool) → same_name c q ≡ u → 2 ≤ w.room + (cond u 1 0 + owes t q) → 2 ≤ w.room + (0 + 0)
-        one true is r = let p = first.each q w (fs ∙ ap Some (same_name-is c q is)) e in omega (arith, p)
-        one false is r = two t ss r
-          where
-            two : (t : Option Name) → s ≡ t → 2 ≤ w.room + (0 + owes t q) → 2 ≤ w.room + (0 + 0)
-            two None ss r = r
-            two (Some d) ss r = last (same_name d q) refl r
-              where
-                last : (u : Bool) → same_name d q ≡ u → 2 ≤ w.room + (0 + cond u 1 0) → 2 ≤ w.room + (0 + 0)
-                last true is r = let p = second.each q w (ss ∙ ap Some (same_name-is d q is)) e in omega (arith, p)
-                last false is r = r
-    by q w e None (Some d) fs ss r = last (same_name d q) refl r
-      where
-        last : (u : Bool) → same_name d q ≡ u → 2 ≤ w.room + (0 + cond u 1 0) → 2 ≤ w.room + (0 + 0)
-        last true is r = let p = second.each q w (ss ∙ ap Some (same_name-is d q is)) e in omega (arith, p)
-        last false is r = r
 
 -- ---- a mark that comes
 

@@ -1,8 +1,7 @@
 -- A list without the first place of a mark, found by a walk, and how often marks stand in it.
-use Rattle.std.proofs.Common.{◌≡◌, ◌<◌, ◌+◌, ℕ, suc, Bool, true, false, cond, List, [], ◌∷◌, ◌++◌, length, get_or, take, drop, refl, sym, ap, ◌∙◌, append_assoc, append-nil, arith}
+use Rattle.std.proofs.Common.{◌≡◌, ◌<◌, ◌+◌, ℕ, suc, Bool, true, false, cond, List, [], ◌∷◌, ◌++◌, length, get_or, take, drop, refl, sym, ap, ◌∙◌, arith}
 use Rattle.std.specs.List.{remove}
 use Rattle.std.proofs.lemmas.List.{drop_more}
-use Rattle.std.proofs.lemmas.Grind.{take_at_read}
 use Rattle.std.proofs.lemmas.List.Sums.{sum_by-cons, sum_by_push}
 use Rattle.np_syntax.specs.declared.value.Name.{Name}
 use Rattle.np_tables.specs.Names.{same_name}
@@ -14,30 +13,15 @@ use Rattle.agent_index.specs.Lines.{times, without}
 pub record Passed (xs : List Name) (mark : Name) (at : ℕ) : Type 0 where
   pub is : without xs mark ≡ take at xs ++ without (drop at xs) mark
 
-pub passed-none : (xs : List Name) (mark : Name) → Passed xs mark 0
-passed-none xs mark = record { is = refl }
-
 module _ (xs : List Name) (mark x : Name) (at : ℕ) (within : at < length xs) (is : x ≡ get_or xs at x) (passed : Passed xs mark at) where
   here : drop at xs ≡ x ∷ drop (at + 1) xs
   here = drop_more xs at x within ∙ ap (λ y. y ∷ drop (at + 1) xs) (sym is)
 
-  at_read : take (at + 1) xs ≡ take at xs ++ x ∷ []
-  at_read = (take_at_read xs at x within).1 ∙ ap (λ y. take at xs ++ y ∷ []) (sym is)
-
   cut_here : (t : Bool) → same_name x mark ≡ t → without xs mark ≡ take at xs ++ cond t (drop (at + 1) xs) (x ∷ without (drop (at + 1) xs) mark)
   cut_here t h = passed.is ∙ ap (λ ys. take at xs ++ without ys mark) here ∙ ap (λ s. take at xs ++ cond s (drop (at + 1) xs) (x ∷ without (drop (at + 1) xs) mark)) h
 
-  pub passed-next : same_name x mark ≡ false → Passed xs mark (at + 1)
-  passed-next h = record {
-    is = cut_here false h ∙ sym (append_assoc (take at xs) (x ∷ []) (without (drop (at + 1) xs) mark)) ∙ ap (λ ys. ys ++ without (drop (at + 1) xs) mark) (sym at_read);
-  }
-
   pub found-here : same_name x mark ≡ true → remove xs at ≡ without xs mark
   found-here h = let next : suc at ≡ at + 1 = omega arith in ap (λ n. take at xs ++ drop n xs) next ∙ sym (cut_here true h)
-
--- the whole list was passed
-pub passed-all : (xs : List Name) (mark : Name) (at : ℕ) → drop at xs ≡ [] → take at xs ≡ xs → Passed xs mark at → without xs mark ≡ xs
-passed-all xs mark at none all passed = passed.is ∙ ap (λ ys. take at xs ++ without ys mark) none ∙ append-nil (take at xs) ∙ all
 
 -- ---- how often marks stand there
 

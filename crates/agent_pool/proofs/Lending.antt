@@ -1,5 +1,5 @@
 -- Who waits on a channel, where each atom is filed by the code.
-use Rattle.std.proofs.Common.{◌≡◌, Bool, true, false, List, [], ◌∷◌, length, Option, None, Some, refl, sym, ap, ◌∙◌, arith}
+use Rattle.std.proofs.Common.{◌≡◌, List, Option, None, Some, refl, sym, ap, ◌∙◌}
 use Rattle.std.specs.FinMap as map
 use Rattle.np_syntax.specs.declared.value.Name.{Name}
 use Rattle.np_syntax.specs.declared.process.Proc.{Proc}
@@ -7,10 +7,9 @@ use Rattle.np_tables.specs.Names.{NameMap}
 use Rattle.agent_index.specs.declared.wait.Wait.{Wait}
 use Rattle.agent_index.specs.declared.wait.Wait.TheVariants as wait
 use Rattle.agent_index.specs.InStep.{one, is_under, Lends, NoneWaits}
-use Rattle.agent_index.specs.Lines.{Waiting, times, same_line}
+use Rattle.agent_index.specs.Lines.{Waiting, same_line}
 use Rattle.agent_index.specs.Shelves.{Kept}
 use Rattle.agent_pool.specs.declared.held.Held.{Held}
-use Rattle.agent_pool.specs.Calm.{NoOutput}
 use Rattle.agent_pool.specs.Pools.{IsFiled}
 use Rattle.agent_pool.specs.Waiting.{waits_so, WaitOn, NoneWaitsOn}
 
@@ -31,17 +30,5 @@ module _ (ts : List Proc) (atoms : NameMap (Kept Held)) (filed : IsFiled ts atom
 
   pub none-filed : (chan : Name) → NoneWaits atoms chan → NoneWaitsOn ts atoms chan
   none-filed chan n = record { inputs = λ q. sym (under q (wait.Takes chan)) ∙ n.inputs q; outputs = λ q. sym (under q (wait.Gives chan)) ∙ n.outputs q }
-
--- where no output stands among those who wait, none is filed
-pub no-outputs : (atoms : NameMap (Kept Held)) (chan : Name) (w : Waiting) → Lends atoms chan w → length w.outputs ≡ 0 → NoOutput atoms chan
-no-outputs atoms chan w l none = record { each = λ q. by (is_under (map.get atoms q) (wait.Gives chan)) (sym (empty q w.outputs none) ∙ l.outputs q) }
-  where
-    empty : (q : Name) (xs : List Name) → length xs ≡ 0 → times q xs ≡ 0
-    empty q [] e = refl
-    empty q (x ∷ xs) e = absurd (omega (arith, e))
-
-    by : (t : Bool) → 0 ≡ one t → t ≡ false
-    by true e = absurd (omega (arith, e))
-    by false e = refl
 
 pub ruleset lends = (lends-filed, none-filed)

@@ -1,31 +1,18 @@
 -- What an index tells of whether its agent is idle.
-use Rattle.std.proofs.Common.{◌≡◌, true, false, List, [], ◌∷◌, length, Option, None, Some, refl, sym, ap, subst, ◌∙◌}
+use Rattle.std.proofs.Common.{◌≡◌, true, false, List, Option, None, Some, refl, sym, ap, subst, ◌∙◌}
 use Rattle.std.specs.FinMap as map
 use Rattle.np_syntax.specs.declared.value.Name.{Name}
 use Rattle.np_syntax.specs.declared.process.Proc.{Proc}
-use Rattle.np_syntax.proofs.Options.{done}
 use Rattle.np_tables.specs.Names.{NameMap}
 use Rattle.agent_index.specs.declared.wait.Wait.{Wait}
 use Rattle.agent_index.specs.declared.wait.Wait.TheVariants as wait
-use Rattle.agent_index.specs.InStep.{is_under, Lends}
-use Rattle.agent_index.specs.Lines.{Waiting, first_of, same_line}
-use Rattle.agent_index.specs.Shelves.{Kept, value_of, wait_of as kept_under}
+use Rattle.agent_index.specs.InStep.{is_under}
+use Rattle.agent_index.specs.Lines.{same_line}
+use Rattle.agent_index.specs.Shelves.{Kept}
 use Rattle.agent_pool.specs.declared.held.Held.{Held}
-use Rattle.agent_pool.specs.declared.resting.Rest.{Rest}
-use Rattle.agent_pool.specs.declared.resting.Rest.TheVariants as rest
 use Rattle.agent_pool.specs.Calm.{NoOutput}
-use Rattle.agent_pool.specs.Held.{wait_of}
 use Rattle.agent_pool.specs.Idle.{waits_in, is_output, NoOutputBy, Stays, IsIdle}
-use Rattle.agent_pool.specs.Resting.{IsSettled, SettledAt, Tells, TellsOn}
-use Rattle.agent_pool.proofs.Lending.{no-outputs}
-
--- where no output stands first none is filed
-pub no-first : (atoms : NameMap (Kept Held)) (chan : Name) (w : Waiting) → Lends atoms chan w → first_of w.outputs ≡ None → NoOutput atoms chan
-no-first atoms chan w l none = no-outputs atoms chan w l (by w.outputs none)
-  where
-    by : (xs : List Name) → first_of xs ≡ None → length xs ≡ 0
-    by [] e = refl
-    by (x ∷ xs) e = absurd cc
+use Rattle.agent_pool.specs.Resting.{IsSettled, SettledAt}
 
 out-line : (w : Wait) (chan : Name) → is_output (Some w) chan ≡ same_line w (wait.Gives chan)
 out-line (wait.Gives on) chan = refl
@@ -40,43 +27,6 @@ module _ (ts : List Proc) (atoms : NameMap (Kept Held)) where
 
   pub nowhere-settled : (q : Name) → map.get atoms q ≡ None → SettledAt ts atoms q
   nowhere-settled q none kept e = absurd (let x = sym none ∙ e in cc)
-
-  waits-at : (o : Option (Kept Held)) (h : Held) → Some h ≡ value_of o → waits_in ts o ≡ Some (wait_of ts h)
-  waits-at None h e = absurd cc
-  waits-at (Some kept) h e = ap (λ g. Some (wait_of ts g)) (done e)
-
-  -- what an idle agent's atom waits for
-  stays : (mark : Name) (h : Held) (w : Wait) → Some h ≡ value_of (map.get atoms mark) → w ≡ wait_of ts h → IsIdle ts atoms → Stays ts atoms (Some w)
-  stays mark h w held filed idle = subst (Stays ts atoms) (waits-at (map.get atoms mark) h held ∙ ap Some (sym filed)) (idle.each mark)
-
-  pub acts-busy : (mark : Name) (h : Held) (w : Wait) → Some h ≡ value_of (map.get atoms mark) → w ≡ wait_of ts h → w ≡ wait.Acts → Tells ts atoms mark rest.Busy
-  acts-busy mark h w held filed is idle = subst (λ v. Stays ts atoms (Some v)) is (stays mark h w held filed idle)
-
-  settled-of : (mark : Name) (h : Held) (w : Wait) → Some h ≡ value_of (map.get atoms mark) → Some w ≡ kept_under (map.get atoms mark) → w ≡ wait_of ts h → (w ≡ wait.Acts → ⊥)
-      → ((chan : Name) → w ≡ wait.Takes chan → NoOutput atoms chan) → SettledAt ts atoms mark
-  settled-of mark h w held under filed waits takes kept e =
-      let wait_is : kept.0 ≡ w = done (under ∙ ap kept_under e) in
-      let held_is : kept.1 ≡ h = done (held ∙ ap value_of e) in
-      let same : kept ≡ (w, h) = λ i. (wait_is i, held_is i) in
-      subst (IsSettled ts atoms) (sym same) (record { filed = filed; waits = waits; takes = takes })
-
-  pub gives-settled : (mark : Name) (h : Held) (w : Wait) (chan : Name) → Some h ≡ value_of (map.get atoms mark) → Some w ≡ kept_under (map.get atoms mark) → w ≡ wait_of ts h → w ≡ wait.Gives chan
-      → Tells ts atoms mark rest.Settled
-  gives-settled mark h w chan held under filed is = settled-of mark h w held under filed (λ e. let x = sym is ∙ e in cc) (λ c e. absurd (let x = sym is ∙ e in cc))
-
-  pub stuck-settled : (mark : Name) (h : Held) (w : Wait) → Some h ≡ value_of (map.get atoms mark) → Some w ≡ kept_under (map.get atoms mark) → w ≡ wait_of ts h → w ≡ wait.Stuck
-      → Tells ts atoms mark rest.Settled
-  stuck-settled mark h w held under filed is = settled-of mark h w held under filed (λ e. let x = sym is ∙ e in cc) (λ c e. absurd (let x = sym is ∙ e in cc))
-
-  one_chan : (c d : Name) → wait.Takes c ≡ wait.Takes d → c ≡ d
-  one_chan c d e = cc
-
-  pub takes-told : (mark : Name) (h : Held) (w : Wait) (chan : Name) (r : Rest) → Some h ≡ value_of (map.get atoms mark) → Some w ≡ kept_under (map.get atoms mark) → w ≡ wait_of ts h → w ≡ wait.Takes chan
-      → TellsOn ts atoms chan r → Tells ts atoms mark r
-  takes-told mark h w chan rest.Settled held under filed is told =
-      settled-of mark h w held under filed (λ e. let x = sym is ∙ e in cc) (λ c e. subst (NoOutput atoms) (one_chan chan c (sym is ∙ e)) told)
-  takes-told mark h w chan rest.Busy held under filed is told = λ idle. told (subst (λ v. Stays ts atoms (Some v)) is (stays mark h w held filed idle))
-  takes-told mark h w chan rest.Unknown held under filed is told = tt
 
   -- where each atom is settled the agent is idle
   module _ (settled : (q : Name) → SettledAt ts atoms q) where

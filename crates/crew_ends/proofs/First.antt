@@ -111,9 +111,6 @@ first_is code budget number a b c new main daemon low =
 -- ---- seats in order
 
 module _ {P : Type 0} {code : ProgramTable} {budget : ℕ} where
-  pub none_first : AreFirst {P = P} code budget [] []
-  none_first = record { count = refl; each = λ k s h. absurd (let x = h in cc) }
-
   seated_more : {ps : List P} {cs : List (Seat P)} (n : ℕ) (p : P) (c : Seat P) → AreFirst code budget ps cs → n ≡ length ps → IsFirst code budget n p c → AreFirst code budget (ps ++ p ∷ []) (cs ++ c ∷ [])
   seated_more {ps} {cs} n p c s e b = record {
     count = length_push cs c ∙ (ap (λ m. m + 1) s.count ∙ sym (length_push ps p));

@@ -19,9 +19,6 @@ use Rattle.crew_inboxes.specs.Ways.{from_of, sent_by, taken_of, waiting_of, site
 use Rattle.crew_inboxes.specs.Seats.{IsFreshWay, Woven, Sits, Seated}
 use Rattle.crew_inboxes.proofs.Weaving.{some_at}
 
-pub seated_none : (seats : List Seat) → Seated 0 seats []
-seated_none seats = record { count = refl; sit = λ i p e. cc }
-
 pub seated_more : (m : ℕ) (seats : List Seat) (ports ports' : List Inboxes) (p : Inboxes) → Seated m seats ports → ports' ≡ ports ++ p ∷ [] → Sits seats m p → Seated (m + 1) seats ports'
 seated_more m seats ports ports' p h e s = record {
   count = ap length e ∙ (length_push ports p ∙ ap (λ j. j + 1) h.count);

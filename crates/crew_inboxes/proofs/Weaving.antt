@@ -26,9 +26,6 @@ set_cases xs i k y v lt h =
       | inr w ↦ inr (w.1, sym (get-set_other xs i k y w.1) ∙ h)
     ]
 
-pub begun_none : (n : ℕ) → Begun n 0 []
-begun_none n = record { count = refl; unused = λ i s e. cc; none = λ i s e. cc }
-
 pub begun_more : (n m : ℕ) (seats seats' : List Seat) → Begun n m seats → SeatAdded n seats seats' → Begun n (m + 1) seats'
 begun_more n m seats seats' h a =
     let cases : (i : ℕ) (s : Seat) → slice_get seats' i ≡ Some s → (slice_get seats i ≡ Some s) ⊎ ((i ≡ length seats) × (s ≡ a.made)) =

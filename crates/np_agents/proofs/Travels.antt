@@ -22,11 +22,6 @@ at_put : (t : Bool) (site : ℕ) (o : Option Place) → (not t && travels o) ≡
 at_put true site o = refl
 at_put false site o = refl
 
-under : (o : Option Place) → travels o ≡ true → (site : ℕ) × (o ≡ Some (place.Way site))
-under None h = absurd cc
-under (Some (place.At s)) h = absurd cc
-under (Some (place.Way s)) h = (s, refl)
-
 still : (p : Place) → travels (Some p) ≡ false → way p ≡ None
 still (place.At s) h = refl
 still (place.Way s) h = absurd cc
@@ -41,10 +36,6 @@ module _ {placed : NameMap Place} {under_way : NameSet} where
   travels-at k agent site = record {
     each = λ q. rw (born_remove under_way agent q, get-put placed agent (place.At site) q, k.each q) (at_put (same_name q agent) site (map.get placed q));
   }
-
-  -- an agent of the set is under way to a site
-  pub travels-to : IsTravelling placed under_way → (agent : Name) → set.contains under_way agent ≡ true → (site : ℕ) × (map.get placed agent ≡ Some (place.Way site))
-  travels-to k agent h = under (map.get placed agent) (sym (k.each agent) ∙ h)
 
   -- where the set is empty, none is under way
   pub none-travels : IsTravelling placed under_way → under_way ≡ set.empty → NoneTravels placed

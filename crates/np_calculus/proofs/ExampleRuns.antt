@@ -37,10 +37,6 @@ unfolding act
 printed n s i a j atoms said there =
     rw (acts_here n s kind.Print a j (prints i) map.empty atoms None there, outs-Print (constant (number i)), constant-is (number i) map.empty) refl
 
--- two atoms, one taken out
-without_second : (j k : Name) (x y : Atom) → same_name j k ≡ false → map.remove (two j k x y) k ≡ one j x
-without_second j k x y apart = cut-put_absent (one j x) k y (rw (get-put {X = Atom} map.empty j x k, same_name-swap k j, apart, get-none {X = Atom} k) refl)
-
 without_only : (j : Name) (x : Atom) → map.remove (one j x) j ≡ map.empty
 without_only j x = cut-put_absent map.empty j x (get-none {X = Atom} j)
 

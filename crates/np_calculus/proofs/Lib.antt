@@ -9,7 +9,6 @@ pub mod Fits
 pub mod FrameRule
 pub mod Housed
 pub mod HousedKept
-pub mod Inversions
 pub mod NotEnabled
 pub mod OwnNames
 pub mod Puts

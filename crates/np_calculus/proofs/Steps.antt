@@ -26,10 +26,6 @@ is-two _ m h = absurd cc
 pub one-new : (born : NameSet) (x : Made) (m : Name) → one_made x ≡ Some m → are_new born x ≡ not (set.contains born m)
 one-new born x m h = ap (are_new born) (is-one x m h)
 
-pub need-met : (t : Bool) (u : Unit {0}) → need t ≡ Some u → t ≡ true
-need-met true u h = refl
-need-met false u h = absurd cc
-
 module _ (c : Config) (e : Event) (d : Config) where
   -- a row that is met gives a change, whose names are new, and its effect
   pub record RowStep (k : Kind) : Type 0 where

@@ -22,7 +22,7 @@ use Rattle.np_eval.specs.Eval.{agent_of, bind, eval, find_place, letter_of, plac
 use Rattle.np_configuration.specs.declared.messages.Local.{Local}
 use Rattle.np_configuration.specs.Found.{ended, flown, found_env, spoken, stood}
 use Rattle.np_configuration.specs.Rows as to
-use Rattle.np_configuration.specs.Views.{bound_to, is_alone, one_new, taken_by, two_new}
+use Rattle.np_configuration.specs.Views.{bound_to, is_alone, taken_by, two_new}
 
 -- two steps as one, and a step that can come before another
 joined : {A B C : Type 0} (o : Option A) (f : A → Option B) (g : B → Option C) → (o >>= λ a. f a >>= g) ≡ ((o >>= f) >>= g)
@@ -72,10 +72,6 @@ module _ (c : Config) (e : Event) where
   -- ---- the last step of a row
 
   module _ {S : Type 0} (after : S → Config) where
-    passed : (t : Bool) (d : Config) (s : S) → d ≡ after s → (need t >> Some d) ≡ ((need t >> Some s) >>= λ s. Some (after s))
-    passed true d s h = ap Some h
-    passed false d s h = refl
-
     -- no name is made
     unmade : (m : Made) (d : Change) (s : S) → makes made.Nothing d ≡ after s
         → ((none_made m >> Some d) >>= λ d. need (are_new c.born m) >> Some (makes m d)) ≡ ((none_made m >> Some s) >>= λ s. Some (after s))

@@ -15,9 +15,6 @@ use Rattle.np_crossing.proofs.Values.{value_field_send}
 pub held_send : IsSend held.the_row
 held_send = search (sendable, crosses, frame_send, value_field_send, name_laws.the_field_send, tag_laws.the_field_send) depth 40
 
-pub packet_send : IsSend packet.the_row
-packet_send = search (sendable, crosses, value_field_send, name_laws.the_field_send, tag_laws.the_field_send) depth 40
-
 pub packet_field_send : IsSend (packet.the_field).row
 packet_field_send = search (sendable, crosses, value_field_send, name_laws.the_field_send, tag_laws.the_field_send) depth 40
 

@@ -14,6 +14,3 @@ pair_sync = search (sendable, crosses, knot.crosses_both, values) depth 40
 
 pub frame_send : IsSend frame.the_row
 frame_send = search (sendable, crosses, pair_send, pair_sync) depth 40
-
-pub frame_sync : IsSync frame.the_row
-frame_sync = search (sendable, crosses, pair_send, pair_sync) depth 40

@@ -6,7 +6,7 @@ use Rattle.std.proofs.Math.Nat.{eq-or-lt_of_le}
 use Rattle.np_syntax.specs.declared.value.Name.{Name}
 use Rattle.np_syntax.specs.declared.event.Kind.TheVariants as kind
 use Rattle.np_syntax.specs.declared.event.Event.{Event}
-use Rattle.np_example_files.specs.Changes.{ArrivesBetween, FirstDeparture, HasNoDeparture, HasNoEarlyPlace, IsArrivalOf, IsEarlyPlace, IsFirstDeparture}
+use Rattle.np_example_files.specs.Changes.{ArrivesBetween, FirstDeparture, HasNoDeparture, HasNoEarlyPlace, IsArrivalOf, IsEarlyPlace}
 
 -- the event at a place is the one that stands there
 same_kind : (events : List Event) (at k : ℕ) (event other : Event) → slice_get events at ≡ Some event → k ≡ at → slice_get events k ≡ Some other → event.kind ≡ other.kind
@@ -23,24 +23,6 @@ later events agent k at a = record { place = a.place; arrival = a.arrival; arriv
 
 apart : kind.Arrive ≡ kind.Depart → ⊥
 apart e = cc
-
-pub after_arrival : (events : List Event) (agent : Name) (at : ℕ) (event : Event) → slice_get events at ≡ Some event → IsArrivalOf agent event → HasNoDeparture events agent (at + 1)
-after_arrival events agent at event here arrives k other less there departs =
-    elim (last_or_before k at less) [
-      | inl before ↦ record { place = at; arrival = event; arrival_at = here; after = before; before = omega arith; arrives = arrives }
-      | inr same ↦ absurd (apart (sym arrives.0 ∙ same_kind events at k event other here same there ∙ departs))
-    ]
-
-pub after_departure : (events : List Event) (agent : Name) (at : ℕ) (event : Event) → slice_get events at ≡ Some event → event.kind ≡ kind.Depart → HasNoDeparture events agent at
-    → IsFirstDeparture events agent (at + 1) at
-after_departure events agent at event here departs none = record {
-  departure = event;
-  departure_at = here;
-  departs = departs;
-  before = omega arith;
-  last = λ (a : ArrivesBetween events agent at (at + 1)). absurd (omega (arith, a.after, a.before));
-  first = none;
-}
 
 -- an arrival before the next place stands at this one or before it
 arrived : (events : List Event) (agent : Name) (k at : ℕ) (event : Event) → slice_get events at ≡ Some event → (IsArrivalOf agent event → ⊥)

@@ -8,7 +8,7 @@ use Rattle.np_example_files.specs.Numbers.{number_below, number_or_refusal}
 use Rattle.std.specs.declared.str.SplitWhitespace.{SplitWhitespace}
 use Rattle.std.specs.Iterator.{Yields}
 use Rattle.std.specs.Str.Iter.{split_whitespace_steps, split_whitespace_rest}
-use Rattle.np_example_files.specs.Pieces.{Adds, IsFault, lines_between, Numbered, part_of, part_or_refused, HasOtherWord, HaveWords, IsFirstWord, IsLonger, byte_of, times, tree}
+use Rattle.np_example_files.specs.Pieces.{Adds, IsFault, lines_between, Numbered, part_of, part_or_refused, HasOtherWord, HaveWords, IsFirstWord, IsLonger, byte_of, tree}
 
 -- ---- longer texts
 
@@ -16,9 +16,6 @@ pub longer : (old mid new more : List ℕ) → mid ≡ old ++ more → IsLonger 
 longer old mid new more e l = record { bytes = more ++ l.bytes; is = l.is ∙ ap (λ (xs : List ℕ). xs ++ l.bytes) e ∙ append_assoc old more l.bytes }
 
 -- ---- a text so many times, and trees
-
-pub times-more : (text : List ℕ) (n : ℕ) → times text (n + 1) ≡ times text n ++ text
-times-more text n = rw (add-one n) refl
 
 pub tree-more : (leaf : List ℕ) (n : ℕ) → tree leaf (n + 1) ≡ 40 ∷ (tree leaf n ++ (124 ∷ (tree leaf n ++ (41 ∷ []))))
 tree-more leaf n = rw (add-one n) (simp append_assoc)

@@ -11,7 +11,7 @@ use Rattle.np_lex.specs.declared.token.Key.{Key}
 use Rattle.np_lex.specs.declared.token.Sign.{Sign}
 use Rattle.np_lex.specs.declared.token.Sign.TheVariants as signs
 use Rattle.np_lex.specs.Tokens as t
-use Rattle.np_lex.specs.Tokens.{is_digit, is_letter, is_blank, goes_on, skip_len, Each, IsToken, IsLegal, IsLongest, Lexes, token, sign_at, word_at, name_at, sign_text, key_text}
+use Rattle.np_lex.specs.Tokens.{is_digit, is_letter, is_blank, goes_on, skip_len, IsToken, IsLegal, IsLongest, Lexes, token, sign_at, word_at, name_at, sign_text, key_text}
 use Rattle.np_syntax.specs.Printed.{quoted}
 use Rattle.np_syntax.proofs.Bools.{and-out, clash}
 use Rattle.np_lex.proofs.Longest.{Stops, Alone, head, is_word, key_word, name_word, word_longest, digits_longest, nought_longest, single_longest, pair_longest}
@@ -126,7 +126,3 @@ string_at (t.string body few) at rest = one at rest refl (t.string body few) (st
 pub string_goes : {text : List ℕ} → IsLegal (what.Str text) → (at : ℕ) (rest : List ℕ)
     → Goes at (quoted text ++ rest) (token at (at + length (quoted text)) (what.Str text) ∷ []) (at + length (quoted text)) rest
 string_goes legal = string_at (spelling_token legal)
-
--- the end of the text
-pub ended : {at end : ℕ} {bytes : List ℕ} {ts : List Token} → Goes at bytes ts end [] → Lexes at bytes (ts ++ token end end what.End ∷ [])
-ended g = g.goes _ t.end

@@ -4,6 +4,5 @@ pub mod Readings
 pub mod Digits
 pub mod Steps
 pub mod Once
-pub mod Answered
 pub mod Spelling
 pub mod Goes

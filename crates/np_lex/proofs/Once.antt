@@ -1,10 +1,10 @@
 -- A text is one token at most, and bytes are one list of tokens at most, or have one first place where none begins.
-use Rattle.std.proofs.Common.{◌≡◌, ℕ, ◌+◌, ◌≤◌, List, [], ◌∷◌, ◌++◌, length, drop, Option, Some, refl, sym, ap, subst, arith, append-nil, length-drop}
+use Rattle.std.proofs.Common.{◌≡◌, ℕ, ◌+◌, ◌≤◌, List, [], ◌∷◌, ◌++◌, length, drop, Option, Some, refl, sym, ap, subst, arith, length-drop}
 use Rattle.np_lex.specs.declared.token.Token.{Token}
 use Rattle.np_lex.specs.declared.token.What.{What}
 use Rattle.np_lex.specs.declared.token.What.TheVariants as what
 use Rattle.np_lex.specs.Tokens as t
-use Rattle.np_lex.specs.Tokens.{Lexes, Stuck, Begins, IsToken, IsForm, IsLongest, IsLegal, AllLegal, NoEnd, AreTokens, skip_len, token}
+use Rattle.np_lex.specs.Tokens.{Lexes, Stuck, Begins, IsToken, IsForm, AreTokens, skip_len, token}
 use Rattle.np_lex.specs.Lexing.{first_token}
 use Rattle.np_lex.proofs.Longest.{form_some}
 use Rattle.np_lex.proofs.Readings.{first_says, form_of}
@@ -18,17 +18,6 @@ one_first m n a b o e f = let p : ℕ × What = (m, a) in let q : ℕ × What = 
 -- bytes begin with one token at most
 pub begins_once : {bytes : List ℕ} {m n : ℕ} {a b : What} → Begins bytes m a → Begins bytes n b → (m ≡ n) × (a ≡ b)
 begins_once {bytes = bytes} {m = m} {n = n} {a = a} {b = b} p q = let s = first_says bytes in one_first m n a b (first_token bytes) (s.only m a p) (s.only n b q)
-
-alone : {text : List ℕ} {w : What} → IsToken text w → Begins text (length text) w
-alone {text = text} p = record { text = text; rest = []; is = sym (append-nil text); counts = refl; means = p; longest = none }
-  where
-    none : (more after : List ℕ) → (let e : List ℕ = [] in e) ≡ more ++ after → IsForm (text ++ more) → more ≡ []
-    none [] after e f = refl
-    none (byte ∷ more) after e f = cc
-
--- a text has one meaning
-pub token_once : {text : List ℕ} {a b : What} → IsToken text a → IsToken text b → a ≡ b
-token_once p q = (begins_once (alone p) (alone q)).1
 
 pub nothing_begins : {len : ℕ} {w : What} → Begins [] len w → ⊥
 nothing_begins g = none g.text g.rest (form_of g.means) g.is

@@ -39,9 +39,6 @@ pub record Before (source : List ℕ) (at : ℕ) (found : List Token) : Type 0 w
   pub tokens : (more : List Token) → Lexes at (drop at source) more → Lexes 0 source (found ++ more)
   pub stuck : (place : ℕ) → Stuck at (drop at source) place → Stuck 0 source place
 
-pub before_start : (source : List ℕ) → Before source 0 []
-before_start source = record { tokens = λ more l. l; stuck = λ place s. s }
-
 pub before_skip : {source bytes : List ℕ} {at n : ℕ} {found : List Token} → Before source at found → bytes ≡ drop at source → n ≡ skip_len bytes → 0 < n → Before source (at + n) found
 before_skip {source = source} {at = at} {n = n} b here e some = record {
   tokens = λ more l. b.tokens more (t.skip (rw (← skipped) some) (rw (← skipped) (moved (λ k. Lexes (at + n) k more) l)));

@@ -194,9 +194,6 @@ module _ (n : ℕ) (g : Spread) (c : Config) (i : IsSpread n g c) (d : Step) (h 
   now-born : st.now.born ≡ with_made l.born d.event.made
   now-born = k.kept.born ∙ makes.1 ∙ ap (λ b. with_made b d.event.made) k.same.born
 
-  now-sites : st.now.sites ≡ l.sites
-  now-sites = k.kept.sites ∙ makes.2 ∙ k.same.sites
-
   abbrev here1 : ℕ → Config
   here1 = with_site g.here d.event.site st.now
 

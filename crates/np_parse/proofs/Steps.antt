@@ -9,7 +9,7 @@ use Rattle.np_lex.specs.declared.token.What.{What}
 use Rattle.np_lex.specs.declared.token.What.TheVariants as what
 use Rattle.np_parse.specs.declared.fail.ParseFail.{ParseFail}
 use Rattle.np_tree.specs.Grammar.{process}
-use Rattle.np_parse.specs.Input.{Outcome, Parser, and_then, ◌>>=◌, ◌>>◌, pure, refuse, refuse_deep, syntax, too_deep, peek, take}
+use Rattle.np_parse.specs.Input.{Outcome, Parser, and_then, ◌>>=◌, ◌>>◌, pure, refuse_deep, syntax, too_deep, peek, take}
 use Rattle.np_parse.specs.Read.Tuples.{Sized, closes, last_by, part_by, last, parts}
 use Rattle.np_parse.specs.Read.Expressions.{ReadExpr, operation, chain}
 use Rattle.np_parse.specs.declared.head.Double.{Double}
@@ -28,14 +28,6 @@ part_follows : {A : Type 0} (again : Again A) (inner : Parser (Sized A)) (items 
     → part_by again inner items depth w i ≡ and_then (inner i) (λ x. again (items ++ x.0 ∷ []) (max depth x.1))
 part_follows again inner items depth (what.Sign sign.SquareClose) h i = absurd (cc)
 part_follows again inner items depth w h i = refl
-
-last_closed : {A : Type 0} (items : List A) (depth : ℕ) (w : What) → closes w ≡ true → (i : List Token) → last_by items depth w i ≡ and_then (take i) (λ _. pure (items, depth))
-last_closed items depth (what.Sign sign.SquareClose) h i = refl
-last_closed items depth w h i = absurd (cc)
-
-last_open : {A : Type 0} (items : List A) (depth : ℕ) (w : What) → closes w ≡ false → (i : List Token) → last_by items depth w i ≡ refuse i
-last_open items depth (what.Sign sign.SquareClose) h i = absurd (cc)
-last_open items depth w h i = refl
 
 turn : (n at : ℕ) → at < n → n - at ≡ suc (n - (at + 1))
 turn n at h = omega arith

@@ -1,7 +1,7 @@
 -- Runs of the first events of a list.
 use Rattle.std.proofs.Common.{◌≡◌, ℕ, suc, ◌+◌, ◌<◌, ◌≤◌, List, [], ◌∷◌, ◌++◌, take, drop, get_or, length, Option, None, Some, refl, sym, ap, ◌∙◌, arith, add-one, inl, inr, ◌⊎◌}
 use Rattle.std.proofs.lemmas.Bool.{cases_order}
-use Rattle.std.proofs.lemmas.List.{take-append-drop, take-take, take_more, take_all}
+use Rattle.std.proofs.lemmas.List.{take-append-drop, take-take, take_more}
 use Rattle.np_syntax.specs.Options.{◌>>=◌}
 use Rattle.np_syntax.proofs.Options.{then}
 use Rattle.np_syntax.specs.declared.event.Event.{Event}
@@ -48,9 +48,6 @@ stops-here start events index e c inside reaches refused = record {
 pub none-whole : (start : Config) (events : List Event) (index : ℕ) → StopsAt start events index → run start events ≡ None
 none-whole start events index stops =
     ap (run start) (sym (take-append-drop (index + 1) events)) ∙ none-behind start (take (index + 1) events) (drop (index + 1) events) stops.none
-
-pub all-run : (start : Config) (events : List Event) (index : ℕ) (c : Config) → length events ≤ index → run start (take index events) ≡ Some c → run start events ≡ Some c
-all-run start events index c over reaches = ap (run start) (sym (take_all index events over)) ∙ reaches
 
 -- ---- where events stop being a run
 

@@ -1,54 +1,11 @@
--- A sound process, pattern and expression by its form: what each form's parts are.
-use Rattle.std.proofs.Common.{◌≡◌, ◌<◌, ◌⊎◌, inl, inr, ℕ, ◌+◌, List, [], ◌∷◌, ◌++◌, refl, sym, subst}
-use Rattle.np_syntax.specs.declared.value.Value.{Value}
-use Rattle.np_syntax.specs.declared.value.Value as value
-use Rattle.np_syntax.specs.declared.expression.Expr.{Expr}
-use Rattle.np_syntax.specs.declared.expression.ExprForm.{ExprForm, ExprForm-F, out-ExprForm}
-use Rattle.np_syntax.specs.declared.expression.ExprForm.TheVariants as exprv
+-- A sound process by its form: what each form's parts are.
+use Rattle.std.proofs.Common.{◌≡◌, ℕ, ◌+◌, List, [], ◌∷◌, ◌++◌, refl, sym, subst}
 use Rattle.np_syntax.specs.declared.pattern.Pat.{Pat}
-use Rattle.np_syntax.specs.declared.pattern.PatForm.{PatForm, PatForm-F, out-PatForm}
-use Rattle.np_syntax.specs.declared.pattern.PatForm.TheVariants as patv
 use Rattle.np_syntax.specs.declared.process.Proc.{Proc}
 use Rattle.np_syntax.specs.declared.process.ProcForm.{ProcForm, ProcForm-F, out-ProcForm}
 use Rattle.np_syntax.specs.declared.process.ProcForm.TheVariants as formv
-use Rattle.np_scope.specs.Resolved.{main_name}
-use Rattle.np_scope.specs.Sound.{Among, IsSoundExpr, AreSoundExprs, Binds, BindAll, IsSoundProc}
-use Rattle.np_scope.specs.Written.{IsLiteral, IsChannelType}
-
--- ---- expressions
-
-abbrev pub SoundValue : ℕ → Value → Type 0
-SoundValue n v = IsLiteral v ⊎ (((s : ℕ) × (v ≡ value.Site s) × (s < n)) ⊎ (v ≡ value.Agent (main_name n)))
-
-abbrev pub ExprParts : ℕ → List ℕ → ExprForm-F ExprForm Expr → Type 0
-ExprParts n scope (ExprForm-F.Val v) = SoundValue n v
-ExprParts n scope (ExprForm-F.Var x) = Among x scope
-ExprParts n scope (ExprForm-F.Tuple es) = AreSoundExprs n scope es
-ExprParts n scope (ExprForm-F.Bin o a b) = IsSoundExpr n scope a × IsSoundExpr n scope b
-ExprParts n scope (ExprForm-F.Pack c e) = ⊥
-ExprParts n scope (ExprForm-F.With m a l) = ⊥
-
-pub expr-parts : (n : ℕ) (scope : List ℕ) {e : Expr} → IsSoundExpr n scope e → ExprParts n scope (out-ExprForm e.form)
-expr-parts n scope (IsSoundExpr.literal {v = v} l) = subst (ExprParts n scope) (sym (exprv.outs-Val v)) (inl l)
-expr-parts n scope (IsSoundExpr.site {s = s} h) = subst (ExprParts n scope) (sym (exprv.outs-Val (value.Site s))) (inr (inl (s, refl, h)))
-expr-parts n scope IsSoundExpr.main = subst (ExprParts n scope) (sym (exprv.outs-Val (value.Agent (main_name n)))) (inr (inr refl))
-expr-parts n scope (IsSoundExpr.variable {x = x} h) = subst (ExprParts n scope) (sym (exprv.outs-Var x)) h
-expr-parts n scope (IsSoundExpr.tuple {es = es} h) = subst (ExprParts n scope) (sym (exprv.outs-Tuple es)) h
-expr-parts n scope (IsSoundExpr.operation {o = o} {a = a} {b = b} g h) = subst (ExprParts n scope) (sym (exprv.outs-Bin o a b)) (g, h)
-
--- ---- patterns
-
-abbrev pub PatParts : List ℕ → List ℕ → List ℕ → PatForm-F PatForm Pat → Type 0
-PatParts scope inner bound PatForm-F.Any = (inner ≡ scope) × (bound ≡ [])
-PatParts scope inner bound (PatForm-F.Bind x) = (inner ≡ x ∷ scope) × (bound ≡ x ∷ [])
-PatParts scope inner bound (PatForm-F.Tuple ps) = BindAll scope ps inner bound
-
-pub pat-parts : {scope inner bound : List ℕ} {p : Pat} → Binds scope p inner bound → PatParts scope inner bound (out-PatForm p.form)
-pat-parts (Binds.any {scope = s}) = subst (PatParts s s []) (sym patv.outs-Any) (refl, refl)
-pat-parts (Binds.name {scope = s} {x = x}) = subst (PatParts s (x ∷ s) (x ∷ [])) (sym (patv.outs-Bind x)) (refl, refl)
-pat-parts (Binds.tuple {scope = s} {inner = inner} {bound = bound} {ps = ps} h) = subst (PatParts s inner bound) (sym (patv.outs-Tuple ps)) h
-
--- ---- processes
+use Rattle.np_scope.specs.Sound.{IsSoundExpr, Binds, IsSoundProc}
+use Rattle.np_scope.specs.Written.{IsChannelType}
 
 module _ (n : ℕ) (scope : List ℕ) (node after : ℕ) (bound : List ℕ) where
   -- a body in the scope of a pattern's binders

@@ -1,6 +1,5 @@
 -- A low program is kept where it has a table, and refused where its nodes are too many.
 use Rattle.std.proofs.Common.{◌≡◌, ◌≢◌, ℕ, ◌*◌, ◌≤◌, ◌<◌, inr, refl, List, length, Result, Ok, Err, IfOk, IfErr, sym, subst, ◌∙◌, arith}
-use Rattle.np_syntax.specs.declared.limits.TheConstants.{MOST_SITES}
 use Rattle.np_syntax.specs.declared.program.LowProgram.{LowProgram}
 use Rattle.np_syntax.specs.declared.program.Program.{Program}
 use Rattle.np_calculus.specs.Runs.{RunsWell}
@@ -56,10 +55,6 @@ makes_many infrastructure budget p low is many = inr (record {
   many = subst (λ (q : LowProgram). MOST_EVENTS < length q.sites * budget) is.is many;
   is = refl;
 })
-
--- a low program that can run has few sites, and main stands at one of them
-pub few_sites : (low : LowProgram) → RunsWell (start_low low) low.at → length low.sites ≤ MOST_SITES
-few_sites low runs = omega (arith, runs.sites, low-sites low)
 
 pub at_site : (low : LowProgram) → RunsWell (start_low low) low.at → low.at < length low.sites
 at_site low runs = omega (arith, runs.site, low-sites low)

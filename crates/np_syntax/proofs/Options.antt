@@ -8,10 +8,6 @@ pub record Passed {A B : Type 0} (o : Option A) (f : A → Option B) (b : B) : T
   pub is : o ≡ Some value
   pub rest : f value ≡ Some b
 
-pub passed : {A B : Type 0} (o : Option A) (f : A → Option B) {b : B} → (o >>= f) ≡ Some b → Passed o f b
-passed None f e = absurd cc
-passed (Some a) f e = record { value = a; is = refl; rest = e }
-
 pub needed : {B : Type 0} (t : Bool) (o : Option B) {b : B} → (need t >> o) ≡ Some b → (t ≡ true) × (o ≡ Some b)
 needed true o e = (refl, e)
 needed false o e = absurd cc

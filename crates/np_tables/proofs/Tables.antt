@@ -86,15 +86,6 @@ module _ {X : Type 0} where
   pub same_tables : (m n : NameMap X) → ((q : Name) → map.get m q ≡ map.get n q) → m ≡ n
   same_tables = same_map total exact
 
-  some_or : (t : Bool) (v : X) (o : Option X) → IsSome o → cond t (Some v) o ≡ None → ⊥
-  some_or true v o h e = cc
-  some_or false v None h e = cc
-  some_or false v (Some x) h e = cc
-
-  -- a name that is in a map stays in it
-  pub still_there : (m : NameMap X) (k j : Name) (v : X) → IsSome (map.get m k) → map.get (map.insert m j v) k ≡ None → ⊥
-  still_there m k j v h e = some_or (same_name k j) v (map.get m k) h (sym (get-put m j v k) ∙ e)
-
   kept_some : (t : Bool) (v : X) (o : Option X) → IsSome o → IsSome (cond t (Some v) o)
   kept_some true v o h = refl
   kept_some false v o h = h
@@ -167,16 +158,6 @@ module _ {X : Type 0} where
   put-put-cut m j k a b = same_tables _ _ λ q.
       rw (get-put (map.insert (map.remove m k) j a) k b q, get-put (map.remove m k) j a q, get-cut m k q, get-put (map.insert m j a) k b q, get-put m j a q) (put_after (same_name q j) (same_name q k) a b _)
 
-  swap_none : (s t : Bool) (o : Option X) → cond t None (cond s None o) ≡ cond s None (cond t None o)
-  swap_none true true o = refl
-  swap_none true false o = refl
-  swap_none false true o = refl
-  swap_none false false o = refl
-
-  -- two names taken out, in either order
-  pub cut_swap : (m : NameMap X) (j k : Name) → map.remove (map.remove m j) k ≡ map.remove (map.remove m k) j
-  cut_swap m j k = same_tables _ _ λ q. rw (get-cut (map.remove m j) k q, get-cut m j q, get-cut (map.remove m k) j q, get-cut m k q) (swap_none (same_name q j) (same_name q k) _)
-
   cut_or_put : (s t : Bool) (a : X) (o : Option X) → (s ≡ true → t ≡ true → ⊥) → cond t None (cond s (Some a) o) ≡ cond s (Some a) (cond t None o)
   cut_or_put true true a o apart = absurd (apart refl refl)
   cut_or_put true false a o apart = refl
@@ -204,14 +185,6 @@ same_names = same_set total exact
 -- a name that was put is a member
 pub born_here : (s : NameSet) (k : Name) → set.contains (set.insert s k) k ≡ true
 born_here s k = rw (born_insert s k k, same_name-itself k) refl
-
-and_back : (t b : Bool) → (t ≡ true → b ≡ false) → (not t && (t || b)) ≡ b
-and_back true b h = sym (h refl)
-and_back false b h = refl
-
--- a new name that is taken back
-pub born_back : (s : NameSet) (k : Name) → set.contains s k ≡ false → set.remove (set.insert s k) k ≡ s
-born_back s k h = same_names _ _ λ q. rw (born_remove (set.insert s k) k q, born_insert s k q) (and_back (same_name q k) (set.contains s q) λ t. rw (same_name-is q k t) h)
 
 or_same : (t b : Bool) → (t ≡ true → b ≡ true) → (t || b) ≡ b
 or_same true b h = sym (h refl)

@@ -1,5 +1,5 @@
 -- A walk through the keys of a table, by their index.
-use Rattle.std.proofs.Common.{◌≡◌, ◌<◌, ◌+◌, ◌⊎◌, inl, inr, ℕ, List, length, Option, Some, arith, sym, subst, ◌∙◌}
+use Rattle.std.proofs.Common.{◌≡◌, ◌<◌, ◌+◌, ◌⊎◌, inl, inr, ℕ, List, length, Some, arith, sym, subst, ◌∙◌}
 use Rattle.std.specs.Prelude.{slice_index_or}
 use Rattle.std.proofs.lemmas.List.{get_or_default}
 use Rattle.std.specs.FinMap as map
@@ -25,10 +25,3 @@ one-more P ks i r within is p before k d h =
 -- a walk to the end has met each name of the map
 pub everywhere : {X : Type 0} (P : Name → Type 0) (m : NameMap X) (ks : List Name) → Covers m ks → Before P ks (length ks) → (q : Name) (x : X) → map.get m q ≡ Some x → P q
 everywhere P m ks covers before q x e = let s = covers q x e in subst P (s.is q) (before s.index q s.within)
-
-same_some : {A : Type 0} {x y : A} → Some x ≡ Some y → x ≡ y
-same_some e = cc
-
--- a fact of the entry that a look-up gave
-pub at-entry : {X : Type 0} (Q : X → Type 0) (x : X) (o : Option X) → Some x ≡ o → Q x → (y : X) → o ≡ Some y → Q y
-at-entry Q x o e q y f = subst Q (same_some (e ∙ f)) q

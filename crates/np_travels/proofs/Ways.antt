@@ -63,13 +63,6 @@ module _ {X : Type 0} (k : Name) (v : X) (o : Option X) where
       at true e h = inl (same_name-is q k e)
       at false e h = inr h
 
-  cut-there : (q : Name) → left_by ((k, None) ∷ []) q o ≡ None → (q ≡ k) ⊎ (o ≡ None)
-  cut-there q h = at (same_name q k) refl h
-    where
-      at : (t : Bool) → same_name q k ≡ t → cond t None o ≡ None → (q ≡ k) ⊎ (o ≡ None)
-      at true e h = inl (same_name-is q k e)
-      at false e h = inr h
-
 none-is : {X : Type 0} (o : Option X) → o ≡ None → IsSome o → ⊥
 none-is None e h = cc
 none-is (Some x) e h = cc

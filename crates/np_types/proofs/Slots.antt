@@ -1,14 +1,11 @@
 -- Maps of numbers that are stored as entries in some order, and how a binder gets back what it had.
 use Rattle.std.proofs.Common.{◌≡◌, ℕ, Bool, true, false, cond, nat_eq, List, [], ◌∷◌, ◌++◌, Option, None, Some, IsSome, refl, sym, ap, subst, ◌∙◌}
 use Rattle.std.specs.Ordering.{nat_cmp, eq_by_cmp, is_eq}
-use Rattle.std.specs.declared.cmp.Ordering.{Ordering}
-use Rattle.std.specs.declared.cmp.Ordering.TheVariants.{Less, Equal, Greater}
 use Rattle.std.specs.Cmp.{eq_by_cmp_equiv, nat_cmp_total, tied_itself, unsigned_tied}
 use Rattle.std.specs.Map.{lookup}
 use Rattle.std.specs.FinMap as map
 use Rattle.std.specs.FinMap.{get-from_entries, find, get-insert, get-remove, same_map, nat_cmp-IsAntisymmetric}
 use Rattle.np_syntax.specs.declared.types.Ty.{Ty}
-use Rattle.np_syntax.proofs.Options.{none_there}
 use Rattle.np_tables.proofs.Tables.{is_equal}
 use Rattle.np_types.specs.Least.{Types}
 use Rattle.np_types.specs.Trails.{restored, rewound, Held}
@@ -45,10 +42,6 @@ module _ {X : Type 0} where
 
   pub cut_stored : (es fs : List (ℕ × X)) (k : ℕ) → ((q : ℕ) → looked fs q ≡ cond (nat_eq k q) None (looked es q)) → stored fs ≡ map.remove (stored es) k
   cut_stored es fs k h = same _ _ λ q. rw (get-stored fs q, get-remove nat_cmp_total (stored es) k q, get-stored es q, h q, same_key-swap q k, unsigned_tied k q) refl
-
-  -- a binder that has a type is found
-  pub found_there : (es : List (ℕ × X)) (q : ℕ) → IsSome (map.get (stored es) q) → looked es q ≡ None → ⊥
-  found_there es q h e = none_there _ h (get-stored es q ∙ e)
 
   pub put_here : (m : map.FinMap nat_cmp X) (k : ℕ) (v : X) → map.get (map.insert m k v) k ≡ Some v
   put_here m k v = get-insert nat_cmp_total m k v k ∙ ap (λ b. cond b (Some v) (map.get m k)) (ap is_eq (tied_itself nat_cmp_total k))

@@ -23,9 +23,6 @@ pub record IsGone (q : Name) (c : Config) : Type 0 where
   pub born : set.contains c.born q ≡ true
   pub none : IsMark (inside c) q → ⊥
 
-no_value : {A : Type 0} {x : A} → None ≡ Some x → ⊥
-no_value e = cc
-
 some_none : {A : Type 0} (o : Option A) → IsSome o → o ≡ None → ⊥
 some_none None h e = cc
 some_none (Some x) h e = cc

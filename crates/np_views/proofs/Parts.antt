@@ -1,13 +1,10 @@
 -- Runs in parts, and the lists that are read off them.
-use Rattle.std.proofs.Common.{◌≡◌, ℕ, suc, ◌+◌, ◌<◌, List, [], ◌∷◌, ◌++◌, take, drop, get_or, length, Option, None, Some, IsSome, refl, sym, ap, subst, ◌∙◌, append_assoc, append-nil}
+use Rattle.std.proofs.Common.{◌≡◌, ℕ, ◌+◌, ◌<◌, List, [], ◌∷◌, ◌++◌, take, drop, get_or, length, Option, None, Some, IsSome, refl, sym, ap, subst, ◌∙◌}
 use Rattle.std.proofs.lemmas.List.{take-append-drop, take_more}
 use Rattle.np_syntax.specs.Options.{◌>>=◌}
-use Rattle.np_syntax.proofs.Options.{done, then}
 use Rattle.np_syntax.specs.declared.event.Event.{Event}
 use Rattle.np_calculus.specs.Config.{Config}
 use Rattle.np_calculus.specs.Reductions.{apply, run}
-use Rattle.np_views.specs.OneStep.{in_place_of, one_step}
-use Rattle.np_views.specs.Past.{each_of}
 
 pub run-parts : (c : Config) (xs ys : List Event) → run c (xs ++ ys) ≡ (run c xs >>= λ d. run d ys)
 run-parts c [] ys = refl
@@ -16,13 +13,6 @@ run-parts c (e ∷ xs) ys = on (apply c e) (λ d. run-parts d xs ys)
     on : (o : Option Config) → ((d : Config) → run d (xs ++ ys) ≡ (run d xs >>= λ d. run d ys)) → (o >>= λ d. run d (xs ++ ys)) ≡ ((o >>= λ d. run d xs) >>= λ d. run d ys)
     on None f = refl
     on (Some d) f = f d
-
-pub one-parts : (c d : Config) (xs ys : List Event) → run c xs ≡ Some d → one_step c (xs ++ ys) ≡ one_step c xs ++ one_step d ys
-one-parts c d [] ys h = ap (λ c. one_step c ys) (sym (done h))
-one-parts c d (e ∷ xs) ys h = then (apply c e) _ h λ next first h.
-    let at : List Event = in_place_of e.kind c (apply c e) e in
-    ap (λ o. at ++ each_of o (λ d. one_step d (xs ++ ys))) first ∙ ap (λ l. at ++ l) (one-parts next d xs ys h)
-    ∙ sym (append_assoc at (one_step next xs) (one_step d ys)) ∙ ap (λ o. (at ++ each_of o (λ d. one_step d xs)) ++ one_step d ys) (sym first)
 
 -- ---- one event more
 
@@ -41,10 +31,3 @@ module _ (start : Config) (events : List Event) (index : ℕ) (e : Event) (c : C
 
   pub goes-on : (d : Config) → apply c (get_or events index e) ≡ Some d → run start (take (index + 1) events) ≡ Some d
   goes-on d h = one-more ∙ ap (λ o. o >>= λ d. Some d) h
-
-  -- the one-step list grows by what stands in place of the event
-  pub one-more-step : (d : Config) → apply c (get_or events index e) ≡ Some d
-      → one_step start (take (index + 1) events) ≡ one_step start (take index events) ++ in_place_of (get_or events index e).kind c (apply c (get_or events index e)) (get_or events index e)
-  one-more-step d h =
-      ap (one_step start) (take_more events index e inside) ∙ one-parts start c (take index events) (get_or events index e ∷ []) reaches
-      ∙ ap (λ l. one_step start (take index events) ++ l) (ap (λ o. in_place_of (get_or events index e).kind c (apply c (get_or events index e)) (get_or events index e) ++ each_of o (λ d. [])) h ∙ append-nil _)

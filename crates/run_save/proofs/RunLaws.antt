@@ -130,9 +130,6 @@ nothing-ours start = record { names = λ s. tt; order = λ k. subst (λ es. IsFi
     none : IsFirstInFirstOut none_yet
     none = record { links = λ l. ([], refl); sent = refl }
 
-pub all-ours : (start : Config) (events : List Event) (index : ℕ) → length events ≤ index → IsOursFrom start (take index events) → IsOursFrom start events
-all-ours start events index over ours = subst (IsOursFrom start) (take_all index events over) ours
-
 -- what the answer for the event at this place says of the events up to it
 module _ (start : Config) (events : List Event) (index : ℕ) (e : Event) (inside : index < length events) where
   pub stops-at : (met : Bool) (notes : Notes) → met ≡ false → IsOursFrom start (take index events) → IsNoted met notes start (take index events ++ get_or events index e ∷ [])

@@ -5,13 +5,11 @@ use Rattle.np_syntax.specs.Options.{◌>>=◌}
 use Rattle.np_syntax.specs.declared.value.Name.{Name}
 use Rattle.np_tables.specs.Names.{NameMap}
 use Rattle.np_calculus.specs.Footprints.{listed}
-use Rattle.np_views.specs.Index.{Index, IsOneOf, causes, looked_up, noted, noting}
-use Rattle.np_views.specs.Past.{made_names}
+use Rattle.np_views.specs.Index.{Index, IsOneOf, causes, looked_up}
 use Rattle.run_views.specs.declared.causing.Causes.{Causes}
 use Rattle.run_views.specs.declared.touching.Touched.{Touched}
-use Rattle.run_views.specs.declared.touching.Written.{Written}
 use Rattle.run_views.specs.Causes.{last_of, places_of}
-use Rattle.run_views.specs.Touching.{touched_as, written_as}
+use Rattle.run_views.specs.Touching.{touched_as}
 
 looked-parts : (t : NameMap ℕ) (xs ys : List Name) → looked_up t (xs ++ ys) ≡ looked_up t xs ++ looked_up t ys
 looked-parts t [] ys = refl
@@ -47,15 +45,3 @@ causes-found x t c actor other agent asked k =
     (more-seen x.marks t.other k (g ∷ s ∷ []) y (more-seen x.places t.agent k (s ∷ []) z (more-seen x.places t.asked k [] [] (λ h. h, λ h. h)))) in
     subst (λ l. IsOneOf k l ↔ IsOneOf k (causes x (touched_as t))) places
     (subst (λ l. IsOneOf k (a ∷ b ∷ g ∷ s ∷ []) ↔ IsOneOf k l) (sym (causes-seen x t)) all)
-
-noted-parts : (t : NameMap ℕ) (j : ℕ) (xs ys : List Name) → noted t j (xs ++ ys) ≡ noted (noted t j xs) j ys
-noted-parts t j [] ys = refl
-noted-parts t j (x ∷ xs) ys = noted-parts (map.insert t x j) j xs ys
-
-pub noting-parts : (x : Index) (w : Written) (j : ℕ) (a b c p : NameMap ℕ) → a ≡ noted x.marks j (listed w.actor) → b ≡ noted a j (listed w.other) → c ≡ noted b j (made_names w.made) → p ≡ noted x.places j (listed w.agent)
-    → record { marks = c; places = p } ≡ noting x j (written_as w)
-noting-parts x w j a b c p first second third place =
-    let marks : c ≡ noted x.marks j (listed w.actor ++ (listed w.other ++ made_names w.made)) =
-    third ∙ ap (λ t. noted t j (made_names w.made)) (second ∙ ap (λ t. noted t j (listed w.other)) first)
-    ∙ sym (noted-parts x.marks j (listed w.actor) (listed w.other ++ made_names w.made) ∙ noted-parts (noted x.marks j (listed w.actor)) j (listed w.other) (made_names w.made)) in
-    λ i. record { marks = marks i; places = place i }

@@ -3,5 +3,4 @@ pub mod FirstTests
 pub mod Marks
 pub mod PrintPasts
 pub mod Steppings
-pub mod Touchings
 pub mod Tracings

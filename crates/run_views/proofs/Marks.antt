@@ -77,16 +77,6 @@ first-marked found i count = record {
 }
 
 module _ (found : List Causes) (before : AreBefore found) (i j : ℕ) (ms : List Bool) (h : AreMarked found i (j + 1) ms) where
-  -- a place without a mark
-  pub skip-marked : is_marked ms j ≡ false → AreMarked found i j ms
-  skip-marked off = record {
-    count = h.count;
-    has = h.has;
-    causes = λ m k c from on is one. ⊎_elim (λ same. absurd (let no : is_marked ms m ≡ false = ap (is_marked ms) (sym same) ∙ off in cc))
-        (λ rest. ⊎_elim (λ less. h.causes m k c (omega arith) on is one) (λ less. absurd (omega arith)) rest) (cases_order j m);
-    least = h.least;
-  }
-
   -- a place with a mark, the causes of which are marked now
   pub step-marked : (c : Causes) → is_marked ms j ≡ true → slice_get found j ≡ Some c → AreMarked found i j (with_marks ms (places_of c))
   step-marked c on is = record {

@@ -90,9 +90,5 @@ quiet_cut code old new k e f was = record {
       (cut_cases old.agents k q x (ap (λ (m : NameMap Pool). map.get m q) (sym e) ∙ h)).1;
 }
 
--- an agent that is changed in place, and keeps its name
-pub named_with : (agents : NameMap Pool) (k : Name) (p : Pool) → p.name ≡ k → AreNamed agents → AreNamed (map.insert agents k p)
-named_with agents k p e was = subst (λ n. AreNamed (map.insert agents n p)) e (named_put agents p was)
-
 pub quiet_with : (code : ProgramTable) (s : Standing) (k : Name) (p : Pool) → AreQuiet code s → AreQuiet code (with_agent s k p)
 quiet_with code s k p was = quiet_put code s (with_agent s k p) k p refl refl was

@@ -1,16 +1,10 @@
 -- Who waits in a queue after its steps.
-use Rattle.std.proofs.Common.{◌≡◌, ℕ, zero, suc, Bool, true, false, ◌||◌, List, [], ◌∷◌, ◌++◌, length, Option, None, Some, IsSome, OnSome, refl, sym, ap, subst, ◌∙◌, arith}
+use Rattle.std.proofs.Common.{◌≡◌, ℕ, zero, suc, Bool, true, false, ◌||◌, List, [], ◌∷◌, length, Option, None, Some, IsSome, OnSome, refl, sym, subst, arith}
 use Rattle.std.specs.Prelude.{slice_index_or, remove}
-use Rattle.std.proofs.lemmas.List.Folds.{list_any-append}
 use Rattle.np_syntax.specs.declared.value.Name.{Name}
 use Rattle.np_tables.specs.Names.{same_name}
-use Rattle.np_tables.proofs.Tables.{same_name-itself}
 use Rattle.np_tables.proofs.Walks.{Before}
 use Rattle.site_agents.specs.Queues.{Waiting, listed, waits, Keeps, KeepsBut}
-
-or_true : (b : Bool) → (b || true) ≡ true
-or_true true = refl
-or_true false = refl
 
 or_left : (a b c : Bool) → (a || b) ≡ true → (b ≡ true → c ≡ true) → (a || c) ≡ true
 or_left true b c h f = refl
@@ -19,28 +13,9 @@ or_left false b c h f = f h
 abbrev pub waiting : List Name → Bool → Waiting
 waiting names lost = record { names = names; lost = lost }
 
--- where one may be missing, anyone may wait
-pub keeps_lost : (old : Waiting) (names : List Name) → Keeps old (waiting names true)
-keeps_lost old names = record { each = λ q h. refl }
-
-last_waits : (q : Name) (names : List Name) (n : Name) → same_name q n ≡ true → listed (names ++ n ∷ []) q ≡ true
-last_waits q names n t = list_any-append (same_name q) names (n ∷ []) ∙ ap (λ b. listed names q || (b || false)) t ∙ or_true (listed names q)
-
-pub waits_last : (names : List Name) (lost : Bool) (n : Name) → waits (waiting (names ++ n ∷ []) lost) n ≡ true
-waits_last names lost n = ap (λ b. lost || b) (last_waits n names n (same_name-itself n)) ∙ or_true lost
-
-longer : (q : Name) (names more : List Name) → listed names q ≡ true → listed (names ++ more) q ≡ true
-longer q names more h = list_any-append (same_name q) names more ∙ ap (λ b. b || listed more q) h
-
-pub keeps_push : (names : List Name) (lost : Bool) (n : Name) → Keeps (waiting names lost) (waiting (names ++ n ∷ []) lost)
-keeps_push names lost n = record { each = λ q h. or_left lost _ _ h (longer q names (n ∷ [])) }
-
 drop_or : (a b : Bool) → a ≡ false → (a || b) ≡ true → b ≡ true
 drop_or true b e h = absurd cc
 drop_or false b e h = h
-
-pub keeps_pop : (names : List Name) (lost : Bool) (n : Name) → KeepsBut n (waiting (n ∷ names) lost) (waiting names lost)
-keeps_pop names lost n = record { each = λ q apart h. or_left lost _ _ h (drop_or (same_name q n) (listed names q) apart) }
 
 cut_listed : (q : Name) (names : List Name) (i : ℕ) (n : Name) → n ≡ slice_index_or names i n → same_name q n ≡ false → listed names q ≡ true → listed (remove names i) q ≡ true
 cut_listed q [] i n e apart h = absurd cc

@@ -94,10 +94,6 @@ module _ {P R : Type 0} {g : Port.Ghosts P R Item} {code : ProgramTable} where
   pub has_run : {most : ℕ} {failed : Bool} {xs : List (Seat P)} → IsCrew g code most failed xs → (end : Config) × IsCrewRun (program code) most (histories xs) end
   has_run {most} {failed} {xs} is = crew_run g code most xs is.stand is.program
 
-  -- after a round
-  pub crew_again : {most : ℕ} {failed now : Bool} {xs ys : List (Seat P)} → IsCrew g code most failed xs → Stand g code most ys → (now ≡ false → NoneFailed ys) → IsCrew g code most now ys
-  crew_again is stand sound = record { program = is.program; budget = is.budget; stand = stand; sound = sound }
-
 pub none_failed : {P : Type 0} {code : ProgramTable} {most : ℕ} {ports : List P} {xs : List (Seat P)} → AreFirst code most ports xs → NoneFailed xs
 none_failed first = record { each = λ i s at. (first.each i s at).2.failed }
 

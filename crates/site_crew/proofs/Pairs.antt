@@ -151,10 +151,6 @@ module _ {P R : Type 0} {g : Port.Ghosts P R Item} where
     site_b : g.site d.port ≡ j
     site_b = (linked.placed j d at_j).0
 
-    -- linked with another than the two
-    out-other : (p q : P) → g.site q ≢ j → g.linked c.port q → g.linked a' q
-    out-other p q n l = s.out_keeps.out_same q n l
-
     links : (k l : ℕ) (p r q t : P) → here k p q → here l r t → g.site p ≡ k → g.site r ≡ l → g.linked p r → g.linked q t
     links k l p r q t (sender ki pa qa) (sender li ra ta) sp sr h =
         let own : g.linked c.port c.port = subst (λ (v : P). g.linked c.port v) ra (subst (λ (v : P). g.linked v r) pa h) in

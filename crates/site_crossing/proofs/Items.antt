@@ -5,9 +5,6 @@ use Rattle.agent_move.specs.contracts.item.Item as item
 use Rattle.agent_move.specs.contracts.load.Load as load
 use Rattle.np_crossing.proofs.Agents.{agent_send, packet_field_send}
 
-pub load_send : IsSend load.the_row
-load_send = search (sendable, agent_send, packet_field_send, name_laws.the_field_send) depth 40
-
 load_field_send : IsSend (load.the_field).row
 load_field_send = search (sendable, agent_send, packet_field_send, name_laws.the_field_send) depth 40
 

@@ -1,10 +1,9 @@
 -- The views of a new inbox and of a new sender.
-use Rattle.std.proofs.Common.{◌≡◌, ℕ, ◌+◌, true, false, true≢false, [], refl, sym, ap, subst, ◌∙◌}
+use Rattle.std.proofs.Common.{◌≡◌, ℕ, ◌+◌, true, false, true≢false, refl, sym, ap, subst}
 use Rattle.np_inbox_rule.specs.declared.views.View.{View}
-use Rattle.np_inbox_rule.specs.declared.views.View.TheVariants.{Owner, Sender, OfSender, OfOwner, Spent}
-use Rattle.np_inbox_rule.specs.Steps.{first_view, one_site, one_made, new_sender}
-use Rattle.site_inboxes.specs.Views.{is_owner, is_sender, sites_in, made_in}
-use Rattle.site_inboxes.specs.Fresh.{IsUnusedView, IsFreshSender, IsOneMore}
+use Rattle.np_inbox_rule.specs.declared.views.View.TheVariants.{Owner}
+use Rattle.np_inbox_rule.specs.Steps.{first_view, one_site}
+use Rattle.site_inboxes.specs.Fresh.{IsUnusedView}
 
 module _ {I : Type 0} where
   pub unused-first : (v : View I) → v ≡ first_view → IsUnusedView 0 0 v
@@ -16,17 +15,3 @@ module _ {I : Type 0} where
 
   pub unused-counted : (n m : ℕ) (v w : View I) → IsUnusedView n m v → w ≡ one_site v → IsUnusedView (n + 1) m w
   unused-counted n m v w h e = subst (λ (u : View I). IsUnusedView (n + 1) m u) (sym e) (counted-of n m v h)
-
-  more-of : (v : View I) → is_owner v ≡ true → IsOneMore v (one_made v)
-  more-of (Owner v) e = record { role = refl; sites_same = refl; one_more = refl; got_same = refl; told_same = λ k. refl }
-  more-of v e = absurd (true≢false (sym e))
-
-  pub one-more : (v w : View I) → is_owner v ≡ true → w ≡ one_made v → IsOneMore v w
-  one-more v w e h = subst (λ (u : View I). IsOneMore v u) (sym h) (more-of v e)
-
-  fresh-of : (v : View I) → is_owner v ≡ true → IsFreshSender (sites_in v) (made_in v) (new_sender v)
-  fresh-of (Owner v) e = record { role = refl; sites_are = refl; number_is = refl; sent_none = refl; last_none = refl }
-  fresh-of v e = absurd (true≢false (sym e))
-
-  pub fresh-sender : (v w : View I) → is_owner v ≡ true → w ≡ new_sender v → IsFreshSender (sites_in v) (made_in v) w
-  fresh-sender v w e h = subst (λ (u : View I). IsFreshSender (sites_in v) (made_in v) u) (sym h) (fresh-of v e)

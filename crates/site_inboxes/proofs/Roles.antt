@@ -1,10 +1,10 @@
 -- What a step makes of a view, by whose the view is.
-use Rattle.std.proofs.Common.{◌≡◌, ◌≢◌, ℕ, Bool, true, false, true≢false, eq-eqb, ne_eqb, List, [], ◌∷◌, ◌++◌, length, refl, sym, ◌∙◌, ap, subst}
+use Rattle.std.proofs.Common.{◌≡◌, ◌≢◌, ℕ, true, false, true≢false, eq-eqb, ne_eqb, [], ◌∷◌, ◌++◌, refl, sym, ◌∙◌, ap, subst}
 use Rattle.np_inbox_rule.specs.declared.views.View.{View}
-use Rattle.np_inbox_rule.specs.declared.views.View.TheVariants.{Owner, Sender, OfSender, OfOwner, Spent}
-use Rattle.np_inbox_rule.specs.Steps.{IsOwner, IsSender, put, take, sent_in, last_in, got_in, told_in, join_sent, join_got, note_sent, note_got}
+use Rattle.np_inbox_rule.specs.declared.views.View.TheVariants.{Owner, Sender}
+use Rattle.np_inbox_rule.specs.Steps.{IsOwner, IsSender, take, sent_in, last_in, got_in, told_in, join_sent, join_got, note_sent, note_got}
 use Rattle.site_inboxes.specs.Views.{is_owner, is_sender, sites_in, made_in, number_in}
-use Rattle.site_inboxes.specs.Ends.{got_at, Settled}
+use Rattle.site_inboxes.specs.Ends.{Settled}
 
 module _ {I : Type 0} where
   pub sender-is : (v : View I) → is_sender v ≡ true → IsSender (sites_in v) (number_in v) v
@@ -22,13 +22,6 @@ module _ {I : Type 0} where
     pub number_same : number_in w ≡ number_in v
     pub last_same : last_in w ≡ last_in v
     pub sent_is : sent_in w ≡ sent_in v ++ x ∷ []
-
-  put-of : (v : View I) (x : I) → is_sender v ≡ true → Puts v (put v x) x
-  put-of (Sender v) x e = record { role = refl; sites_same = refl; number_same = refl; last_same = refl; sent_is = refl }
-  put-of v x e = absurd (true≢false (sym e))
-
-  pub puts-is : (v w : View I) (x : I) → is_sender v ≡ true → w ≡ put v x → Puts v w x
-  puts-is v w x e h = subst (λ (u : View I). Puts v u x) (sym h) (put-of v x e)
 
 module _ {I : Type 0} (sender : I → ℕ) where
   -- what a pop makes of the owner's view

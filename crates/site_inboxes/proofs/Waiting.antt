@@ -1,13 +1,12 @@
 -- What is known to be waiting, after a pop and after a settling.
-use Rattle.std.proofs.Common.{◌≡◌, ◌≢◌, ℕ, zero, suc, ◌+◌, ◌-◌, ◌<◌, ◌≤◌, true, List, [], ◌∷◌, ◌++◌, length, drop, refl, sym, ◌∙◌, ap, subst, arith, length-append, length-drop, drop_of_length-le}
+use Rattle.std.proofs.Common.{◌≡◌, ℕ, suc, ◌+◌, ◌-◌, true, List, [], ◌∷◌, ◌++◌, length, drop, refl, sym, ◌∙◌, ap, subst, arith, length-append}
 use Rattle.std.proofs.lemmas.List.{append-nil}
-use Rattle.crossbeam_queue.specs.Fifo.{Held}
-use Rattle.site_links.specs.Words.{Begins, only_at}
+use Rattle.site_links.specs.Words.{Begins}
 use Rattle.site_links.specs.declared.places.TheConstants.{PLACES}
 use Rattle.site_links.proofs.Rows.{only_at-same}
 use Rattle.np_inbox_rule.specs.declared.views.View.{View}
 use Rattle.np_inbox_rule.specs.Rule.{items_of}
-use Rattle.np_inbox_rule.specs.Steps.{Taken, IsTold, IsNext, sent_in, last_in, got_in, told_in}
+use Rattle.np_inbox_rule.specs.Steps.{Taken, sent_in, last_in, got_in, told_in}
 use Rattle.np_inbox_rule.proofs.Lists.{begins-none, begins-short, items-snoc}
 use Rattle.site_inboxes.specs.Views.{is_owner, sites_in, made_in, number_in}
 use Rattle.site_inboxes.specs.Ends.{got_at, known_at, TakesFrom, Settled, Counts}
@@ -55,18 +54,6 @@ module _ {I : Type 0} (sender : I → ℕ) where
         first = subst (λ (l : List I). Begins (x ∷ l) (known_at sender v s)) same next;
       }
 
-  -- where nothing waits, nothing is known to
-  pub none-known : (v : View I) → Held 0 (IsTold sender v) → (k : ℕ) → known_at sender v k ≡ []
-  none-known v h k =
-      let all : Begins (items_of sender k (got_in v) ++ items_of sender k h.0) (told_in v k) = h.2 k in
-      let none : items_of sender k h.0 ≡ [] = of-none h.0 h.1 k in
-      let short = begins-short (items_of sender k (got_in v) ++ items_of sender k h.0) (told_in v k) all in
-      drop_of_length-le (told_in v k) {i = length (got_at sender v k)} (omega (arith, short, length-append (items_of sender k (got_in v)) (items_of sender k h.0), ap length none))
-    where
-      of-none : (l : List I) → length l ≡ 0 → (k : ℕ) → items_of sender k l ≡ []
-      of-none [] e k = refl
-      of-none (x ∷ l) e k = absurd (omega (arith, e))
-
   module _ (v b v' b' : View I) (s : Settled sender v b v' b') (freed : Begins (sent_in v') (last_in v')) where
     front : Begins (told_in b' (number_in v)) (got_at sender b' (number_in v))
     front = subst (λ (l : List I). Begins l (got_at sender b' (number_in v))) (s.sent_same ∙ sym s.told_is) (subst (λ (l : List I). Begins (sent_in v') l) s.last_is freed)
@@ -76,13 +63,6 @@ module _ {I : Type 0} (sender : I → ℕ) where
 
     got-same : got_at sender b' (number_in v) ≡ got_at sender b (number_in v)
     got-same = ap (items_of sender (number_in v)) s.got_same
-
-    pub settled-few : (spare fresh : ℕ) → spare + length (sent_in v) ≡ PLACES + length (last_in v) → Counts (got_at sender b (number_in v)) (last_in v) fresh → spare + fresh ≤ PLACES
-    settled-few spare fresh spaced counts =
-        let short = begins-short (sent_in v') (last_in v') freed in
-        let same = ap length s.sent_same in let last = ap length s.last_is in let got = ap length got-same in
-        let fresh' = counts (omega (arith, short, same, last, got, spaced)) in
-        omega (arith, short, same, last, got, spaced, fresh')
 
     pub settled-spaced : (spare fresh : ℕ) → spare + length (sent_in v) ≡ PLACES + length (last_in v) → Counts (got_at sender b (number_in v)) (last_in v) fresh
         → (spare + fresh) + length (sent_in v') ≡ PLACES + length (last_in v')

@@ -1,7 +1,7 @@
 -- What comes before the rest of a list, while the rest changes.
 use Rattle.std.proofs.Common.{◌≡◌, ◌-◌, List, [], ◌∷◌, ◌++◌, length, sym, ◌∙◌, ap, subst, arith, append_assoc, length-append, Option, Some, None}
 use Rattle.std.specs.Prelude.{option_to_list}
-use Rattle.std.proofs.lemmas.List.{append-nil, take_at}
+use Rattle.std.proofs.lemmas.List.{take_at}
 use Rattle.site_links.specs.Fronts.{before}
 
 module _ {T : Type 0} where
@@ -26,20 +26,3 @@ module _ {T : Type 0} where
   pub left_popped : (whole rest : List T) (first : Option T) (after : List T) → rest ≡ option_to_list first ++ after → before whole rest ++ rest ≡ whole → before whole after ++ after ≡ whole
   left_popped whole rest None after e h = subst (λ (r : List T). before whole r ++ r ≡ whole) e h
   left_popped whole rest (Some item) after e h = left_less whole item after (subst (λ (r : List T). before whole r ++ r ≡ whole) e h)
-
-  -- the whole and the rest grow by the same
-  both_more : (whole rest more whole' rest' : List T) → before whole rest ++ rest ≡ whole → whole' ≡ whole ++ more → rest' ≡ rest ++ more → whole' ≡ before whole rest ++ rest'
-  both_more whole rest more whole' rest' h e f =
-      e ∙ (ap (λ front. front ++ more) (sym h) ∙ (append_assoc (before whole rest) rest more ∙ ap (λ end. before whole rest ++ end) (sym f)))
-
-  pub before_more : (whole rest more whole' rest' : List T) → before whole rest ++ rest ≡ whole → whole' ≡ whole ++ more → rest' ≡ rest ++ more → before whole' rest' ≡ before whole rest
-  before_more whole rest more whole' rest' h e f = before_is whole' (before whole rest) rest' (both_more whole rest more whole' rest' h e f)
-
-  pub left_more : (whole rest more whole' rest' : List T) → before whole rest ++ rest ≡ whole → whole' ≡ whole ++ more → rest' ≡ rest ++ more → before whole' rest' ++ rest' ≡ whole'
-  left_more whole rest more whole' rest' h e f =
-      ap (λ front. front ++ rest') (before_more whole rest more whole' rest' h e f) ∙ sym (both_more whole rest more whole' rest' h e f)
-
-  -- a front as long as the whole is the whole
-  pub all_of : (front rest whole : List T) → front ++ rest ≡ whole → length front ≡ length whole → front ≡ whole
-  all_of front [] whole h e = sym (append-nil front) ∙ h
-  all_of front (x ∷ rest) whole h e = absurd (omega (arith, length-append front (x ∷ rest), ap length h, e))

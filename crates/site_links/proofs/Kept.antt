@@ -1,7 +1,6 @@
 -- `Stays`, `Keeps` and `Begins` go on from step to step.
 use Rattle.std.proofs.Common.{◌≡◌, ℕ, List, [], ◌∷◌, ◌++◌, refl, sym, ap, ◌∙◌, arith}
 use Rattle.std.proofs.lemmas.List.{append-nil, append_assoc}
-use mathlib.Core.List.{IsPrefix}
 use Rattle.site_links.specs.Words.{Stays, Keeps, Begins}
 
 module _ {P : Type 0} {joined : P → P → Type 0} where
@@ -25,9 +24,6 @@ module _ {P : Type 0} {site among : P → ℕ} {linked : P → P → Type 0} whe
 module _ {T : Type 0} where
   pub Begins-same : (a b : List T) → b ≡ a → Begins b a
   Begins-same a b e = record { rest = []; is = e ∙ sym (append-nil a) }
-
-  pub Begins-from_prefix : (a b : List T) → IsPrefix a b → Begins b a
-  Begins-from_prefix a b h = record { rest = h.0; is = sym h.1 }
 
   pub Begins-trans : {a b c : List T} → Begins b a → Begins c b → Begins c a
   Begins-trans {a} {b} {c} h k = record { rest = h.rest ++ k.rest; is = k.is ∙ ap (λ (v : List T). v ++ k.rest) h.is ∙ append_assoc a h.rest k.rest }

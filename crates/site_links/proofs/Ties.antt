@@ -156,9 +156,6 @@ module _ {E I : Type 0} (g : Ends.Ghosts E I) where
     from_own = λ i p a lt. absurd (omega arith);
   }
 
-  pub made_none : Made g 0 []
-  made_none = record { count = refl; shape = λ i p e. cc; fresh = λ i p e. cc; pairs = λ i j p q e f. cc }
-
   fresh_read : {X : Type 0} (f : E → X) (d v : X) (p : PortOf E) (k : ℕ) → AllFresh g p → ((x : E) → IsNew g x → f x ≡ v) → (length p.ends.items ≤ k → d ≡ v) → read f d (slice_get p.ends.items k) ≡ v
   fresh_read f d v p k h here past =
       elim (slice_get_cases p.ends.items k).1 [

@@ -3,7 +3,6 @@ use Rattle.std.proofs.Common.{◌≡◌, ◌+◌, ℕ, max, List, length, Option
 use Rattle.std.specs.Prelude.{MatchOption, option_map}
 use Rattle.std.specs.FinMap as map
 use Rattle.np_syntax.specs.declared.event.Event.{Event}
-use Rattle.np_syntax.specs.declared.event.Kind.TheVariants as kind
 use Rattle.np_syntax.specs.declared.event.Made.TheVariants as made
 use Rattle.np_syntax.specs.declared.process.Proc.{Proc}
 use Rattle.np_syntax.specs.declared.value.Name.{Name}
@@ -100,10 +99,6 @@ event_at (load.Packet mark packet) s to e f = e ∙ f
 nothing_made : (l : Load) (s : ℕ) → (event_for s l).made ≡ made.Nothing
 nothing_made (load.Agent agent) s = refl
 nothing_made (load.Packet mark packet) s = refl
-
-pub no_print : (l : Load) (s : ℕ) → (event_for s l).kind ≡ kind.Print → ⊥
-no_print (load.Agent agent) s e = absurd cc
-no_print (load.Packet mark packet) s e = absurd cc
 
 module _ (arrives : Arrives) (lands : Lands) (lost : IsLost) (old mid new : Standing) (item : Item) (event : Event) (ready : NameMap Pool) (same : SameAgents old.agents ready)
     (named : AreNamed ready) (has_come : HasCome ready item.load mid.agents) (for_site : item.to ≡ old.site) (addressed : site_for item.load item.to ≡ item.to)

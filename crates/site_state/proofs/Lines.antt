@@ -1,9 +1,9 @@
 -- Lines that are made one after the other.
-use Rattle.std.proofs.Common.{◌≡◌, ◌<◌, ◌≤◌, ◌+◌, ℕ, zero, suc, List, [], ◌∷◌, ◌++◌, length, refl, sym, subst, ap, ◌∙◌, ◌⊎◌, inl, inr, arith}
+use Rattle.std.proofs.Common.{◌≡◌, ◌<◌, ◌≤◌, ◌+◌, ℕ, zero, suc, List, [], ◌∷◌, ◌++◌, length, refl, ap, ◌∙◌, arith}
 use Rattle.std.proofs.lemmas.Grind.{common_steps}
 use Rattle.agent_move.specs.declared.item.Item.{Item}
 use Rattle.site_state.specs.declared.line.TheConstants.{PLACES}
-use Rattle.site_state.specs.Lines.{Waiting, queue_at, room_at, AreEmpty, AreGrown, HaveRoom, IsPut, NothingOut, SameLines}
+use Rattle.site_state.specs.Lines.{Waiting, queue_at, room_at, AreEmpty, AreGrown, HaveRoom, IsPut, SameLines}
 
 pub queue-more : (lines : List Waiting) (x : Waiting) → x.items ≡ [] → ((to : ℕ) → queue_at lines to ≡ []) → (to : ℕ) → queue_at (lines ++ x ∷ []) to ≡ []
 queue-more [] x e h zero = e
@@ -38,24 +38,5 @@ lines_are_same a b e = record { sites = ap length e; queues = λ t. ap (λ m. qu
 
 pub put_after : (a b c : List Waiting) (to : ℕ) (x : Item) → SameLines a b → IsPut b to x c → IsPut a to x c
 put_after a b c to x l p = record { sites = p.sites ∙ l.sites; there = p.there ∙ ap (λ q. q ++ x ∷ []) (l.queues to); others = λ t n. p.others t n ∙ l.queues t }
-
-past_all : (lines : List Waiting) (to : ℕ) → length lines ≤ to → queue_at lines to ≡ []
-past_all [] to l = refl
-past_all (x ∷ xs) zero l = absurd (omega arith)
-past_all (x ∷ xs) (suc to) l = past_all xs to (omega arith)
-
-either : (to n : ℕ) → (to < n) ⊎ (n ≤ to)
-either to zero = inr (omega arith)
-either zero (suc n) = inl (omega arith)
-either (suc to) (suc n) = elim (either to n) [ inl l ↦ inl (omega arith) | inr l ↦ inr (omega arith) ]
-
-before : (to i : ℕ) → to < i + 1 → (to < i) ⊎ (to ≡ i)
-before to i l = grind (arith, l)
-
-pub nothing_out : (lines : List Waiting) → ((to : ℕ) → to < length lines → queue_at lines to ≡ []) → NothingOut lines
-nothing_out lines h = record { each = λ to. elim (either to (length lines)) [ inl l ↦ h to l | inr l ↦ past_all lines to l ] }
-
-pub one_further : (lines : List Waiting) (i : ℕ) → ((to : ℕ) → to < i → queue_at lines to ≡ []) → queue_at lines i ≡ [] → (to : ℕ) → to < i + 1 → queue_at lines to ≡ []
-one_further lines i h e to l = elim (before to i l) [ inl m ↦ h to m | inr same ↦ subst (λ k. queue_at lines k ≡ []) (sym same) e ]
 
 pub ruleset lines = (empty-more, roomy-more, same-lines)

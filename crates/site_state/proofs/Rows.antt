@@ -6,23 +6,19 @@ use Rattle.np_syntax.specs.declared.event.Kind.{Kind}
 use Rattle.np_syntax.specs.declared.event.Kind.TheVariants as kind
 use Rattle.np_syntax.specs.declared.value.Name.{Name}
 use Rattle.np_tables.specs.Names.{NameMap}
-use Rattle.np_calculus.specs.Changes.{still}
 use Rattle.np_holdings.specs.Holdings.{Holding, name_of}
 use Rattle.np_holdings.specs.Making.{AreNext}
 use Rattle.np_code.specs.Programs.{ProgramTable}
 use Rattle.agent_pool.specs.declared.ready.Ready.{Ready}
 use Rattle.agent_pool.specs.Pools.{Pool, atoms_of}
 use Rattle.agent_pool.specs.Readies.{IsReady, made_of}
-use Rattle.agent_pool.specs.Rows.{IsMet, Reduces, change_in, event_of, own_sight}
+use Rattle.agent_pool.specs.Rows.{IsMet, change_in, event_of, own_sight}
 use Rattle.site_state.specs.Parts.{is_inner}
 use Rattle.site_agents.specs.Standings.{CanDo}
 
 module _ (code : ProgramTable) (p q : Pool) (r : Ready) (k : Kind) (is : r.kind ≡ k) (first : Name) where
   pub met : IsReady code (atoms_of code.processes p) r → IsMet k code p r (made_of k false first first)
   met ready = subst (λ j. IsSome (change_in j (own_sight code p false) (event_of 0 r (made_of j false first first)))) is (ready false first first)
-
-  pub reduced : Reduces k code p q r (made_of k false first first) still → Reduces r.kind code p q r (made_of r.kind false first first) still
-  reduced h = subst (λ j. Reduces j code p q r (made_of j false first first) still) (sym is) h
 
 -- an event within an agent makes at most the next name
 pub inner_makes : (k : Kind) (h : Holding) (first : Name) → is_inner k ≡ true → first ≡ name_of h.site h.next → AreNext h (made_of k false first first)

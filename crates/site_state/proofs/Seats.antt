@@ -7,7 +7,7 @@ use Rattle.np_syntax.specs.declared.value.Name.{Name}
 use Rattle.np_syntax.specs.declared.process.Tag.{Tag}
 use Rattle.np_syntax.specs.declared.value.Value.{Value}
 use Rattle.np_tables.specs.Names.{NameMap, same_name}
-use Rattle.np_tables.proofs.Tables.{get-none, get-put, put-cut, same_name-is, cut_absent, cut_cases, cut_here, put_here}
+use Rattle.np_tables.proofs.Tables.{get-none, get-put, put-cut, same_name-is, cut_here, put_here}
 use Rattle.np_code.specs.Programs.{ProgramTable}
 use Rattle.agent_pool.specs.Pools.{Pool, Unchanged}
 use Rattle.site_agents.specs.LentAgents.{with_agent}
@@ -28,19 +28,12 @@ named-put agents k p h n = record { each = λ q x e. named_at agents k p h n q (
 pub named-none : (agents : NameMap Pool) → agents ≡ map.empty → AreNamed agents
 named-none agents e = record { each = λ q x f. let none : map.get agents q ≡ None = ap (λ m. map.get m q) e ∙ get-none q in absurd cc }
 
-pub named-cut : (agents : NameMap Pool) (k : Name) → AreNamed agents → AreNamed (map.remove agents k)
-named-cut agents k h = record { each = λ q x e. h.each q x (cut_cases agents k q x e).1 }
-
 -- an agent that is changed where it stands, and keeps its name
 pub quiet_with : (code : ProgramTable) (s : Seated) (k : Name) (p : Pool) → AreQuiet code s → AreQuiet code (with_agent s k p)
 quiet_with = quiet_there
 
 pub keeps_with : (s : Seated) (k : Name) (x p : Pool) → map.get s.agents k ≡ Some x → p.name ≡ x.name → KeepsSeats s (with_agent s k p)
 keeps_with s k x p e n = record { named = λ h. named-put s.agents k p h (n ∙ h.each k x e); quiet = λ code h. quiet_with code s k p h }
-
--- nothing is found to be quiet
-pub none_quiet : (code : ProgramTable) (s : Seated) → s.quiet ≡ map.empty → AreQuiet code s
-none_quiet code s e = record { each = λ q p f g. let none : map.get s.quiet q ≡ None = ap (λ m. map.get m q) e ∙ get-none q in absurd cc }
 
 pub absent_again : (b c : NameMap Pool) (k j : Name) → c ≡ map.remove b k → j ≡ k → map.get c j ≡ None
 absent_again b c k j bc same = (λ i. map.get (bc i) (same i)) ∙ cut_here b k
@@ -61,16 +54,10 @@ same_again a d k p x e is same = record {
       ∙ at_back a k p x e (λ i. (same.name i, same.atoms i)) q (same_name q k) refl;
 }
 
-pub spare_none : (d : NameMap Pool) (k : Name) → map.get d k ≡ None → HasSpare d k
-spare_none d k e = record { each = λ x f. absurd cc }
-
 pub spare_back : (d a : NameMap Pool) (k : Name) (p : Pool) → d ≡ map.insert a k p → 1 ≤ p.spare → HasSpare d k
 spare_back d a k p e l = record {
   each = λ x f. let h : Some p ≡ Some x = sym (put_here a k p) ∙ ap (λ m. map.get m k) (sym e) ∙ f in subst (λ (y : Pool). 1 ≤ y.spare) (same_Some p x h) l;
 }
-
-pub given_none : (old new : NameMap Pool) (to mark chan : Name) (value : Value) (tag : Tag) → map.get old to ≡ None → new ≡ map.remove old to → IsGiven old to mark chan value tag new
-given_none old new to mark chan value tag e n = subst (λ o. MatchOption o (new ≡ old) (λ b. HasGot old to b mark chan value tag new)) (sym e) (n ∙ cut_absent old to e)
 
 pub given_some : (old new : NameMap Pool) (to mark chan : Name) (value : Value) (tag : Tag) (before : Pool) → map.get old to ≡ Some before
     → HasGot old to before mark chan value tag new → IsGiven old to mark chan value tag new

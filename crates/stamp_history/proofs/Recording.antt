@@ -19,17 +19,6 @@ above_all (e ∷ f ∷ es) stamp r a =
     let through : e.stamp < stamp = omega arith in
     (through, rest)
 
--- a stamp above the last one, for clocks that go on
-pub above_last-snoc : (es : List Stamped) (e : Stamped) (stamp : ℕ) → e.stamp < stamp → IsAboveLast (es ++ e ∷ []) stamp
-above_last-snoc [] e stamp above = above
-above_last-snoc (x ∷ []) e stamp above = above
-above_last-snoc (x ∷ y ∷ es) e stamp above = above_last-snoc (y ∷ es) e stamp above
-
-pub above_last-more : (es : List Stamped) (stamp more : ℕ) → IsAboveLast es stamp → stamp ≤ more → IsAboveLast es more
-above_last-more [] stamp more above le = tt
-above_last-more (x ∷ []) stamp more above le = omega arith
-above_last-more (x ∷ y ∷ es) stamp more above le = above_last-more (y ∷ es) stamp more above le
-
 All-snoc : {A : Type 0} (P : A → Type 0) (xs : List A) (x : A) → AllByRecursion P xs → P x → AllByRecursion P (xs ++ x ∷ [])
 All-snoc P [] x all p = (p, tt)
 All-snoc P (y ∷ ys) x all p = (all.0, All-snoc P ys x all.1 p)
