@@ -26,14 +26,14 @@ fn add_low_values(alloc: Global, parts: &mut List<Value>) -> Result<(), Memory> 
 }
 
 /// A value of each form, in a tuple.
-pub(crate) fn all_values(alloc: Global) -> Result<Value, Memory> {
+fn all_values(alloc: Global) -> Result<Value, Memory> {
     let mut parts = List::new(alloc);
     add_values(alloc, &mut parts)?;
     add_low_values(alloc, &mut parts)?;
     Ok(Value::Tuple(parts))
 }
 
-pub(crate) fn two_sites(alloc: Global) -> Result<List<Text>, Memory> {
+fn two_sites(alloc: Global) -> Result<List<Text>, Memory> {
     let mut sites = List::new(alloc);
     sites.add(text(alloc, "home")?)?;
     sites.add(text(alloc, "far")?)?;
