@@ -73,10 +73,21 @@ fn try_file<R: Files + Alloc + Print + Threads + Wait + Sync>(
 ) -> Result<Tally, ExampleFail> {
     let text = fs::read_to_string(rt, file)?;
     let examples = examples_of(rt, alloc, folder_of(file), text.as_str())?;
+    let tally = try_examples(rt, alloc, file, examples.as_slice());
+    drop(examples);
+    tally
+}
+
+/// Tries each of these examples of a file.
+fn try_examples<R: Print + Threads + Wait + Sync>(
+    rt: &R,
+    alloc: Global,
+    file: &str,
+    examples: &[Example],
+) -> Result<Tally, ExampleFail> {
     let mut tally = Tally::new();
-    for example in examples.iter() {
-        let of_example = try_example(rt, alloc, file, example)?;
-        tally.add(of_example);
+    for example in examples {
+        tally.add(try_example(rt, alloc, file, example)?);
     }
     Ok(tally)
 }

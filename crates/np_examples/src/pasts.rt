@@ -109,8 +109,15 @@ fn is_run_of<R: Threads + Wait + Sync>(
     text: &str,
     count: &str,
 ) -> Result<bool, ExampleFail> {
-    let wanted = format!(in alloc; "{text}\na run of {count} events\n")?;
     let again = replay_of(rt, alloc, run, past)?;
+    let is_told = tells_run(alloc, &again, text, count);
+    drop(again);
+    Ok(is_told?)
+}
+
+/// Whether it is told that so many events are a run, which prints this line.
+fn tells_run(alloc: Global, again: &Came, text: &str, count: &str) -> Result<bool, AllocError> {
+    let wanted = format!(in alloc; "{text}\na run of {count} events\n")?;
     Ok(again.status == DONE && again.out.bytes() == wanted.as_bytes())
 }
 

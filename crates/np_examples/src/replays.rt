@@ -53,12 +53,25 @@ pub(crate) fn try_replays<R: Print + Threads + Wait + Sync>(
         events: events.as_slice(),
         report: std::str::from_utf8(report.as_slice()).unwrap_or(""),
     };
+    let tally = try_changes(rt, alloc, file, &run);
+    drop(events);
+    drop(report);
+    tally
+}
+
+/// Tries each change of the history of this run.
+fn try_changes<R: Print + Threads + Wait + Sync>(
+    rt: &R,
+    alloc: Global,
+    file: &str,
+    run: &LowRun<'_>,
+) -> Result<Tally, ExampleFail> {
     let mut tally = Tally::new();
-    for change in example.replays.iter() {
-        let wrong = first_wrong(rt, alloc, &run, *change)?;
+    for change in run.example.replays.iter() {
+        let wrong = first_wrong(rt, alloc, run, *change)?;
         tally.count(wrong.is_none());
         if let Some(place) = wrong {
-            tell_replay(rt, file, example, *change, place)?;
+            tell_replay(rt, file, run.example, *change, place)?;
         }
     }
     Ok(tally)
@@ -202,7 +215,9 @@ fn judgement_of<R: Threads + Wait + Sync>(
     events: &[Event],
 ) -> Result<Judgement, ExampleFail> {
     let came = replayed(rt, alloc, run, events)?;
-    Ok(judged(&came))
+    let judgement = judged(&came);
+    drop(came);
+    Ok(judgement)
 }
 
 fn judged(came: &Came) -> Judgement {

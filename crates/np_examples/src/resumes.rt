@@ -75,7 +75,9 @@ fn is_resumed_over<R: Threads + Wait + Sync>(
     let option = option_of(run.example);
     let options = format!(in alloc; "--history --links {links}{way}{option}")?;
     let came = cut_off(rt, alloc, run, options.as_str(), budget)?;
-    is_resumed_from(rt, alloc, run, options.as_str(), &came, budget)
+    let is_resumed = is_resumed_from(rt, alloc, run, options.as_str(), &came, budget);
+    drop(came);
+    is_resumed
 }
 
 /// What comes of the run that a budget cuts off.
@@ -142,7 +144,9 @@ fn ends<R: Threads + Wait + Sync>(
 ) -> Result<bool, ExampleFail> {
     let words = format!(in alloc; "resume a h {options}")?;
     let came = called(rt, alloc, run, words.as_str(), saved)?;
-    is_end(alloc, run, &came, saved)
+    let is_end = is_end(alloc, run, &came, saved);
+    drop(came);
+    is_end
 }
 
 /// Whether a run has come to rest behind what was saved, with the lines of the whole run and as many events.
@@ -179,8 +183,19 @@ fn ends_in_two<R: Threads + Wait + Sync>(
     let further = budget.saturating_add(MORE);
     let words = format!(in alloc; "resume a h {options} --budget {further}")?;
     let came = called(rt, alloc, run, words.as_str(), saved)?;
-    if !goes_on(run, &came, saved) {
-        return Ok(false);
-    }
-    ends(rt, alloc, run, options, came.out.bytes())
+    let ends = goes_on_and_ends(rt, alloc, run, options, &came, saved);
+    drop(came);
+    ends
+}
+
+/// Whether what came goes on from what was saved, and comes to its end where it is resumed itself.
+fn goes_on_and_ends<R: Threads + Wait + Sync>(
+    rt: &R,
+    alloc: Global,
+    run: &LowRun<'_>,
+    options: &str,
+    came: &Came,
+    saved: &[u8],
+) -> Result<bool, ExampleFail> {
+    Ok(goes_on(run, came, saved) && ends(rt, alloc, run, options, came.out.bytes())?)
 }

@@ -163,14 +163,25 @@ pub(crate) fn came_of<R: Threads + Wait + Sync>(
     call: &Call<'_>,
 ) -> Result<Came, ExampleFail> {
     let (mut out, mut err) = sinks_of(alloc, example)?;
-    let (told, reading) = seen_into(rt, alloc, example, call, &mut out, &mut err)?;
+    match seen_into(rt, alloc, example, call, &mut out, &mut err) {
+        Ok((told, reading)) => Ok(came_with(told, reading, out, err)),
+        Err(fail) => {
+            drop(out);
+            drop(err);
+            Err(fail)
+        }
+    }
+}
+
+/// What has come of a call: what is told and seen of it, and what it wrote.
+fn came_with(told: Told, reading: Option<Reading>, out: MemSink, err: MemSink) -> Came {
     let Told { status, events } = told;
-    Ok(Came {
+    Came {
         status,
         events: events.map(|count| count as usize),
         opens: reading.map(|reading| reading.opens),
         reads_off: reading.map(|reading| reading.is_run),
         out,
         err,
-    })
+    }
 }

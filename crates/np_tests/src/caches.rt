@@ -11,7 +11,7 @@ use cache_encode::encode_cached;
 use np_check::Checked;
 use np_configuration::Cfg;
 use np_on_sites::Record;
-use np_syntax::{End, Event, List, MOST_SITES, Memory};
+use np_syntax::{End, Event, List, Memory};
 use run_merge::merge;
 use simulate_laws::law_cached;
 use std::alloc::Global;
@@ -34,10 +34,9 @@ fn run<R: Threads + Wait + Sync>(
     ensures { IfOk result (λ kept. IsSitesRun (encoded_cached program.now) budget (past kept.histories) kept.end) }
 {
     let low = encode_cached(alloc, program)?;
-    if low.sites.len() > MOST_SITES as usize || low.at as usize >= low.sites.len() {
-        return Err(Memory);
-    }
-    run_low(rt, alloc, &low, budget)
+    let kept = run_low(rt, alloc, &low, budget);
+    drop(low);
+    kept
 }
 
 /// The configuration to which the run leads at the high level.
@@ -61,8 +60,17 @@ fn rests_of<R: Threads + Wait + Sync>(
     program: &Checked,
 ) -> Result<bool, Memory> {
     let kept = run(rt, alloc, program, AMPLE)?;
+    let rests = rests_in(alloc, program, &kept, AMPLE);
+    drop(kept);
+    rests
+}
+
+/// Whether this run comes to rest at both levels.
+fn rests_in(alloc: Global, program: &Checked, kept: &Record, budget: u32) -> Result<bool, Memory>
+    requires { IsSitesRun (encoded_cached program.now) budget (past kept.now.histories) kept.now.end }
+{
     let events = merge(alloc, kept.histories.as_slice())?;
-    let high = high_end(alloc, program, &kept, &events, AMPLE)?;
+    let high = high_end(alloc, program, kept, &events, budget)?;
     let rests = kept.end == End::Rest && high.idle();
     drop(high);
     Ok(rests)

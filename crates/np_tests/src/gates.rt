@@ -48,11 +48,11 @@ impl Gate for InStep {
     }
 }
 
-fn source(alloc: Global) -> Result<MemTexts, Memory> {
-    let mut texts = MemTexts::new(alloc);
+/// The one text, the source.
+fn hold_source(alloc: Global, texts: &mut MemTexts) -> Result<(), Memory> {
+    let name = Word::new(alloc, "a")?;
     let bytes = List::from_slice(alloc, SOURCE.as_bytes())?;
-    texts.add(Word::new(alloc, "a")?, bytes)?;
-    Ok(texts)
+    texts.add(name, bytes)
 }
 
 fn words(alloc: Global, line: &str) -> Result<List<Word>, Memory> {
@@ -69,31 +69,51 @@ fn sink(alloc: Global) -> Result<MemSink, Memory> {
     Ok(sink)
 }
 
-/// The exit status of the run by these words, and what it wrote.
+/// The exit status of the run of the source by these words.
+fn status_of<R: Threads + Wait + Sync, G: Gate>(
+    rt: &R,
+    alloc: Global,
+    words: &[Word],
+    out: &mut MemSink,
+    gate: &G,
+) -> Result<u8, Memory> {
+    let mut texts = MemTexts::new(alloc);
+    let status = status_over(rt, alloc, words, &mut texts, out, gate);
+    drop(texts);
+    status
+}
+
+/// The same, where the source is held in these texts first.
+fn status_over<R: Threads + Wait + Sync, G: Gate>(
+    rt: &R,
+    alloc: Global,
+    words: &[Word],
+    texts: &mut MemTexts,
+    out: &mut MemSink,
+    gate: &G,
+) -> Result<u8, Memory> {
+    hold_source(alloc, texts)?;
+    let mut err = sink(alloc)?;
+    let answer = np_gated(rt, alloc, words, texts, out, &mut err, gate);
+    drop(err);
+    Ok(answer.told().status)
+}
+
+/// The exit status of the run by the words of a line.
 fn run<R: Threads + Wait + Sync, G: Gate>(
     rt: &R,
     alloc: Global,
     line: &str,
+    out: &mut MemSink,
     gate: &G,
-) -> Result<(u8, MemSink), Memory> {
+) -> Result<u8, Memory> {
     let words = words(alloc, line)?;
-    let mut texts = source(alloc)?;
-    let mut out = sink(alloc)?;
-    let mut err = sink(alloc)?;
-    let answer = np_gated(
-        rt,
-        alloc,
-        words.as_slice(),
-        &mut texts,
-        &mut out,
-        &mut err,
-        gate,
-    );
-    let told = answer.told();
-    Ok((told.status, out))
+    let status = status_of(rt, alloc, words.as_slice(), out, gate);
+    drop(words);
+    status
 }
 
-/// Whether the run comes to rest, and no site was held in vain.
+/// Whether the run comes to rest, and each site was held after each of its first events, none in vain.
 fn goes_in_step<R: Threads + Wait + Sync>(
     rt: &R,
     alloc: Global,
@@ -104,9 +124,14 @@ fn goes_in_step<R: Threads + Wait + Sync>(
         far: AtomicU32::new(0),
         late: AtomicBool::new(false),
     };
-    let (status, out) = run(rt, alloc, line, &gate)?;
-    let late = gate.late.load(Ordering::SeqCst);
-    Ok(status == DONE && out.bytes() == b"at rest\n".as_slice() && !late)
+    let mut out = sink(alloc)?;
+    let status = run(rt, alloc, line, &mut out, &gate);
+    let is_at_rest = out.bytes() == b"at rest\n".as_slice();
+    drop(out);
+    let is_late = gate.late.load(Ordering::SeqCst);
+    let are_held = gate.home.load(Ordering::SeqCst) >= HELD
+        && gate.far.load(Ordering::SeqCst) >= HELD;
+    Ok(status? == DONE && is_at_rest && are_held && !is_late)
 }
 
 #[test]

@@ -1,7 +1,7 @@
 //! Runs on sites, and what they are at the high level: where they rest and where their budget cuts them.
 
-ghost use Rattle.std.specs.Prelude.{◌≡◌, ◌≤◌, ◌<◌, length, IfOk};
-ghost use Rattle.np_syntax.specs.declared.limits.TheConstants.{LARGEST_BUDGET, MOST_SITES};
+ghost use Rattle.std.specs.Prelude.{◌≡◌, ◌≤◌, IfOk};
+ghost use Rattle.np_syntax.specs.declared.limits.TheConstants.{LARGEST_BUDGET};
 ghost use Rattle.daemon_encode.specs.Encoded.{encoded};
 ghost use Rattle.run_merge.specs.Merged.{items, merged, past};
 ghost use Rattle.np_on_sites.specs.SitesRuns.{IsSitesRun};
@@ -77,7 +77,7 @@ pub(crate) fn checked(alloc: Global, source: &str) -> Result<Checked, Memory> {
     }
 }
 
-/// What is kept of the run of a low program, whose sites take turns one after another.
+/// What is kept of the run of a low program, whose sites take turns one after another. It has at most 128 sites.
 pub(crate) fn run_low<R: Threads + Wait + Sync>(
     rt: &R,
     alloc: Global,
@@ -85,10 +85,11 @@ pub(crate) fn run_low<R: Threads + Wait + Sync>(
     budget: u32,
 ) -> Result<Record, Memory>
     requires budget { (1 ≤ budget) × (budget ≤ LARGEST_BUDGET) }
-    requires sites { length low.now.sites ≤ MOST_SITES }
-    requires site { low.now.at < length low.now.sites }
     ensures { IfOk result (λ kept. IsSitesRun low.now budget (past kept.histories) kept.end) }
 {
+    if low.sites.len() > MOST_SITES as usize || low.at as usize >= low.sites.len() {
+        return Err(Memory);
+    }
     match flatten(alloc, low) {
         Ok(code) => run_on_sites(alloc, rt, &Free, low, code, budget, true, Links::Rings),
         Err(_) => Err(Memory),
@@ -106,10 +107,9 @@ fn run<R: Threads + Wait + Sync>(
     ensures { IfOk result (λ kept. IsSitesRun (encoded program.now) budget (past kept.histories) kept.end) }
 {
     let low = encode(alloc, program)?;
-    if low.sites.len() > MOST_SITES as usize || low.at as usize >= low.sites.len() {
-        return Err(Memory);
-    }
-    run_low(rt, alloc, &low, budget)
+    let kept = run_low(rt, alloc, &low, budget);
+    drop(low);
+    kept
 }
 
 /// The configuration to which the run leads at the high level.
@@ -139,8 +139,17 @@ fn watched_of<R: Threads + Wait + Sync>(
     requires budget { (1 ≤ budget) × (budget ≤ LARGEST_BUDGET) }
 {
     let kept = run(rt, alloc, program, budget)?;
+    let seen = seen_of(alloc, program, &kept, budget);
+    drop(kept);
+    seen
+}
+
+/// What is seen of this run.
+fn seen_of(alloc: Global, program: &Checked, kept: &Record, budget: u32) -> Result<Seen, Memory>
+    requires { IsSitesRun (encoded program.now) budget (past kept.now.histories) kept.now.end }
+{
     let events = merge(alloc, kept.histories.as_slice())?;
-    let high = high_end(alloc, program, &kept, &events, budget)?;
+    let high = high_end(alloc, program, kept, &events, budget)?;
     drop(high);
     let lifted = lift(alloc, events.as_slice())?;
     Ok(Seen {

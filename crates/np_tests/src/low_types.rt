@@ -47,8 +47,15 @@ fn fault_in(alloc: Global, env: &Env, expr: &Expr) -> Result<Option<(u32, Rule)>
 /// The first fault of an expression in which the binders may stand.
 fn fault_of(alloc: Global, expr: &Expr) -> Result<Option<(u32, Rule)>, Memory> {
     let mut env = Env::new(alloc);
-    set_binders(alloc, &mut env)?;
-    fault_in(alloc, &env, expr)
+    let fault = fault_under(alloc, &mut env, expr);
+    drop(env);
+    fault
+}
+
+/// The same, where the binders are set in this environment.
+fn fault_under(alloc: Global, env: &mut Env, expr: &Expr) -> Result<Option<(u32, Rule)>, Memory> {
+    set_binders(alloc, env)?;
+    fault_in(alloc, env, expr)
 }
 
 fn whole(alloc: Global, form: ExprForm) -> Result<Boxed<Expr>, Memory> {
@@ -71,7 +78,9 @@ fn letters(rt: HostRuntime) -> Result<(), Fail> {
         (Leaf::Var(0), Leaf::Number, None),
     ] {
         let letter = letter(rt.alloc(), chan, value)?;
-        assert_eq!(rt; fault_of(rt.alloc(), letter.get())?, fault);
+        let found = fault_of(rt.alloc(), letter.get());
+        drop(letter);
+        assert_eq!(rt; found, Ok(fault));
     }
     Ok(())
 }
@@ -108,7 +117,9 @@ fn maps_of_places(rt: HostRuntime) -> Result<(), Fail> {
         (Leaf::Var(4), Leaf::Var(3), Leaf::Var(2), None),
     ] {
         let places = places(rt.alloc(), map, agent, lock)?;
-        assert_eq!(rt; fault_of(rt.alloc(), places.get())?, fault);
+        let found = fault_of(rt.alloc(), places.get());
+        drop(places);
+        assert_eq!(rt; found, Ok(fault));
     }
     Ok(())
 }

@@ -33,33 +33,50 @@ fn all_values(alloc: Global) -> Result<Value, Memory> {
     Ok(Value::Tuple(parts))
 }
 
-fn two_sites(alloc: Global) -> Result<List<Text>, Memory> {
+/// A value's text, where sites have these names.
+fn printed(alloc: Global, value: &Value, names: [&str; 2]) -> Result<Text, Memory> {
     let mut sites = List::new(alloc);
-    sites.add(text(alloc, "home")?)?;
-    sites.add(text(alloc, "far")?)?;
-    Ok(sites)
+    let added = add_sites(alloc, &mut sites, names);
+    let printed = print_value(alloc, value, &sites);
+    drop(sites);
+    added?;
+    printed
+}
+
+fn add_sites(alloc: Global, sites: &mut List<Text>, names: [&str; 2]) -> Result<(), Memory> {
+    sites.add(text(alloc, names[0])?)?;
+    sites.add(text(alloc, names[1])?)
 }
 
 #[test]
 fn copies_values(rt: HostRuntime) -> Result<(), Fail> {
     let alloc = rt.alloc();
     let value = all_values(alloc)?;
-    assert!(rt; value.copy(alloc)?.same(&value));
-    assert!(rt; !value.same(&Value::Int(-5)));
+    let is_same = is_copied(alloc, &value);
+    let is_other = value.same(&Value::Int(-5));
+    drop(value);
+    assert_eq!(rt; (is_same, is_other), (Ok(true), false));
     Ok(())
+}
+
+/// Whether a copy of a value is the same.
+fn is_copied(alloc: Global, value: &Value) -> Result<bool, Memory> {
+    let copied = value.copy(alloc)?;
+    let is_same = copied.same(value);
+    drop(copied);
+    Ok(is_same)
 }
 
 /// A value that no program prints has no text.
 #[test]
 fn prints_values(rt: HostRuntime) -> Result<(), Fail> {
     let alloc = rt.alloc();
-    let sites = two_sites(alloc)?;
-    let printed = print_value(alloc, &all_values(alloc)?, &sites)?;
-    assert_eq!(rt;
-        printed.as_slice(),
-        b"[-5 true \"a\\n\" far    ]".as_slice()
-    );
-    let least = print_value(alloc, &Value::Int(-9223372036854775808), &sites)?;
+    let value = all_values(alloc)?;
+    let text = printed(alloc, &value, ["home", "far"]);
+    drop(value);
+    let text = text?;
+    assert_eq!(rt; text.as_slice(), b"[-5 true \"a\\n\" far    ]".as_slice());
+    let least = printed(alloc, &Value::Int(-9223372036854775808), ["home", "far"])?;
     assert_eq!(rt; least.as_slice(), b"-9223372036854775808".as_slice());
     Ok(())
 }

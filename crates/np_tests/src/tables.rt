@@ -134,7 +134,9 @@ fn file_and_serve(work: &mut WorkLists) -> Result<bool, Memory> {
 #[test]
 fn the_first_to_come_are_served_first(rt: HostRuntime) {
     let mut work = WorkLists::new(rt.alloc());
-    assert_eq!(rt; file_and_serve(&mut work), Ok(true));
+    let served = file_and_serve(&mut work);
+    drop(work);
+    assert_eq!(rt; served, Ok(true));
 }
 
 fn file_and_serve_two(work: &mut WorkLists) -> Result<bool, Memory>
@@ -148,5 +150,7 @@ fn file_and_serve_two(work: &mut WorkLists) -> Result<bool, Memory>
 #[test]
 fn two_are_filed_in_order(rt: HostRuntime) {
     let mut work = WorkLists::new(rt.alloc());
-    assert_eq!(rt; file_and_serve_two(&mut work), Ok(true));
+    let served = file_and_serve_two(&mut work);
+    drop(work);
+    assert_eq!(rt; served, Ok(true));
 }

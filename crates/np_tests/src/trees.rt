@@ -24,18 +24,25 @@ pub(crate) fn tokens_of(alloc: Global, source: &str) -> Option<Tokens>
 /// The tree of such a source, if it has one.
 fn tree_of(alloc: Global, source: &str) -> Option<Tree> {
     let tokens = tokens_of(alloc, source)?;
-    match parse(alloc, &tokens) {
-        Ok(tree) => Some(tree),
-        Err(_) => None,
-    }
+    let parsed = parse(alloc, &tokens);
+    drop(tokens);
+    parsed.ok()
 }
 
-/// Whether two sources have the same tree but for offsets.
-fn same_trees(alloc: Global, one: &str, other: &str) -> bool {
-    match (tree_of(alloc, one), tree_of(alloc, other)) {
-        (Some(one), Some(other)) => same_tree(&one, &other),
-        _ => false,
-    }
+/// Whether a source has this tree but for offsets, where it has one.
+fn has_tree(alloc: Global, tree: &Tree, source: &str) -> Option<bool> {
+    let other = tree_of(alloc, source)?;
+    let is_same = same_tree(tree, &other);
+    drop(other);
+    Some(is_same)
+}
+
+/// Whether two sources have the same tree but for offsets, where both have one.
+fn same_trees(alloc: Global, one: &str, other: &str) -> Option<bool> {
+    let tree = tree_of(alloc, one)?;
+    let is_same = has_tree(alloc, &tree, other);
+    drop(tree);
+    is_same
 }
 
 const PLAIN: &str = "sites a ; main at a = (a![1 + a] | new a : ^Int in a?[a] -> print 1)";
@@ -43,7 +50,7 @@ const PLAIN: &str = "sites a ; main at a = (a![1 + a] | new a : ^Int in a?[a] ->
 #[test]
 fn no_offset_counts(rt: HostRuntime) -> Result<(), Fail> {
     let blanks = "sites  a;main at a=(a![(1+a)]|\nnew a:^Int in a?[a]->print 1)";
-    assert!(rt; same_trees(rt.alloc(), PLAIN, blanks));
+    assert_eq!(rt; same_trees(rt.alloc(), PLAIN, blanks), Some(true));
     Ok(())
 }
 
@@ -65,8 +72,11 @@ fn each_part_counts(rt: HostRuntime) -> Result<(), Fail> {
         "sites a ; main at a = (a![1 + a] | new a : ^Int in a?[_] -> print 1)",
         "sites a ; main at a = (a![1 + a] | new a : ^Int in a?[a] -> print 2)",
     ] {
-        assert!(rt; tree_of(rt.alloc(), other).is_some(), "{other}");
-        assert!(rt; !same_trees(rt.alloc(), PLAIN, other), "{other}");
+        assert_eq!(rt;
+            same_trees(rt.alloc(), PLAIN, other),
+            Some(false),
+            "{other}"
+        );
     }
     Ok(())
 }
