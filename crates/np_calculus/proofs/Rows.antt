@@ -1,11 +1,10 @@
--- The rows of acting atoms, by the parts of their forms.
+-- The inversion of the rows of acting atoms: one record a row says what form it asks for, and `parts` what a row that is met tells.
 use Rattle.std.proofs.Common.{◌≡◌, Option, None, Some, refl, ap, sym, subst, ◌∙◌}
-use Rattle.np_calculus.proofs.Common.{Name, Value, Expr, Pat, ProcForm-F, Event, Kind, ◌>>=◌, ◌>>◌, then, done, Env, chan_of, bind, Layer, layer, Atom, Config, Sight}
-use Rattle.np_calculus.proofs.Common.{inside, sight, Change, none_made, no_other, offered_in, after_change, row, act, acting}
+use Rattle.np_calculus.proofs.Common.{Name, Value, Expr, Pat, ProcForm-F, Event, Kind, ◌>>=◌, ◌>>◌, then, done, Env, chan_of, bind, Layer, layer, Atom, Sight}
+use Rattle.np_calculus.proofs.Common.{Change, none_made, no_other, offered_in, act}
 use Rattle.np_syntax.specs.declared.event.Kind.TheVariants as kind
 use Rattle.np_eval.specs.FormParts.{as_stop, as_par, as_new, as_inp, as_rep, as_agent_form, as_migrate, as_iflocal, as_send, as_post, as_if, as_let, as_print, as_open, as_lookup}
 use Rattle.np_eval.proofs.FormsByParts as form
-use Rattle.np_calculus.specs.Rows.{row_by}
 
 -- two chains with the same first step
 pub step : {A B : Type 0} (o p : Option A) (f g : A → Option B) → o ≡ p → ((a : A) → o ≡ Some a → f a ≡ g a) → (o >>= f) ≡ (p >>= g)
@@ -18,7 +17,7 @@ pub record Asked : Type 1 where
   pub parts : Layer → Option Parts
   pub form : Parts → Layer
 
--- the form that each kind asks of the acting atom; an arrival and a landing have none
+-- the record of each row: the form that it asks of the acting atom; an arrival and a landing have none
 abbrev pub asked : Kind → Asked
 asked kind.Stop = record { Parts = _; parts = as_stop; form = λ u. ProcForm-F.Stop }
 asked kind.Fork = record { Parts = _; parts = as_par; form = λ (p, q). ProcForm-F.Par p q }
@@ -97,55 +96,3 @@ pub taking : {R : Type 0} (w : Sight) (e : Event) (a : Atom) (c : Expr) (p : Pat
 taking w e a c p f h r =
     then (chan_of c a.env) _ h λ n on h. then e.other _ h λ o other h. then (offered_in w.atom o a.agent n) _ h λ v offer h.
     then (bind p v a.env) _ h λ env binds h. then (none_made e.made) _ h λ u made h. r n o v env on offer binds h
-
-module _ (c : Config) (e : Event) where
-  abbrev w : Sight
-  w = sight c.sites (inside c) e.site
-
-  same_steps : (k : Kind) → ((acting c e >>= λ a. act k (layer a.proc) w e a) >>= after_change c e) ≡ row_by k (asked k).parts (asked k).form c e
-  same_steps k = ap (λ o. o >>= after_change c e) (step (acting c e) (acting c e) _ _ refl λ a acts. by k (layer a.proc) w e a)
-
-  pub stop-row : row kind.Stop c e ≡ row_by kind.Stop as_stop (λ s. ProcForm-F.Stop) c e
-  stop-row = same_steps kind.Stop
-
-  pub fork-row : row kind.Fork c e ≡ row_by kind.Fork as_par (λ (p, q). ProcForm-F.Par p q) c e
-  fork-row = same_steps kind.Fork
-
-  pub new-row : row kind.New c e ≡ row_by kind.New as_new (λ (x, t, p). ProcForm-F.New x t p) c e
-  new-row = same_steps kind.New
-
-  pub let-row : row kind.Let c e ≡ row_by kind.Let as_let (λ (x, v, p). ProcForm-F.Let x v p) c e
-  let-row = same_steps kind.Let
-
-  pub if-row : row kind.If c e ≡ row_by kind.If as_if (λ (v, p, q). ProcForm-F.If v p q) c e
-  if-row = same_steps kind.If
-
-  pub comm-row : row kind.Comm c e ≡ row_by kind.Comm as_inp (λ (c, x, p). ProcForm-F.Inp c x p) c e
-  comm-row = same_steps kind.Comm
-
-  pub rep-row : row kind.Rep c e ≡ row_by kind.Rep as_rep (λ (c, x, p). ProcForm-F.Rep c x p) c e
-  rep-row = same_steps kind.Rep
-
-  pub agent-row : row kind.Agent c e ≡ row_by kind.Agent as_agent_form (λ (b, p, q). ProcForm-F.Agent b p q) c e
-  agent-row = same_steps kind.Agent
-
-  pub depart-row : row kind.Depart c e ≡ row_by kind.Depart as_migrate (λ (s, p). ProcForm-F.Migrate s p) c e
-  depart-row = same_steps kind.Depart
-
-  pub local-row : row kind.Local c e ≡ row_by kind.Local as_iflocal (λ (b, c, v, p, q). ProcForm-F.IfLocal b c v p q) c e
-  local-row = same_steps kind.Local
-
-  pub send-row : row kind.Send c e ≡ row_by kind.Send as_send (λ (b, t, c, v). ProcForm-F.Send b t c v) c e
-  send-row = same_steps kind.Send
-
-  pub print-row : row kind.Print c e ≡ row_by kind.Print as_print ProcForm-F.Print c e
-  print-row = same_steps kind.Print
-
-  pub open-row : row kind.Open c e ≡ row_by kind.Open as_open ProcForm-F.Open c e
-  open-row = same_steps kind.Open
-
-  pub lookup-row : row kind.Lookup c e ≡ row_by kind.Lookup as_lookup (λ (b, m, x, p, q). ProcForm-F.Lookup b m x p q) c e
-  lookup-row = same_steps kind.Lookup
-
-  pub post-row : row kind.Post c e ≡ row_by kind.Post as_post (λ (b, c, v). ProcForm-F.Post b c v) c e
-  post-row = same_steps kind.Post

@@ -13,7 +13,6 @@ use Rattle.np_syntax.specs.declared.value.Value as value
 use Rattle.np_calculus.specs.declared.config.Place.TheVariants as place
 use Rattle.np_calculus.specs.Changes.{Change, cut, effect, put, still, with_made}
 use Rattle.np_calculus.specs.Reductions.{act, after_change, alone, are_new, away_row, becomes, found_on, here_row, no_other, none_made, offered_in, one_made, two_made}
-use Rattle.np_calculus.specs.Rows.{row_by}
 use Rattle.np_calculus.specs.Seen.{fresh, is_at, offered, site_of}
 use Rattle.np_calculus.specs.Sight.{Sight, sight}
 use Rattle.np_calculus.proofs.Rows as by
@@ -63,11 +62,12 @@ module _ (c : Config) (e : Event) where
 
   -- a row by the parts of the form that its kind asks for
   row-is : {X : Type 0} (k : Kind) (more : Config → Event → Atom → (by.asked k).Parts → Option X) (rest : Atom × (by.asked k).Parts × X → Option Config)
-      → row k c e ≡ row_by k (by.asked k).parts (by.asked k).form c e
+      → row k c e ≡ ((acting c e >>= λ a. act k (layer a.proc) w e a) >>= after_change c e)
       → ((a : Atom) (p : (by.asked k).Parts) → acting c e ≡ Some a → (act k ((by.asked k).form p) w e a >>= after_change c e) ≡ (more c e a p >>= λ x. rest (a, p, x)))
       → row k c e ≡ (to.found_by (by.asked k).parts more c e >>= rest)
   row-is k more rest is h =
-      is ∙ deeper (acting c e) _ _ _ λ a acts. deeper ((by.asked k).parts (layer a.proc)) _ _ _ λ p has. h a p acts ∙ packed (more c e a p) (λ x. (a, p, x)) rest
+      is ∙ ap (λ o. o >>= after_change c e) (by.step (acting c e) (acting c e) _ _ refl λ a acts. by.by k (layer a.proc) w e a)
+      ∙ deeper (acting c e) _ _ _ λ a acts. deeper ((by.asked k).parts (layer a.proc)) _ _ _ λ p has. h a p acts ∙ packed (more c e a p) (λ x. (a, p, x)) rest
 
   -- ---- the last step of a row
 
@@ -154,44 +154,44 @@ module _ (c : Config) (e : Event) where
   -- each row is that of the table
   pub rows-are : (k : Kind) → row k c e ≡ to.row_of k c e
   unfolding act
-  rows-are kind.Stop = row-is kind.Stop to.stop_more _ (by.stop-row c e) λ a p acts. alone-before (λ u. ended c e.actor) (Some (tt {0})) (λ u. ends) (λ u. tt) (λ u. refl)
-  rows-are kind.Print = row-is kind.Print to.print_more _ (by.print-row c e) λ a x acts. alone-before (spoken c e.actor e.site) (eval x a.env) (λ v. record ends { said = Some v }) (λ v. v) (λ v. refl)
-  rows-are kind.Send = row-is kind.Send to.send_more _ (by.send-row c e) λ a p acts.
+  rows-are kind.Stop = row-is kind.Stop to.stop_more _ refl λ a p acts. alone-before (λ u. ended c e.actor) (Some (tt {0})) (λ u. ends) (λ u. tt) (λ u. refl)
+  rows-are kind.Print = row-is kind.Print to.print_more _ refl λ a x acts. alone-before (spoken c e.actor e.site) (eval x a.env) (λ v. record ends { said = Some v }) (λ v. v) (λ v. refl)
+  rows-are kind.Send = row-is kind.Send to.send_more _ refl λ a p acts.
       deeper (agent_of p.0 a.env) _ _ _ λ b names. deeper (site_of c p.1 a.env) _ _ _ λ t at. deeper (chan_of p.2 a.env) _ _ _ λ n on.
       let packet : Value → Packet = λ v. record { to = t; agent = b; chan = n; value = v; tag = e.tag } in
       alone-before (flown c e.actor) (eval p.3 a.env) (λ v. record ends { packets = put e.actor (packet v) ∷ [] }) packet (λ v. refl)
-  rows-are kind.Let = row-is kind.Let to.let_more _ (by.let-row c e) λ a p acts.
+  rows-are kind.Let = row-is kind.Let to.let_more _ refl λ a p acts.
       ap (λ q. q >>= after_change c e) (joined (eval p.1 a.env) (λ v. bind p.0 v a.env) (λ env. alone e (becomes e (goes_under a p.2 env))))
       ∙ alone-after (to.entered c e a p.2) (bound_to p.0 p.1 a.env) (λ env. becomes e (goes_under a p.2 env)) (to.entry a p.2) (λ env. refl)
-  rows-are kind.If = row-is kind.If to.if_more _ (by.if-row c e) λ a p acts.
+  rows-are kind.If = row-is kind.If to.if_more _ refl λ a p acts.
       alone-after _ (truth_of p.0 a.env) (λ t. becomes e (goes a (cond t p.1 p.2))) (λ t. (t, errand_at a.agent a.env (layer (cond t p.1 p.2)))) (λ t. refl)
-  rows-are kind.Depart = row-is kind.Depart to.depart_more _ (by.depart-row c e) λ a p acts.
+  rows-are kind.Depart = row-is kind.Depart to.depart_more _ refl λ a p acts.
       alone-after _ (site_of c p.0 a.env) (λ t. record (becomes e (goes a p.1)) { places = put a.agent (place.Way t) ∷ [] })
       (λ t. record { agent = a.agent; to = t; errand = errand_at a.agent a.env (layer p.1) }) (λ t. refl)
-  rows-are kind.Lookup = row-is kind.Lookup to.lookup_more _ (by.lookup-row c e) λ a p acts. deeper (agent_of p.0 a.env) _ _ _ λ b names.
+  rows-are kind.Lookup = row-is kind.Lookup to.lookup_more _ refl λ a p acts. deeper (agent_of p.0 a.env) _ _ _ λ b names.
       alone-after _ (places_of p.1 a.env) (λ places. becomes e (found_on a p.2 p.3 p.4 (find_place places b))) (λ places. to.lookup_by a p.2 p.3 p.4 (find_place places b))
       (λ places. ap (λ (y : Atom). record c { atoms = map.insert c.atoms e.actor y }) (found-goes a p.2 p.3 p.4 (find_place places b)))
-  rows-are kind.Open = row-is kind.Open to.open_more _ (by.open-row c e) λ a x acts.
+  rows-are kind.Open = row-is kind.Open to.open_more _ refl λ a x acts.
       alone-before (stood c e.actor) (letter_of x a.env) (λ l. becomes e (output_in a.agent l.0 l.1 e.tag)) (λ l. output_in a.agent l.0 l.1 e.tag) (λ l. refl)
-  rows-are kind.Post = row-is kind.Post to.post_more _ (by.post-row c e) λ a p acts. deeper (agent_of p.0 a.env) _ _ _ λ b names. deeper (chan_of p.1 a.env) _ _ _ λ n on.
+  rows-are kind.Post = row-is kind.Post to.post_more _ refl λ a p acts. deeper (agent_of p.0 a.env) _ _ _ λ b names. deeper (chan_of p.1 a.env) _ _ _ λ n on.
       alone-before (stood c e.actor) (eval p.2 a.env) (λ v. becomes e (output_in b n v e.tag)) (λ v. output_in b n v e.tag) (λ v. refl)
-  rows-are kind.Comm = row-is kind.Comm to.comm_more _ (by.comm-row c e) λ a p acts.
+  rows-are kind.Comm = row-is kind.Comm to.comm_more _ refl λ a p acts.
       taking _ a acts p.0 p.1 (λ o env. record still { atoms = put e.actor (goes_under a p.2 env) ∷ cut o ∷ [] }) (λ o env. (o, to.entry a p.2 env)) (λ o env. refl)
-  rows-are kind.Rep = row-is kind.Rep to.rep_more _ (by.rep-row c e) λ a p acts.
+  rows-are kind.Rep = row-is kind.Rep to.rep_more _ refl λ a p acts.
       taking _ a acts p.0 p.1 (λ o env. record still { atoms = put o (goes_under a p.2 env) ∷ [] }) (λ o env. (o, goes_under a p.2 env)) (λ o env. refl)
-  rows-are kind.New = row-is kind.New to.new_more _ (by.new-row c e) λ a p acts.
+  rows-are kind.New = row-is kind.New to.new_more _ refl λ a p acts.
       let env : Name → Env = λ n. map.insert a.env p.0 (value.Chan n) in
       one-made _ e.other (λ n. becomes e (goes_under a p.2 (env n))) (λ n. to.entry a p.2 (env n)) (λ n is. rw is refl)
-  rows-are kind.Fork = row-is kind.Fork to.fork_more _ (by.fork-row c e) λ a p acts.
+  rows-are kind.Fork = row-is kind.Fork to.fork_more _ refl λ a p acts.
       one-made _ e.other (λ m. record still { atoms = put m (goes a p.1) ∷ put e.actor (goes a p.0) ∷ [] })
       (λ m. record { mark = m; env = a.env; comes = errand_at a.agent a.env (layer p.1); stays = errand_at a.agent a.env (layer p.0) }) (λ m is. refl)
-  rows-are kind.Agent = row-is kind.Agent to.agent_more _ (by.agent-row c e) λ a p acts.
+  rows-are kind.Agent = row-is kind.Agent to.agent_more _ refl λ a p acts.
       let env : Name → Env = λ b. map.insert a.env p.0 (value.Agent b) in
       two-made _ (λ b m. record still {
         places = put b (place.At e.site) ∷ [];
         atoms = put m (record { agent = b; proc = p.1; env = env b }) ∷ put e.actor (goes_under a p.2 (env b)) ∷ [];
       }) (λ b m. to.agent_by a p.1 p.2 b m (env b)) (λ b m. refl)
-  rows-are kind.Local = row-is kind.Local to.local_more _ (by.local-row c e) λ a p acts.
+  rows-are kind.Local = row-is kind.Local to.local_more _ refl λ a p acts.
       deeper (agent_of p.0 a.env) _ _ _ λ b names. deeper (chan_of p.1 a.env) _ _ _ λ n on. deeper (eval p.2 a.env) _ _ _ λ v gives. deeper (no_other e.other) _ _ _ λ u lone.
       ways a p.3 p.4 (record { agent = b; chan = n; value = v; here = is_at c b e.site; errand = errand_at a.agent a.env (layer (cond (is_at c b e.site) p.3 p.4)) }) (is_at c b e.site)
   rows-are kind.Arrive = refl
