@@ -19,11 +19,20 @@ pub const MOST_AHEAD: usize = 2;
 
 /// Values by their marks, each filed under what it waits for. Its `spare` is how many values are sure to find a
 /// place, whatever they wait for. Beside it stands who is to be served next, which contracts do not see.
-#[derive(Drop)]
 pub struct Index<V> {
     entries: Table<(Wait, V)>,
     lanes: Lanes,
     turns: Turns,
+}
+
+impl<V: Drop> Drop for Index<V> {
+    fn drop(self) {
+        let Index {
+            entries: _,
+            lanes: _,
+            turns: _,
+        } = self;
+    }
 }
 
 impl<V> Model for Index<V> {

@@ -19,13 +19,24 @@ const MOST_STOCK: usize = 16;
 
 /// Who waits on each channel. A channel on which no one waits has no entry. Its `spare` is how many marks more are sure
 /// to find a place, on whatever channel: each has places ahead, but for the channels to which the last marks came.
-#[derive(Drop)]
 pub struct Lanes {
     alloc: Global,
     table: Table<Waiters>,
     stock: List<Waiters>,
     first: Option<Name>,
     second: Option<Name>,
+}
+
+impl Drop for Lanes {
+    fn drop(self) {
+        let Lanes {
+            alloc: _,
+            table: _,
+            stock: _,
+            first: _,
+            second: _,
+        } = self;
+    }
 }
 
 impl Model for Lanes {

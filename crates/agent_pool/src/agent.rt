@@ -23,10 +23,15 @@ use std::marker::Model;
 
 /// An agent: its name and its atoms by their marks, each filed under what it waits for. Its `spare` is how many
 /// atoms more are sure to find a place.
-#[derive(Drop)]
 pub struct Agent {
     name: Name,
     pub(super) atoms: Index<Held>,
+}
+
+impl Drop for Agent {
+    fn drop(self) {
+        let Agent { name: _, atoms: _ } = self;
+    }
 }
 
 impl Model for Agent {

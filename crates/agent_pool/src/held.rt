@@ -8,10 +8,17 @@ use np_eval::{Frame, chan_of};
 use np_syntax::{Name, Tag, Value};
 
 /// An atom: a node of the code under a frame, or an output that came from outside.
-#[derive(Drop)]
 pub enum Held {
     Node(u32, Frame),
     Given(Name, Value, Tag),
+}
+
+impl Drop for Held {
+    fn drop(self) {
+        match self {
+            Held::Node(_, _) | Held::Given(_, _, _) => {}
+        }
+    }
 }
 
 /// The node of an atom and its frame, unless it is an output that came from outside.

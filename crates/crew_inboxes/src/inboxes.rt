@@ -15,13 +15,22 @@ use std::sync::Wait;
 
 /// A port that has the inbox of its site, and a way into the inbox of each site, in order. The count of a way is of what the port
 /// has taken from that site since the link from there was settled last.
-#[derive(Drop)]
 pub struct Inboxes {
     pub(crate) site: u32,
     pub(crate) inbox: Inbox<Item>,
     pub(crate) ways: Vec<Outlet<Item>>,
     ghost numbered: { (k : ℕ) (way : outlet.Outlet item.Item) → slice_get ways.items k ≡ Some way → number_in (view way.pass) ≡ site },
     ghost reaches: { sites_in (view inbox.pass) ≡ length ways.items },
+}
+
+impl Drop for Inboxes {
+    fn drop(self) {
+        let Inboxes {
+            site: _,
+            inbox: _,
+            ways: _,
+        } = self;
+    }
 }
 
 impl<R: Wait> Port<R, Item> for Inboxes {

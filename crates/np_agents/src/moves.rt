@@ -19,7 +19,7 @@ pub fn halves(atom: Atom, env: Frame) -> Option<(Atom, Atom)>
         proc,
         env: own,
     } = atom;
-    match proc.form {
+    match proc.into_form() {
         ProcForm::Par(left, right) => Some((
             Atom {
                 agent,
@@ -60,7 +60,7 @@ fn body(atom: Atom, env: Frame) -> Option<Atom>
     ensures { result ≡ option_map (λ body. goes_under atom body env) (body_at (layer atom.proc)) }
 {
     let Atom { agent, proc, .. } = atom;
-    match body_of(proc.form) {
+    match body_of(proc.into_form()) {
         Some(proc) => Some(Atom { agent, proc, env }),
         None => None,
     }
@@ -138,7 +138,7 @@ fn way(atom: Atom, first: bool) -> Option<Atom>
     ensures { result ≡ option_map (λ p. goes atom p) (way_at (layer atom.proc) first) }
 {
     let Atom { agent, proc, env } = atom;
-    match way_of(proc.form, first) {
+    match way_of(proc.into_form(), first) {
         Some(proc) => Some(Atom { agent, proc, env }),
         None => None,
     }
@@ -165,7 +165,7 @@ fn way_under(atom: Atom, first: bool, env: Frame) -> Option<Atom>
     ensures { result ≡ option_map (λ p. goes_under atom p env) (way_at (layer atom.proc) first) }
 {
     let Atom { agent, proc, .. } = atom;
-    match way_of(proc.form, first) {
+    match way_of(proc.into_form(), first) {
         Some(proc) => Some(Atom { agent, proc, env }),
         None => None,
     }
@@ -196,7 +196,7 @@ fn agent_halves(atom: Atom, agent: Name, env: Frame, own: Frame) -> Option<(Atom
         proc,
         ..
     } = atom;
-    match proc.form {
+    match proc.into_form() {
         ProcForm::Agent(_binder, body, rest) => Some((
             Atom {
                 agent,

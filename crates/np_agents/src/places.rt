@@ -12,10 +12,18 @@ use std::marker::Model;
 
 /// Where each agent is. Beside the map stand the agents that are under way, so that the next arrival is found without
 /// a walk over the agents.
-#[derive(Drop)]
 pub struct Places {
     placed: Table<Place>,
     under_way: Names,
+}
+
+impl Drop for Places {
+    fn drop(self) {
+        let Places {
+            placed: _,
+            under_way: _,
+        } = self;
+    }
 }
 
 impl Model for Places {

@@ -9,13 +9,24 @@ use std::marker::Model;
 
 /// A low program as a table. Contracts see its sites, its main's site, the list of the processes that stand under
 /// the numbers, and the numbers of main's and of the daemon's process. A number that has no node stands for `0`.
-#[derive(Drop)]
 pub struct Code {
     pub(super) sites: List<Text>,
     pub(super) at: u32,
     pub(super) nodes: Nodes,
     pub(super) main: u32,
     pub(super) daemon: u32,
+}
+
+impl Drop for Code {
+    fn drop(self) {
+        let Code {
+            sites: _,
+            at: _,
+            nodes: _,
+            main: _,
+            daemon: _,
+        } = self;
+    }
 }
 
 impl Model for Code {

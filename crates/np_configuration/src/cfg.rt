@@ -17,7 +17,6 @@ use std::marker::Model;
 
 /// A configuration, seen as the record of its definition. Beside it work lists keep what each atom waits
 /// for, so that what can act is found without a walk over the atoms.
-#[derive(Drop)]
 pub struct Cfg {
     pub(super) sites: u32,
     pub(super) places: Places,
@@ -26,6 +25,20 @@ pub struct Cfg {
     pub(super) born: Names,
     pub(super) said: List<(u32, Value)>,
     pub(super) work: WorkLists,
+}
+
+impl Drop for Cfg {
+    fn drop(self) {
+        let Cfg {
+            sites: _,
+            places: _,
+            atoms: _,
+            packets: _,
+            born: _,
+            said: _,
+            work: _,
+        } = self;
+    }
 }
 
 impl Model for Cfg {
@@ -115,8 +128,8 @@ impl Cfg {
     ) -> Result<Option<u32>, Memory>
         ensures { IfOk result (λ site. site ≡ site_of self.now e.now env.now) }
     {
-        match eval(alloc, e, env)? {
-            Some(Value::Site(site)) if site < self.sites => Ok(Some(site)),
+        match &eval(alloc, e, env)? {
+            Some(Value::Site(site)) if *site < self.sites => Ok(Some(*site)),
             _ => Ok(None),
         }
     }

@@ -13,6 +13,7 @@ use Rattle.np_syntax.specs.declared.expression.Expr.{Expr, fold-Expr}
 use Rattle.np_syntax.specs.declared.expression.ExprForm.{ExprForm-F}
 use Rattle.np_syntax.specs.declared.pattern.Pat.{Pat, fold-Pat}
 use Rattle.np_syntax.specs.declared.pattern.PatForm.{PatForm-F}
+pub use Rattle.np_syntax.specs.Parts.{as_letter, as_places}
 use Rattle.np_syntax.specs.Options.{◌>>=◌, all_some}
 use Rattle.np_tables.specs.Names.{same_name}
 
@@ -43,14 +44,6 @@ as_chan _ = None
 abbrev pub as_tuple : ValueLayer → Option (List Value)
 as_tuple (Value-F.Tuple vs) = Some vs
 as_tuple _ = None
-
-abbrev pub as_letter : ValueLayer → Option (Name × Value)
-as_letter (Value-F.Letter c v) = Some (c, v)
-as_letter _ = None
-
-abbrev pub as_places : ValueLayer → Option (List (Name × Name))
-as_places (Value-F.Places ps) = Some ps
-as_places _ = None
 
 abbrev pub same_truth : Bool → Bool → Bool
 same_truth true y = y

@@ -11,10 +11,18 @@ use std::sync::Arc;
 /// The values of binders, seen as a finite map. Frames share their pairs: a copy takes no memory however many
 /// there are, a new pair takes one block, and a search begins at the newest. A frame has at most the binders
 /// of one path down a source.
-#[derive(Drop)]
 pub struct Frame {
     alloc: Global,
     newest: Option<Arc<Pair>>,
+}
+
+impl Drop for Frame {
+    fn drop(self) {
+        let Frame {
+            alloc: _,
+            newest: _,
+        } = self;
+    }
 }
 
 /// A pair and those that were there before it.

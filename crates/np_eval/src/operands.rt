@@ -41,8 +41,8 @@ fn as_chan(v: &Value) -> Option<Name>
 pub fn agent_of(alloc: Global, e: &Expr, env: &Frame) -> Result<Option<Name>, Memory>
     ensures { IfOk result (λ agent. agent ≡ agent_of e.now env.now) }
 {
-    match eval(alloc, e, env)? {
-        Some(Value::Agent(agent)) => Ok(Some(agent)),
+    match &eval(alloc, e, env)? {
+        Some(Value::Agent(agent)) => Ok(Some(*agent)),
         _ => Ok(None),
     }
 }
@@ -51,8 +51,8 @@ pub fn agent_of(alloc: Global, e: &Expr, env: &Frame) -> Result<Option<Name>, Me
 pub fn truth_of(alloc: Global, e: &Expr, env: &Frame) -> Result<Option<bool>, Memory>
     ensures { IfOk result (λ truth. truth ≡ truth_of e.now env.now) }
 {
-    match eval(alloc, e, env)? {
-        Some(Value::Truth(truth)) => Ok(Some(truth)),
+    match &eval(alloc, e, env)? {
+        Some(Value::Truth(truth)) => Ok(Some(*truth)),
         _ => Ok(None),
     }
 }
@@ -62,8 +62,8 @@ pub fn letter_of(alloc: Global, e: &Expr, env: &Frame) -> Result<Option<(Name, V
     ensures { IfOk result (λ letter. letter ≡ letter_of e.now env.now) }
 {
     match eval(alloc, e, env)? {
-        Some(Value::Letter(chan, value)) => Ok(Some((chan, value.into_inner()))),
-        _ => Ok(None),
+        Some(value) => Ok(value.into_letter()),
+        None => Ok(None),
     }
 }
 
@@ -72,8 +72,8 @@ pub fn places_of(alloc: Global, e: &Expr, env: &Frame) -> Result<Option<List<(Na
     ensures { IfOk result (λ places. places ≡ places_of e.now env.now) }
 {
     match eval(alloc, e, env)? {
-        Some(Value::Places(places)) => Ok(Some(places)),
-        _ => Ok(None),
+        Some(value) => Ok(value.into_places()),
+        None => Ok(None),
     }
 }
 

@@ -41,7 +41,6 @@ pub struct Devices {
 }
 
 /// Calls of np, and what each must do.
-#[derive(Drop)]
 pub struct Example {
     pub title: String,
     /// Where the example begins, counted from 1.
@@ -70,6 +69,31 @@ pub struct Example {
     /// Outcomes that would do as well.
     pub others: Vec<Outcome>,
     pub err: String,
+}
+
+impl Drop for Example {
+    fn drop(self) {
+        let Example {
+            title: _,
+            line: _,
+            calls: _,
+            with_caches: _,
+            runs_low: _,
+            as_high: _,
+            replays: _,
+            replays_itself: _,
+            sources: _,
+            texts: _,
+            devices: _,
+            status: _,
+            events: _,
+            opens: _,
+            lines: _,
+            outcome: _,
+            others: _,
+            err: _,
+        } = self;
+    }
 }
 
 /// More bytes than any call writes at once.

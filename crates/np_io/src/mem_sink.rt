@@ -12,7 +12,6 @@ use std::marker::Model;
 
 /// A sink in memory. A call takes at most `piece` bytes, and no more than are reserved. The calls
 /// whose numbers are listed fail.
-#[derive(Drop)]
 pub struct MemSink {
     bytes: Vec<u8>,
     free: usize,
@@ -20,6 +19,19 @@ pub struct MemSink {
     failing: Vec<u64>,
     calls: u64,
     faults: u64,
+}
+
+impl Drop for MemSink {
+    fn drop(self) {
+        let MemSink {
+            bytes: _,
+            free: _,
+            piece: _,
+            failing: _,
+            calls: _,
+            faults: _,
+        } = self;
+    }
 }
 
 impl Model for MemSink {

@@ -17,7 +17,6 @@ use std::marker::Model;
 /// Texts in memory. A call whose number is listed fails, and so does `begin` with a name that is
 /// not held. All names that are not held share one count of faults, and a name that is added starts
 /// with that count.
-#[derive(Drop)]
 pub struct MemTexts {
     texts: List<NamedText>,
     counts: Vec<u64>,
@@ -27,6 +26,21 @@ pub struct MemTexts {
     begins: u64,
     place: Option<usize>,
     at: usize,
+}
+
+impl Drop for MemTexts {
+    fn drop(self) {
+        let MemTexts {
+            texts: _,
+            counts: _,
+            unknown: _,
+            failing: _,
+            calls: _,
+            begins: _,
+            place: _,
+            at: _,
+        } = self;
+    }
 }
 
 impl Model for MemTexts {

@@ -123,7 +123,7 @@ fn read_rest<T: Texts>(alloc: Global, texts: &mut T, limit: usize) -> Result<Lis
     loop {
         match texts.read(&mut buffer) {
             Ok(0) => return Ok(bytes),
-            Ok(count) if count > limit - bytes.len() => return Err(ReadFail::TooLong),
+            Ok(count) if count > limit - bytes.as_slice().len() => return Err(ReadFail::TooLong),
             Ok(count) => bytes
                 .append(&buffer[..count])
                 .map_err(|_| ReadFail::Memory)?,

@@ -165,7 +165,6 @@ impl Sign {
 }
 
 /// What a token is. A string is the text between its quotes, with its escapes read.
-#[derive(Drop)]
 pub enum What {
     Word(Key),
     Ident(Text),
@@ -173,6 +172,19 @@ pub enum What {
     Str(Text),
     Sign(Sign),
     End,
+}
+
+impl Drop for What {
+    fn drop(self) {
+        match self {
+            What::Word(_)
+            | What::Ident(_)
+            | What::Number(_)
+            | What::Str(_)
+            | What::Sign(_)
+            | What::End => {}
+        }
+    }
 }
 
 /// A token, with the offsets in the source, in bytes, at which it begins and ends.

@@ -1,5 +1,6 @@
 pub mod Escapes
 pub mod Options
+pub mod Parts
 pub mod Printed
 pub mod Results
 pub mod formers

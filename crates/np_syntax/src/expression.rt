@@ -17,16 +17,21 @@ pub enum Op {
 
 /// An expression with its offset in the source, in bytes.
 #[cycle(expr)]
-#[derive(Drop)]
 pub struct Expr {
     pub at: u32,
     pub form: ExprForm,
 }
 
+impl Drop for Expr {
+    #[cycle(drop_expr)]
+    fn drop(self) {
+        let Expr { at: _, form: _ } = self;
+    }
+}
+
 /// The forms of an expression. `Pack` (a letter of a channel and a value) and `With` (a map of places
 /// with an agent's lock channel) stand at the low level alone. A variable is the number of its binder.
 #[cycle(expr)]
-#[derive(Drop)]
 pub enum ExprForm {
     Val(Value),
     Var(u32),
@@ -34,6 +39,20 @@ pub enum ExprForm {
     Bin(Op, Boxed<Expr>, Boxed<Expr>),
     Pack(Boxed<Expr>, Boxed<Expr>),
     With(Boxed<Expr>, Boxed<Expr>, Boxed<Expr>),
+}
+
+impl Drop for ExprForm {
+    #[cycle(drop_expr)]
+    fn drop(self) {
+        match self {
+            ExprForm::Val(_)
+            | ExprForm::Var(_)
+            | ExprForm::Tuple(_)
+            | ExprForm::Bin(_, _, _)
+            | ExprForm::Pack(_, _)
+            | ExprForm::With(_, _, _) => {}
+        }
+    }
 }
 
 impl Expr {

@@ -6,19 +6,33 @@ use std::alloc::Global;
 
 /// A pattern with its offset in the source, in bytes.
 #[cycle(pat)]
-#[derive(Drop)]
 pub struct Pat {
     pub at: u32,
     pub form: PatForm,
 }
 
+impl Drop for Pat {
+    #[cycle(drop_pat)]
+    fn drop(self) {
+        let Pat { at: _, form: _ } = self;
+    }
+}
+
 /// The forms of a pattern: `_`, a binder by its number, and a tuple.
 #[cycle(pat)]
-#[derive(Drop)]
 pub enum PatForm {
     Any,
     Bind(u32),
     Tuple(List<Pat>),
+}
+
+impl Drop for PatForm {
+    #[cycle(drop_pat)]
+    fn drop(self) {
+        match self {
+            PatForm::Any | PatForm::Bind(_) | PatForm::Tuple(_) => {}
+        }
+    }
 }
 
 impl Pat {

@@ -29,11 +29,21 @@ pub struct Tag {
 
 /// A process with its offset in the source, in bytes.
 #[cycle(process)]
-#[derive(Drop)]
 pub struct Proc {
     pub tag: Tag,
     pub at: u32,
     pub form: ProcForm,
+}
+
+impl Drop for Proc {
+    #[cycle(drop_proc)]
+    fn drop(self) {
+        let Proc {
+            tag: _,
+            at: _,
+            form: _,
+        } = self;
+    }
 }
 
 /// The forms of a process, with their parts in the order of the source. `Post` stands at the high level
@@ -60,6 +70,18 @@ pub enum ProcForm {
 }
 
 impl Proc {
+    /// The form, moved out of the process.
+    pub fn into_form(self) -> ProcForm
+        ensures { result ≡ self.form }
+    {
+        let Proc {
+            tag: _,
+            at: _,
+            form,
+        } = self;
+        form
+    }
+
     #[cycle(proc_copy)]
     pub fn copy(&self, alloc: Global) -> Result<Proc, Memory>
         ensures { IfOk result (λ copied. copied ≡ self.now) }

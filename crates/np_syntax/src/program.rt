@@ -7,7 +7,6 @@ use std::alloc::Global;
 
 /// A program of the high level: the names of its sites in order, the number of main's site, main's
 /// process, and the number of its binders, which are numbered from 0.
-#[derive(Drop)]
 pub struct Program {
     pub sites: List<Text>,
     pub at: u32,
@@ -15,14 +14,35 @@ pub struct Program {
     pub binders: u32,
 }
 
+impl Drop for Program {
+    fn drop(self) {
+        let Program {
+            sites: _,
+            at: _,
+            main: _,
+            binders: _,
+        } = self;
+    }
+}
+
 /// A program of the low level: the sites, the number of main's site, and the processes of main and of
 /// the daemon.
-#[derive(Drop)]
 pub struct LowProgram {
     pub sites: List<Text>,
     pub at: u32,
     pub main: Proc,
     pub daemon: Proc,
+}
+
+impl Drop for LowProgram {
+    fn drop(self) {
+        let LowProgram {
+            sites: _,
+            at: _,
+            main: _,
+            daemon: _,
+        } = self;
+    }
 }
 
 impl Program {

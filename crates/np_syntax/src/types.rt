@@ -1,5 +1,7 @@
 ghost use Rattle.std.specs.Prelude.{◌≡◌, ◌↔◌, IsTrue, IfOk};
 ghost use Rattle.np_syntax.specs.declared.types.Ty as shape;
+ghost use Rattle.np_syntax.specs.declared.types.Ty.{out-Ty};
+ghost use Rattle.np_syntax.specs.Parts.{as_channel};
 
 use super::boxed::Boxed;
 use super::list::List;
@@ -15,7 +17,6 @@ pub enum Cap {
 }
 
 /// A type. `Letter` and `Places` are the types of the low level's own values.
-#[derive(Drop)]
 pub enum Ty {
     Int,
     Bool,
@@ -28,7 +29,37 @@ pub enum Ty {
     Places,
 }
 
+impl Drop for Ty {
+    #[cycle(drop_ty)]
+    fn drop(self) {
+        match self {
+            Ty::Int
+            | Ty::Bool
+            | Ty::Str
+            | Ty::Site
+            | Ty::Agent
+            | Ty::Chan(_, _)
+            | Ty::Tuple(_)
+            | Ty::Letter
+            | Ty::Places => {}
+        }
+    }
+}
+
 impl Ty {
+    /// What may be done with the channels of a type, and the type that they carry, moved out of it.
+    pub fn into_channel(self) -> Option<(Cap, Ty)>
+        ensures { result ≡ as_channel (out-Ty self) }
+    {
+        match self {
+            Ty::Chan(cap, carried) => Some((cap, carried.into_inner())),
+            other => {
+                drop(other);
+                None
+            }
+        }
+    }
+
     #[cycle(ty_copy)]
     pub fn copy(&self, alloc: Global) -> Result<Ty, Memory>
         ensures { IfOk result (λ copied. copied ≡ self.now) }

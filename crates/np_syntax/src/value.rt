@@ -1,5 +1,7 @@
 ghost use Rattle.std.specs.Prelude.{◌≡◌, ◌↔◌, IsTrue, IfOk};
 ghost use Rattle.np_syntax.specs.declared.value.Value as shape;
+ghost use Rattle.np_syntax.specs.declared.value.Value.{out-Value};
+ghost use Rattle.np_syntax.specs.Parts.{as_letter, as_places};
 
 use super::boxed::Boxed;
 use super::list::{List, Text};
@@ -33,7 +35,6 @@ impl Hash for Name {
 
 /// What an expression gives and a message carries. `Letter` and `Places` stand at the low level alone:
 /// a letter is a channel with a value for it, and a map of places gives agents their lock channels.
-#[derive(Drop)]
 pub enum Value {
     Int(i64),
     Truth(bool),
@@ -46,7 +47,50 @@ pub enum Value {
     Places(List<(Name, Name)>),
 }
 
+impl Drop for Value {
+    #[cycle(drop_value)]
+    fn drop(self) {
+        match self {
+            Value::Int(_)
+            | Value::Truth(_)
+            | Value::Str(_)
+            | Value::Site(_)
+            | Value::Agent(_)
+            | Value::Chan(_)
+            | Value::Tuple(_)
+            | Value::Letter(_, _)
+            | Value::Places(_) => {}
+        }
+    }
+}
+
 impl Value {
+    /// The channel and the value of a letter, moved out of it.
+    pub fn into_letter(self) -> Option<(Name, Value)>
+        ensures { result ≡ as_letter (out-Value self) }
+    {
+        match self {
+            Value::Letter(chan, value) => Some((chan, value.into_inner())),
+            other => {
+                drop(other);
+                None
+            }
+        }
+    }
+
+    /// The pairs of a map of places, moved out of it.
+    pub fn into_places(self) -> Option<List<(Name, Name)>>
+        ensures { result ≡ as_places (out-Value self) }
+    {
+        match self {
+            Value::Places(places) => Some(places),
+            other => {
+                drop(other);
+                None
+            }
+        }
+    }
+
     #[cycle(value_copy)]
     pub fn copy(&self, alloc: Global) -> Result<Value, Memory>
         ensures { IfOk result (λ copied. copied ≡ self.now) }

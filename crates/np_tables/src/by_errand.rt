@@ -13,11 +13,20 @@ use std::alloc::Global;
 use std::marker::Model;
 
 /// The marks by their errands. Those that act alone have a line of their own, which is never given up.
-#[derive(Drop)]
 pub struct Lines {
     alloc: Global,
     acts: Line,
     others: IndexMap<Errand, Line>,
+}
+
+impl Drop for Lines {
+    fn drop(self) {
+        let Lines {
+            alloc: _,
+            acts: _,
+            others: _,
+        } = self;
+    }
 }
 
 impl Model for Lines {
@@ -36,10 +45,15 @@ impl Model for Lines {
 }
 
 /// The marks by their errands, each errand's in a line, and the meetings that have both an input and an output.
-#[derive(Drop)]
 pub struct ByErrand {
     lines: Lines,
     busy: IndexSet<Meeting>,
+}
+
+impl Drop for ByErrand {
+    fn drop(self) {
+        let ByErrand { lines: _, busy: _ } = self;
+    }
 }
 
 /// A mark comes into the line of an errand.

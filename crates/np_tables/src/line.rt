@@ -10,10 +10,15 @@ use std::marker::Model;
 /// Marks that wait for the same. Contracts see the set of them. Beside it stands the order in which they are
 /// served, where a mark may be missing, for want of memory, or stand though it is gone. A mark that is alone needs
 /// no order, so that its line takes no memory.
-#[derive(Drop)]
 pub struct Line {
     marks: Marks,
     order: VecDeque<Name>,
+}
+
+impl Drop for Line {
+    fn drop(self) {
+        let Line { marks: _, order: _ } = self;
+    }
 }
 
 impl Model for Line {

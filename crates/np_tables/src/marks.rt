@@ -8,10 +8,15 @@ use std::alloc::Global;
 use std::marker::Model;
 
 /// A finite set of names, one of which stands in place, so that a set of one name takes no memory.
-#[derive(Drop)]
 pub struct Marks {
     one: Option<Name>,
     others: Names,
+}
+
+impl Drop for Marks {
+    fn drop(self) {
+        let Marks { one: _, others: _ } = self;
+    }
 }
 
 impl Model for Marks {

@@ -7,9 +7,14 @@ use std::alloc::Global;
 use std::marker::Model;
 
 /// A finite set of names. Its `spare` is how many new names are sure to find room.
-#[derive(Drop)]
 pub struct Names {
     names: IndexSet<Name>,
+}
+
+impl Drop for Names {
+    fn drop(self) {
+        let Names { names: _ } = self;
+    }
 }
 
 impl Model for Names {

@@ -10,9 +10,14 @@ use std::marker::Model;
 
 /// A finite map from names. Its `spare` is how many new names are sure to find room, and its `keys` are the
 /// names in the order of a walk, which `take` and `remove` change.
-#[derive(Drop)]
 pub struct Table<V> {
     entries: IndexMap<Name, V>,
+}
+
+impl<V: Drop> Drop for Table<V> {
+    fn drop(self) {
+        let Table { entries: _ } = self;
+    }
 }
 
 impl<V> Model for Table<V> {

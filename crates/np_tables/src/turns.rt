@@ -17,10 +17,18 @@ pub enum Turn {
 
 /// The turns in the order of their coming. A turn may be missing, for want of memory, or stand though there is
 /// nothing to be served. A meeting has one turn at most.
-#[derive(Drop)]
 pub struct Turns {
     queue: VecDeque<Turn>,
     waiting: IndexSet<Meeting>,
+}
+
+impl Drop for Turns {
+    fn drop(self) {
+        let Turns {
+            queue: _,
+            waiting: _,
+        } = self;
+    }
 }
 
 impl Turns {

@@ -13,11 +13,20 @@ use std::marker::Model;
 
 /// Which mark is filed under which errand, and what is ready then. Marks that act alone and meetings are served in
 /// the order in which they came, as far as memory allows, and so are the inputs and the outputs of a meeting.
-#[derive(Drop)]
 pub struct WorkLists {
     filed: Table<Errand>,
     marks: ByErrand,
     turns: Turns,
+}
+
+impl Drop for WorkLists {
+    fn drop(self) {
+        let WorkLists {
+            filed: _,
+            marks: _,
+            turns: _,
+        } = self;
+    }
 }
 
 impl Model for WorkLists {

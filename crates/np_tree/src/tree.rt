@@ -34,13 +34,25 @@ impl Drop for RawExpr {
 
 /// The forms of an expression. A value is a number, a truth value or a string.
 #[cycle(expr)]
-#[derive(Drop)]
 pub enum RawExprForm {
     Val(Value),
     Main,
     Var(Ident),
     Tuple(List<RawExpr>),
     Bin(Op, Boxed<RawExpr>, Boxed<RawExpr>),
+}
+
+impl Drop for RawExprForm {
+    #[cycle(drop_expr)]
+    fn drop(self) {
+        match self {
+            RawExprForm::Val(_)
+            | RawExprForm::Main
+            | RawExprForm::Var(_)
+            | RawExprForm::Tuple(_)
+            | RawExprForm::Bin(_, _, _) => {}
+        }
+    }
 }
 
 /// A pattern with the offset of its first token, in bytes.
@@ -60,11 +72,19 @@ impl Drop for RawPat {
 
 /// The forms of a pattern: `_`, a binder, and a tuple.
 #[cycle(pat)]
-#[derive(Drop)]
 pub enum RawPatForm {
     Any,
     Bind(Ident),
     Tuple(List<RawPat>),
+}
+
+impl Drop for RawPatForm {
+    #[cycle(drop_pat)]
+    fn drop(self) {
+        match self {
+            RawPatForm::Any | RawPatForm::Bind(_) | RawPatForm::Tuple(_) => {}
+        }
+    }
 }
 
 /// A process with the offset of its first token, in bytes. The compositions of one bracket all have the
@@ -85,7 +105,6 @@ impl Drop for RawProc {
 
 /// The forms of a process, with their parts in the order of the source.
 #[cycle(process)]
-#[derive(Drop)]
 pub enum RawProcForm {
     Stop,
     Par(Boxed<RawProc>, Boxed<RawProc>),
@@ -101,4 +120,26 @@ pub enum RawProcForm {
     If(RawExpr, Boxed<RawProc>, Boxed<RawProc>),
     Let(RawPat, RawExpr, Boxed<RawProc>),
     Print(RawExpr),
+}
+
+impl Drop for RawProcForm {
+    #[cycle(drop_proc)]
+    fn drop(self) {
+        match self {
+            RawProcForm::Stop
+            | RawProcForm::Par(_, _)
+            | RawProcForm::New(_, _, _)
+            | RawProcForm::Out(_, _)
+            | RawProcForm::Inp(_, _, _)
+            | RawProcForm::Rep(_, _, _)
+            | RawProcForm::Agent(_, _, _)
+            | RawProcForm::Migrate(_, _)
+            | RawProcForm::IfLocal(_, _, _, _, _)
+            | RawProcForm::Send(_, _, _, _)
+            | RawProcForm::Post(_, _, _)
+            | RawProcForm::If(_, _, _)
+            | RawProcForm::Let(_, _, _)
+            | RawProcForm::Print(_) => {}
+        }
+    }
 }

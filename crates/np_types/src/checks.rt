@@ -38,9 +38,9 @@ pub fn written_on(ty: &Ty, at: u32) -> Result<&Ty, LeastFail>
 pub fn read_on(ty: Ty, at: u32) -> Result<Ty, LeastFail>
     ensures { Told result (read_on (out-Ty ty) at) }
 {
-    match ty {
-        Ty::Chan(Cap::Output, _) => fault(at, Rule::NoInput),
-        Ty::Chan(_, carried) => Ok(carried.into_inner()),
-        _ => fault(at, Rule::NotChannel),
+    match ty.into_channel() {
+        Some((Cap::Output, _)) => fault(at, Rule::NoInput),
+        Some((_, carried)) => Ok(carried),
+        None => fault(at, Rule::NotChannel),
     }
 }

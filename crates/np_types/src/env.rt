@@ -12,9 +12,14 @@ use std::marker::Model;
 pub type Trail = List<(u32, Option<Ty>)>;
 
 /// The types of binders, seen as a finite map.
-#[derive(Drop)]
 pub struct Env {
     entries: IndexMap<u32, Ty>,
+}
+
+impl Drop for Env {
+    fn drop(self) {
+        let Env { entries: _ } = self;
+    }
 }
 
 impl Model for Env {

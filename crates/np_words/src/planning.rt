@@ -53,7 +53,6 @@ pub enum View {
 }
 
 /// What the words ask for: a mode with its operands and options.
-#[derive(Drop)]
 pub enum Plan {
     /// A mode that reads one source.
     Source {
@@ -92,6 +91,38 @@ pub enum Plan {
         links: Links,
         infrastructure: Infrastructure,
     },
+}
+
+impl Drop for Plan {
+    fn drop(self) {
+        match self {
+            Plan::Source { file: _, task: _ }
+            | Plan::Replay {
+                source: _,
+                history: _,
+                infrastructure: _,
+                view: _,
+            }
+            | Plan::Resume {
+                source: _,
+                saved: _,
+                budget: _,
+                history: _,
+                high: _,
+                serial: _,
+                links: _,
+                infrastructure: _,
+            }
+            | Plan::Upgrade { history: _ }
+            | Plan::Generate { agents: _ }
+            | Plan::Load {
+                agents: _,
+                serial: _,
+                links: _,
+                infrastructure: _,
+            } => {}
+        }
+    }
 }
 
 /// A word stands there only where it may.

@@ -16,18 +16,32 @@ use std::alloc::Global;
 
 /// The links in code: from which site each item was put last, and what waits on each link, in the order in which the links
 /// were first used.
-#[derive(Drop)]
 pub struct Links {
     alloc: Global,
     senders: IndexMap<Item, u32>,
     queues: IndexMap<Link, Queue>,
 }
 
+impl Drop for Links {
+    fn drop(self) {
+        let Links {
+            alloc: _,
+            senders: _,
+            queues: _,
+        } = self;
+    }
+}
+
 /// What is noted of the events of a run: how many names each site has made, and the links.
-#[derive(Drop)]
 pub struct Notes {
     made: IndexMap<u32, u64>,
     links: Links,
+}
+
+impl Drop for Notes {
+    fn drop(self) {
+        let Notes { made: _, links: _ } = self;
+    }
 }
 
 /// An item is the last that waits on a link.

@@ -7,9 +7,14 @@ use std::collections::VecDeque;
 use std::marker::Model;
 
 /// Items that wait, first in first out. Contracts see the list of them.
-#[derive(Drop)]
 pub struct Queue {
     items: VecDeque<Item>,
+}
+
+impl Drop for Queue {
+    fn drop(self) {
+        let Queue { items: _ } = self;
+    }
 }
 
 impl Model for Queue {

@@ -21,11 +21,20 @@ use std::marker::Model;
 /// The agents that stand at one site, by their names. Those that may have something to do stand in a queue, first come
 /// first served, or among the doubtful, of which no index tells what they can do. The others were found to be quiet, and
 /// cost nothing until they are changed.
-#[derive(Drop)]
 pub struct Agents {
     seats: Seats<Seat>,
     turns: Queue,
     doubtful: Queue,
+}
+
+impl Drop for Agents {
+    fn drop(self) {
+        let Agents {
+            seats: _,
+            turns: _,
+            doubtful: _,
+        } = self;
+    }
 }
 
 impl Model for Agents {

@@ -7,10 +7,15 @@ use std::collections::VecDeque;
 use std::marker::Model;
 
 /// Names that wait, first come first served. Where there was no room for one, it is said that one is missing.
-#[derive(Drop)]
 pub struct Queue {
     names: VecDeque<Name>,
     lost: bool,
+}
+
+impl Drop for Queue {
+    fn drop(self) {
+        let Queue { names: _, lost: _ } = self;
+    }
 }
 
 impl Model for Queue {

@@ -12,9 +12,14 @@ use std::marker::Model;
 
 /// A finite map from names, which lends its values to be changed in place. Its `spare` is how many new names are sure to
 /// find room, and its `keys` are the names in the order of a walk, which `take` changes.
-#[derive(Drop)]
 pub struct Seats<V> {
     entries: IndexMap<Name, V>,
+}
+
+impl<V: Drop> Drop for Seats<V> {
+    fn drop(self) {
+        let Seats { entries: _ } = self;
+    }
 }
 
 impl<V> Model for Seats<V> {

@@ -16,7 +16,6 @@ use std::sync::Arc;
 pub type Queue<I> = RuledArrayQueue<I, View<I>, InboxRule>;
 
 /// The queue of a site, with the owner's pass.
-#[derive(Drop)]
 pub struct Inbox<I: Addressed> {
     pub queue: Arc<Queue<I>, Global>,
     pub pass: Pass<I, View<I>>,
@@ -25,9 +24,14 @@ pub struct Inbox<I: Addressed> {
     ghost size: { ruled_capacity (arc_value queue) ≡ sites_in (view pass) * PLACES },
 }
 
+impl<I: Addressed + Drop> Drop for Inbox<I> {
+    fn drop(self) {
+        let Inbox { queue: _, pass: _ } = self;
+    }
+}
+
 /// The way from one site to another: the queue of the other with a sender's pass, and how many places are known to be free. `fresh`
 /// counts what the one site has taken from the other since the link from there was settled last.
-#[derive(Drop)]
 pub struct Outlet<I: Addressed> {
     pub queue: Arc<Queue<I>, Global>,
     pub pass: Pass<I, View<I>>,
@@ -37,4 +41,15 @@ pub struct Outlet<I: Addressed> {
     ghost role: { is_sender (view pass) ≡ true },
     ghost size: { ruled_capacity (arc_value queue) ≡ sites_in (view pass) * PLACES },
     ghost spaced: { spare + length (sent_in (view pass)) ≡ PLACES + length (last_in (view pass)) },
+}
+
+impl<I: Addressed + Drop> Drop for Outlet<I> {
+    fn drop(self) {
+        let Outlet {
+            queue: _,
+            pass: _,
+            spare: _,
+            fresh: _,
+        } = self;
+    }
 }

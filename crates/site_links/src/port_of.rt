@@ -9,11 +9,20 @@ use np_syntax::Memory;
 use std::alloc::Global;
 
 /// A port that has ends for each site, in order. `next` is the site from which the next look for an item begins.
-#[derive(Drop)]
 pub struct PortOf<E> {
     pub(crate) site: u32,
     pub(crate) ends: Vec<E>,
     pub(crate) next: usize,
+}
+
+impl<E: Drop> Drop for PortOf<E> {
+    fn drop(self) {
+        let PortOf {
+            site: _,
+            ends: _,
+            next: _,
+        } = self;
+    }
 }
 
 /// A port with a ring for each ordered pair of sites, which carries items while the ports are used.

@@ -9,13 +9,22 @@ use rtrb::{Consumer, Producer, PushError, RingBuffer};
 use std::alloc::Global;
 
 /// The ends of two rings. Of the places that are free in the ring into which it puts, `spare` are known to be.
-#[derive(Drop)]
 pub struct RingEnds<I> {
     to: Producer<I>,
     from: Consumer<I>,
     spare: u32,
     ghost size: { ring.producer_capacity to ≡ PLACES },
     ghost free: { spare ≤ ring.known_free to },
+}
+
+impl<I: Drop> Drop for RingEnds<I> {
+    fn drop(self) {
+        let RingEnds {
+            to: _,
+            from: _,
+            spare: _,
+        } = self;
+    }
 }
 
 impl<I: Drop> Ends<I> for RingEnds<I> {

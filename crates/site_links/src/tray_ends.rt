@@ -17,7 +17,6 @@ const AT_ONCE: usize = 1;
 
 /// A list of what was put and not yet handed over, and one of what was handed over and not yet taken, with the ends of the two
 /// rings through which items are handed over. The rings are empty but then.
-#[derive(Drop)]
 pub struct TrayEnds<I> {
     out: VecDeque<I>,
     to: Producer<I>,
@@ -28,6 +27,18 @@ pub struct TrayEnds<I> {
     ghost bound: { length out.items + spare ≤ PLACES },
     ghost reserved: { (PLACES ≤ deque_capacity out) × (PLACES ≤ deque_capacity inside) },
     ghost passed: { before (ring.received from) inside.items ++ inside.items ≡ ring.received from } by { Coded-set (coded_list I.code) (before (ring.received from) inside.items ++ inside.items) (ring.received from) },
+}
+
+impl<I: Drop> Drop for TrayEnds<I> {
+    fn drop(self) {
+        let TrayEnds {
+            out: _,
+            to: _,
+            from: _,
+            inside: _,
+            spare: _,
+        } = self;
+    }
 }
 
 impl<I: Drop> Ends<I> for TrayEnds<I> {

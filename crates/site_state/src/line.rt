@@ -11,9 +11,14 @@ use std::marker::Model;
 pub const PLACES: u32 = 64;
 
 /// Items that wait to be put on a link, first come first served. `spare` is for how many more there is room.
-#[derive(Drop)]
 pub struct Line {
     items: VecDeque<Item>,
+}
+
+impl Drop for Line {
+    fn drop(self) {
+        let Line { items: _ } = self;
+    }
 }
 
 impl Model for Line {

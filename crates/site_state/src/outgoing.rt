@@ -10,10 +10,15 @@ use std::marker::Model;
 
 /// The items that a site has to put on its links, in a line for each site. `sure` is for how many more there is room in
 /// each line.
-#[derive(Drop)]
 pub struct Outgoing {
     lines: Vec<Line>,
     sure: u32,
+}
+
+impl Drop for Outgoing {
+    fn drop(self) {
+        let Outgoing { lines: _, sure: _ } = self;
+    }
 }
 
 impl Model for Outgoing {

@@ -18,7 +18,6 @@ use std::marker::Model;
 
 /// One site: for how many events it has room, the agents that stand there, the number of the next name that it makes, its clock, what it made and printed,
 /// and the items that it has to put on its links.
-#[derive(Drop)]
 pub struct Site {
     pub(super) site: u32,
     pub(super) budget: u32,
@@ -27,6 +26,20 @@ pub struct Site {
     pub(super) clock: Clock,
     pub(super) history: History,
     pub(super) outgoing: Outgoing,
+}
+
+impl Drop for Site {
+    fn drop(self) {
+        let Site {
+            site: _,
+            budget: _,
+            agents: _,
+            next: _,
+            clock: _,
+            history: _,
+            outgoing: _,
+        } = self;
+    }
 }
 
 impl Model for Site {
@@ -118,7 +131,16 @@ impl Site {
         ensures history { result.history ≡ self.history }
         ensures standing { IsStanding self }
     {
-        self.history
+        let Site {
+            site: _,
+            budget: _,
+            agents: _,
+            next: _,
+            clock: _,
+            history,
+            outgoing: _,
+        } = self;
+        history
     }
 
     /// Whether no item waits to be put on its link.

@@ -11,12 +11,22 @@ use std::marker::Model;
 /// The events of a site in the order in which it made them, and the values that it printed. There is room for as many
 /// events as the budget from the start, so that recording one takes no memory. `spare` is for how many more values there
 /// is room.
-#[derive(Drop)]
 pub struct History {
     site: u32,
     budget: u32,
     events: Vec<Stamped>,
     said: Vec<Value>,
+}
+
+impl Drop for History {
+    fn drop(self) {
+        let History {
+            site: _,
+            budget: _,
+            events: _,
+            said: _,
+        } = self;
+    }
 }
 
 impl Model for History {
