@@ -11,7 +11,8 @@ use Rattle.np_syntax.specs.declared.expression.Expr.{Expr}
 use Rattle.np_syntax.specs.declared.process.Proc.{Proc}
 use Rattle.np_syntax.specs.declared.process.ProcForm.TheVariants.{outs-Stop, outs-New, outs-Inp, outs-Rep, outs-Send, outs-Migrate, outs-IfLocal, outs-Lookup, outs-Agent as outs-Creation}
 use Rattle.np_types.specs.declared.fault.Rule.TheVariants as rule
-use Rattle.np_types.specs.Sub.{as_chan, is_agent}
+use Rattle.np_types.specs.Sub.{is_agent}
+use Rattle.np_syntax.specs.Parts.{as_channel}
 use Rattle.np_types.specs.Checks.{want}
 use Rattle.np_types.specs.Worlds.{World}
 use Rattle.np_types.specs.Least.{Types}
@@ -80,7 +81,7 @@ module _ (n : ℕ) (some : nat_lt 0 n ≡ true) where
       let at_l : table.get all l ≡ Some lock_type = slot_here types l lock_type in
       good-made w types _ _ (outs-New _ _ _) (record {
         carries = (cap.Both, ty.Site);
-        chan = ap as_chan (outs-Chan cap.Both ty.Site);
+        chan = ap as_channel (outs-Chan cap.Both ty.Site);
         small = rw (nodes-chan cap.Both ty.Site, nodes-site) refl;
         body = two n all k _ _
             (given n all k _ _ (sends-on w all _ _ ty.Places ty.Places (its-channel n all 14 ty.Places refl) (least-with_lock w all m x l at_m at_x at_l) (sub-itself ty.Places)))

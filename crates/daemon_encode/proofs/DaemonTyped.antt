@@ -11,7 +11,7 @@ use Rattle.np_syntax.specs.declared.expression.Expr.{Expr}
 use Rattle.np_syntax.specs.declared.pattern.Pat.{Pat}
 use Rattle.np_syntax.specs.declared.process.Proc.{Proc}
 use Rattle.np_syntax.specs.declared.process.ProcForm.TheVariants.{outs-Stop, outs-Par, outs-New, outs-Out, outs-Inp, outs-Rep, outs-Send, outs-Lookup}
-use Rattle.np_types.specs.Sub.{as_chan}
+use Rattle.np_syntax.specs.Parts.{as_channel}
 use Rattle.np_types.specs.declared.fault.Rule.TheVariants as rule
 use Rattle.np_types.specs.Checks.{want}
 use Rattle.np_types.specs.Worlds.{World}
@@ -101,7 +101,7 @@ module _ (n : ℕ) where
       noted types 2 _ (pair_type ty.Agent ty.Site) both m _ refl (cover-two types a s ty.Agent ty.Site)
       (good-made low locked _ _ (outs-New _ _ _) (record {
         carries = (cap.Both, ty.Site);
-        chan = ap as_chan (outs-Chan cap.Both ty.Site);
+        chan = ap as_channel (outs-Chan cap.Both ty.Site);
         small = rw (nodes-chan cap.Both ty.Site, nodes-site) refl;
         body = two all 0 _ _
             (two all 0 _ _

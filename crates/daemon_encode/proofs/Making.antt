@@ -19,7 +19,8 @@ use Rattle.np_syntax.specs.declared.process.Proc.{Proc}
 use Rattle.np_tables.specs.Names.{same_name}
 use Rattle.np_tables.proofs.Tables.{get-none, get-put}
 use Rattle.np_types.specs.declared.fault.Rule.TheVariants as rule
-use Rattle.np_types.specs.Sub.{TyLayer, sub, as_chan, is_agent, is_site, is_places}
+use Rattle.np_types.specs.Sub.{TyLayer, sub, is_agent, is_site, is_places}
+use Rattle.np_syntax.specs.Parts.{as_channel}
 use Rattle.np_types.specs.Widths.{nodes}
 use Rattle.np_types.specs.Checks.{want}
 use Rattle.np_types.specs.Worlds.{World, kind}
@@ -109,7 +110,7 @@ module _ (w : World) (types : Types) where
 
   -- a channel of capability ^ that carries this type
   pub on-channel : (c : Expr) (t : Ty) → least w types c ≡ Ok (ty.Chan cap.Both t) → OnChannel w types c (cap.Both, t)
-  on-channel c t h = record { type = ty.Chan cap.Both t; is = h; chan = ap as_chan (outs-Chan cap.Both t) }
+  on-channel c t h = record { type = ty.Chan cap.Both t; is = h; chan = ap as_channel (outs-Chan cap.Both t) }
 
   pub sends-on : (c e : Expr) (s t : Ty) → least w types c ≡ Ok (ty.Chan cap.Both t) → least w types e ≡ Ok s → sub s t ≡ true → Sending w types c e
   sends-on c e s t h is below = record { carries = (cap.Both, t); on = on-channel c t h; may_write = refl; type = s; is = is; below = below }

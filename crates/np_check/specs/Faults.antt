@@ -13,7 +13,8 @@ use Rattle.np_syntax.specs.declared.program.Program.{Program}
 use Rattle.np_types.specs.declared.fault.Rule.{Rule}
 use Rattle.np_types.specs.declared.fault.Rule.TheVariants as rule
 use Rattle.np_types.specs.declared.fault.TypeFault.{TypeFault}
-use Rattle.np_types.specs.Sub.{TyLayer, is_bool, is_site, is_agent, is_letter, is_places, as_chan}
+use Rattle.np_types.specs.Sub.{TyLayer, is_bool, is_site, is_agent, is_letter, is_places}
+use Rattle.np_syntax.specs.Parts.{as_channel}
 use Rattle.np_types.specs.Widths.{narrow, printable}
 use Rattle.np_syntax.specs.Results.{◌>>=◌, ◌>>◌}
 use Rattle.np_types.specs.Checks.{Check, ensure, found}
@@ -55,7 +56,7 @@ with_names x t body env = do
   body inner
 
 abbrev pub is_channel : TyLayer → Bool
-is_channel t = is_some (as_chan t)
+is_channel t = is_some (as_channel t)
 
 -- The table does not ask for a channel type at a `new`, since each resolved program has one there. It is asked for
 -- here, so that in what has no fault each channel has a channel type.

@@ -12,7 +12,8 @@ pub use Rattle.np_syntax.proofs.Results.{then, done}
 pub use Rattle.np_syntax.proofs.Trees.{With}
 pub use Rattle.np_tables.proofs.Tables.{put_cases}
 pub use Rattle.np_types.specs.declared.fault.Rule.{Rule}
-pub use Rattle.np_types.specs.Sub.{TyLayer, reads, writes, sub, sub_all, is_int, is_bool, is_site, is_agent, is_letter, is_places, as_chan}
+pub use Rattle.np_types.specs.Sub.{TyLayer, reads, writes, sub, sub_all, is_int, is_bool, is_site, is_agent, is_letter, is_places}
+pub use Rattle.np_syntax.specs.Parts.{as_channel}
 pub use Rattle.np_types.specs.Checks.{Check, ensure}
 pub use Rattle.np_types.specs.Worlds.{World, kinds, is_lock_chan, all_locks}
 unfoldable pub use Rattle.np_types.specs.Worlds.{kind}

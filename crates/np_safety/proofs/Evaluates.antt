@@ -4,7 +4,7 @@ use Rattle.std.specs.Prelude.{nat_eq}
 use Rattle.std.specs.Ordering.{int_eq}
 use Rattle.std.specs.Str.{bytes_eq}
 use Rattle.np_safety.proofs.Common.{Name, Value, Value-F, out-Value, Cap, Ty, Ty-F, out-Ty, outs-Tuple, Expr, ◌>>=◌, ◌>>◌, and-in, and-out, then, done, With}
-use Rattle.np_safety.proofs.Common.{same_name, TyLayer, reads, writes, sub, sub_all, is_int, is_site, is_agent, is_places, as_chan, ensure}
+use Rattle.np_safety.proofs.Common.{same_name, TyLayer, reads, writes, sub, sub_all, is_int, is_site, is_agent, is_places, as_channel, ensure}
 use Rattle.np_safety.proofs.Common.{World, kinds, is_lock_chan, all_locks, kind, Types, least, least_of, sub-trans, site_below, when, ensured}
 use Rattle.np_safety.proofs.Common.{wanted, Env, eval, Fits}
 use Rattle.np_syntax.specs.declared.value.Value as value
@@ -68,7 +68,7 @@ both_ways cap.Both t r w h = h
 both_ways _ t r w h = absurd cc
 
 -- a channel type that is ^Site
-pub lock_is : (y : TyLayer) → is_lock_chan (as_chan y) ≡ true → (t : Ty) × (as_chan y ≡ Some (cap.Both, t)) × (is_site (out-Ty t) ≡ true)
+pub lock_is : (y : TyLayer) → is_lock_chan (as_channel y) ≡ true → (t : Ty) × (as_channel y ≡ Some (cap.Both, t)) × (is_site (out-Ty t) ≡ true)
 lock_is (Ty-F.Chan cap.Both t) h = (t, refl, h)
 lock_is _ h = absurd cc
 

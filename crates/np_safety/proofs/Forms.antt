@@ -2,7 +2,7 @@
 use Rattle.std.proofs.Common.{◌≡◌, ℕ, Bool, true, Option, None, Some, is_some, Ok, refl, subst, sym, ap, ◌∙◌}
 use Rattle.std.specs.FinMap as table
 use Rattle.np_safety.proofs.Common.{Cap, Ty, out-Ty, Expr, Pat, Proc, ProcForm-F, ◌>>=◌, ◌>>◌, then, done, Rule, TyLayer, reads, writes, sub, is_bool}
-use Rattle.np_safety.proofs.Common.{is_site, is_agent, is_letter, is_places, as_chan, ensure, World, Types, least, channel, least_of, cover, when, ensured}
+use Rattle.np_safety.proofs.Common.{is_site, is_agent, is_letter, is_places, as_channel, ensure, World, Types, least, channel, least_of, cover, when, ensured}
 use Rattle.np_safety.proofs.Common.{wanted, Checking, lock_type, check_step, check, Layer, layer}
 use Rattle.np_syntax.specs.declared.types.Ty as ty
 use Rattle.np_syntax.specs.declared.process.Proc.{fold_out-Proc}
@@ -35,7 +35,7 @@ pub record Tested (w : World) (types : Types) (test : TyLayer → Bool) (e : Exp
 pub record OnChannel (w : World) (types : Types) (c : Expr) (k : Cap × Ty) : Type 0 where
   pub type : Ty
   pub is : least w types c ≡ Ok type
-  pub chan : as_chan (out-Ty type) ≡ Some k
+  pub chan : as_channel (out-Ty type) ≡ Some k
 
 pub record Sending (w : World) (types : Types) (c e : Expr) : Type 0 where
   pub carries : Cap × Ty
@@ -55,7 +55,7 @@ pub record Taking (w : World) (types : Types) (c : Expr) (x : Pat) (p : Proc) : 
 
 pub record Naming (w : World) (types : Types) (x : ℕ) (t : Ty) (p : Proc) : Type 0 where
   pub carries : Cap × Ty
-  pub chan : as_chan (out-Ty t) ≡ Some carries
+  pub chan : as_channel (out-Ty t) ≡ Some carries
   pub small : narrow t ≡ true
   pub body : Good w (table.insert types x t) p
 
@@ -131,7 +131,7 @@ module _ (w : World) (types : Types) where
   good_at at (ProcForm-F.Par p q) h = then (check w p types) _ h λ u first h. (first, h)
   good_at at (ProcForm-F.New x t p) h =
       then (ensure (narrow t) at rule.Wide >> ensure (is_channel (out-Ty t)) at rule.NotChannel) _ h λ u first h. when (narrow t) at rule.Wide _ first λ small first.
-      let k = some_chan (as_chan (out-Ty t)) (ensured _ _ _ first) in
+      let k = some_chan (as_channel (out-Ty t)) (ensured _ _ _ first) in
       record { carries = k.0; chan = k.1; small = small; body = h }
   good_at at (ProcForm-F.Out c e) h = sending c e h
   good_at at (ProcForm-F.Inp c x p) h = taking c x p h

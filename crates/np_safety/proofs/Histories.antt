@@ -2,7 +2,7 @@
 use Rattle.std.proofs.Common.{◌≡◌, Bool, true, false, Option, None, Some, List, [], ◌∷◌, ◌++◌, refl, subst, sym, ap, ◌∙◌}
 use Rattle.std.specs.FinMap as map
 use Rattle.std.specs.FinSet as set
-use Rattle.np_safety.proofs.Common.{Name, Cap, Ty, out-Ty, Event, same_name, same_name-is, as_chan, World, layer, Config, Channels}
+use Rattle.np_safety.proofs.Common.{Name, Cap, Ty, out-Ty, Event, same_name, same_name-is, as_channel, World, layer, Config, Channels}
 use Rattle.np_syntax.specs.declared.event.Kind.{Kind}
 use Rattle.np_syntax.specs.declared.event.Kind.TheVariants as kind
 use Rattle.np_syntax.proofs.Options.{then, done}
@@ -49,7 +49,7 @@ record MadeNew (c d : Config) (n : Name) : Type 0 where
 
 made-at : (k : Kind) (c : Config) (e : Event) (d : Config) (x : Name × (Cap × Ty)) → row k c e ≡ Some d → makes_at k c e ≡ Some x → MadeNew c d x.0
 made-at kind.New c e d x h m =
-    then (acting c e) _ m λ a acts m. then (as_new (layer a.proc)) _ m λ p form m. then (one_made e.made) _ m λ n made m. then (as_chan (out-Ty p.1)) _ m λ k is m.
+    then (acting c e) _ m λ a acts m. then (as_new (layer a.proc)) _ m λ p form m. then (one_made e.made) _ m λ n made m. then (as_channel (out-Ty p.1)) _ m λ k is m.
     let s = row-step c e d kind.New h in
     let at : x.0 ≡ n = ap (λ (x : Name × (Cap × Ty)). x.0) (done m) in
     let it = makes-one e.made n made in

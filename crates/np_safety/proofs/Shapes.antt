@@ -7,6 +7,7 @@ use Rattle.np_syntax.specs.declared.types.Ty.TheVariants.{outs-Int, outs-Bool, o
 use Rattle.np_syntax.specs.Options.{◌>>=◌}
 use Rattle.np_syntax.proofs.Options.{then, when, done}
 use Rattle.np_types.specs.Sub as sub
+use Rattle.np_syntax.specs.Parts.{as_channel}
 use Rattle.np_types.specs.Sub.{is_str}
 use Rattle.np_types.proofs.Below.{Down, int_below, bool_below, str_below, agent_below, letter_below, places_below, chan_below, tuple_below}
 use Rattle.np_types.proofs.ValueTypes.{kind_layer, kinds-map}
@@ -109,7 +110,7 @@ pub value_as : (w : World) (v : Value) (z : TyLayer) (t : Ty) → Fits w v t →
 value_as w v z t f k = subst (Held w (out-Value v)) (passes-is z (out-Ty f.type) (tests-below z f.type t k f.below)) (held w v t f)
 
 module _ (w : World) (y : ValueLayer) where
-  chan_at : (z : TyLayer) (j : Cap × Ty) → sub.as_chan z ≡ Some j → Held w y z → Held w y (Ty-F.Chan j.0 j.1)
+  chan_at : (z : TyLayer) (j : Cap × Ty) → as_channel z ≡ Some j → Held w y z → Held w y (Ty-F.Chan j.0 j.1)
   chan_at (Ty-F.Chan c t) j k h = (h.0, h.1, h.2 ∙ k)
   chan_at _ j k h = absurd cc
 
@@ -126,7 +127,7 @@ pub record ChanOf (w : World) (v : Value) (k : Cap × Ty) : Type 0 where
   pub reading : reads k.0 ≡ true → (reads own.0 ≡ true) × (sub.sub own.1 k.1 ≡ true)
   pub writing : writes k.0 ≡ true → (writes own.0 ≡ true) × (sub.sub k.1 own.1 ≡ true)
 
-pub chan_value : (w : World) (v : Value) (t : Ty) (k : Cap × Ty) → Fits w v t → sub.as_chan (out-Ty t) ≡ Some k → ChanOf w v k
+pub chan_value : (w : World) (v : Value) (t : Ty) (k : Cap × Ty) → Fits w v t → as_channel (out-Ty t) ≡ Some k → ChanOf w v k
 chan_value w v t k f h =
     let n = chan_below f.type t k h f.below in
     let c = chan_at w (out-Value v) (out-Ty f.type) n.chan n.is (held w v t f) in

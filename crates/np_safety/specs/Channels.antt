@@ -10,7 +10,7 @@ use Rattle.np_syntax.specs.declared.event.Kind.{Kind}
 use Rattle.np_syntax.specs.declared.event.Kind.TheVariants as kind
 use Rattle.np_syntax.specs.Options.{◌>>=◌}
 use Rattle.np_tables.specs.Names.{NameMap}
-use Rattle.np_types.specs.Sub.{as_chan}
+use Rattle.np_syntax.specs.Parts.{as_channel}
 use Rattle.np_types.specs.Worlds.{World}
 use Rattle.np_calculus.specs.Config.{Config}
 use Rattle.np_eval.specs.Forms.{layer}
@@ -28,7 +28,7 @@ makes_at kind.New c e = do
   a ← acting c e
   parts ← as_new (layer a.proc)
   n ← one_made e.made
-  k ← as_chan (out-Ty parts.1)
+  k ← as_channel (out-Ty parts.1)
   Some (n, k)
 makes_at _ c e = None
 

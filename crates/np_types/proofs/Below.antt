@@ -3,7 +3,8 @@ use Rattle.std.proofs.Common.{◌≡◌, ℕ, ◌+◌, Bool, true, Some, refl, s
 use Rattle.np_syntax.specs.declared.types.Cap.{Cap}
 use Rattle.np_syntax.specs.declared.types.Cap.TheVariants as cap
 use Rattle.np_syntax.specs.declared.types.Ty.{Ty, Ty-F, out-Ty, map-Ty, fold_out-Ty}
-use Rattle.np_types.specs.Sub.{reads, writes, TyLayer, sub, sub_at, sub_all, is_int, is_bool, is_str, is_site, is_agent, is_letter, is_places, as_chan, as_tuple}
+use Rattle.np_types.specs.Sub.{reads, writes, TyLayer, sub, sub_at, sub_all, is_int, is_bool, is_str, is_site, is_agent, is_letter, is_places, as_tuple}
+use Rattle.np_syntax.specs.Parts.{as_channel}
 use Rattle.np_types.specs.Widths.{nodes, nodes_step, sum_all, printable, printable_step, every}
 use Rattle.np_syntax.proofs.Bools.{and-in, and-out}
 use Rattle.np_types.proofs.Implies.{imp-out}
@@ -79,17 +80,17 @@ places_below = down is_places places_at
 -- a channel type that is below another
 pub record Narrower (s : Ty) (k : Cap × Ty) : Type 0 where
   pub chan : Cap × Ty
-  pub is : as_chan (out-Ty s) ≡ Some chan
+  pub is : as_channel (out-Ty s) ≡ Some chan
   pub reading : reads k.0 ≡ true → (reads chan.0 ≡ true) × (sub chan.1 k.1 ≡ true)
   pub writing : writes k.0 ≡ true → (writes chan.0 ≡ true) × (sub k.1 chan.1 ≡ true)
 
 pub record ChanAt (y : TyLayer) (k : Cap × Ty) : Type 0 where
   pub chan : Cap × Ty
-  pub is : as_chan y ≡ Some chan
+  pub is : as_channel y ≡ Some chan
   pub reading : reads k.0 ≡ true → (reads chan.0 ≡ true) × (sub chan.1 k.1 ≡ true)
   pub writing : writes k.0 ≡ true → (writes chan.0 ≡ true) × (sub k.1 chan.1 ≡ true)
 
-chan_at : (y z : TyLayer) (k : Cap × Ty) → as_chan z ≡ Some k → sub_at y z ≡ true → ChanAt y k
+chan_at : (y z : TyLayer) (k : Cap × Ty) → as_channel z ≡ Some k → sub_at y z ≡ true → ChanAt y k
 chan_at (Ty-F.Chan c s) (Ty-F.Chan d t) k h b =
     let same : k ≡ (d, t) = cc in
     let a = and-out _ _ b in
@@ -102,7 +103,7 @@ chan_at (Ty-F.Chan c s) (Ty-F.Chan d t) k h b =
 chan_at _ (Ty-F.Chan d t) k h b = absurd cc
 chan_at _ _ k h b = absurd cc
 
-pub chan_below : (s t : Ty) (k : Cap × Ty) → as_chan (out-Ty t) ≡ Some k → sub s t ≡ true → Narrower s k
+pub chan_below : (s t : Ty) (k : Cap × Ty) → as_channel (out-Ty t) ≡ Some k → sub s t ≡ true → Narrower s k
 chan_below s t k h b = let r = chan_at (out-Ty s) (out-Ty t) k h (sym (sub-out s t) ∙ b) in record { chan = r.chan; is = r.is; reading = r.reading; writing = r.writing }
 
 tuple_at : (y z : TyLayer) (ts : List Ty) → as_tuple z ≡ Some ts → sub_at y z ≡ true → (ss : List Ty) × (as_tuple y ≡ Some ss) × (sub_all ss ts ≡ true)

@@ -13,7 +13,8 @@ use Rattle.np_syntax.specs.declared.expression.ExprForm as expr
 use Rattle.np_syntax.specs.declared.expression.ExprForm.TheVariants.{outs-Val, outs-Var, outs-Tuple, outs-Bin, outs-Pack, outs-With}
 use Rattle.np_types.specs.declared.fault.Rule.{Rule}
 use Rattle.np_types.specs.declared.fault.Rule.TheVariants as rule
-use Rattle.np_types.specs.Sub.{TyLayer, sub, is_int, is_places, is_agent, as_chan, writes}
+use Rattle.np_types.specs.Sub.{TyLayer, sub, is_int, is_places, is_agent, writes}
+use Rattle.np_syntax.specs.Parts.{as_channel}
 use Rattle.np_types.specs.Widths.{narrow}
 use Rattle.np_syntax.specs.Results.{◌>>=◌, ◌>>◌, all_ok}
 use Rattle.np_types.specs.Checks.{Check, ensure, want}
@@ -77,7 +78,7 @@ packing i c j x = c >>= λ s. written_on (out-Ty s) i >>= λ k. asked x (λ t. s
 
 packing_is : (i : ℕ) (c : Check Ty) (j : ℕ) (x : Check Ty) → (output (record { at = i; type = c }) (record { at = j; type = x }) >> Ok ty.Letter) ≡ packing i c j x
 packing_is i (Err e) j x = refl
-packing_is i (Ok s) j x = on_form (as_chan (out-Ty s))
+packing_is i (Ok s) j x = on_form (as_channel (out-Ty s))
   where
     sent : (b : Bool) (k : Ty) (x : Check Ty)
         → ((ensure b i rule.NoOutput >> (x >>= λ t. ensure (sub t k) j rule.Mismatch)) >> Ok ty.Letter) ≡ ((ensure b i rule.NoOutput >> Ok k) >>= λ k. asked x (λ t. sub t k) j rule.Mismatch (λ _. Ok ty.Letter))
@@ -260,7 +261,7 @@ sending i c j x = c >>= λ s. written_on (out-Ty s) i >>= λ k. x >>= λ t. ensu
 
 sending_is : (i : ℕ) (c : Check Ty) (j : ℕ) (x : Check Ty) → output (record { at = i; type = c }) (record { at = j; type = x }) ≡ sending i c j x
 sending_is i (Err e) j x = refl
-sending_is i (Ok s) j x = on_form (as_chan (out-Ty s))
+sending_is i (Ok s) j x = on_form (as_channel (out-Ty s))
   where
     sent : (b : Bool) (k : Ty)
         → (ensure b i rule.NoOutput >> (x >>= λ t. ensure (sub t k) j rule.Mismatch)) ≡ ((ensure b i rule.NoOutput >> Ok k) >>= λ k. x >>= λ t. ensure (sub t k) j rule.Mismatch)

@@ -7,7 +7,7 @@ use Rattle.np_types.specs.Sub.{chans_at, ◌⇒◌, reads, writes, TyLayer, Orde
 use Rattle.np_syntax.specs.declared.types.Ty as ty
 use Rattle.np_syntax.specs.declared.types.Ty.TheVariants.{outs-Chan}
 use Rattle.std.proofs.Common.{Some}
-use Rattle.np_types.specs.Sub.{as_chan}
+use Rattle.np_syntax.specs.Parts.{as_channel}
 use Rattle.np_syntax.proofs.Bools.{and-in, and-out, and-true, and-false}
 use Rattle.np_types.proofs.Implies.{imp-in, imp-out}
 use Rattle.np_syntax.proofs.Trees.{With, TyHyps, ty_of, ty_ind}
@@ -124,11 +124,11 @@ sub-trans s t u = (ty_ind Between (λ t y is s u. (step t y is s u, step t y is 
     step t y is s u h k = sub-out s u ∙ between_layer (out-Ty s) y (out-Ty u)
         (ap (sub_at (out-Ty s)) (sym is) ∙ sym (sub-out s t) ∙ h) (ap (λ x. sub_at x (out-Ty u)) (sym is) ∙ sym (sub-out t u) ∙ k)
 
-chan_is : (l : TyLayer) (k : Cap × Ty) → as_chan l ≡ Some k → l ≡ Ty-F.Chan k.0 k.1
+chan_is : (l : TyLayer) (k : Cap × Ty) → as_channel l ≡ Some k → l ≡ Ty-F.Chan k.0 k.1
 chan_is (Ty-F.Chan c t) k h = let same : (c, t) ≡ k = cc in ap (λ (k : Cap × Ty). Ty-F.Chan k.0 k.1) same
 chan_is _ k h = absurd cc
 
-pub chan-again : (t : Ty) (k : Cap × Ty) → as_chan (out-Ty t) ≡ Some k → sub (ty.Chan k.0 k.1) t ≡ true
+pub chan-again : (t : Ty) (k : Cap × Ty) → as_channel (out-Ty t) ≡ Some k → sub (ty.Chan k.0 k.1) t ≡ true
 chan-again t k h =
     let own : Ty = ty.Chan k.0 k.1 in
     let eq : out-Ty own ≡ out-Ty t = outs-Chan k.0 k.1 ∙ sym (chan_is (out-Ty t) k h) in

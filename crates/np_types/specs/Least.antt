@@ -11,7 +11,8 @@ use Rattle.np_syntax.specs.declared.expression.Expr.{Expr, fold-Expr}
 use Rattle.np_syntax.specs.declared.expression.ExprForm.{ExprForm, ExprForm-F, fold-ExprForm}
 use Rattle.np_types.specs.declared.fault.Rule.{Rule}
 use Rattle.np_types.specs.declared.fault.Rule.TheVariants as rule
-use Rattle.np_types.specs.Sub.{reads, writes, sub, is_int, is_bool, is_str, is_site, is_agent, is_places, as_chan, TyLayer}
+use Rattle.np_types.specs.Sub.{reads, writes, sub, is_int, is_bool, is_str, is_site, is_agent, is_places, TyLayer}
+use Rattle.np_syntax.specs.Parts.{as_channel}
 use Rattle.np_types.specs.Widths.{narrow}
 use Rattle.np_syntax.specs.Results.{◌>>=◌, ◌>>◌, all_ok}
 use Rattle.np_types.specs.Checks.{Check, ensure, want}
@@ -72,7 +73,7 @@ least_op _ x y = do
 abbrev pub channel : Least → Check (Cap × Ty)
 channel c = do
   t ← c.type
-  want (as_chan (out-Ty t)) c.at rule.NotChannel
+  want (as_channel (out-Ty t)) c.at rule.NotChannel
 
 -- an output: what is sent has a type below what the channel carries
 abbrev pub output : Least → Least → Check (Unit {0})
@@ -90,7 +91,7 @@ input c = do
   Ok k.1
 
 abbrev pub is_lock_type : TyLayer → Bool
-is_lock_type t = is_lock_chan (as_chan t)
+is_lock_type t = is_lock_chan (as_channel t)
 
 abbrev pub Leasts : Type 0
 Leasts = ExprForm-F (ℕ → Check Ty) Least

@@ -6,7 +6,8 @@ use Rattle.np_syntax.specs.declared.expression.Op.{Op}
 use Rattle.np_syntax.specs.declared.expression.Op.TheVariants as op
 use Rattle.np_types.specs.declared.fault.Rule.{Rule}
 use Rattle.np_types.specs.declared.fault.Rule.TheVariants as rule
-use Rattle.np_types.specs.Sub.{TyLayer, is_int, as_chan, reads, writes}
+use Rattle.np_types.specs.Sub.{TyLayer, is_int, reads, writes}
+use Rattle.np_syntax.specs.Parts.{as_channel}
 use Rattle.np_syntax.specs.Results.{◌>>=◌, ◌>>◌}
 use Rattle.np_types.specs.Checks.{Check, ensure, want}
 use Rattle.np_types.specs.Least.{basic, same_basic}
@@ -35,13 +36,13 @@ type_of _ = ty.Int
 -- what may be written on a channel of this type
 abbrev pub written_on : TyLayer → ℕ → Check Ty
 written_on t at = do
-  k ← want (as_chan t) at rule.NotChannel
+  k ← want (as_channel t) at rule.NotChannel
   ensure (writes k.0) at rule.NoOutput
   Ok k.1
 
 -- what may be read on a channel of this type
 abbrev pub read_on : TyLayer → ℕ → Check Ty
 read_on t at = do
-  k ← want (as_chan t) at rule.NotChannel
+  k ← want (as_channel t) at rule.NotChannel
   ensure (reads k.0) at rule.NoInput
   Ok k.1

@@ -52,11 +52,7 @@ abbrev pub is_places : TyLayer → Bool
 is_places Ty-F.Places = true
 is_places _ = false
 
--- the capability of a channel type, and what it carries
-abbrev pub as_chan : TyLayer → Option (Cap × Ty)
-as_chan (Ty-F.Chan c t) = Some (c, t)
-as_chan _ = None
-
+-- the types in a tuple
 abbrev pub as_tuple : TyLayer → Option (List Ty)
 as_tuple (Ty-F.Tuple ts) = Some ts
 as_tuple _ = None
