@@ -11,7 +11,7 @@ use Rattle.np_syntax.specs.declared.pattern.Pat.{Pat}
 use Rattle.np_syntax.specs.declared.pattern.PatForm.{PatForm-F}
 use Rattle.np_syntax.specs.declared.process.Tag.{Tag}
 use Rattle.np_syntax.specs.declared.process.Proc.{Proc}
-use Rattle.np_syntax.specs.declared.process.ProcForm.{ProcForm, ProcForm-F, out-ProcForm, map-ProcForm, fold-ProcForm}
+use Rattle.np_syntax.specs.declared.process.ProcForm.{ProcForm, ProcForm-F, map-ProcForm}
 use Rattle.np_syntax.specs.declared.process.ProcForm as form
 use Rattle.np_syntax.specs.declared.process.ProcForm.TheVariants.{outs-Stop, outs-Par, outs-New, outs-Out, outs-Inp, outs-Rep, outs-IfLocal, outs-Send, outs-If, outs-Let, outs-Print, outs-Open, outs-Lookup}
 use Rattle.np_syntax.proofs.Bools.{and-out}

@@ -1,5 +1,5 @@
 -- What the checks say of the two forms that no source has.
-use Rattle.std.proofs.Common.{◌≡◌, ℕ, Some, Ok, refl, ◌∙◌}
+use Rattle.std.proofs.Common.{◌≡◌, ℕ, Some, Ok, refl}
 use Rattle.std.specs.FinMap as table
 use Rattle.np_syntax.specs.declared.types.Ty.{Ty}
 use Rattle.np_syntax.specs.declared.types.Ty.TheVariants as types

@@ -1,7 +1,7 @@
 -- The checks of what is resolved do not rest on more than its sites.
 use Rattle.std.proofs.Common.{◌≡◌, ◌<◌, ℕ, Bool, true, false, Option, None, Ok, List, ◌∷◌, refl, sym, ap, ◌∙◌}
 use Rattle.np_syntax.specs.declared.value.Name.{Name}
-use Rattle.np_syntax.specs.declared.value.Value.{Value, Value-F, out-Value, map-Value}
+use Rattle.np_syntax.specs.declared.value.Value.{Value, Value-F}
 use Rattle.np_syntax.specs.declared.value.Value as value
 use Rattle.np_syntax.specs.declared.value.Value.TheVariants.{outs-Int, outs-Truth, outs-Str, outs-Site, outs-Agent}
 use Rattle.np_syntax.specs.declared.types.Ty.{Ty, out-Ty}

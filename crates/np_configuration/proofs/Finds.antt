@@ -3,7 +3,6 @@ use Rattle.std.proofs.Common.{◌≡◌, ℕ, Bool, true, false, not, cond, Opti
 use Rattle.std.specs.FinMap as map
 use Rattle.std.specs.FinSet as set
 use Rattle.np_configuration.proofs.Common.{Name, Proc, Event, ◌>>=◌, Errand, NameMap, Atom, Config, Env, chan_of, layer, errand_at, goes, goes_under, acting, acting-step, body_at, way_at}
-use Rattle.np_syntax.specs.declared.value.Value as value
 use Rattle.np_syntax.proofs.Options.{then, when, done}
 use Rattle.np_calculus.specs.declared.config.Place.TheVariants as place
 use Rattle.np_calculus.specs.Changes.{with_made}
@@ -11,7 +10,7 @@ use Rattle.np_calculus.specs.Reductions.{no_other, none_made, one_made, two_made
 use Rattle.np_calculus.specs.Seen.{offered, site_of}
 use Rattle.np_calculus.proofs.Steps.{offered-step}
 use Rattle.np_tables.specs.Names.{same_name}
-use Rattle.np_eval.specs.Eval.{agent_of, bind, eval, places_of, truth_of}
+use Rattle.np_eval.specs.Eval.{agent_of, eval, places_of, truth_of}
 use Rattle.np_eval.specs.Forms.{Layer}
 use Rattle.np_eval.specs.FormParts.{as_par, as_new, as_inp, as_rep, as_agent_form, as_migrate, as_iflocal, as_if, as_let, as_lookup}
 use Rattle.np_eval.proofs.FormsByParts.{new-form, inp-form, let-form, if-form, iflocal-form, migrate-form, lookup-form}
@@ -21,7 +20,7 @@ use Rattle.np_configuration.specs.declared.letters.Lookup.{Lookup}
 use Rattle.np_configuration.specs.declared.messages.Local.{Local}
 use Rattle.np_configuration.specs.declared.travel.Departure.{Departure}
 use Rattle.np_configuration.specs.declared.travel.NewAgent.{NewAgent}
-use Rattle.np_configuration.specs.Found.{CanEnter, CanGo, ended, stood}
+use Rattle.np_configuration.specs.Found.{CanEnter, CanGo}
 use Rattle.np_configuration.specs.Rows as to
 use Rattle.np_configuration.specs.Views.{bound_to, is_alone, one_new, taken_by, two_new}
 use Rattle.np_configuration.proofs.Keeping.{is_some_of}

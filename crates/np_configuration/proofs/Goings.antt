@@ -1,5 +1,5 @@
 -- Where nothing is under way, a site can act exactly where some atom goes on.
-use Rattle.std.proofs.Common.{◌≡◌, ℕ, ◌<◌, ◌⊎◌, inl, inr, get_or, List, length, None, Some, IsSome, sym, ap, subst, ◌∙◌}
+use Rattle.std.proofs.Common.{◌≡◌, ℕ, ◌<◌, ◌⊎◌, inl, inr, get_or, List, length, Some, IsSome, sym, ap, subst, ◌∙◌}
 use Rattle.std.specs.FinMap as map
 use Rattle.np_configuration.proofs.Common.{Name, Meeting, NameMap, Covers, Atom, Place, errand_of, GivesAt, MayAct}
 use Rattle.np_tables.specs.declared.errand.Errand.TheVariants as errand

@@ -3,11 +3,11 @@
 use Rattle.std.proofs.Common.{◌≡◌, Bool, true, Some, IsSome, refl, sym, subst, ap, ◌∙◌}
 use Rattle.std.specs.FinMap as map
 use Rattle.std.specs.FinSet as set
-use Rattle.np_configuration.proofs.Common.{Name, Event, Errand, NameMap, NameSet, Work, Atom, Packet, Place, Config, Env, goes, goes_under, way_in, IsKept, acting, acting-step}
+use Rattle.np_configuration.proofs.Common.{Name, Errand, NameMap, NameSet, Work, Atom, Packet, Place, Config, Env, goes, goes_under, way_in, IsKept}
 use Rattle.np_syntax.specs.declared.event.Made.{Made}
 use Rattle.np_syntax.specs.declared.event.Made.TheVariants as made
 use Rattle.np_calculus.specs.Changes.{with_made}
-use Rattle.np_agents.specs.Moves.{Enters, GoesOn, body_in}
+use Rattle.np_agents.specs.Moves.{Enters, GoesOn}
 use Rattle.np_configuration.specs.Found.{CanEnter, CanGo}
 use Rattle.np_configuration.proofs.Keeping.{kept-born, kept-on}
 

@@ -1,11 +1,11 @@
 -- What is true of each number after a step: of the number that the step is of, and of every other.
-use Rattle.std.proofs.Common.{◌≡◌, ◌≢◌, ℕ, ◌+◌, ◌<◌, ◌≤◌, cond, eqb, List, [], ◌∷◌, ◌++◌, length, refl, sym, ◌∙◌, ap, subst, arith, append_assoc, length-append}
+use Rattle.std.proofs.Common.{◌≡◌, ◌≢◌, ℕ, ◌+◌, ◌<◌, ◌≤◌, cond, eqb, List, [], ◌∷◌, ◌++◌, length, sym, ◌∙◌, ap, arith, append_assoc, length-append}
 use Rattle.std.proofs.lemmas.List.{append-nil}
 use Rattle.site_links.specs.Words.{only_at}
 use Rattle.site_links.specs.declared.places.TheConstants.{PLACES}
 use Rattle.site_links.proofs.Rows.{only_at-same, only_at-other}
 use Rattle.np_inbox_rule.specs.Rule.{items_of, Standing, Flows}
-use Rattle.np_inbox_rule.proofs.Lists.{items-append, items-snoc}
+use Rattle.np_inbox_rule.proofs.Lists.{items-snoc}
 
 module _ {I : Type 0} where
   -- one site more

@@ -1,5 +1,5 @@
 -- What each pass knows after a step: the pass whose view changes, and every other.
-use Rattle.std.proofs.Common.{◌≡◌, ◌≢◌, ℕ, ◌+◌, ◌<◌, ◌≤◌, ◌⊎◌, inl, inr, cond, eqb, eq-eqb, ne_eqb, List, [], ◌∷◌, ◌++◌, length, refl, sym, ◌∙◌, ap, subst, arith, length-append}
+use Rattle.std.proofs.Common.{◌≡◌, ◌≢◌, ℕ, ◌+◌, ◌<◌, inl, inr, eqb, eq-eqb, ne_eqb, List, [], ◌∷◌, ◌++◌, length, refl, sym, ◌∙◌, ap, subst, arith, length-append}
 use Rattle.std.proofs.lemmas.List.{append-nil}
 use Rattle.std.proofs.lemmas.Bool.Decides.{eqb_tells}
 use Rattle.site_links.specs.Words.{Begins, only_at}
@@ -10,10 +10,9 @@ use Rattle.np_inbox_rule.specs.declared.views.View.TheVariants.{Owner, Sender, O
 use Rattle.np_inbox_rule.specs.declared.views.OwnerView.{OwnerView}
 use Rattle.np_inbox_rule.specs.declared.views.SenderView.{SenderView}
 use Rattle.np_inbox_rule.specs.declared.views.SentNote.{SentNote}
-use Rattle.np_inbox_rule.specs.declared.views.GotNote.{GotNote}
-use Rattle.np_inbox_rule.specs.Rule.{items_of, told_of, Standing, Flows, OwnerFits, SenderFits, Fits}
+use Rattle.np_inbox_rule.specs.Rule.{items_of, told_of, Standing, OwnerFits, SenderFits, Fits}
 use Rattle.np_inbox_rule.specs.Steps.{longer}
-use Rattle.np_inbox_rule.proofs.Lists.{begins-none, begins-more, begins-both, begins-short, longer-is, longer-first, longer-second, items-append}
+use Rattle.np_inbox_rule.proofs.Lists.{begins-none, begins-more, begins-both, longer-is, longer-first, longer-second, items-append}
 use Rattle.np_inbox_rule.proofs.Numbers.{widened, grown, pushed, popped}
 
 module _ {I : Type 0} (sender : I → ℕ) (t : Standing I) where

@@ -1,21 +1,19 @@
 -- Each step keeps the rule.
-use Rattle.std.proofs.Common.{◌≡◌, ◌≢◌, ℕ, zero, suc, ◌+◌, ◌*◌, ◌<◌, ◌≤◌, ◌⊎◌, inl, inr, ⊎_elim, List, [], ◌∷◌, ◌++◌, length, set, refl, sym, ◌∙◌, ap, subst, arith, length-append, append_assoc}
+use Rattle.std.proofs.Common.{◌≡◌, ◌≢◌, ℕ, zero, suc, ◌+◌, ◌*◌, ◌<◌, ◌≤◌, ◌⊎◌, inl, inr, ⊎_elim, List, [], ◌∷◌, ◌++◌, length, set, refl, sym, ◌∙◌, ap, subst, arith, length-append}
 use Rattle.std.proofs.lemmas.Bool.{cases_lt}
 use Rattle.std.proofs.lemmas.Bool.Decides.{eqb_tells}
 use mathlib.Core.Option.{some, some-injective, some-ne-none}
 use lib.ListN.{get_elem?}
-use Rattle.crossbeam_queue.proofs.Lists.{at_set, set_again}
+use Rattle.crossbeam_queue.proofs.Lists.{at_set}
 use Rattle.site_links.specs.Words.{Begins, only_at}
 use Rattle.site_links.specs.declared.places.TheConstants.{PLACES}
 use Rattle.site_links.proofs.Rows.{only_at-same}
 use Rattle.np_inbox_rule.specs.declared.views.View.{View}
 use Rattle.np_inbox_rule.specs.declared.views.View.TheVariants.{Owner, Sender, OfSender, OfOwner, Spent}
-use Rattle.np_inbox_rule.specs.declared.views.OwnerView.{OwnerView}
-use Rattle.np_inbox_rule.specs.declared.views.SenderView.{SenderView}
 use Rattle.np_inbox_rule.specs.Rule.{items_of, told_of, Standing, Flows, OwnerFits, SenderFits, Fits, Holds}
-use Rattle.np_inbox_rule.specs.Steps.{first_view, put, take, one_site, one_made, new_sender, note_sent, note_got, join_sent, join_got, HasSpace, IsTold, IsNext}
+use Rattle.np_inbox_rule.specs.Steps.{first_view, put, take, one_site, one_made, new_sender, note_sent, note_got, join_sent, join_got}
 use Rattle.np_inbox_rule.specs.Laws.{RuleBegins, PutKeeps, PutLearns, TakeKeeps, TakeLearns, LookLearns, SiteForks, SenderForks, SentForks, GotForks, SentMerges, GotMerges}
-use Rattle.np_inbox_rule.proofs.Lists.{begins-refl, begins-none, begins-more, begins-trans, begins-short, begins-joined}
+use Rattle.np_inbox_rule.proofs.Lists.{begins-refl, begins-none, begins-trans, begins-short, begins-joined}
 use Rattle.np_inbox_rule.proofs.Sums.{fewer-than}
 use Rattle.np_inbox_rule.proofs.Numbers.{widened, grown, pushed, popped, push-mine, push-other, pop-mine, pop-other, made-mine, made-other}
 use Rattle.np_inbox_rule.proofs.Passes.{push-fits_mine, push-fits_other, pop-fits_mine, pop-fits_other, site-fits_mine, site-fits_other, made-fits_mine, made-fits_new, made-fits_other, sent-joins, got-joins}

@@ -1,5 +1,5 @@
 -- What the laws of an inbox say: each step keeps the rule.
-use Rattle.std.specs.Prelude.{◌≡◌, ℕ, ◌+◌, ◌<◌, List, [], ◌∷◌, length}
+use Rattle.std.specs.Prelude.{◌≡◌, ℕ, ◌+◌, ◌<◌, [], ◌∷◌, length}
 use Rattle.crossbeam_queue.specs.Fifo.{Pushes, Pops, Forks, Merges, Learns}
 use Rattle.site_links.specs.declared.places.TheConstants.{PLACES}
 use Rattle.np_inbox_rule.specs.declared.views.View.{View}

@@ -9,7 +9,7 @@ use Rattle.np_lex.specs.declared.token.Key.TheVariants as keys
 use Rattle.np_lex.specs.declared.token.Sign.{Sign}
 use Rattle.np_lex.specs.declared.token.Sign.TheVariants as signs
 use Rattle.np_lex.specs.Tokens as t
-use Rattle.np_lex.specs.Tokens.{is_digit, is_letter, is_plain, goes_on, Each, IsForm, IsBody, IsLongest, sign_text, key_text}
+use Rattle.np_lex.specs.Tokens.{is_digit, is_letter, goes_on, Each, IsForm, IsBody, IsLongest, sign_text, key_text}
 use Rattle.np_lex.specs.Lexing.{is_pair}
 
 -- ---- the longest front of which each byte passes a test

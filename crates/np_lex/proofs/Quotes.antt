@@ -6,7 +6,7 @@ use Rattle.np_syntax.specs.Escapes.{escapes, IsEscapeIn, IsEscape}
 use Rattle.np_lex.specs.declared.strings.Part.{Part}
 use Rattle.np_lex.specs.declared.strings.Part.TheVariants as part
 use Rattle.np_lex.specs.Tokens as t
-use Rattle.np_lex.specs.Tokens.{is_plain, IsBody, IsForm, IsLongest}
+use Rattle.np_lex.specs.Tokens.{is_plain, IsBody, IsLongest}
 use Rattle.np_lex.specs.Strings.{meant_by, part_of, behind, unquoted}
 use Rattle.np_lex.proofs.Longest.{form_string}
 

@@ -17,7 +17,7 @@ use Rattle.np_tree.specs.Grammar as g
 use Rattle.np_tree.specs.Grammar.{expression, IsAtom, IsProd, IsSum, IsExpr, AreExprs}
 use Rattle.np_parse.specs.Input.{Parser, and_then, peek, take, name, expect_sign}
 use Rattle.np_parse.specs.Read.Expressions as r
-use Rattle.np_parse.specs.Read.Expressions.{ReadExpr, begins_atom, variable, round, tuple_expression, atom_in, multiplies, adds, compares, operate, chain, comparison, readers}
+use Rattle.np_parse.specs.Read.Expressions.{ReadExpr, begins_atom, variable, round, tuple_expression, atom_in, multiplies, adds, compares, chain, comparison, readers}
 use Rattle.np_parse.proofs.Fine.{fine_then, fine_part, fine_refuse, fine_deep, fine_take, fine_done, BeginsIn, OrEmpty, AnyIn, ReadIn, FineIn, Raises, Reader, some_begins}
 use Rattle.np_parse.proofs.FineTokens.{SignRead, sign_fine}
 use Rattle.np_parse.proofs.Parts.{are_exprs}

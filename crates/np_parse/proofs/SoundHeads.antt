@@ -16,7 +16,7 @@ use Rattle.np_tree.specs.declared.tree.RawProc.{RawProc}
 use Rattle.np_tree.specs.declared.tree.RawProcForm.{RawProcForm}
 use Rattle.np_tree.specs.declared.tree.RawProcForm as form
 use Rattle.np_tree.specs.Grammar as g
-use Rattle.np_tree.specs.Grammar.{ident, process, IsAtom, IsExpr, IsProc}
+use Rattle.np_tree.specs.Grammar.{ident, process, IsAtom, IsProc}
 use Rattle.np_parse.specs.declared.head.Single.{Single}
 use Rattle.np_parse.specs.declared.head.Double.{Double}
 use Rattle.np_parse.specs.declared.head.DoubleForm.{DoubleForm}

@@ -18,10 +18,10 @@ use Rattle.np_calculus.specs.FrameRule.{IsMade}
 use Rattle.np_calculus.proofs.FrameRule.{made-unborn}
 use Rattle.np_calculus.proofs.OwnNames.{not_true}
 use Rattle.np_calculus.proofs.Steps.{row-step}
-use Rattle.np_lift.specs.Posts.{Deed, Letter, letter_at}
+use Rattle.np_lift.specs.Posts.{Deed, letter_at}
 use Rattle.cache_lift.specs.Laws.{adds_mark}
-use Rattle.cache_lift.specs.Lift.{Standing, is_dropped, lifted, lifted_by, stands_for, with_mark}
-use Rattle.cache_lift.specs.Posts.{deed_from, letter_hired}
+use Rattle.cache_lift.specs.Lift.{Standing, is_dropped, lifted_by, stands_for, with_mark}
+use Rattle.cache_lift.specs.Posts.{deed_from}
 use Rattle.cache_lift.proofs.Standings.{stands-as_before, stands-new}
 use Rattle.infrastructure_texts.specs.Infrastructures.{Infrastructure}
 use Rattle.np_things.specs.Things.{Thing}
@@ -30,7 +30,7 @@ use Rattle.np_levels.specs.Letters.{IsFinding, IsHanding, IsHiringFor, IsMissing
 use Rattle.np_levels.proofs.Quiet.{things_born}
 use Rattle.np_simulation.specs.Letters.{LettersLeft}
 use Rattle.np_simulation.proofs.Runs.{IsStep}
-use Rattle.np_posts.proofs.Under.{Changes, Turned, handed-turn, posted-turn, same-turn}
+use Rattle.np_posts.proofs.Under.{Turned, handed-turn, posted-turn, same-turn}
 
 -- where no mark comes to stand for another, each stands for what it stood for
 stays : (r : Role) (k : Kind) (names : Made) (dropped : Bool) (s : Standing) (e : Event) → adds_mark r k names ≡ false → (lifted_by r k names dropped s e).standing ≡ s

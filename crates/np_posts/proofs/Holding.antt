@@ -38,13 +38,12 @@ use Rattle.np_things.proofs.Acting.{begins-by-thing}
 use Rattle.np_levels.specs.Coupled.{Coupled, IsShaped, View}
 use Rattle.np_levels.specs.Letters.{IsFinding, IsHiringFor, NoLetters, OtherLetter, SameLetters, as_letter, first_letter_of, letter_under}
 use Rattle.np_levels.specs.Roles.{may_occur}
-use Rattle.np_levels.proofs.Locals.{locating}
 use Rattle.np_levels.proofs.Quiet.{or_second}
 use Rattle.np_levels.proofs.Sends.{sending}
 use Rattle.np_levels.proofs.Shapes.{of_atom, of_packet}
 use Rattle.np_simulation.specs.Letters.{LettersLeft}
 use Rattle.np_simulation.proofs.Lodged.{no-post}
-use Rattle.np_simulation.proofs.Runs.{IsStep, from-starts}
+use Rattle.np_simulation.proofs.Runs.{IsStep}
 use Rattle.np_simulation.proofs.Steps.{runs-on}
 use Rattle.np_posts.specs.OnePlace.{IsHeld, IsHolder, IsSpent}
 use Rattle.np_posts.proofs.Events.{kept, new-stands, no-mark, old-stands, unborn, unseen}

@@ -5,13 +5,13 @@ use Rattle.np_syntax.specs.declared.types.Ty.{Ty}
 use Rattle.np_syntax.specs.declared.expression.Op.{Op}
 use Rattle.np_tree.specs.declared.tree.Ident.{Ident}
 use Rattle.np_tree.specs.declared.tree.RawExpr.{RawExpr}
-use Rattle.np_tree.specs.declared.tree.RawExprForm.{RawExprForm, RawExprForm-F, out-RawExprForm}
+use Rattle.np_tree.specs.declared.tree.RawExprForm.{RawExprForm, out-RawExprForm}
 use Rattle.np_tree.specs.declared.tree.RawExprForm as expr
 use Rattle.np_tree.specs.declared.tree.RawPat.{RawPat}
-use Rattle.np_tree.specs.declared.tree.RawPatForm.{RawPatForm, RawPatForm-F, out-RawPatForm}
+use Rattle.np_tree.specs.declared.tree.RawPatForm.{RawPatForm, out-RawPatForm}
 use Rattle.np_tree.specs.declared.tree.RawPatForm as pat
 use Rattle.np_tree.specs.declared.tree.RawProc.{RawProc}
-use Rattle.np_tree.specs.declared.tree.RawProcForm.{RawProcForm, RawProcForm-F, out-RawProcForm}
+use Rattle.np_tree.specs.declared.tree.RawProcForm.{RawProcForm, out-RawProcForm}
 use Rattle.np_tree.specs.declared.tree.RawProcForm as form
 use Rattle.np_tree.specs.Grammar.{expression, pattern, process}
 use Rattle.np_tree.specs.Erased.{erased_ident, erased_expr_form, erased_expr, erased_pat_form, erased_pat, erased_proc_form, erased_proc}

@@ -2,9 +2,9 @@
 use Rattle.std.proofs.Common.{◌≡◌, Bool, true, false, cond, ◌&&◌, List, [], ◌∷◌, length, suc, refl, sym, ap, ◌∙◌}
 use Rattle.np_syntax.specs.declared.types.Cap.{Cap}
 use Rattle.np_syntax.specs.declared.types.Cap.TheVariants as cap
-use Rattle.np_syntax.specs.declared.types.Ty.{Ty, Ty-F, out-Ty, roll-Ty, roll-out-Ty}
+use Rattle.np_syntax.specs.declared.types.Ty.{Ty, Ty-F, out-Ty}
 use Rattle.np_syntax.specs.declared.types.Ty as ty
-use Rattle.np_syntax.specs.declared.types.Ty.TheVariants.{outs-Int, outs-Bool, outs-Str, outs-Site, outs-Agent, outs-Letter, outs-Places, outs-Chan, outs-Tuple, rolls-Chan}
+use Rattle.np_syntax.specs.declared.types.Ty.TheVariants.{outs-Int, outs-Bool, outs-Str, outs-Site, outs-Agent, outs-Letter, outs-Places, outs-Chan, outs-Tuple}
 use Rattle.np_syntax.proofs.Bools.{and-in, and-false}
 use Rattle.np_types.specs.Ordered.{Ordered, OrderedAll}
 use Rattle.np_types.specs.Sub.{◌⇒◌, reads, writes, TyLayer, sub, sub_at, sub_all, is_int, is_bool, is_str, is_site, is_agent, is_letter, is_places}

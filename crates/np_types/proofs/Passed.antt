@@ -1,5 +1,5 @@
 -- What a check that passed says of each of its steps.
-use Rattle.std.proofs.Common.{◌≡◌, ℕ, Bool, true, false, Option, None, Some, Ok, Err, refl}
+use Rattle.std.proofs.Common.{◌≡◌, ℕ, Bool, true, false, Option, None, Some, Ok, refl}
 use Rattle.np_types.specs.declared.fault.Rule.{Rule}
 use Rattle.np_syntax.specs.Results.{◌>>=◌, ◌>>◌}
 use Rattle.np_types.specs.Checks.{Check, ensure, want}

@@ -1,7 +1,7 @@
 -- Subtyping is an order.
 use Rattle.std.proofs.Common.{◌≡◌, Bool, true, false, ◌&&◌, refl, map, List, [], ◌∷◌, sym, ap, ◌∙◌}
 use Rattle.np_syntax.specs.declared.types.Cap.{Cap}
-use Rattle.np_syntax.specs.declared.types.Ty.{Ty, Ty-F, out-Ty, roll-Ty, roll-out-Ty, map-Ty, fold-Ty, fold_out-Ty}
+use Rattle.np_syntax.specs.declared.types.Ty.{Ty, Ty-F, out-Ty, roll-Ty, roll-out-Ty, map-Ty, fold_out-Ty}
 use Rattle.np_syntax.specs.declared.types.Cap.TheVariants as cap
 use Rattle.np_types.specs.Sub.{chans_at, ◌⇒◌, reads, writes, TyLayer, Order, order, order_step, sub, sup, sub_at, sub_all, all_below, all_above, below, above}
 use Rattle.np_syntax.specs.declared.types.Ty as ty

@@ -1,5 +1,5 @@
 -- The index of who wrote last: how it is kept, and that what it finds are the causes; and when a set of places is the past.
-use Rattle.std.proofs.Common.{◌≡◌, ◌<◌, ◌≤◌, ◌⊎◌, inl, inr, ⊎_elim, ℕ, zero, suc, Bool, true, false, cond, ◌||◌, List, [], ◌∷◌, ◌++◌, Option, None, Some, refl, ap, sym, subst, ◌∙◌, arith}
+use Rattle.std.proofs.Common.{◌≡◌, ◌<◌, ◌⊎◌, inl, inr, ⊎_elim, ℕ, suc, Bool, true, false, cond, ◌||◌, List, [], ◌∷◌, ◌++◌, Option, None, Some, refl, ap, sym, subst, ◌∙◌, arith}
 use Rattle.std.proofs.lemmas.Bool.{cases_order}
 use Rattle.std.specs.FinMap as map
 use Rattle.np_syntax.specs.declared.value.Name.{Name}
@@ -7,7 +7,7 @@ use Rattle.np_tables.specs.Names.{NameMap, same_name}
 use Rattle.np_tables.proofs.Tables.{get-none, get-put}
 use Rattle.np_calculus.specs.Footprints.{Footprint}
 use Rattle.np_views.specs.Index.{Index, IsFound, IsIndex, IsOneOf, causes, found_in, looked_up, noted, noting}
-use Rattle.np_views.specs.Past.{HasCauses, IsCause, IsLast, IsPast, Thing, Trace, is_among, is_in, is_touched, is_written, trace_at}
+use Rattle.np_views.specs.Past.{IsCause, IsLast, Thing, Trace, is_among, is_in, is_written, trace_at}
 use Rattle.np_views.proofs.Among.{among-cases, among-first, among-later}
 use Rattle.np_views.proofs.Following.{below-suc}
 

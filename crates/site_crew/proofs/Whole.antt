@@ -9,7 +9,7 @@ use Rattle.site_links.specs.declared.port.Port as Port
 use Rattle.np_stamped_run.specs.Deeds.{Deed, StampedItem, put_for}
 use Rattle.np_holdings.specs.Holdings.{Holding}
 use Rattle.np_site_runs.specs.Accounts as told
-use Rattle.np_site_runs.specs.Accounts.{Accounts, AreTheirs, Came, IsAccount, IsItsHistory, SitesEnd, came_on}
+use Rattle.np_site_runs.specs.Accounts.{Accounts, AreTheirs, Came, IsAccount, SitesEnd, came_on}
 use Rattle.np_site_runs.specs.Ending.{HasPrinted}
 use Rattle.np_site_runs.specs.Starting.{start_holding}
 use Rattle.np_site_runs.proofs.Accounts.{came_follows, low_sites_end}

@@ -1,5 +1,5 @@
 -- Inboxes through which nothing went, and the ways into them.
-use Rattle.std.specs.Prelude.{◌≡◌, ℕ, ◌+◌, true, List, []}
+use Rattle.std.specs.Prelude.{◌≡◌, ℕ, ◌+◌, true, []}
 use Rattle.crossbeam_queue.specs.Passes.{view}
 use Rattle.site_links.specs.declared.places.TheConstants.{PLACES}
 use Rattle.np_inbox_rule.specs.declared.views.View.{View}

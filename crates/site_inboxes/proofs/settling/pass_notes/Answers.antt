@@ -1,4 +1,4 @@
-use Rattle.std.proofs.Common.{List, sym, ap, subst, ◌∙◌}
+use Rattle.std.proofs.Common.{sym, subst, ◌∙◌}
 use Rattle.crossbeam_queue.specs.Passes.{view}
 use Rattle.np_inbox_rule.specs.declared.views.View.{View}
 use Rattle.site_links.specs.Words.{Begins}

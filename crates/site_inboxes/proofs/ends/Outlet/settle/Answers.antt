@@ -1,6 +1,5 @@
 use Rattle.std.proofs.Common.{refl}
 use Rattle.crossbeam_queue.specs.Passes.{view}
-use Rattle.site_inboxes.specs.Views.{number_in}
 use Rattle.site_inboxes.proofs.Waiting.{settled-whole, settled-spaced, settled-free}
 use Rattle.site_inboxes.proofs.ends.Outlet.settle.Goals as goal
 
