@@ -50,9 +50,25 @@ impl Model for Site {
 
     ghost coded = { standing_code };
 
-    ghost view = { λ s. record { site = s.site; agents = s.agents.agents; quiet = s.agents.quiet; next = s.next; clock = s.clock; history = s.history.history; outgoing = s.outgoing.lines } };
+    ghost view = { λ s. record {
+      site = s.site;
+      agents = s.agents.agents;
+      quiet = s.agents.quiet;
+      next = s.next;
+      clock = s.clock;
+      history = s.history.history;
+      outgoing = s.outgoing.lines;
+    } };
 
-    ghost invariant = { λ s. IsStanding (record { site = s.site; agents = s.agents.agents; quiet = s.agents.quiet; next = s.next; clock = s.clock; history = s.history.history; outgoing = s.outgoing.lines }) × (s.history.history.budget ≡ s.budget) };
+    ghost invariant = { λ s. IsStanding (record {
+      site = s.site;
+      agents = s.agents.agents;
+      quiet = s.agents.quiet;
+      next = s.next;
+      clock = s.clock;
+      history = s.history.history;
+      outgoing = s.outgoing.lines;
+    }) × (s.history.history.budget ≡ s.budget) };
 }
 
 impl Site {
