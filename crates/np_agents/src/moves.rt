@@ -39,6 +39,30 @@ pub fn halves(atom: Atom, env: Frame) -> Option<(Atom, Atom)>
     }
 }
 
+/// Takes the form of an atom's process out of it.
+fn take_form(atom: &mut Atom) -> ProcForm
+    ensures form { out-ProcForm result ≡ layer atom.old.proc }
+    ensures agent { atom.new.agent ≡ atom.old.agent }
+    ensures env { atom.new.env ≡ atom.old.env }
+{
+    std::mem::replace(&mut atom.proc.form, ProcForm::Stop)
+}
+
+/// An atom goes on as a process, under the frame that it has.
+fn go(atom: &mut Atom, proc: Proc)
+    ensures { atom.new ≡ goes atom.old proc }
+{
+    atom.proc = proc;
+}
+
+/// An atom goes on as a process, under another frame.
+fn go_with(atom: &mut Atom, proc: Proc, env: Frame)
+    ensures { atom.new ≡ goes_under atom.old proc env }
+{
+    atom.proc = proc;
+    atom.env = env;
+}
+
 /// The body of a form that has one, moved out of it.
 fn body_of(form: ProcForm) -> Option<Proc>
     ensures { result ≡ body_at (out-ProcForm form) }
@@ -55,14 +79,12 @@ fn body_of(form: ProcForm) -> Option<Proc>
     }
 }
 
-/// The atom of a form with one body, gone on as that under another frame.
-fn body(atom: Atom, env: Frame) -> Option<Atom>
-    ensures { result ≡ option_map (λ body. goes_under atom body env) (body_at (layer atom.proc)) }
+/// An atom of a form with one body goes on as that, under another frame.
+fn become_body(atom: &mut Atom, env: Frame)
+    ensures { (body : Proc) → body_at (layer atom.old.proc) ≡ Some body → atom.new ≡ goes_under atom.old body env }
 {
-    let Atom { agent, proc, .. } = atom;
-    match body_of(proc.into_form()) {
-        Some(proc) => Some(Atom { agent, proc, env }),
-        None => None,
+    if let Some(body) = body_of(take_form(atom)) {
+        go_with(atom, body, env);
     }
 }
 
@@ -84,19 +106,11 @@ pub fn split(atoms: &mut Table<Atom>, actor: Name, mark: Name, env: Frame)
 }
 
 /// Lets an atom go on as its body, under another frame.
-#[tactic(auto, using(np_tables::proofs::Tables::puts))]
 pub fn enter(atoms: &mut Table<Atom>, actor: Name, env: Frame)
-    requires room { 1 ≤ atoms.old.spare }
     requires whole { IsSome (body_in atoms.old.items actor) }
     ensures { Enters atoms.old.items atoms.new.items actor env }
 {
-    let Some(whole) = atoms.take(actor) else {
-        unreachable!();
-    };
-    let Some(atom) = body(whole, env) else {
-        unreachable!();
-    };
-    atoms.put(actor, atom);
+    atoms.change(actor, |atom| become_body(atom, env));
 }
 
 /// The first or the second of two processes.
@@ -133,58 +147,38 @@ fn way_of(form: ProcForm, first: bool) -> Option<Proc>
     }
 }
 
-/// The atom gone on as a process in it.
-fn way(atom: Atom, first: bool) -> Option<Atom>
-    ensures { result ≡ option_map (λ p. goes atom p) (way_at (layer atom.proc) first) }
+/// An atom goes on as a process in it.
+fn become_way(atom: &mut Atom, first: bool)
+    ensures { (p : Proc) → way_at (layer atom.old.proc) first ≡ Some p → atom.new ≡ goes atom.old p }
 {
-    let Atom { agent, proc, env } = atom;
-    match way_of(proc.into_form(), first) {
-        Some(proc) => Some(Atom { agent, proc, env }),
-        None => None,
+    if let Some(proc) = way_of(take_form(atom), first) {
+        go(atom, proc);
     }
 }
 
 /// Lets an atom go on as a process in it, under the frame that it has; of two processes it is the first or the second.
-#[tactic(auto, using(np_tables::proofs::Tables::puts))]
 pub fn go_on(atoms: &mut Table<Atom>, actor: Name, first: bool)
-    requires room { 1 ≤ atoms.old.spare }
     requires whole { IsSome (way_in atoms.old.items actor first) }
     ensures { GoesOn atoms.old.items atoms.new.items actor first }
 {
-    let Some(whole) = atoms.take(actor) else {
-        unreachable!();
-    };
-    let Some(atom) = way(whole, first) else {
-        unreachable!();
-    };
-    atoms.put(actor, atom);
+    atoms.change(actor, |atom| become_way(atom, first));
 }
 
-/// The atom gone on as a process in it, under another frame.
-fn way_under(atom: Atom, first: bool, env: Frame) -> Option<Atom>
-    ensures { result ≡ option_map (λ p. goes_under atom p env) (way_at (layer atom.proc) first) }
+/// An atom goes on as a process in it, under another frame.
+fn become_way_under(atom: &mut Atom, first: bool, env: Frame)
+    ensures { (p : Proc) → way_at (layer atom.old.proc) first ≡ Some p → atom.new ≡ goes_under atom.old p env }
 {
-    let Atom { agent, proc, .. } = atom;
-    match way_of(proc.into_form(), first) {
-        Some(proc) => Some(Atom { agent, proc, env }),
-        None => None,
+    if let Some(proc) = way_of(take_form(atom), first) {
+        go_with(atom, proc, env);
     }
 }
 
 /// Lets an atom go on as a process in it, under another frame; of two processes it is the first or the second.
-#[tactic(auto, using(np_tables::proofs::Tables::puts))]
 pub fn go_under(atoms: &mut Table<Atom>, actor: Name, first: bool, env: Frame)
-    requires room { 1 ≤ atoms.old.spare }
     requires whole { IsSome (way_in atoms.old.items actor first) }
     ensures { GoesUnder atoms.old.items atoms.new.items actor first env }
 {
-    let Some(whole) = atoms.take(actor) else {
-        unreachable!();
-    };
-    let Some(atom) = way_under(whole, first, env) else {
-        unreachable!();
-    };
-    atoms.put(actor, atom);
+    atoms.change(actor, |atom| become_way_under(atom, first, env));
 }
 
 /// The new agent's atom and the one that goes on, moved out of the atom that makes the agent.

@@ -1,4 +1,4 @@
-ghost use Rattle.std.specs.Prelude.{◌≡◌, ◌<◌, ◌≤◌, Some, IfSome, IfNone, OnOk};
+ghost use Rattle.std.specs.Prelude.{◌≡◌, ◌<◌, ◌≤◌, Some, IfSome, IfNone, OnOk, is_some};
 ghost use Rattle.std.specs.FinMap as map;
 ghost use Rattle.np_agents.specs.Placed.{NoneTravels};
 ghost use Rattle.np_calculus.specs.Sight.{at_site};
@@ -58,6 +58,20 @@ impl Places {
         ensures { result ≡ map.get self.now.items agent }
     {
         self.placed.get(agent).copied()
+    }
+
+    /// Where an agent stands in the stored order.
+    pub fn index(&self, agent: Name) -> Option<usize>
+        ensures { is_some result ≡ is_some (map.get self.now.items agent) }
+    {
+        self.placed.index(agent)
+    }
+
+    /// Where an agent is, which is looked for at an index first.
+    pub fn get_near(&self, index: usize, agent: Name) -> Option<Place>
+        ensures { result ≡ map.get self.now.items agent }
+    {
+        self.placed.get_near(index, agent).copied()
     }
 
     /// Whether an agent is at a site.

@@ -11,9 +11,23 @@ use np_agents::Places;
 use np_calculus::{Atom, Packet, Place};
 use np_eval::{Frame, chan_of, eval};
 use np_syntax::{Event, Expr, List, Memory, Name, ProcForm, Value};
-use np_tables::{Names, Table, WorkLists};
+use np_tables::{Names, Ready, Table, WorkLists};
 use std::alloc::Global;
 use std::marker::Model;
+
+/// Where the atom that is next to act stands, and where its agent's place does. They may be stale: who looks there looks
+/// for the name too.
+#[derive(Clone, Copy)]
+pub(super) struct Near {
+    atom: usize,
+    place: usize,
+}
+
+impl Near {
+    pub(super) fn nothing() -> Near {
+        Near { atom: 0, place: 0 }
+    }
+}
 
 /// A configuration, seen as the record of its definition. Beside it work lists keep what each atom waits
 /// for, so that what can act is found without a walk over the atoms.
@@ -25,6 +39,7 @@ pub struct Cfg {
     pub(super) born: Names,
     pub(super) said: List<(u32, Value)>,
     pub(super) work: WorkLists,
+    pub(super) near: Near,
 }
 
 impl Drop for Cfg {
@@ -37,6 +52,7 @@ impl Drop for Cfg {
             born: _,
             said: _,
             work: _,
+            near: _,
         } = self;
     }
 }
@@ -76,14 +92,14 @@ impl Cfg {
     pub fn place(&self, agent: Name) -> Option<Place>
         ensures { result ≡ map.get self.now.places agent }
     {
-        self.places.get(agent)
+        self.places.get_near(self.near.place, agent)
     }
 
     /// The atom of a mark.
     pub fn atom(&self, mark: Name) -> Option<&Atom>
         ensures { option_copied result ≡ map.get self.now.atoms mark }
     {
-        self.atoms.get(mark)
+        self.atoms.get_near(self.near.atom, mark)
     }
 
     /// The packet of a mark.
@@ -104,8 +120,8 @@ impl Cfg {
     pub(super) fn acting(&self, e: &Event) -> Option<&Atom>
         ensures { option_copied result ≡ acting self.now e.now }
     {
-        let atom = self.atoms.get(e.actor)?;
-        let place = self.places.get(atom.agent)?;
+        let atom = self.atom(e.actor)?;
+        let place = self.place(atom.agent)?;
         match place {
             Place::At(site) if site == e.site && atom.proc.tag == e.tag => Some(atom),
             _ => None,
@@ -178,7 +194,20 @@ impl Cfg {
         if self.packets.len() > 0 {
             return Some(Step::Lands(self.packets.key(0)));
         }
-        Some(Step::Goes(self.work.next()?))
+        let ready = self.work.next()?;
+        self.near = self.near_of(ready);
+        Some(Step::Goes(ready))
+    }
+
+    /// Where the atom that acts in this stands, and its agent's place.
+    fn near_of(&self, ready: Ready) -> Near {
+        let (Ready::Acts(actor) | Ready::Meets(actor, _)) = ready;
+        let atom = self.atoms.index(actor).unwrap_or(0);
+        let place = match self.atoms.get_near(atom, actor) {
+            Some(acting) => self.places.index(acting.agent).unwrap_or(0),
+            None => 0,
+        };
+        Near { atom, place }
     }
 
     /// Whether no site can act. It takes no memory. Where nothing is ready, and where something is under way, it walks

@@ -3,7 +3,7 @@ ghost use Rattle.std.specs.FinMap as map;
 ghost use Rattle.np_configuration.specs.Found.{CanEnter, CanGo, HasEntered, HasGone, ended, flown, spoken, stood};
 
 use super::cfg::Cfg;
-use super::filing::{bear, file, put_filed};
+use super::filing::{bear, file, file_atom};
 use np_agents::{enter, go_on};
 use np_calculus::{Atom, Packet};
 use np_eval::Frame;
@@ -51,7 +51,8 @@ impl Cfg {
         ensures ok { OnOk result (self.new ≡ stood self.old mark atom) }
         ensures err { OnErr result (self.new ≡ self.old) }
     {
-        put_filed(&mut self.atoms, &mut self.work, mark, atom)?;
+        file_atom(&mut self.work, mark, &atom)?;
+        self.atoms.replace(mark, atom);
         Ok(())
     }
 

@@ -24,6 +24,14 @@ pub fn file(
     work.file(mark, errand)
 }
 
+/// Files a mark under what its atom waits for. Want of memory leaves the work lists as they were.
+pub fn file_atom(work: &mut WorkLists, mark: Name, atom: &Atom) -> Result<(), Memory>
+    ensures ok { OnOk result (work.new ≡ map.insert work.old mark (errand_of atom.now)) }
+    ensures err { OnErr result (work.new ≡ work.old) }
+{
+    work.file(mark, errand_of(atom.agent, &atom.proc, &atom.env))
+}
+
 /// Puts an atom under a mark, and files it. Want of memory leaves the atoms and the work lists as they were.
 #[tactic(auto, using(np_tables::proofs::Tables::puts))]
 pub fn put_filed(
@@ -37,9 +45,8 @@ pub fn put_filed(
     ensures ok { OnOk result (work.new ≡ map.insert work.old mark (errand_of atom)) }
     ensures err { OnErr result (work.new ≡ work.old) }
 {
-    let errand = errand_of(atom.agent, &atom.proc, &atom.env);
     atoms.reserve(1)?;
-    work.file(mark, errand)?;
+    file_atom(work, mark, &atom)?;
     atoms.put(mark, atom);
     Ok(())
 }

@@ -2,7 +2,7 @@ ghost use Rattle.std.specs.Prelude.{◌≡◌, ◌<◌, ◌^◌, true, length, m
 ghost use Rattle.std.specs.FinSet as set;
 ghost use Rattle.np_calculus.specs.Starts.{start_high, start_low, first_atom, main_agent, main_mark, names_alone, own, with_agent, with_all};
 
-use super::cfg::Cfg;
+use super::cfg::{Cfg, Near};
 use super::filing::put_filed;
 use np_agents::Places;
 use np_calculus::{Atom, Place};
@@ -46,6 +46,7 @@ fn names_alone(alloc: Global, sites: u32) -> Result<Cfg, Memory>
         born,
         said: List::new(alloc),
         work: WorkLists::new(alloc),
+        near: Near::nothing(),
     })
 }
 

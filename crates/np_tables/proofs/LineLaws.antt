@@ -204,6 +204,20 @@ some_before s m h = by_case (has_some s) refl
     by_case true e = refl
     by_case false e = absurd (true_false (sym h ∙ ap (λ t. has_some (set.remove t m)) (empty_of-some s e) ∙ ap has_some (empty-cut m) ∙ some-empty))
 
+-- the line that a mark came under has some
+pub some_entered : {S : Type 0} (old new : IndexMap Errand NameSet S) (e : Errand) (m : Name) → SetsLine old new e (set.insert (line_of old e) m) → has_some (line_of new e) ≡ true
+some_entered old new e m sets =
+    ap has_some (sets.at e) ∙ ap (λ t. has_some (cond t (set.insert (line_of old e) m) (line_of old e))) (same_errand-itself e) ∙ some-insert (line_of old e) m
+
+-- of a meeting whose one side has marks, the other side tells whether it has both
+pub meets_by_inputs : {S : Type 0} (lines : IndexMap Errand NameSet S) (x k : Meeting) (r : Bool) → has_some (line_of lines (Gives x)) ≡ true → r ≡ has_some (line_of lines (Takes x)) → Some k ≡ Some x → r ≡ has_both lines k
+meets_by_inputs lines x k r own other same =
+    other ∙ sym (and-true _) ∙ ap (λ b. has_some (line_of lines (Takes x)) && b) (sym own) ∙ ap (λ o. has_both lines (unwrap_or o x)) (sym same)
+
+pub meets_by_outputs : {S : Type 0} (lines : IndexMap Errand NameSet S) (x k : Meeting) (r : Bool) → has_some (line_of lines (Takes x)) ≡ true → r ≡ has_some (line_of lines (Gives x)) → Some k ≡ Some x → r ≡ has_both lines k
+meets_by_outputs lines x k r own other same =
+    other ∙ ap (λ b. b && has_some (line_of lines (Gives x))) (sym own) ∙ ap (λ o. has_both lines (unwrap_or o x)) (sym same)
+
 -- a test of the meeting of an errand, made at any meeting
 at_here : {S : Type 0} (lines : IndexMap Errand NameSet S) (x k : Meeting) (at r : Bool) → at ≡ same_meeting x k → r ≡ has_both lines x → (at && has_both lines k) ≡ (same_meeting x k && r)
 at_here lines x k at r is here = ap (λ b. b && has_both lines k) is ∙ by_case (same_meeting x k) refl

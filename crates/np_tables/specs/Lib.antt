@@ -1,4 +1,6 @@
+pub mod Changed
 pub mod Errands
+pub mod Fed
 pub mod InStep
 pub mod Lines
 pub mod Mapped

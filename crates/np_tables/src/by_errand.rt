@@ -1,7 +1,8 @@
-ghost use Rattle.std.specs.Prelude.{◌≡◌, ◌<◌, ◌&&◌, ◌||◌, ◌↔◌, not, IfSome, IfNone, OnOk, OnErr, IsTrue, false, []};
+ghost use Rattle.std.specs.Prelude.{◌≡◌, ◌<◌, ◌&&◌, ◌||◌, ◌↔◌, not, Some, IfSome, IfNone, OnOk, OnErr, IsTrue, true, false, []};
 ghost use Rattle.std.specs.FinSet as set;
 ghost use Rattle.indexmap.specs.IndexSet as index_set;
 ghost use Rattle.np_tables.specs.declared.errand.Errand.TheVariants as errand;
+ghost use Rattle.np_tables.specs.Errands.{meeting_of};
 ghost use Rattle.np_tables.specs.Lines.{line_of, has_some, has_both, is_at, is_busy, is_due, NoneDue, SameLines, SetsLine, BusyAt};
 
 use super::errand::{Errand, Meeting};
@@ -114,13 +115,6 @@ fn has(lines: &IndexMap<Errand, Line>, errand: Errand) -> bool
     }
 }
 
-/// Whether a meeting has both an input and an output.
-fn meets(lines: &IndexMap<Errand, Line>, meeting: Meeting) -> bool
-    ensures { result ≡ has_both lines.now meeting }
-{
-    has(lines, Errand::Takes(meeting)) && has(lines, Errand::Gives(meeting))
-}
-
 /// The mark to be served of a line that has some, which goes to the end of it.
 fn next_of(line: &mut Line) -> Name
     requires { IsTrue (has_some line.old) }
@@ -177,10 +171,16 @@ impl Lines {
         self.acts.any()
     }
 
-    fn meets(&self, meeting: Meeting) -> bool
-        ensures { result ≡ has_both self.now meeting }
+    /// Whether the meeting of an errand that has marks has both an input and an output, which its other side tells.
+    fn meets(&self, errand: Errand) -> bool
+        requires { has_some (line_of self.now errand) ≡ true }
+        ensures { (meeting : Meeting) → Some meeting ≡ meeting_of errand → result ≡ has_both self.now meeting }
     {
-        meets(&self.others, meeting)
+        match errand {
+            Errand::Gives(meeting) => has(&self.others, Errand::Takes(meeting)),
+            Errand::Takes(meeting) => has(&self.others, Errand::Gives(meeting)),
+            Errand::Acts | Errand::Stuck => false,
+        }
     }
 
     fn enter(&mut self, errand: Errand, mark: Name) -> Result<(), Memory>
@@ -219,19 +219,21 @@ impl Lines {
     }
 }
 
-/// The meeting of an errand that a mark came under is busy if it has both now.
-fn open(lines: &Lines, busy: &mut IndexSet<Meeting>, errand: Errand)
-    requires { 0 < index_set.spare busy.old }
+/// The meeting of an errand that a mark came under is busy if it has both now, which is told.
+fn open(lines: &Lines, busy: &mut IndexSet<Meeting>, errand: Errand) -> bool
+    requires room { 0 < index_set.spare busy.old }
+    requires own { has_some (line_of lines.now errand) ≡ true }
     ensures { (meeting : Meeting) → is_busy busy.new meeting ≡ (is_busy busy.old meeting || (is_at errand meeting && has_both lines.now meeting)) }
 {
     let Some(meeting) = errand.meeting() else {
-        return;
+        return false;
     };
-    if lines.meets(meeting) {
-        match busy.insert(meeting) {
-            Ok(_) => {}
-            Err(_) => unreachable!(),
-        }
+    if !lines.meets(errand) {
+        return false;
+    }
+    match busy.insert(meeting) {
+        Ok(_) => true,
+        Err(_) => unreachable!(),
     }
 }
 
@@ -266,8 +268,8 @@ impl ByErrand {
         }
     }
 
-    /// Puts a mark under an errand, where other errands keep theirs.
-    pub fn add(&mut self, errand: Errand, mark: Name) -> Result<(), Memory>
+    /// Puts a mark under an errand, where other errands keep theirs. It tells whether the meeting of the errand is busy now.
+    pub fn add(&mut self, errand: Errand, mark: Name) -> Result<bool, Memory>
         requires { BusyAt self.old.lines self.old.busy }
         ensures ok { OnOk result (SetsLine self.old.lines self.new.lines errand (set.insert (line_of self.old.lines errand) mark)) }
         ensures err { OnErr result (SameLines self.old.lines self.new.lines) }
@@ -275,8 +277,7 @@ impl ByErrand {
     {
         self.busy.reserve(1)?;
         self.lines.enter(errand, mark)?;
-        open(&self.lines, &mut self.busy, errand);
-        Ok(())
+        Ok(open(&self.lines, &mut self.busy, errand))
     }
 
     /// Takes a mark from an errand, where other errands keep theirs.

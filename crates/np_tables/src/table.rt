@@ -1,7 +1,8 @@
-ghost use Rattle.std.specs.Prelude.{◌≡◌, ◌<◌, ◌≤◌, ◌+◌, ◌↔◌, length, slice_index_or, OnOk, OnErr, IsOk, IsSome, IsTrue, is_some};
+ghost use Rattle.std.specs.Prelude.{◌≡◌, ◌<◌, ◌≤◌, ◌+◌, ◌↔◌, length, slice_index_or, OnOk, OnErr, IsOk, IsSome, IfSome, IsTrue, is_some};
 ghost use Rattle.std.specs.Option.{option_copied};
 ghost use Rattle.std.specs.FinMap as map;
 ghost use Rattle.np_tables.specs.Stored.{Covers};
+ghost use Rattle.np_tables.specs.Changed.{Changed};
 
 use indexmap::IndexMap;
 use np_syntax::{Memory, Name};
@@ -47,6 +48,24 @@ impl<V> Table<V> {
         self.entries.get(&key)
     }
 
+    /// Where a name stands in the order of the walk.
+    pub fn index(&self, key: Name) -> Option<usize>
+        ensures found { is_some result ≡ is_some (map.get self.now.items key) }
+        ensures within { IfSome result (λ index. index < length self.now.keys) }
+    {
+        self.entries.get_index_of(&key)
+    }
+
+    /// The value of a name, which is looked for at an index first. Where it stands there, this takes no search.
+    pub fn get_near(&self, index: usize, key: Name) -> Option<&V>
+        ensures { option_copied result ≡ map.get self.now.items key }
+    {
+        match self.entries.get_index(index) {
+            Some((near, value)) if *near == key => Some(value),
+            _ => self.get(key),
+        }
+    }
+
     pub fn has(&self, key: Name) -> bool
         ensures { result ≡ is_some (map.get self.now.items key) }
     {
@@ -82,6 +101,19 @@ impl<V> Table<V> {
     {
         match self.entries.get_mut(&key) {
             Some(place) => std::mem::replace(place, value),
+            None => unreachable!(),
+        }
+    }
+
+    /// Lets a function change the value that is there, in its place.
+    pub fn change<R, F: FnOnce(&mut V) -> R>(&mut self, key: Name, f: F) -> R
+        requires there { IsSome (map.get self.old.items key) }
+        requires callable { F.IsAlwaysCallable f }
+        ensures items { Changed F.FnOnce f key self.old.items self.new.items result }
+        ensures spare { self.old.spare ≤ self.new.spare }
+    {
+        match self.entries.get_mut(&key) {
+            Some(place) => f(place),
             None => unreachable!(),
         }
     }

@@ -64,9 +64,9 @@ impl WorkLists {
         ensures err { OnErr result (self.new ≡ self.old) }
     {
         self.filed.reserve(1)?;
-        self.marks.add(errand, mark)?;
+        let busy = self.marks.add(errand, mark)?;
         settle(&mut self.filed, &mut self.marks, mark, errand);
-        announce(&mut self.turns, &self.marks, mark, errand);
+        announce(&mut self.turns, mark, errand, busy);
         Ok(())
     }
 
@@ -141,12 +141,12 @@ fn settle(filed: &mut Table<Errand>, marks: &mut ByErrand, mark: Name, errand: E
     marks.remove(before, mark);
 }
 
-/// A turn for a mark that acts alone, or for the meeting at which it waits.
-fn announce(turns: &mut Turns, marks: &ByErrand, mark: Name, errand: Errand) {
+/// A turn for a mark that acts alone, or for the meeting at which it waits, if that is busy.
+fn announce(turns: &mut Turns, mark: Name, errand: Errand, busy: bool) {
     match errand {
         Errand::Acts => turns.alone(mark),
         Errand::Gives(meeting) | Errand::Takes(meeting) => {
-            if marks.is_due(Turn::Meets(meeting)) {
+            if busy {
                 turns.meets(meeting);
             }
         }

@@ -1,8 +1,9 @@
 use Rattle.np_tables.proofs.LineLaws.{opens, stays_shut}
 use Rattle.np_tables.proofs.by_errand.open.Goals as goal
 
-pub returns-in-Ok : goal.returns-in-Ok
-returns-in-Ok c = opens c.args.lines.now c.args.errand c.in-Some.meeting c.in-Some.ensures c.args.busy.now c.insert.new.self c.if-meets.ensures c.in-Ok.ensures.updates.0
+pub returns : goal.returns
+returns c =
+    opens c.args.lines.now c.args.errand c.in-Some.meeting c.in-Some.ensures c.args.busy.now c.insert.new.self (c.if-not-meets.ensures c.in-Some.meeting c.in-Some.ensures) c.in-Ok.ensures.updates.0
 
-pub returns-else-meets : goal.returns-else-meets
-returns-else-meets c = stays_shut c.args.lines.now c.args.errand c.in-Some.meeting c.in-Some.ensures c.args.busy.now c.if-meets.ensures
+pub returns-then-not-meets : goal.returns-then-not-meets
+returns-then-not-meets c = stays_shut c.args.lines.now c.args.errand c.in-Some.meeting c.in-Some.ensures c.args.busy.now (c.if-not-meets.ensures c.in-Some.meeting c.in-Some.ensures)

@@ -7,8 +7,8 @@ use Rattle.np_configuration.proofs.Finds.{depart-step}
 use Rattle.np_configuration.proofs.Moved.{may-go, atoms-gone, gone-kept, remade-placed}
 use Rattle.np_configuration.proofs.cfg.Cfg.apply_depart.Goals as goal
 
-pub go_on-requires-clause-whole : goal.go_on-requires-clause-whole
-go_on-requires-clause-whole c = may-go c.self.view_is c.args.e.now.actor (depart-step c.args.self.now c.args.e.now _ c.in_ok-leaves.ensures).can c.in_ok-file.ensures.atoms
+pub go_on-requires : goal.go_on-requires
+go_on-requires c = record { whole = may-go c.self.view_is c.args.e.now.actor (depart-step c.args.self.now c.args.e.now _ c.in_ok-leaves.ensures).can c.in_ok-file.ensures.atoms }
 
 abbrev can : (c : goal.After-go_on) → CanGo c.args.self.now.atoms c.args.e.now.actor true c.in_ok-leaves.leaves.errand
 can c = (depart-step c.args.self.now c.args.e.now _ c.in_ok-leaves.ensures).can

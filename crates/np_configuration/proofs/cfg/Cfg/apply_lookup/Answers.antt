@@ -5,10 +5,10 @@ use Rattle.np_configuration.proofs.Keeping.{kept-on, kept-as}
 use Rattle.np_configuration.proofs.Finds.{LookupStep, lookup-step}
 use Rattle.np_configuration.proofs.cfg.Cfg.apply_lookup.Goals as goal
 
-pub go_under-requires-clause-whole : goal.go_under-requires-clause-whole
-go_under-requires-clause-whole c =
+pub go_under-requires : goal.go_under-requires
+go_under-requires c =
     let s = lookup-step c.args.self.now c.args.e.now _ c.in_ok-looked.ensures in
-    rw (c.in_ok-file.ensures.atoms, ap (λ (d : Config). map.get d.atoms c.args.e.now.actor) c.self.view_is ∙ s.there, s.form) refl
+    rw (c.in_ok-file.ensures.atoms, ap (λ (d : Config). map.get d.atoms c.args.e.now.actor) c.self.view_is ∙ s.there, s.form) (record { whole = refl })
 
 looked : (c : goal.After-go_under) → LookupStep c.args.self.now c.args.e.now c.in_ok-looked.looked
 looked c = lookup-step c.args.self.now c.args.e.now _ c.in_ok-looked.ensures

@@ -11,14 +11,14 @@ use Rattle.np_configuration.proofs.cfg.Cfg.local_here.Goals as goal
 pub file_two-requires : goal.file_two-requires
 file_two-requires c = kept-absent c.self.invariant c.in_ok-mark.mark (search rules)
 
-pub go_on-requires-clause-whole : goal.go_on-requires-clause-whole
-go_on-requires-clause-whole c =
+pub go_on-requires : goal.go_on-requires
+go_on-requires c =
     let s = c.requires.can in
     let there : map.get c.self.inside.atoms.items c.args.e.now.actor ≡ Some s.atom =
     ap (λ (d : Config). map.get d.atoms c.args.e.now.actor) c.self.view_is ∙ s.there in
     let stays : map.get (map.insert c.self.inside.atoms.items c.in_ok-mark.mark c.output_in-made.result) c.args.e.now.actor ≡ Some s.atom =
     kept-passes c.self.invariant c.args.e.now.actor c.in_ok-mark.mark s.atom c.output_in-made.result there (search rules) in
-    rw (c.put.ensures.items, c.in_ok-file_two.ensures.atoms, stays, s.form) refl
+    rw (c.put.ensures.items, c.in_ok-file_two.ensures.atoms, stays, s.form) (record { whole = refl })
 
 there : (c : goal.After-put-2) → map.get c.self.inside.atoms.items c.args.e.now.actor ≡ Some c.requires.can.atom
 there c =

@@ -5,5 +5,5 @@ use Rattle.np_configuration.proofs.cfg.Cfg.stand.Goals as goal
 
 pub invariant_of-self-2 : goal.invariant_of-self-2
 invariant_of-self-2 c =
-    kept-equal (kept-put c.self.invariant c.args.mark c.args.atom (born-under c.self.view_is c.self.invariant c.args.mark c.requires)) c.in_ok-put_filed.ensures.ok
-    c.in_ok-put_filed.ensures.items refl
+    kept-equal (kept-put c.self.invariant c.args.mark c.args.atom (born-under c.self.view_is c.self.invariant c.args.mark c.requires)) c.in_ok-file_atom.ensures.ok
+    c.replace.ensures.items refl

@@ -1,6 +1,9 @@
 use Rattle.std.proofs.Common.{refl}
-use Rattle.np_tables.proofs.LineLaws.{busy_same, busy_more}
+use Rattle.np_tables.proofs.LineLaws.{busy_same, busy_more, some_entered}
 use Rattle.np_tables.proofs.by_errand.ByErrand.add.Goals as goal
+
+pub open-requires-clause-own : goal.open-requires-clause-own
+open-requires-clause-own c = some_entered c.args.self.now.lines c.enter.new.self c.args.errand c.args.mark c.in_ok-enter.ensures.ok
 
 pub returns-clause-busy : goal.returns-clause-busy
 returns-clause-busy c =
