@@ -19,6 +19,8 @@ mod low_types;
 #[cfg(test)]
 mod low_values;
 #[cfg(test)]
+mod nodes;
+#[cfg(test)]
 mod numbers;
 #[cfg(test)]
 mod tables;
