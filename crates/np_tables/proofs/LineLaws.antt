@@ -118,10 +118,12 @@ module _ {S : Type 0} where
   pub acts_leave : (a b : NameSet) (m : IndexMap Errand NameSet S) (e : Errand) (q : Name) → same_errand e Acts ≡ true → b ≡ set.remove a q → SetsLine (with_acts a m) (with_acts b m) e (set.remove (line_of (with_acts a m) e) q)
   acts_leave a b m e q h = acts_set (λ s. set.remove s q) a b m e (same_errand-is e Acts h)
 
-  pub others_enter : (a : NameSet) (m n : IndexMap Errand NameSet S) (e : Errand) (q : Name) → same_errand e Acts ≡ false → SetsLine m n e (set.insert (line_of m e) q) → SetsLine (with_acts a m) (with_acts a n) e (set.insert (line_of (with_acts a m) e) q)
+  pub others_enter : (a : NameSet) (m n : IndexMap Errand NameSet S) (e : Errand) (q : Name) → same_errand e Acts ≡ false → SetsLine m n e (set.insert (line_of m e) q)
+      → SetsLine (with_acts a m) (with_acts a n) e (set.insert (line_of (with_acts a m) e) q)
   others_enter a m n e q = others_set (λ s. set.insert s q) a m n e
 
-  pub others_leave : (a : NameSet) (m n : IndexMap Errand NameSet S) (e : Errand) (q : Name) → same_errand e Acts ≡ false → SetsLine m n e (set.remove (line_of m e) q) → SetsLine (with_acts a m) (with_acts a n) e (set.remove (line_of (with_acts a m) e) q)
+  pub others_leave : (a : NameSet) (m n : IndexMap Errand NameSet S) (e : Errand) (q : Name) → same_errand e Acts ≡ false → SetsLine m n e (set.remove (line_of m e) q)
+      → SetsLine (with_acts a m) (with_acts a n) e (set.remove (line_of (with_acts a m) e) q)
   others_leave a m n e q = others_set (λ s. set.remove s q) a m n e
 
   -- the line of an errand, where it is known which kind it is
@@ -208,15 +210,6 @@ some_before s m h = by_case (has_some s) refl
 pub some_entered : {S : Type 0} (old new : IndexMap Errand NameSet S) (e : Errand) (m : Name) → SetsLine old new e (set.insert (line_of old e) m) → has_some (line_of new e) ≡ true
 some_entered old new e m sets =
     ap has_some (sets.at e) ∙ ap (λ t. has_some (cond t (set.insert (line_of old e) m) (line_of old e))) (same_errand-itself e) ∙ some-insert (line_of old e) m
-
--- of a meeting whose one side has marks, the other side tells whether it has both
-pub meets_by_inputs : {S : Type 0} (lines : IndexMap Errand NameSet S) (x k : Meeting) (r : Bool) → has_some (line_of lines (Gives x)) ≡ true → r ≡ has_some (line_of lines (Takes x)) → Some k ≡ Some x → r ≡ has_both lines k
-meets_by_inputs lines x k r own other same =
-    other ∙ sym (and-true _) ∙ ap (λ b. has_some (line_of lines (Takes x)) && b) (sym own) ∙ ap (λ o. has_both lines (unwrap_or o x)) (sym same)
-
-pub meets_by_outputs : {S : Type 0} (lines : IndexMap Errand NameSet S) (x k : Meeting) (r : Bool) → has_some (line_of lines (Takes x)) ≡ true → r ≡ has_some (line_of lines (Gives x)) → Some k ≡ Some x → r ≡ has_both lines k
-meets_by_outputs lines x k r own other same =
-    other ∙ ap (λ b. b && has_some (line_of lines (Gives x))) (sym own) ∙ ap (λ o. has_both lines (unwrap_or o x)) (sym same)
 
 -- a test of the meeting of an errand, made at any meeting
 at_here : {S : Type 0} (lines : IndexMap Errand NameSet S) (x k : Meeting) (at r : Bool) → at ≡ same_meeting x k → r ≡ has_both lines x → (at && has_both lines k) ≡ (same_meeting x k && r)

@@ -1,4 +1,4 @@
-ghost use Rattle.std.specs.Prelude.{◌≡◌, ◌<◌, ◌&&◌, ◌||◌, ◌↔◌, not, Some, IfSome, IfNone, OnOk, OnErr, IsTrue, true, false, []};
+ghost use Rattle.std.specs.Prelude.{◌≡◌, ◌<◌, ◌&&◌, ◌||◌, ◌↔◌, not, Some, IfSome, IfNone, IfOk, OnOk, OnErr, IsTrue, true, false, []};
 ghost use Rattle.std.specs.FinSet as set;
 ghost use Rattle.indexmap.specs.IndexSet as index_set;
 ghost use Rattle.np_tables.specs.declared.errand.Errand.TheVariants as errand;
@@ -223,7 +223,8 @@ impl Lines {
 fn open(lines: &Lines, busy: &mut IndexSet<Meeting>, errand: Errand) -> bool
     requires room { 0 < index_set.spare busy.old }
     requires own { has_some (line_of lines.now errand) ≡ true }
-    ensures { (meeting : Meeting) → is_busy busy.new meeting ≡ (is_busy busy.old meeting || (is_at errand meeting && has_both lines.now meeting)) }
+    ensures busy { (meeting : Meeting) → is_busy busy.new meeting ≡ (is_busy busy.old meeting || (is_at errand meeting && has_both lines.now meeting)) }
+    ensures told { (meeting : Meeting) → Some meeting ≡ meeting_of errand → result ≡ has_both lines.now meeting }
 {
     let Some(meeting) = errand.meeting() else {
         return false;
@@ -274,6 +275,7 @@ impl ByErrand {
         ensures ok { OnOk result (SetsLine self.old.lines self.new.lines errand (set.insert (line_of self.old.lines errand) mark)) }
         ensures err { OnErr result (SameLines self.old.lines self.new.lines) }
         ensures busy { BusyAt self.new.lines self.new.busy }
+        ensures told { (meeting : Meeting) → Some meeting ≡ meeting_of errand → IfOk result (λ told. told ≡ has_both self.new.lines meeting) }
     {
         self.busy.reserve(1)?;
         self.lines.enter(errand, mark)?;

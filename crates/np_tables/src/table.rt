@@ -52,6 +52,7 @@ impl<V> Table<V> {
     pub fn index(&self, key: Name) -> Option<usize>
         ensures found { is_some result ≡ is_some (map.get self.now.items key) }
         ensures within { IfSome result (λ index. index < length self.now.keys) }
+        ensures at { IfSome result (λ index. slice_index_or self.now.keys index key ≡ key) }
     {
         self.entries.get_index_of(&key)
     }
