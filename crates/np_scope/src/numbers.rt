@@ -1,10 +1,11 @@
 //! The numbers of process nodes and binders.
 
-ghost use Rattle.std.specs.Prelude.{◌≡◌};
+ghost use Rattle.std.specs.Prelude.{◌≡◌, IfOk};
 ghost use Rattle.np_scope.specs.Counting.{Fits};
 ghost use Rattle.np_scope.specs.Resolved.{next_node, next_both, placed};
 
-use np_syntax::{Proc, ProcForm, Role, Tag};
+use np_syntax::{Boxed, Memory, Proc, ProcForm, Role, Tag};
+use std::alloc::Global;
 
 /// The numbers of the next process node and of the next binder.
 #[derive(Clone, Copy, Debug, PartialEq, Eq)]
@@ -16,7 +17,7 @@ pub struct Numbers {
 /// A process, and the numbers behind it.
 #[derive(Drop)]
 pub struct Placed {
-    pub proc: Proc,
+    pub proc: Boxed<Proc>,
     pub next: Numbers,
 }
 
@@ -44,16 +45,20 @@ impl Numbers {
     }
 
     /// A process with this number.
-    pub fn place(self, at: u32, form: ProcForm, next: Numbers) -> Placed
-        ensures { result ≡ placed self at form next }
+    pub fn place(
+        self,
+        alloc: Global,
+        at: u32,
+        form: ProcForm,
+        next: Numbers,
+    ) -> Result<Placed, Memory>
+        ensures { IfOk result (λ it. it ≡ placed self at form next) }
     {
         let tag = Tag {
             node: self.node,
             role: Role::Plain,
         };
-        Placed {
-            proc: Proc { tag, at, form },
-            next,
-        }
+        let proc = Boxed::of(alloc, Proc { tag, at, form })?;
+        Ok(Placed { proc, next })
     }
 }

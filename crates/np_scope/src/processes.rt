@@ -32,7 +32,7 @@ impl Resolver {
         ensures behind { IfOk result (λ placed. IsBehindProc next p.now placed.next) }
     {
         let (form, after) = self.proc_form(scope, next, &p.form)?;
-        Ok(next.place(p.at, form, after))
+        Ok(next.place(self.alloc, p.at, form, after)?)
     }
 
     /// The form of the process with the next number, and the numbers behind it.
@@ -94,10 +94,7 @@ impl Resolver {
     {
         let first = self.proc(scope, next, first)?;
         let second = self.proc(scope, first.next, second)?;
-        let after = second.next;
-        let first = Boxed::of(self.alloc, first.proc)?;
-        let second = Boxed::of(self.alloc, second.proc)?;
-        Ok((first, second, after))
+        Ok((first.proc, second.proc, second.next))
     }
 
     /// A body in the scope of a pattern's names, behind the pattern, and the numbers behind it.
@@ -123,9 +120,7 @@ impl Resolver {
         };
         let body = self.proc(scope, inner, body)?;
         scope.leave_to(depth);
-        let after = body.next;
-        let body = Boxed::of(self.alloc, body.proc)?;
-        Ok((names, body, after))
+        Ok((names, body.proc, body.next))
     }
 
     /// Processes side by side.
@@ -167,9 +162,7 @@ impl Resolver {
         scope.enter(name.text.as_slice(), Meaning::Binder(next.binder))?;
         let body = self.proc(scope, next.next_both(), body)?;
         scope.leave();
-        let after = body.next;
-        let body = Boxed::of(self.alloc, body.proc)?;
-        Ok((ProcForm::New(next.binder, ty, body), after))
+        Ok((ProcForm::New(next.binder, ty, body.proc), body.next))
     }
 
     /// An input, whose body is in the scope of the pattern's names.
@@ -253,9 +246,7 @@ impl Resolver {
     {
         let site = self.expr(scope, site)?;
         let body = self.proc(scope, next.next_node(), body)?;
-        let after = body.next;
-        let body = Boxed::of(self.alloc, body.proc)?;
-        Ok((ProcForm::Migrate(site, body), after))
+        Ok((ProcForm::Migrate(site, body.proc), body.next))
     }
 
     /// A message to an agent, if it is here, and what follows in either case.
