@@ -8,7 +8,7 @@ ghost use Rattle.np_syntax.specs.declared.process.ProcForm as shape;
 
 use super::translated::Translated;
 use infrastructure_texts::{Made, Writer, variable};
-use np_syntax::{Boxed, Expr, Memory, Pat, Proc, ProcForm, Tag, Ty};
+use np_syntax::{Boxed, Expr, Memory, Pat, Proc, ProcForm, Tag, Ty, process_forms};
 use std::alloc::Global;
 
 /// Translates the processes of a program of so many sites.
@@ -160,8 +160,8 @@ impl Translator {
     ) -> Result<Translated, Memory>
         ensures { IfOk result (λ t. t ≡ spec.kept tag at (shape.New chan ty.now body.proc) body.next) }
     {
-        let ty = ty.copy(self.alloc)?;
-        self.kept(tag, at, ProcForm::New(chan, ty, body.proc), body.next)
+        let form = process_forms::channel(self.alloc, chan, ty, body.proc)?;
+        self.kept(tag, at, form, body.next)
     }
 
     pub fn input(
@@ -174,9 +174,8 @@ impl Translator {
     ) -> Result<Translated, Memory>
         ensures { IfOk result (λ t. t ≡ spec.kept tag at (shape.Inp chan.now names.now body.proc) body.next) }
     {
-        let chan = chan.copy(self.alloc)?;
-        let names = names.copy(self.alloc)?;
-        self.kept(tag, at, ProcForm::Inp(chan, names, body.proc), body.next)
+        let form = process_forms::input(self.alloc, chan, names, body.proc)?;
+        self.kept(tag, at, form, body.next)
     }
 
     pub fn replicated(
@@ -189,9 +188,8 @@ impl Translator {
     ) -> Result<Translated, Memory>
         ensures { IfOk result (λ t. t ≡ spec.kept tag at (shape.Rep chan.now names.now body.proc) body.next) }
     {
-        let chan = chan.copy(self.alloc)?;
-        let names = names.copy(self.alloc)?;
-        self.kept(tag, at, ProcForm::Rep(chan, names, body.proc), body.next)
+        let form = process_forms::replicated(self.alloc, chan, names, body.proc)?;
+        self.kept(tag, at, form, body.next)
     }
 
     pub fn bind(
@@ -204,9 +202,8 @@ impl Translator {
     ) -> Result<Translated, Memory>
         ensures { IfOk result (λ t. t ≡ spec.kept tag at (shape.Let names.now value.now body.proc) body.next) }
     {
-        let names = names.copy(self.alloc)?;
-        let value = value.copy(self.alloc)?;
-        self.kept(tag, at, ProcForm::Let(names, value, body.proc), body.next)
+        let form = process_forms::bind(self.alloc, names, value, body.proc)?;
+        self.kept(tag, at, form, body.next)
     }
 
     pub fn test(
@@ -219,8 +216,8 @@ impl Translator {
     ) -> Result<Translated, Memory>
         ensures { IfOk result (λ t. t ≡ spec.kept tag at (shape.If test.now met unmet.proc) unmet.next) }
     {
-        let test = test.copy(self.alloc)?;
-        self.kept(tag, at, ProcForm::If(test, met, unmet.proc), unmet.next)
+        let form = process_forms::test(self.alloc, test, met, unmet.proc)?;
+        self.kept(tag, at, form, unmet.next)
     }
 
     pub fn iflocal(
@@ -235,10 +232,7 @@ impl Translator {
     ) -> Result<Translated, Memory>
         ensures { IfOk result (λ t. t ≡ spec.kept tag at (shape.IfLocal agent.now chan.now value.now met unmet.proc) unmet.next) }
     {
-        let agent = agent.copy(self.alloc)?;
-        let chan = chan.copy(self.alloc)?;
-        let value = value.copy(self.alloc)?;
-        let form = ProcForm::IfLocal(agent, chan, value, met, unmet.proc);
+        let form = process_forms::iflocal(self.alloc, agent, chan, value, met, unmet.proc)?;
         self.kept(tag, at, form, unmet.next)
     }
 
@@ -254,14 +248,8 @@ impl Translator {
     ) -> Result<Translated, Memory>
         ensures { IfOk result (λ t. t ≡ spec.kept tag at (shape.Lookup agent.now places.now found met unmet.proc) unmet.next) }
     {
-        let agent = agent.copy(self.alloc)?;
-        let places = places.copy(self.alloc)?;
-        self.kept(
-            tag,
-            at,
-            ProcForm::Lookup(agent, places, found, met, unmet.proc),
-            unmet.next,
-        )
+        let form = process_forms::lookup(self.alloc, agent, places, found, met, unmet.proc)?;
+        self.kept(tag, at, form, unmet.next)
     }
 
     fn post(

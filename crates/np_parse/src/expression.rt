@@ -1,14 +1,14 @@
 //! How expressions are read.
 
-ghost use Rattle.std.specs.Prelude.{◌≡◌, ◌≤◌, ◌<◌, ◌+◌, suc, [], IfOk};
+ghost use Rattle.std.specs.Prelude.{◌≡◌, ◌≤◌, ◌<◌, ◌+◌, suc, IfOk};
 ghost use Rattle.np_parse.specs.Input.{Reads, nothing};
-ghost use Rattle.np_parse.specs.Read.Tuples.{tuple_in, parts};
+ghost use Rattle.np_parse.specs.Read.Tuples.{sized, tuple_in, parts};
 ghost use Rattle.np_parse.specs.Read.Expressions as spec;
 
-use super::closing::{closed, closes};
+use super::closing::closes;
 use super::cursor::Cursor;
 use super::fail::ParseFail;
-use super::operator::{adds, compares, multiplies, operation};
+use super::operator::{Rank, next_operator, operation};
 use np_lex::{Key, Sign, What};
 use np_syntax::{DEEPEST, List, MOST_PARTS, Value};
 use np_tree::{RawExpr, RawExprForm};
@@ -61,29 +61,31 @@ fn variable(alloc: Global, tokens: &mut Cursor<'_>) -> Result<(RawExpr, u32), Pa
 
 // ---- atoms
 
-/// The parts of a tuple, and the closing bracket.
-#[tactic(auto, using(crate::proofs::Steps::parts_refused, crate::proofs::Steps::parts_end, crate::proofs::Steps::parts_step, crate::proofs::Steps::parts_full))]
+/// The parts of a tuple behind these, and the closing bracket: gives the depth of the deepest.
+#[tactic(auto, using(crate::proofs::Steps::all_parts))]
 #[cycle(expr)]
 fn expr_parts(
     alloc: Global,
     tokens: &mut Cursor<'_>,
     below: u32,
-) -> Result<(List<RawExpr>, u32), ParseFail>
+    items: &mut List<RawExpr>,
+) -> Result<u32, ParseFail>
     requires { below < DEEPEST }
-    ensures reads { Reads (parts (spec.expr below) MOST_PARTS [] 0 tokens.old) result tokens.new }
-    ensures within { IfOk result (λ x. x.1 ≤ below) }
+    ensures reads { Reads (parts (spec.expr below) MOST_PARTS items.old 0 tokens.old) (sized items.new result) tokens.new }
+    ensures within { IfOk result (λ x. x ≤ below) }
 {
-    let mut items = List::new(alloc);
     let mut depth: u32 = 0;
     'parts: for _ in 0..MOST_PARTS {
         if closes(tokens.peek()?) {
-            return closed(tokens, items, depth);
+            tokens.take()?;
+            return Ok(depth);
         }
         let (item, deep) = expr(alloc, tokens, below)?;
         items.add(item)?;
         depth = depth.max(deep);
     }
-    closed(tokens, items, depth)
+    tokens.expect_sign(Sign::SquareClose)?;
+    Ok(depth)
 }
 
 #[tactic(auto, unfolding(crate::specs::Read::Tuples::tuple_in))]
@@ -94,7 +96,8 @@ fn tuple(alloc: Global, tokens: &mut Cursor<'_>, below: u32) -> Result<(RawExpr,
     ensures within { IfOk result (λ x. x.1 ≤ below + 1) }
 {
     let at = tokens.take()?;
-    let (items, depth) = expr_parts(alloc, tokens, below)?;
+    let mut items = List::new(alloc);
+    let depth = expr_parts(alloc, tokens, below, &mut items)?;
     let form = RawExprForm::Tuple(items);
     Ok((RawExpr { at, form }, depth + 1))
 }
@@ -140,51 +143,52 @@ fn atom_in(alloc: Global, tokens: &mut Cursor<'_>, below: u32) -> Result<(RawExp
     }
 }
 
-/// An atom of so many levels at most.
-#[tactic(auto, using(crate::proofs::Levels::deeper_atom), unfolding(crate::specs::Read::Expressions::readers))]
+// ---- products and sums
+
+/// An operand of the operators of this rank, of so many levels at most.
+#[tactic(auto, using(crate::proofs::Levels::operand_none, crate::proofs::Levels::deeper_operand), unfolding(crate::specs::Read::Expressions::readers))]
 #[cycle(expr)]
-pub fn atom(
+fn operand(
     alloc: Global,
     tokens: &mut Cursor<'_>,
     levels: u32,
+    rank: Rank,
 ) -> Result<(RawExpr, u32), ParseFail>
     requires { levels ≤ DEEPEST }
-    ensures reads { Reads (spec.atom levels tokens.old) result tokens.new }
+    ensures reads { Reads (spec.operand rank levels tokens.old) result tokens.new }
     ensures within { IfOk result (λ x. x.1 ≤ levels) }
 {
     if levels == 0 {
-        no_expr(tokens)
-    } else {
-        atom_in(alloc, tokens, levels - 1)
+        return no_expr(tokens);
+    }
+    match rank {
+        Rank::Product => atom_in(alloc, tokens, levels - 1),
+        Rank::Sum => prod_in(alloc, tokens, levels - 1),
+        Rank::Comparison => sum_in(alloc, tokens, levels - 1),
     }
 }
 
-// ---- products and sums
-
-/// What stands behind the first factor of a product.
+/// What stands behind the first operand of a product or of a sum.
 #[tactic(auto, using(crate::proofs::Steps::chains))]
 #[cycle(expr)]
-fn factors(
+fn chain(
     alloc: Global,
     tokens: &mut Cursor<'_>,
     below: u32,
+    rank: Rank,
     first: (RawExpr, u32),
 ) -> Result<(RawExpr, u32), ParseFail>
     requires levels { below < DEEPEST }
     requires first { first.1 ≤ below + 1 }
-    ensures reads { Reads (spec.chain spec.multiplies (spec.atom below) (suc below) (suc below) first tokens.old) result tokens.new }
+    ensures reads { Reads (spec.chain (spec.operator rank) (spec.operand rank below) (suc below) (suc below) first tokens.old) result tokens.new }
     ensures within { IfOk result (λ x. x.1 ≤ below + 1) }
 {
     let mut left = first;
     'turns: for _ in 0..below + 1 {
-        let Some(op) = multiplies(tokens.peek()?) else {
+        let Some(op) = next_operator(tokens, rank, below, left.1)? else {
             return Ok(left);
         };
-        if left.1 > below {
-            return Err(tokens.too_deep());
-        }
-        tokens.take()?;
-        let right = atom(alloc, tokens, below)?;
+        let right = operand(alloc, tokens, below, rank)?;
         left = operation(alloc, op, left, right)?;
     }
     Err(tokens.too_deep())
@@ -198,51 +202,7 @@ fn prod_in(alloc: Global, tokens: &mut Cursor<'_>, below: u32) -> Result<(RawExp
     ensures within { IfOk result (λ x. x.1 ≤ below + 1) }
 {
     let first = atom_in(alloc, tokens, below)?;
-    factors(alloc, tokens, below, first)
-}
-
-/// A product of so many levels at most.
-#[tactic(auto, using(crate::proofs::Levels::deeper_prod), unfolding(crate::specs::Read::Expressions::readers))]
-#[cycle(expr)]
-fn prod(alloc: Global, tokens: &mut Cursor<'_>, levels: u32) -> Result<(RawExpr, u32), ParseFail>
-    requires { levels ≤ DEEPEST }
-    ensures reads { Reads (spec.prod levels tokens.old) result tokens.new }
-    ensures within { IfOk result (λ x. x.1 ≤ levels) }
-{
-    if levels == 0 {
-        no_expr(tokens)
-    } else {
-        prod_in(alloc, tokens, levels - 1)
-    }
-}
-
-/// What stands behind the first term of a sum.
-#[tactic(auto, using(crate::proofs::Steps::chains))]
-#[cycle(expr)]
-fn terms(
-    alloc: Global,
-    tokens: &mut Cursor<'_>,
-    below: u32,
-    first: (RawExpr, u32),
-) -> Result<(RawExpr, u32), ParseFail>
-    requires levels { below < DEEPEST }
-    requires first { first.1 ≤ below + 1 }
-    ensures reads { Reads (spec.chain spec.adds (spec.prod below) (suc below) (suc below) first tokens.old) result tokens.new }
-    ensures within { IfOk result (λ x. x.1 ≤ below + 1) }
-{
-    let mut left = first;
-    'turns: for _ in 0..below + 1 {
-        let Some(op) = adds(tokens.peek()?) else {
-            return Ok(left);
-        };
-        if left.1 > below {
-            return Err(tokens.too_deep());
-        }
-        tokens.take()?;
-        let right = prod(alloc, tokens, below)?;
-        left = operation(alloc, op, left, right)?;
-    }
-    Err(tokens.too_deep())
+    chain(alloc, tokens, below, Rank::Product, first)
 }
 
 #[tactic(auto, unfolding(crate::specs::Read::Expressions::readers))]
@@ -253,28 +213,26 @@ fn sum_in(alloc: Global, tokens: &mut Cursor<'_>, below: u32) -> Result<(RawExpr
     ensures within { IfOk result (λ x. x.1 ≤ below + 1) }
 {
     let first = prod_in(alloc, tokens, below)?;
-    terms(alloc, tokens, below, first)
+    chain(alloc, tokens, below, Rank::Sum, first)
 }
 
-/// A sum of so many levels at most.
-#[tactic(auto, using(crate::proofs::Levels::deeper_sum), unfolding(crate::specs::Read::Expressions::readers))]
-#[cycle(expr)]
-fn sum(alloc: Global, tokens: &mut Cursor<'_>, levels: u32) -> Result<(RawExpr, u32), ParseFail>
+/// An atom of so many levels at most.
+pub fn atom(
+    alloc: Global,
+    tokens: &mut Cursor<'_>,
+    levels: u32,
+) -> Result<(RawExpr, u32), ParseFail>
     requires { levels ≤ DEEPEST }
-    ensures reads { Reads (spec.sum levels tokens.old) result tokens.new }
+    ensures reads { Reads (spec.atom levels tokens.old) result tokens.new }
     ensures within { IfOk result (λ x. x.1 ≤ levels) }
 {
-    if levels == 0 {
-        no_expr(tokens)
-    } else {
-        sum_in(alloc, tokens, levels - 1)
-    }
+    operand(alloc, tokens, levels, Rank::Product)
 }
 
 // ---- expressions
 
 /// What stands behind the first side of a comparison, if this is one.
-#[tactic(auto, unfolding(crate::specs::Read::Expressions::comparison))]
+#[tactic(auto, using(crate::proofs::Steps::compared))]
 #[cycle(expr)]
 fn comparison(
     alloc: Global,
@@ -287,14 +245,10 @@ fn comparison(
     ensures reads { Reads (spec.comparison (spec.sum below) (suc below) left tokens.old) result tokens.new }
     ensures within { IfOk result (λ x. x.1 ≤ below + 1) }
 {
-    let Some(op) = compares(tokens.peek()?) else {
+    let Some(op) = next_operator(tokens, Rank::Comparison, below, left.1)? else {
         return Ok(left);
     };
-    if left.1 > below {
-        return Err(tokens.too_deep());
-    }
-    tokens.take()?;
-    let right = sum(alloc, tokens, below)?;
+    let right = operand(alloc, tokens, below, Rank::Comparison)?;
     Ok(operation(alloc, op, left, right)?)
 }
 

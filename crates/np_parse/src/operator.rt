@@ -1,14 +1,17 @@
 //! Operators, and what they make of their operands.
 
-ghost use Rattle.std.specs.Prelude.{◌≡◌, ◌<◌, IfOk};
+ghost use Rattle.std.specs.Prelude.{◌≡◌, ◌≢◌, ◌≤◌, ◌<◌, suc, None, IfOk};
+ghost use Rattle.np_parse.specs.Input.{Reads};
 ghost use Rattle.np_parse.specs.Read.Expressions as spec;
 
+use super::cursor::Cursor;
+use super::fail::ParseFail;
 use np_lex::{Sign, What};
 use np_syntax::{Boxed, DEEPEST, Memory, Op};
 use np_tree::{RawExpr, RawExprForm};
 use std::alloc::Global;
 
-pub fn multiplies(what: &What) -> Option<Op>
+fn multiplies(what: &What) -> Option<Op>
     ensures { result ≡ spec.multiplies what.now }
 {
     match what {
@@ -17,7 +20,7 @@ pub fn multiplies(what: &What) -> Option<Op>
     }
 }
 
-pub fn adds(what: &What) -> Option<Op>
+fn adds(what: &What) -> Option<Op>
     ensures { result ≡ spec.adds what.now }
 {
     match what {
@@ -27,7 +30,7 @@ pub fn adds(what: &What) -> Option<Op>
     }
 }
 
-pub fn compares(what: &What) -> Option<Op>
+fn compares(what: &What) -> Option<Op>
     ensures { result ≡ spec.compares what.now }
 {
     match what {
@@ -35,6 +38,45 @@ pub fn compares(what: &What) -> Option<Op>
         What::Sign(Sign::Same) => Some(Op::Equal),
         _ => None,
     }
+}
+
+/// The operators that bind alike.
+#[derive(Clone, Copy)]
+pub enum Rank {
+    Product,
+    Sum,
+    Comparison,
+}
+
+fn operator(rank: Rank, what: &What) -> Option<Op>
+    ensures { result ≡ spec.operator rank what.now }
+{
+    match rank {
+        Rank::Product => multiplies(what),
+        Rank::Sum => adds(what),
+        Rank::Comparison => compares(what),
+    }
+}
+
+/// Takes the operator behind an operand of this depth, if one of this rank stands there.
+#[tactic(auto, unfolding(crate::specs::Read::Expressions::next_operator))]
+pub fn next_operator(
+    tokens: &mut Cursor<'_>,
+    rank: Rank,
+    below: u32,
+    depth: u32,
+) -> Result<Option<Op>, ParseFail>
+    ensures reads { Reads (spec.next_operator rank (suc below) depth tokens.old) result tokens.new }
+    ensures room { IfOk result (λ x. x ≢ None → depth ≤ below) }
+{
+    let Some(op) = operator(rank, tokens.peek()?) else {
+        return Ok(None);
+    };
+    if depth > below {
+        return Err(tokens.too_deep());
+    }
+    tokens.take()?;
+    Ok(Some(op))
 }
 
 /// The operation on both, with its depth.

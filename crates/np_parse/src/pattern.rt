@@ -1,11 +1,11 @@
 //! How patterns are read.
 
-ghost use Rattle.std.specs.Prelude.{◌≡◌, ◌≤◌, ◌<◌, ◌+◌, suc, [], IfOk};
+ghost use Rattle.std.specs.Prelude.{◌≡◌, ◌≤◌, ◌<◌, ◌+◌, suc, IfOk};
 ghost use Rattle.np_parse.specs.Input.{Reads, nothing};
-ghost use Rattle.np_parse.specs.Read.Tuples.{tuple_in, parts};
+ghost use Rattle.np_parse.specs.Read.Tuples.{sized, tuple_in, parts};
 ghost use Rattle.np_parse.specs.Read.Patterns as spec;
 
-use super::closing::{closed, closes};
+use super::closing::closes;
 use super::cursor::Cursor;
 use super::fail::ParseFail;
 use np_lex::{Sign, What};
@@ -57,29 +57,31 @@ fn binder(alloc: Global, tokens: &mut Cursor<'_>) -> Result<(RawPat, u32), Parse
     Ok((RawPat { at, form }, 1))
 }
 
-/// The parts of a tuple pattern, and the closing bracket.
-#[tactic(auto, using(crate::proofs::Steps::parts_refused, crate::proofs::Steps::parts_end, crate::proofs::Steps::parts_step, crate::proofs::Steps::parts_full))]
+/// The parts of a tuple pattern behind these, and the closing bracket: gives the depth of the deepest.
+#[tactic(auto, using(crate::proofs::Steps::all_parts))]
 #[cycle(pat)]
 fn pat_parts(
     alloc: Global,
     tokens: &mut Cursor<'_>,
     below: u32,
-) -> Result<(List<RawPat>, u32), ParseFail>
+    items: &mut List<RawPat>,
+) -> Result<u32, ParseFail>
     requires { below < DEEPEST }
-    ensures reads { Reads (parts (spec.pat below) MOST_PARTS [] 0 tokens.old) result tokens.new }
-    ensures within { IfOk result (λ x. x.1 ≤ below) }
+    ensures reads { Reads (parts (spec.pat below) MOST_PARTS items.old 0 tokens.old) (sized items.new result) tokens.new }
+    ensures within { IfOk result (λ x. x ≤ below) }
 {
-    let mut items = List::new(alloc);
     let mut depth: u32 = 0;
     'parts: for _ in 0..MOST_PARTS {
         if closes(tokens.peek()?) {
-            return closed(tokens, items, depth);
+            tokens.take()?;
+            return Ok(depth);
         }
         let (item, deep) = pat(alloc, tokens, below)?;
         items.add(item)?;
         depth = depth.max(deep);
     }
-    closed(tokens, items, depth)
+    tokens.expect_sign(Sign::SquareClose)?;
+    Ok(depth)
 }
 
 #[tactic(auto, unfolding(crate::specs::Read::Tuples::tuple_in))]
@@ -90,7 +92,8 @@ fn tuple_pat(alloc: Global, tokens: &mut Cursor<'_>, below: u32) -> Result<(RawP
     ensures within { IfOk result (λ x. x.1 ≤ below + 1) }
 {
     let at = tokens.take()?;
-    let (items, depth) = pat_parts(alloc, tokens, below)?;
+    let mut items = List::new(alloc);
+    let depth = pat_parts(alloc, tokens, below, &mut items)?;
     let form = RawPatForm::Tuple(items);
     Ok((RawPat { at, form }, depth + 1))
 }

@@ -1,6 +1,6 @@
 //! How processes are read.
 
-ghost use Rattle.std.specs.Prelude.{◌≡◌, ◌≤◌, ◌<◌, ◌+◌, suc, IfOk};
+ghost use Rattle.std.specs.Prelude.{◌≡◌, ◌≢◌, ◌≤◌, ◌<◌, ◌+◌, suc, None, IfOk};
 ghost use Rattle.np_parse.specs.Input.{Reads};
 ghost use Rattle.np_parse.specs.Read.Heads.{single_form, double_form, between};
 ghost use Rattle.np_parse.specs.Read.Processes as spec;
@@ -54,16 +54,21 @@ fn between(tokens: &mut Cursor<'_>, head: &DoubleForm) -> Result<u32, ParseFail>
     }
 }
 
-fn ends(what: &What) -> bool
-    ensures { result ≡ spec.ends what.now }
+/// Takes the sign behind the processes so far of a bracket: a bar, with its offset, or the closing bracket.
+#[tactic(auto, unfolding(crate::specs::Read::Processes::bar))]
+fn bar(tokens: &mut Cursor<'_>, below: u32, depth: u32) -> Result<Option<u32>, ParseFail>
+    ensures reads { Reads (spec.bar (suc below) depth tokens.old) result tokens.new }
+    ensures room { IfOk result (λ x. x ≢ None → depth ≤ below) }
 {
-    matches!(what, What::Sign(Sign::RoundClose))
-}
-
-fn divides(what: &What) -> bool
-    ensures { result ≡ spec.divides what.now }
-{
-    matches!(what, What::Sign(Sign::Bar))
+    match tokens.peek()? {
+        What::Sign(Sign::RoundClose) => {
+            tokens.take()?;
+            Ok(None)
+        }
+        What::Sign(Sign::Bar) if depth > below => Err(tokens.too_deep()),
+        What::Sign(Sign::Bar) => Ok(Some(tokens.take()?)),
+        _ => Err(tokens.syntax()),
+    }
 }
 
 /// The composition of both, with its depth.
@@ -228,18 +233,9 @@ fn more(
 {
     let mut left = first;
     'turns: for _ in 0..below + 1 {
-        let next = tokens.peek()?;
-        if ends(next) {
-            tokens.take()?;
+        let Some(_) = bar(tokens, below, left.1)? else {
             return Ok(left);
-        }
-        if !divides(next) {
-            return Err(tokens.syntax());
-        }
-        if left.1 > below {
-            return Err(tokens.too_deep());
-        }
-        tokens.take()?;
+        };
         let right = proc(alloc, tokens, below)?;
         left = longer(alloc, at, left, right)?;
     }

@@ -1,11 +1,11 @@
 //! How types are read.
 
-ghost use Rattle.std.specs.Prelude.{◌≡◌, ◌≤◌, ◌<◌, ◌+◌, suc, [], IfOk};
+ghost use Rattle.std.specs.Prelude.{◌≡◌, ◌≤◌, ◌<◌, ◌+◌, suc, IfOk};
 ghost use Rattle.np_parse.specs.Input.{Reads, nothing};
-ghost use Rattle.np_parse.specs.Read.Tuples.{tuple_in, parts};
+ghost use Rattle.np_parse.specs.Read.Tuples.{sized, tuple_in, parts};
 ghost use Rattle.np_parse.specs.Read.Types as spec;
 
-use super::closing::{closed, closes};
+use super::closing::closes;
 use super::cursor::Cursor;
 use super::fail::ParseFail;
 use np_lex::{Key, Sign, What};
@@ -84,29 +84,31 @@ fn carried(
     Ok((Ty::Chan(cap, Boxed::of(alloc, inner)?), depth + 1))
 }
 
-/// The parts of a tuple type, and the closing bracket.
-#[tactic(auto, using(crate::proofs::Steps::parts_refused, crate::proofs::Steps::parts_end, crate::proofs::Steps::parts_step, crate::proofs::Steps::parts_full))]
+/// The parts of a tuple type behind these, and the closing bracket: gives the depth of the deepest.
+#[tactic(auto, using(crate::proofs::Steps::all_parts))]
 #[cycle(ty)]
 fn type_parts(
     alloc: Global,
     tokens: &mut Cursor<'_>,
     below: u32,
-) -> Result<(List<Ty>, u32), ParseFail>
+    items: &mut List<Ty>,
+) -> Result<u32, ParseFail>
     requires { below < DEEPEST }
-    ensures reads { Reads (parts (spec.type below) MOST_PARTS [] 0 tokens.old) result tokens.new }
-    ensures within { IfOk result (λ x. x.1 ≤ below) }
+    ensures reads { Reads (parts (spec.type below) MOST_PARTS items.old 0 tokens.old) (sized items.new result) tokens.new }
+    ensures within { IfOk result (λ x. x ≤ below) }
 {
-    let mut items = List::new(alloc);
     let mut depth: u32 = 0;
     'parts: for _ in 0..MOST_PARTS {
         if closes(tokens.peek()?) {
-            return closed(tokens, items, depth);
+            tokens.take()?;
+            return Ok(depth);
         }
         let (item, deep) = ty(alloc, tokens, below)?;
         items.add(item)?;
         depth = depth.max(deep);
     }
-    closed(tokens, items, depth)
+    tokens.expect_sign(Sign::SquareClose)?;
+    Ok(depth)
 }
 
 #[tactic(auto, unfolding(crate::specs::Read::Tuples::tuple_in))]
@@ -117,7 +119,8 @@ fn tuple_type(alloc: Global, tokens: &mut Cursor<'_>, below: u32) -> Result<(Ty,
     ensures within { IfOk result (λ x. x.1 ≤ below + 1) }
 {
     tokens.take()?;
-    let (items, depth) = type_parts(alloc, tokens, below)?;
+    let mut items = List::new(alloc);
+    let depth = type_parts(alloc, tokens, below, &mut items)?;
     Ok((Ty::Tuple(items), depth + 1))
 }
 

@@ -21,58 +21,93 @@ DownAt test = (y z : TyLayer) → test z ≡ true → sub_at y z ≡ true → te
 down : (test : TyLayer → Bool) → DownAt test → Down test
 down test at s t h k = at (out-Ty s) (out-Ty t) h (sym (sub-out s t) ∙ k)
 
+pub to_int : (y : TyLayer) → sub_at y Ty-F.Int ≡ is_int y
+to_int Ty-F.Int = refl
+to_int (Ty-F.Chan c s) = refl
+to_int (Ty-F.Tuple ss) = refl
+to_int _ = refl
+
 int_at : DownAt is_int
-int_at Ty-F.Int z h k = refl
-int_at _ Ty-F.Int h k = absurd cc
-int_at _ _ h k = absurd cc
+int_at y Ty-F.Int h k = sym (to_int y) ∙ k
+int_at y _ h k = absurd cc
 
 pub int_below : Down is_int
 int_below = down is_int int_at
 
+pub to_bool : (y : TyLayer) → sub_at y Ty-F.Bool ≡ is_bool y
+to_bool Ty-F.Bool = refl
+to_bool (Ty-F.Chan c s) = refl
+to_bool (Ty-F.Tuple ss) = refl
+to_bool _ = refl
+
 bool_at : DownAt is_bool
-bool_at Ty-F.Bool z h k = refl
-bool_at _ Ty-F.Bool h k = absurd cc
-bool_at _ _ h k = absurd cc
+bool_at y Ty-F.Bool h k = sym (to_bool y) ∙ k
+bool_at y _ h k = absurd cc
 
 pub bool_below : Down is_bool
 bool_below = down is_bool bool_at
 
+pub to_str : (y : TyLayer) → sub_at y Ty-F.Str ≡ is_str y
+to_str Ty-F.Str = refl
+to_str (Ty-F.Chan c s) = refl
+to_str (Ty-F.Tuple ss) = refl
+to_str _ = refl
+
 str_at : DownAt is_str
-str_at Ty-F.Str z h k = refl
-str_at _ Ty-F.Str h k = absurd cc
-str_at _ _ h k = absurd cc
+str_at y Ty-F.Str h k = sym (to_str y) ∙ k
+str_at y _ h k = absurd cc
 
 pub str_below : Down is_str
 str_below = down is_str str_at
 
+pub to_site : (y : TyLayer) → sub_at y Ty-F.Site ≡ is_site y
+to_site Ty-F.Site = refl
+to_site (Ty-F.Chan c s) = refl
+to_site (Ty-F.Tuple ss) = refl
+to_site _ = refl
+
 site_at : DownAt is_site
-site_at Ty-F.Site z h k = refl
-site_at _ Ty-F.Site h k = absurd cc
-site_at _ _ h k = absurd cc
+site_at y Ty-F.Site h k = sym (to_site y) ∙ k
+site_at y _ h k = absurd cc
 
 pub site_below : Down is_site
 site_below = down is_site site_at
 
+pub to_agent : (y : TyLayer) → sub_at y Ty-F.Agent ≡ is_agent y
+to_agent Ty-F.Agent = refl
+to_agent (Ty-F.Chan c s) = refl
+to_agent (Ty-F.Tuple ss) = refl
+to_agent _ = refl
+
 agent_at : DownAt is_agent
-agent_at Ty-F.Agent z h k = refl
-agent_at _ Ty-F.Agent h k = absurd cc
-agent_at _ _ h k = absurd cc
+agent_at y Ty-F.Agent h k = sym (to_agent y) ∙ k
+agent_at y _ h k = absurd cc
 
 pub agent_below : Down is_agent
 agent_below = down is_agent agent_at
 
+pub to_letter : (y : TyLayer) → sub_at y Ty-F.Letter ≡ is_letter y
+to_letter Ty-F.Letter = refl
+to_letter (Ty-F.Chan c s) = refl
+to_letter (Ty-F.Tuple ss) = refl
+to_letter _ = refl
+
 letter_at : DownAt is_letter
-letter_at Ty-F.Letter z h k = refl
-letter_at _ Ty-F.Letter h k = absurd cc
-letter_at _ _ h k = absurd cc
+letter_at y Ty-F.Letter h k = sym (to_letter y) ∙ k
+letter_at y _ h k = absurd cc
 
 pub letter_below : Down is_letter
 letter_below = down is_letter letter_at
 
+pub to_places : (y : TyLayer) → sub_at y Ty-F.Places ≡ is_places y
+to_places Ty-F.Places = refl
+to_places (Ty-F.Chan c s) = refl
+to_places (Ty-F.Tuple ss) = refl
+to_places _ = refl
+
 places_at : DownAt is_places
-places_at Ty-F.Places z h k = refl
-places_at _ Ty-F.Places h k = absurd cc
-places_at _ _ h k = absurd cc
+places_at y Ty-F.Places h k = sym (to_places y) ∙ k
+places_at y _ h k = absurd cc
 
 pub places_below : Down is_places
 places_below = down is_places places_at
@@ -90,8 +125,8 @@ pub record ChanAt (y : TyLayer) (k : Cap × Ty) : Type 0 where
   pub reading : reads k.0 ≡ true → (reads chan.0 ≡ true) × (sub chan.1 k.1 ≡ true)
   pub writing : writes k.0 ≡ true → (writes chan.0 ≡ true) × (sub k.1 chan.1 ≡ true)
 
-chan_at : (y z : TyLayer) (k : Cap × Ty) → as_channel z ≡ Some k → sub_at y z ≡ true → ChanAt y k
-chan_at (Ty-F.Chan c s) (Ty-F.Chan d t) k h b =
+chan_at : (z y : TyLayer) (k : Cap × Ty) → as_channel z ≡ Some k → sub_at y z ≡ true → ChanAt y k
+chan_at (Ty-F.Chan d t) (Ty-F.Chan c s) k h b =
     let same : k ≡ (d, t) = cc in
     let a = and-out _ _ b in
     rw same (record {
@@ -100,19 +135,19 @@ chan_at (Ty-F.Chan c s) (Ty-F.Chan d t) k h b =
       reading = λ r. and-out _ _ (imp-out (reads d) _ a.0 r);
       writing = λ r. and-out _ _ (imp-out (writes d) _ a.1 r);
     })
-chan_at _ (Ty-F.Chan d t) k h b = absurd cc
-chan_at _ _ k h b = absurd cc
+chan_at (Ty-F.Chan d t) _ k h b = absurd cc
+chan_at _ y k h b = absurd cc
 
 pub chan_below : (s t : Ty) (k : Cap × Ty) → as_channel (out-Ty t) ≡ Some k → sub s t ≡ true → Narrower s k
-chan_below s t k h b = let r = chan_at (out-Ty s) (out-Ty t) k h (sym (sub-out s t) ∙ b) in record { chan = r.chan; is = r.is; reading = r.reading; writing = r.writing }
+chan_below s t k h b = let r = chan_at (out-Ty t) (out-Ty s) k h (sym (sub-out s t) ∙ b) in record { chan = r.chan; is = r.is; reading = r.reading; writing = r.writing }
 
-tuple_at : (y z : TyLayer) (ts : List Ty) → as_tuple z ≡ Some ts → sub_at y z ≡ true → (ss : List Ty) × (as_tuple y ≡ Some ss) × (sub_all ss ts ≡ true)
-tuple_at (Ty-F.Tuple ss) (Ty-F.Tuple us) ts h b = let e : us ≡ ts = cc in (ss, refl, subst (λ x. sub_all ss x ≡ true) e b)
-tuple_at _ (Ty-F.Tuple us) ts h b = absurd cc
-tuple_at _ _ ts h b = absurd cc
+tuple_at : (z y : TyLayer) (ts : List Ty) → as_tuple z ≡ Some ts → sub_at y z ≡ true → (ss : List Ty) × (as_tuple y ≡ Some ss) × (sub_all ss ts ≡ true)
+tuple_at (Ty-F.Tuple us) (Ty-F.Tuple ss) ts h b = let e : us ≡ ts = cc in (ss, refl, subst (λ x. sub_all ss x ≡ true) e b)
+tuple_at (Ty-F.Tuple us) _ ts h b = absurd cc
+tuple_at _ y ts h b = absurd cc
 
 pub tuple_below : (s t : Ty) (ts : List Ty) → as_tuple (out-Ty t) ≡ Some ts → sub s t ≡ true → (ss : List Ty) × (as_tuple (out-Ty s) ≡ Some ss) × (sub_all ss ts ≡ true)
-tuple_below s t ts h b = tuple_at (out-Ty s) (out-Ty t) ts h (sym (sub-out s t) ∙ b)
+tuple_below s t ts h b = tuple_at (out-Ty t) (out-Ty s) ts h (sym (sub-out s t) ∙ b)
 
 pub nodes-out : (t : Ty) → nodes t ≡ nodes_step (map-Ty Ty ℕ nodes (out-Ty t))
 unfolding nodes
@@ -178,18 +213,19 @@ printed_all (s ∷ ss) [] h k = absurd cc
 abbrev prints : TyLayer → Bool
 prints y = printable_step (map-Ty Ty Bool printable y)
 
-printed_layer : (x : TyLayer) (y : TyHyps Printed) → sub_at x (ty_of Printed y) ≡ true → prints (ty_of Printed y) ≡ true → prints x ≡ true
-printed_layer (Ty-F.Tuple ss) (Ty-F.Tuple ts) h k = printed_all ss ts h k
+printed_layer : (y : TyHyps Printed) (x : TyLayer) → sub_at x (ty_of Printed y) ≡ true → prints (ty_of Printed y) ≡ true → prints x ≡ true
+printed_layer (Ty-F.Tuple ts) (Ty-F.Tuple ss) h k = printed_all ss ts h k
+printed_layer (Ty-F.Tuple ts) _ h k = absurd cc
 printed_layer Ty-F.Int Ty-F.Int h k = refl
+printed_layer Ty-F.Int _ h k = absurd cc
 printed_layer Ty-F.Bool Ty-F.Bool h k = refl
+printed_layer Ty-F.Bool _ h k = absurd cc
 printed_layer Ty-F.Str Ty-F.Str h k = refl
+printed_layer Ty-F.Str _ h k = absurd cc
 printed_layer Ty-F.Site Ty-F.Site h k = refl
-printed_layer Ty-F.Agent Ty-F.Agent h k = absurd cc
-printed_layer Ty-F.Letter Ty-F.Letter h k = absurd cc
-printed_layer Ty-F.Places Ty-F.Places h k = absurd cc
-printed_layer (Ty-F.Chan c s) (Ty-F.Chan d t) h k = absurd cc
-printed_layer _ _ h k = absurd cc
+printed_layer Ty-F.Site _ h k = absurd cc
+printed_layer _ x h k = absurd cc
 
 pub printable_below : (t : Ty) → Printed t
 printable_below = ty_ind Printed (λ t y is s h k. printable-out s
-    ∙ printed_layer (out-Ty s) y (ap (sub_at (out-Ty s)) (sym is) ∙ sym (sub-out s t) ∙ h) (ap prints (sym is) ∙ sym (printable-out t) ∙ k))
+    ∙ printed_layer y (out-Ty s) (ap (sub_at (out-Ty s)) (sym is) ∙ sym (sub-out s t) ∙ h) (ap prints (sym is) ∙ sym (printable-out t) ∙ k))

@@ -9,6 +9,7 @@ use Rattle.np_syntax.proofs.Bools.{and-in, and-false}
 use Rattle.np_types.specs.Ordered.{Ordered, OrderedAll}
 use Rattle.np_types.specs.Sub.{◌⇒◌, reads, writes, TyLayer, sub, sub_at, sub_all, is_int, is_bool, is_str, is_site, is_agent, is_letter, is_places}
 use Rattle.np_types.proofs.Subs.{sub-out, sub-exact, sub-itself}
+use Rattle.np_types.proofs.Below.{to_int, to_bool, to_str, to_site, to_agent, to_letter, to_places}
 
 pub sub-int : (t : Ty) → sub ty.Int t ≡ sub_at Ty-F.Int (out-Ty t)
 sub-int t = rw (sub-out ty.Int t, outs-Int) refl
@@ -37,71 +38,29 @@ sub-chan c s t = rw (sub-out (ty.Chan c s) t, outs-Chan c s) refl
 pub sub-tuple : (ss : List Ty) (t : Ty) → sub (ty.Tuple ss) t ≡ sub_at (Ty-F.Tuple ss) (out-Ty t)
 sub-tuple ss t = rw (sub-out (ty.Tuple ss) t, outs-Tuple ss) refl
 
-to_int : (y : TyLayer) → sub_at y Ty-F.Int ≡ is_int y
-to_int Ty-F.Int = refl
-to_int (Ty-F.Chan c s) = refl
-to_int (Ty-F.Tuple ss) = refl
-to_int _ = refl
-
 pub ordered-int : (up : Bool) (t : Ty) → Ordered up ty.Int t ≡ is_int (out-Ty t)
 ordered-int true t = sub-int t
 ordered-int false t = sub-out t ty.Int ∙ ap (sub_at (out-Ty t)) outs-Int ∙ to_int (out-Ty t)
-
-to_bool : (y : TyLayer) → sub_at y Ty-F.Bool ≡ is_bool y
-to_bool Ty-F.Bool = refl
-to_bool (Ty-F.Chan c s) = refl
-to_bool (Ty-F.Tuple ss) = refl
-to_bool _ = refl
 
 pub ordered-bool : (up : Bool) (t : Ty) → Ordered up ty.Bool t ≡ is_bool (out-Ty t)
 ordered-bool true t = sub-bool t
 ordered-bool false t = sub-out t ty.Bool ∙ ap (sub_at (out-Ty t)) outs-Bool ∙ to_bool (out-Ty t)
 
-to_str : (y : TyLayer) → sub_at y Ty-F.Str ≡ is_str y
-to_str Ty-F.Str = refl
-to_str (Ty-F.Chan c s) = refl
-to_str (Ty-F.Tuple ss) = refl
-to_str _ = refl
-
 pub ordered-str : (up : Bool) (t : Ty) → Ordered up ty.Str t ≡ is_str (out-Ty t)
 ordered-str true t = sub-str t
 ordered-str false t = sub-out t ty.Str ∙ ap (sub_at (out-Ty t)) outs-Str ∙ to_str (out-Ty t)
-
-to_site : (y : TyLayer) → sub_at y Ty-F.Site ≡ is_site y
-to_site Ty-F.Site = refl
-to_site (Ty-F.Chan c s) = refl
-to_site (Ty-F.Tuple ss) = refl
-to_site _ = refl
 
 pub ordered-site : (up : Bool) (t : Ty) → Ordered up ty.Site t ≡ is_site (out-Ty t)
 ordered-site true t = sub-site t
 ordered-site false t = sub-out t ty.Site ∙ ap (sub_at (out-Ty t)) outs-Site ∙ to_site (out-Ty t)
 
-to_agent : (y : TyLayer) → sub_at y Ty-F.Agent ≡ is_agent y
-to_agent Ty-F.Agent = refl
-to_agent (Ty-F.Chan c s) = refl
-to_agent (Ty-F.Tuple ss) = refl
-to_agent _ = refl
-
 pub ordered-agent : (up : Bool) (t : Ty) → Ordered up ty.Agent t ≡ is_agent (out-Ty t)
 ordered-agent true t = sub-agent t
 ordered-agent false t = sub-out t ty.Agent ∙ ap (sub_at (out-Ty t)) outs-Agent ∙ to_agent (out-Ty t)
 
-to_letter : (y : TyLayer) → sub_at y Ty-F.Letter ≡ is_letter y
-to_letter Ty-F.Letter = refl
-to_letter (Ty-F.Chan c s) = refl
-to_letter (Ty-F.Tuple ss) = refl
-to_letter _ = refl
-
 pub ordered-letter : (up : Bool) (t : Ty) → Ordered up ty.Letter t ≡ is_letter (out-Ty t)
 ordered-letter true t = sub-letter t
 ordered-letter false t = sub-out t ty.Letter ∙ ap (sub_at (out-Ty t)) outs-Letter ∙ to_letter (out-Ty t)
-
-to_places : (y : TyLayer) → sub_at y Ty-F.Places ≡ is_places y
-to_places Ty-F.Places = refl
-to_places (Ty-F.Chan c s) = refl
-to_places (Ty-F.Tuple ss) = refl
-to_places _ = refl
 
 pub ordered-places : (up : Bool) (t : Ty) → Ordered up ty.Places t ≡ is_places (out-Ty t)
 ordered-places true t = sub-places t

@@ -1,5 +1,5 @@
 -- The least type of each form of expression.
-use Rattle.std.proofs.Common.{◌≡◌, ℕ, Bool, true, false, List, [], ◌∷◌, ◌++◌, map, Option, None, Some, Result, Ok, Err, refl, sym, ap, subst, ◌∙◌}
+use Rattle.std.proofs.Common.{◌≡◌, ℕ, Bool, true, false, List, [], ◌∷◌, ◌++◌, map, Option, None, Some, Result, Ok, Err, refl, ap, ◌∙◌}
 use Rattle.std.specs.FinMap as table
 use Rattle.np_syntax.specs.declared.types.Cap.{Cap}
 use Rattle.np_syntax.specs.declared.types.Ty.{Ty, out-Ty}
@@ -17,13 +17,13 @@ use Rattle.np_types.specs.Sub.{TyLayer, sub, is_int, is_places, is_agent, writes
 use Rattle.np_syntax.specs.Parts.{as_channel}
 use Rattle.np_types.specs.Widths.{narrow}
 use Rattle.np_syntax.specs.Results.{◌>>=◌, ◌>>◌, all_ok}
-use Rattle.np_types.specs.Checks.{Check, ensure, want}
+use Rattle.np_types.specs.Checks.{Check, checked, ensure, want}
 use Rattle.np_types.specs.Worlds.{World, kind}
 use Rattle.np_types.specs.Least.{Types, Least, Leasts, least, leasts, least_of, least_form, least_op, least_step, test_of, number, output, input, is_lock_type}
 use Rattle.np_types.specs.Operands.{takes_first, first_rule, takes_second, second_rule, type_of, written_on, read_on}
 use Rattle.np_types.specs.declared.fault.LeastFail.{LeastFail}
 use Rattle.np_types.specs.Told.{Told, Failed}
-use Rattle.np_types.proofs.Tellings.{asked, unanswered, refused, met, failed_then, passed_then}
+use Rattle.np_types.proofs.Tellings.{asked, met, failed_then}
 
 -- one layer of an expression, with each part's least type
 abbrev pub least_layer : World → Types → ExprForm-F ExprForm Expr → Leasts
@@ -133,127 +133,131 @@ module _ (w : World) (env : Types) (at : ℕ) where
       ∙ (λ i. test_of is_places rule.Mismatch (least_parts w env m i) >> (test_of is_agent rule.NotAgent (least_parts w env a i) >> (test_of is_lock_type rule.Mismatch (least_parts w env l i) >> Ok ty.Places)))
       ∙ placing_is m.at (least w env m) a.at (least w env a) l.at (least w env l)
 
--- the answers of each form, check by check
+-- a tuple that is narrow
+module _ (w : World) (env : Types) (at : ℕ) (es : List Expr) where
+  pub tuple-3 : (ts : List Ty) → leasts w env es ≡ Ok ts → ensure (narrow (ty.Tuple ts)) at rule.Wide ≡ Ok tt → least_form w env (expr.Tuple es) at ≡ Ok (ty.Tuple ts)
+  tuple-3 ts p q = rw (least-tuple w env at es) (met (Ok (ty.Tuple ts)) (leasts w env es) ts (λ ts. narrow (ty.Tuple ts)) at rule.Wide (λ ts. Ok (ty.Tuple ts)) p q refl)
+
+-- a value that a test lets pass, and what follows it
+passing : {A : Type 0} (test : Bool) (at : ℕ) (r : Rule) (a : A) → (ensure test at r >> Ok a) ≡ checked test at r a
+passing true at r a = refl
+passing false at r a = refl
+
+going_on : {A B : Type 0} (test : Bool) (at : ℕ) (r : Rule) (a : A) (next : A → Check B) → (ensure test at r >> next a) ≡ (checked test at r a >>= next)
+going_on true at r a next = refl
+going_on false at r a next = refl
+
+-- a check whose value a test lets pass
+asking : {A B : Type 0} (o : Check A) (test : A → Bool) (at : ℕ) (r : Rule) (next : A → B) → asked o test at r (λ a. Ok (next a)) ≡ (o >>= λ a. checked (test a) at r (next a))
+asking (Err e) test at r next = refl
+asking (Ok a) test at r next = passing (test a) at r (next a)
+
+-- what each form with parts gives, check by check
+abbrev operating : Op → ℕ → Check Ty → ℕ → Check Ty → Check Ty
+operating o i x j y = x >>= λ s. checked (takes_first o (out-Ty s)) i (first_rule o) s >>= λ s. y >>= λ t. checked (takes_second o (out-Ty s) (out-Ty t)) j (second_rule o) (type_of o)
+
+operating_is : (o : Op) (i : ℕ) (x : Check Ty) (j : ℕ) (y : Check Ty) → operation o i x j y ≡ operating o i x j y
+operating_is o i (Err e) j y = refl
+operating_is o i (Ok s) j y =
+    ap (λ k. ensure (takes_first o (out-Ty s)) i (first_rule o) >> k) (asking y (λ t. takes_second o (out-Ty s) (out-Ty t)) j (second_rule o) (λ _. type_of o))
+    ∙ going_on (takes_first o (out-Ty s)) i (first_rule o) s (λ s. y >>= λ t. checked (takes_second o (out-Ty s) (out-Ty t)) j (second_rule o) (type_of o))
+
+abbrev lettering : ℕ → Check Ty → ℕ → Check Ty → Check Ty
+lettering i c j x = c >>= λ s. written_on (out-Ty s) i >>= λ k. x >>= λ t. checked (sub t k) j rule.Mismatch ty.Letter
+
+lettering_is : (i : ℕ) (c : Check Ty) (j : ℕ) (x : Check Ty) → packing i c j x ≡ lettering i c j x
+lettering_is i (Err e) j x = refl
+lettering_is i (Ok s) j x = on_chan (written_on (out-Ty s) i)
+  where
+    on_chan : (o : Check Ty) → (o >>= λ k. asked x (λ t. sub t k) j rule.Mismatch (λ _. Ok ty.Letter)) ≡ (o >>= λ k. x >>= λ t. checked (sub t k) j rule.Mismatch ty.Letter)
+    on_chan (Err e) = refl
+    on_chan (Ok k) = asking x (λ t. sub t k) j rule.Mismatch (λ _. ty.Letter)
+
+abbrev setting : ℕ → Check Ty → ℕ → Check Ty → ℕ → Check Ty → Check Ty
+setting i m j a k l =
+    m >>= λ s. ensure (is_places (out-Ty s)) i rule.Mismatch >> (a >>= λ t. ensure (is_agent (out-Ty t)) j rule.NotAgent >> (l >>= λ u. checked (is_lock_type (out-Ty u)) k rule.Mismatch ty.Places))
+
 module _ (w : World) (env : Types) (at : ℕ) where
   module _ (es : List Expr) where
+    tuple-parts : least_form w env (expr.Tuple es) at ≡ (leasts w env es >>= λ ts. checked (narrow (ty.Tuple ts)) at rule.Wide (ty.Tuple ts))
+    tuple-parts = least-tuple w env at es ∙ asking (leasts w env es) (λ ts. narrow (ty.Tuple ts)) at rule.Wide (λ ts. ty.Tuple ts)
+
     pub tuple-1 : (e : LeastFail) → Failed e (leasts w env es) → Failed e (least_form w env (expr.Tuple es) at)
-    tuple-1 e h = rw (least-tuple w env at es) (unanswered e (leasts w env es) (λ ts. narrow (ty.Tuple ts)) at rule.Wide _ h)
+    tuple-1 e h = rw tuple-parts (failed_then e (leasts w env es) _ h)
 
-    pub tuple-2 : (e : LeastFail) (ts : List Ty) → leasts w env es ≡ Ok ts → Failed e (ensure (narrow (ty.Tuple ts)) at rule.Wide) → Failed e (least_form w env (expr.Tuple es) at)
-    tuple-2 e ts p h = rw (least-tuple w env at es) (refused e (leasts w env es) ts (λ ts. narrow (ty.Tuple ts)) at rule.Wide _ p h)
-
-    pub tuple-3 : (ts : List Ty) → leasts w env es ≡ Ok ts → ensure (narrow (ty.Tuple ts)) at rule.Wide ≡ Ok tt → least_form w env (expr.Tuple es) at ≡ Ok (ty.Tuple ts)
-    tuple-3 ts p q = rw (least-tuple w env at es) (met (Ok (ty.Tuple ts)) (leasts w env es) ts (λ ts. narrow (ty.Tuple ts)) at rule.Wide (λ ts. Ok (ty.Tuple ts)) p q refl)
+    pub tuple-2 : (r : Result Ty LeastFail) (ts : List Ty) → leasts w env es ≡ Ok ts → Told r (checked (narrow (ty.Tuple ts)) at rule.Wide (ty.Tuple ts)) → Told r (least_form w env (expr.Tuple es) at)
+    tuple-2 r ts p h = rw (tuple-parts, p) h
 
   module _ (o : Op) (a b : Expr) where
-    abbrev takes : Ty → Bool
-    takes s = takes_first o (out-Ty s)
+    abbrev first : Ty → Check Ty
+    first s = checked (takes_first o (out-Ty s)) a.at (first_rule o) s
 
-    abbrev takes_then : Ty → Ty → Bool
-    takes_then s t = takes_second o (out-Ty s) (out-Ty t)
+    abbrev second : Ty → Ty → Check Ty
+    second s t = checked (takes_second o (out-Ty s) (out-Ty t)) b.at (second_rule o) (type_of o)
 
-    abbrev after_first : Ty → Check Ty
-    after_first s = asked (least w env b) (takes_then s) b.at (second_rule o) (λ _. Ok (type_of o))
-
-    operated : (r : Result Ty LeastFail) → Told r (asked (least w env a) takes a.at (first_rule o) after_first) → Told r (least_form w env (expr.Bin o a b) at)
-    operated r h = subst (λ (c : Check Ty). Told r c) (sym (least-bin w env at o a b)) h
+    bin-parts : least_form w env (expr.Bin o a b) at ≡ operating o a.at (least w env a) b.at (least w env b)
+    bin-parts = least-bin w env at o a b ∙ operating_is o a.at (least w env a) b.at (least w env b)
 
     pub bin-1 : (e : LeastFail) → Failed e (least w env a) → Failed e (least_form w env (expr.Bin o a b) at)
-    bin-1 e h = operated (Err e) (unanswered e (least w env a) takes a.at (first_rule o) after_first h)
+    bin-1 e h = rw bin-parts (failed_then e (least w env a) _ h)
 
-    pub bin-2 : (e : LeastFail) (s : Ty) → least w env a ≡ Ok s → Failed e (ensure (takes s) a.at (first_rule o)) → Failed e (least_form w env (expr.Bin o a b) at)
-    bin-2 e s p h = operated (Err e) (refused e (least w env a) s takes a.at (first_rule o) after_first p h)
+    pub bin-2 : (e : LeastFail) (s : Ty) → least w env a ≡ Ok s → Failed e (first s) → Failed e (least_form w env (expr.Bin o a b) at)
+    bin-2 e s p h = rw (bin-parts, p) (failed_then e (first s) _ h)
 
-    pub bin-3 : (e : LeastFail) (s : Ty) → least w env a ≡ Ok s → ensure (takes s) a.at (first_rule o) ≡ Ok tt → Failed e (least w env b) → Failed e (least_form w env (expr.Bin o a b) at)
-    bin-3 e s p q h = operated (Err e) (met (Err e) (least w env a) s takes a.at (first_rule o) after_first p q (unanswered e (least w env b) (takes_then s) b.at (second_rule o) (λ _. Ok (type_of o)) h))
+    pub bin-3 : (e : LeastFail) (s u : Ty) → least w env a ≡ Ok s → first s ≡ Ok u → Failed e (least w env b) → Failed e (least_form w env (expr.Bin o a b) at)
+    bin-3 e s u p q h = rw (bin-parts, p, q) (failed_then e (least w env b) _ h)
 
-    pub bin-4 : (e : LeastFail) (s t : Ty) → least w env a ≡ Ok s → ensure (takes s) a.at (first_rule o) ≡ Ok tt → least w env b ≡ Ok t
-        → Failed e (ensure (takes_then s t) b.at (second_rule o)) → Failed e (least_form w env (expr.Bin o a b) at)
-    bin-4 e s t p q r h = operated (Err e) (met (Err e) (least w env a) s takes a.at (first_rule o) after_first p q (refused e (least w env b) t (takes_then s) b.at (second_rule o) (λ _. Ok (type_of o)) r h))
-
-    pub bin-5 : (s t : Ty) → least w env a ≡ Ok s → ensure (takes s) a.at (first_rule o) ≡ Ok tt → least w env b ≡ Ok t → ensure (takes_then s t) b.at (second_rule o) ≡ Ok tt → least_form w env (expr.Bin o a b) at ≡ Ok (type_of o)
-    bin-5 s t p q r h =
-        let all : Result Ty LeastFail = Ok (type_of o) in
-        operated all (met all (least w env a) s takes a.at (first_rule o) after_first p q (met all (least w env b) t (takes_then s) b.at (second_rule o) (λ _. Ok (type_of o)) r h refl))
+    pub bin-4 : (r : Result Ty LeastFail) (s u t : Ty) → least w env a ≡ Ok s → first s ≡ Ok u → least w env b ≡ Ok t → Told r (second u t) → Told r (least_form w env (expr.Bin o a b) at)
+    bin-4 r s u t p q k h = rw (bin-parts, p, q, k) h
 
   module _ (a b : Expr) where
-    abbrev after_chan : Ty → Check Ty
-    after_chan k = asked (least w env b) (λ t. sub t k) b.at rule.Mismatch (λ _. Ok ty.Letter)
-
-    abbrev after_least : Ty → Check Ty
-    after_least s = written_on (out-Ty s) a.at >>= after_chan
-
-    packed : (r : Result Ty LeastFail) → Told r (least w env a >>= after_least) → Told r (least_form w env (expr.Pack a b) at)
-    packed r h = subst (λ (c : Check Ty). Told r c) (sym (least-pack w env at a b)) h
+    pack-parts : least_form w env (expr.Pack a b) at ≡ lettering a.at (least w env a) b.at (least w env b)
+    pack-parts = least-pack w env at a b ∙ lettering_is a.at (least w env a) b.at (least w env b)
 
     pub pack-1 : (e : LeastFail) → Failed e (least w env a) → Failed e (least_form w env (expr.Pack a b) at)
-    pack-1 e h = packed (Err e) (failed_then e (least w env a) after_least h)
+    pack-1 e h = rw pack-parts (failed_then e (least w env a) _ h)
 
     pub pack-2 : (e : LeastFail) (s : Ty) → least w env a ≡ Ok s → Failed e (written_on (out-Ty s) a.at) → Failed e (least_form w env (expr.Pack a b) at)
-    pack-2 e s p h = packed (Err e) (passed_then (Err e) (least w env a) s after_least p (failed_then e (written_on (out-Ty s) a.at) after_chan h))
+    pack-2 e s p h = rw (pack-parts, p) (failed_then e (written_on (out-Ty s) a.at) _ h)
 
     pub pack-3 : (e : LeastFail) (s k : Ty) → least w env a ≡ Ok s → written_on (out-Ty s) a.at ≡ Ok k → Failed e (least w env b) → Failed e (least_form w env (expr.Pack a b) at)
-    pack-3 e s k p q h =
-        packed (Err e) (passed_then (Err e) (least w env a) s after_least p (passed_then (Err e) (written_on (out-Ty s) a.at) k after_chan q (unanswered e (least w env b) (λ t. sub t k) b.at rule.Mismatch (λ _. Ok ty.Letter) h)))
+    pack-3 e s k p q h = rw (pack-parts, p, q) (failed_then e (least w env b) _ h)
 
-    pub pack-4 : (e : LeastFail) (s k t : Ty) → least w env a ≡ Ok s → written_on (out-Ty s) a.at ≡ Ok k → least w env b ≡ Ok t → Failed e (ensure (sub t k) b.at rule.Mismatch) → Failed e (least_form w env (expr.Pack a b) at)
-    pack-4 e s k t p q r h =
-        packed (Err e) (passed_then (Err e) (least w env a) s after_least p (passed_then (Err e) (written_on (out-Ty s) a.at) k after_chan q (refused e (least w env b) t (λ t. sub t k) b.at rule.Mismatch (λ _. Ok ty.Letter) r h)))
-
-    pub pack-5 : (s k t : Ty) → least w env a ≡ Ok s → written_on (out-Ty s) a.at ≡ Ok k → least w env b ≡ Ok t → ensure (sub t k) b.at rule.Mismatch ≡ Ok tt → least_form w env (expr.Pack a b) at ≡ Ok ty.Letter
-    pack-5 s k t p q r h =
-        let all : Result Ty LeastFail = Ok ty.Letter in
-        packed all (passed_then all (least w env a) s after_least p (passed_then all (written_on (out-Ty s) a.at) k after_chan q (met all (least w env b) t (λ t. sub t k) b.at rule.Mismatch (λ _. Ok ty.Letter) r h refl)))
+    pub pack-4 : (r : Result Ty LeastFail) (s k t : Ty) → least w env a ≡ Ok s → written_on (out-Ty s) a.at ≡ Ok k → least w env b ≡ Ok t
+        → Told r (checked (sub t k) b.at rule.Mismatch ty.Letter) → Told r (least_form w env (expr.Pack a b) at)
+    pack-4 r s k t p q u h = rw (pack-parts, p, q, u) h
 
   module _ (m a l : Expr) where
-    abbrev maps : Ty → Bool
-    maps t = is_places (out-Ty t)
+    abbrev maps : Ty → Check (Unit {0})
+    maps t = ensure (is_places (out-Ty t)) m.at rule.Mismatch
 
-    abbrev acts : Ty → Bool
-    acts t = is_agent (out-Ty t)
+    abbrev acts : Ty → Check (Unit {0})
+    acts t = ensure (is_agent (out-Ty t)) a.at rule.NotAgent
 
-    abbrev locks : Ty → Bool
-    locks t = is_lock_type (out-Ty t)
-
-    abbrev after_agent : Check Ty
-    after_agent = asked (least w env l) locks l.at rule.Mismatch (λ _. Ok ty.Places)
-
-    abbrev after_places : Check Ty
-    after_places = asked (least w env a) acts a.at rule.NotAgent (λ _. after_agent)
-
-    placed : (r : Result Ty LeastFail) → Told r (asked (least w env m) maps m.at rule.Mismatch (λ _. after_places)) → Told r (least_form w env (expr.With m a l) at)
-    placed r h = subst (λ (c : Check Ty). Told r c) (sym (least-with w env at m a l)) h
+    with-parts : least_form w env (expr.With m a l) at ≡ setting m.at (least w env m) a.at (least w env a) l.at (least w env l)
+    with-parts =
+        least-with w env at m a l
+        ∙ ap (λ k. asked (least w env m) (λ t. is_places (out-Ty t)) m.at rule.Mismatch (λ _. asked (least w env a) (λ t. is_agent (out-Ty t)) a.at rule.NotAgent (λ _. k)))
+        (asking (least w env l) (λ t. is_lock_type (out-Ty t)) l.at rule.Mismatch (λ _. ty.Places))
 
     pub with-1 : (e : LeastFail) → Failed e (least w env m) → Failed e (least_form w env (expr.With m a l) at)
-    with-1 e h = placed (Err e) (unanswered e (least w env m) maps m.at rule.Mismatch (λ _. after_places) h)
+    with-1 e h = rw with-parts (failed_then e (least w env m) _ h)
 
-    pub with-2 : (e : LeastFail) (s : Ty) → least w env m ≡ Ok s → Failed e (ensure (maps s) m.at rule.Mismatch) → Failed e (least_form w env (expr.With m a l) at)
-    with-2 e s p h = placed (Err e) (refused e (least w env m) s maps m.at rule.Mismatch (λ _. after_places) p h)
+    pub with-2 : (e : LeastFail) (s : Ty) → least w env m ≡ Ok s → Failed e (maps s) → Failed e (least_form w env (expr.With m a l) at)
+    with-2 e s p h = rw (with-parts, p) (failed_then e (maps s) _ h)
 
-    first_met : (r : Result Ty LeastFail) (s : Ty) → least w env m ≡ Ok s → ensure (maps s) m.at rule.Mismatch ≡ Ok tt → Told r after_places → Told r (least_form w env (expr.With m a l) at)
-    first_met r s p q h = placed r (met r (least w env m) s maps m.at rule.Mismatch (λ _. after_places) p q h)
+    pub with-3 : (e : LeastFail) (s : Ty) → least w env m ≡ Ok s → maps s ≡ Ok tt → Failed e (least w env a) → Failed e (least_form w env (expr.With m a l) at)
+    with-3 e s p q h = rw (with-parts, p, q) (failed_then e (least w env a) _ h)
 
-    pub with-3 : (e : LeastFail) (s : Ty) → least w env m ≡ Ok s → ensure (maps s) m.at rule.Mismatch ≡ Ok tt → Failed e (least w env a) → Failed e (least_form w env (expr.With m a l) at)
-    with-3 e s p q h = first_met (Err e) s p q (unanswered e (least w env a) acts a.at rule.NotAgent (λ _. after_agent) h)
+    pub with-4 : (e : LeastFail) (s t : Ty) → least w env m ≡ Ok s → maps s ≡ Ok tt → least w env a ≡ Ok t → Failed e (acts t) → Failed e (least_form w env (expr.With m a l) at)
+    with-4 e s t p q u h = rw (with-parts, p, q, u) (failed_then e (acts t) _ h)
 
-    pub with-4 : (e : LeastFail) (s t : Ty) → least w env m ≡ Ok s → ensure (maps s) m.at rule.Mismatch ≡ Ok tt → least w env a ≡ Ok t → Failed e (ensure (acts t) a.at rule.NotAgent) → Failed e (least_form w env (expr.With m a l) at)
-    with-4 e s t p q r h = first_met (Err e) s p q (refused e (least w env a) t acts a.at rule.NotAgent (λ _. after_agent) r h)
+    pub with-5 : (e : LeastFail) (s t : Ty) → least w env m ≡ Ok s → maps s ≡ Ok tt → least w env a ≡ Ok t → acts t ≡ Ok tt → Failed e (least w env l) → Failed e (least_form w env (expr.With m a l) at)
+    with-5 e s t p q u v h = rw (with-parts, p, q, u, v) (failed_then e (least w env l) _ h)
 
-    second_met : (r : Result Ty LeastFail) (s t : Ty) → least w env m ≡ Ok s → ensure (maps s) m.at rule.Mismatch ≡ Ok tt → least w env a ≡ Ok t → ensure (acts t) a.at rule.NotAgent ≡ Ok tt
-        → Told r after_agent → Told r (least_form w env (expr.With m a l) at)
-    second_met r s t p q u v h = first_met r s p q (met r (least w env a) t acts a.at rule.NotAgent (λ _. after_agent) u v h)
-
-    pub with-5 : (e : LeastFail) (s t : Ty) → least w env m ≡ Ok s → ensure (maps s) m.at rule.Mismatch ≡ Ok tt → least w env a ≡ Ok t → ensure (acts t) a.at rule.NotAgent ≡ Ok tt
-        → Failed e (least w env l) → Failed e (least_form w env (expr.With m a l) at)
-    with-5 e s t p q u v h = second_met (Err e) s t p q u v (unanswered e (least w env l) locks l.at rule.Mismatch (λ _. Ok ty.Places) h)
-
-    pub with-6 : (e : LeastFail) (s t k : Ty) → least w env m ≡ Ok s → ensure (maps s) m.at rule.Mismatch ≡ Ok tt → least w env a ≡ Ok t → ensure (acts t) a.at rule.NotAgent ≡ Ok tt → least w env l ≡ Ok k
-        → Failed e (ensure (locks k) l.at rule.Mismatch) → Failed e (least_form w env (expr.With m a l) at)
-    with-6 e s t k p q u v x h = second_met (Err e) s t p q u v (refused e (least w env l) k locks l.at rule.Mismatch (λ _. Ok ty.Places) x h)
-
-    pub with-7 : (s t k : Ty) → least w env m ≡ Ok s → ensure (maps s) m.at rule.Mismatch ≡ Ok tt → least w env a ≡ Ok t → ensure (acts t) a.at rule.NotAgent ≡ Ok tt → least w env l ≡ Ok k
-        → ensure (locks k) l.at rule.Mismatch ≡ Ok tt → least_form w env (expr.With m a l) at ≡ Ok ty.Places
-    with-7 s t k p q u v x h = let all : Result Ty LeastFail = Ok ty.Places in second_met all s t p q u v (met all (least w env l) k locks l.at rule.Mismatch (λ _. Ok ty.Places) x h refl)
+    pub with-6 : (r : Result Ty LeastFail) (s t k : Ty) → least w env m ≡ Ok s → maps s ≡ Ok tt → least w env a ≡ Ok t → acts t ≡ Ok tt → least w env l ≡ Ok k
+        → Told r (checked (is_lock_type (out-Ty k)) l.at rule.Mismatch ty.Places) → Told r (least_form w env (expr.With m a l) at)
+    with-6 r s t k p q u v x h = rw (with-parts, p, q, u, v, x) h
 
 -- an output and an input, check by check
 abbrev pub sending : ℕ → Check Ty → ℕ → Check Ty → Check (Unit {0})
@@ -289,4 +293,4 @@ abbrev pub after_leasts : List Ty → Check (List Ty) → Check (List Ty)
 after_leasts ts (Ok rest) = Ok (ts ++ rest)
 after_leasts ts (Err f) = Err f
 
-pub ruleset least_types = (least-form, least-val, least-var, least-tuple, least-bin, least-pack, least-with)
+pub ruleset least_types = (least-form, least-val, least-var)

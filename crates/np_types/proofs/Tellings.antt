@@ -18,12 +18,6 @@ handed_types (Ok a) e env o h f = absurd h.1
 handed_types (Err y) e env o h f = subst (λ (x : LeastFail). Failed x o) (sym h.1) f
 
 -- a test by another name
-pub failed_as : (e : LeastFail) (b c : Bool) (at : ℕ) (r s : Rule) → b ≡ c → r ≡ s → Failed e (ensure b at r) → Failed e (ensure c at s)
-failed_as e b c at r s p q h = subst (λ (x : Bool). Failed e (ensure x at s)) p (subst (λ (x : Rule). Failed e (ensure b at x)) q h)
-
-pub passed_as : (b c : Bool) (at : ℕ) (r s : Rule) → b ≡ c → r ≡ s → ensure b at r ≡ Ok tt → ensure c at s ≡ Ok tt
-passed_as b c at r s p q h = subst (λ (x : Bool). ensure x at s ≡ Ok tt) p (subst (λ (x : Rule). ensure b at x ≡ Ok tt) q h)
-
 pub told_as : (r : Result (Unit {0}) LeastFail) (b c : Bool) (at : ℕ) (rule : Rule) → b ≡ c → Told r (ensure b at rule) → Told r (ensure c at rule)
 told_as r b c at rule p h = subst (λ (x : Bool). Told r (ensure x at rule)) p h
 
@@ -33,23 +27,9 @@ module _ {A B : Type 0} where
   failed_then (fail.Fault f) o next h = rw h refl
   failed_then fail.Memory o next h = tt
 
-  -- a first step that passes
-  pub passed_then : (r : Result B LeastFail) (o : Check A) (a : A) (next : A → Check B) → o ≡ Ok a → Told r (next a) → Told r (o >>= next)
-  passed_then r o a next h t = subst (λ (c : Check A). Told r (c >>= next)) (sym h) t
-
   -- a check whose value has to meet a test, and what follows it
   abbrev pub asked : Check A → (A → Bool) → ℕ → Rule → (A → Check B) → Check B
   asked o test at r next = o >>= λ a. ensure (test a) at r >> next a
-
-  pub unanswered : (e : LeastFail) (o : Check A) (test : A → Bool) (at : ℕ) (r : Rule) (next : A → Check B) → Failed e o → Failed e (asked o test at r next)
-  unanswered e o test at r next h = failed_then e o _ h
-
-  pub refused : (e : LeastFail) (o : Check A) (a : A) (test : A → Bool) (at : ℕ) (r : Rule) (next : A → Check B) → o ≡ Ok a → Failed e (ensure (test a) at r) → Failed e (asked o test at r next)
-  refused e o a test at r next h f = subst (λ (c : Check A). Failed e (asked c test at r next)) (sym h) (refused_at e (ensure (test a) at r) f)
-    where
-      refused_at : (e : LeastFail) (o : Check (Unit {0})) → Failed e o → Failed e (o >>= λ _. next a)
-      refused_at (fail.Fault f) o h = rw h refl
-      refused_at fail.Memory o h = tt
 
   pub met : (r : Result B LeastFail) (o : Check A) (a : A) (test : A → Bool) (at : ℕ) (rule : Rule) (next : A → Check B) → o ≡ Ok a → ensure (test a) at rule ≡ Ok tt → Told r (next a) → Told r (asked o test at rule next)
   met r o a test at rule next h g t = subst (λ (c : Check A). Told r (asked c test at rule next)) (sym h) (subst (λ (c : Check (Unit {0})). Told r (c >>= λ _. next a)) (sym g) t)

@@ -12,6 +12,11 @@ abbrev pub ensure : Bool → ℕ → Rule → Check (Unit {0})
 ensure true at rule = Ok tt
 ensure false at rule = Err (record { at = at; rule = rule })
 
+-- gives the value where the test is met
+abbrev pub checked : {A : Type 0} → Bool → ℕ → Rule → A → Check A
+checked true at rule a = Ok a
+checked false at rule a = Err (record { at = at; rule = rule })
+
 -- goes on with the value where there is one
 abbrev pub want : {A : Type 0} → Option A → ℕ → Rule → Check A
 want (Some a) at rule = Ok a

@@ -14,16 +14,14 @@ use std::alloc::Global;
 pub fn output(alloc: Global, env: &Env, chan: &Expr, value: &Expr) -> Result<(), LeastFail>
     ensures { Told result (output (least_of bare env.now chan.now) (least_of bare env.now value.now)) }
 {
-    let on = least(alloc, env, chan)?;
-    let carried = written_on(&on, chan.at)?;
+    let carried = written_on(least(alloc, env, chan)?, chan.at)?;
     let given = least(alloc, env, value)?;
-    ensure(sub(&given, carried), value.at, Rule::Mismatch)
+    ensure(sub(&given, &carried), value.at, Rule::Mismatch)
 }
 
 /// The checks of an input's channel: what it carries, or the first fault.
 pub fn input(alloc: Global, env: &Env, chan: &Expr) -> Result<Ty, LeastFail>
     ensures { Told result (input (least_of bare env.now chan.now)) }
 {
-    let on = least(alloc, env, chan)?;
-    read_on(on, chan.at)
+    read_on(least(alloc, env, chan)?, chan.at)
 }

@@ -1,8 +1,8 @@
-ghost use Rattle.std.specs.Prelude.{◌≡◌, Ok, Err, IfOk, IfErr};
+ghost use Rattle.std.specs.Prelude.{◌≡◌, Err};
 ghost use Rattle.np_syntax.specs.declared.types.Ty.{out-Ty};
 ghost use Rattle.np_types.specs.Checks.{ensure};
 ghost use Rattle.np_types.specs.Operands.{written_on, read_on};
-ghost use Rattle.np_types.specs.Told.{Told, Failed};
+ghost use Rattle.np_types.specs.Told.{Told};
 ghost use Rattle.np_types.specs.declared.fault.LeastFail.TheVariants as fail;
 
 use super::fault::{LeastFail, Rule, TypeFault};
@@ -23,14 +23,13 @@ pub fn ensure(met: bool, at: u32, rule: Rule) -> Result<(), LeastFail>
 }
 
 /// What may be written on a channel of this type, or the fault at its place.
-pub fn written_on(ty: &Ty, at: u32) -> Result<&Ty, LeastFail>
-    ensures ok { IfOk result (λ carried. written_on (out-Ty ty.now) at ≡ Ok carried.now) }
-    ensures err { IfErr result (λ e. Failed e (written_on (out-Ty ty.now) at)) }
+pub fn written_on(ty: Ty, at: u32) -> Result<Ty, LeastFail>
+    ensures { Told result (written_on (out-Ty ty) at) }
 {
-    match ty {
-        Ty::Chan(Cap::Input, _) => fault(at, Rule::NoOutput),
-        Ty::Chan(_, carried) => Ok(carried.get()),
-        _ => fault(at, Rule::NotChannel),
+    match ty.into_channel() {
+        Some((Cap::Input, _)) => fault(at, Rule::NoOutput),
+        Some((_, carried)) => Ok(carried),
+        None => fault(at, Rule::NotChannel),
     }
 }
 

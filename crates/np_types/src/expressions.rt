@@ -1,18 +1,19 @@
-ghost use Rattle.std.specs.Prelude.{◌≡◌};
-ghost use Rattle.np_syntax.specs.declared.types.Ty.{out-Ty};
+ghost use Rattle.std.specs.FinMap as map;
+ghost use Rattle.np_syntax.specs.declared.types.Ty as shape;
+ghost use Rattle.np_types.specs.declared.fault.Rule.TheVariants as rule;
+ghost use Rattle.np_types.specs.Checks.{checked, want};
 ghost use Rattle.np_types.specs.Least.{least, least_form, leasts};
-ghost use Rattle.np_types.specs.Operands.{takes_first, first_rule, takes_second, second_rule, type_of};
 ghost use Rattle.np_types.specs.Told.{Told};
-ghost use Rattle.np_types.specs.Worlds.{bare};
+ghost use Rattle.np_types.specs.Widths.{narrow};
+ghost use Rattle.np_types.specs.Worlds.{bare, kind};
 
-use super::checks::{ensure, fault, written_on};
+use super::checks::{fault, written_on};
 use super::env::Env;
 use super::fault::{LeastFail, Rule};
-use super::forms::{is_agent, is_basic, is_int, is_lock, is_places, same_basic};
-use super::subtyping::sub;
+use super::operands::{ensure_agent, ensure_places, first_operand, letter, operated, with_lock};
 use super::values::kind;
 use super::widths::is_narrow;
-use np_syntax::{Expr, ExprForm, List, Op, Ty};
+use np_syntax::{Expr, ExprForm, List, Ty, Value};
 use std::alloc::Global;
 
 /// The least type of an expression, or its first fault. A variable without a type, and a value without one,
@@ -31,45 +32,26 @@ fn least_form(alloc: Global, env: &Env, form: &ExprForm, at: u32) -> Result<Ty, 
     ensures { Told result (least_form bare env.now form.now at) }
 {
     match form {
-        ExprForm::Val(value) => match kind(alloc, value)? {
-            Some(ty) => Ok(ty),
-            None => fault(at, Rule::Mismatch),
-        },
-        ExprForm::Var(binder) => match env.get(*binder) {
-            Some(ty) => Ok(ty.copy(alloc)?),
-            None => fault(at, Rule::Mismatch),
-        },
-        ExprForm::Tuple(parts) => {
-            let ty = Ty::Tuple(leasts(alloc, env, parts.as_slice())?);
-            ensure(is_narrow(&ty), at, Rule::Wide)?;
-            Ok(ty)
-        }
+        ExprForm::Val(value) => value_type(alloc, value, at),
+        ExprForm::Var(binder) => binder_type(alloc, env, *binder, at),
+        ExprForm::Tuple(parts) => tuple_type(leasts(alloc, env, parts.as_slice())?, at),
         ExprForm::Bin(op, left, right) => {
             let (left, right) = (left.get(), right.get());
-            let first = least(alloc, env, left)?;
-            ensure(takes_first(*op, &first), left.at, first_rule(*op))?;
+            let first = first_operand(*op, least(alloc, env, left)?, left.at)?;
             let second = least(alloc, env, right)?;
-            let taken = takes_second(*op, &first, &second);
-            ensure(taken, right.at, second_rule(*op))?;
-            Ok(type_of(*op))
+            operated(*op, first, second, right.at)
         }
         ExprForm::Pack(chan, value) => {
             let (chan, value) = (chan.get(), value.get());
-            let on = least(alloc, env, chan)?;
-            let carried = written_on(&on, chan.at)?;
+            let carried = written_on(least(alloc, env, chan)?, chan.at)?;
             let given = least(alloc, env, value)?;
-            ensure(sub(&given, carried), value.at, Rule::Mismatch)?;
-            Ok(Ty::Letter)
+            letter(given, carried, value.at)
         }
         ExprForm::With(places, agent, lock) => {
             let (places, agent, lock) = (places.get(), agent.get(), lock.get());
-            let map = least(alloc, env, places)?;
-            ensure(is_places(&map), places.at, Rule::Mismatch)?;
-            let who = least(alloc, env, agent)?;
-            ensure(is_agent(&who), agent.at, Rule::NotAgent)?;
-            let on = least(alloc, env, lock)?;
-            ensure(is_lock(&on), lock.at, Rule::Mismatch)?;
-            Ok(Ty::Places)
+            ensure_places(least(alloc, env, places)?, places.at)?;
+            ensure_agent(least(alloc, env, agent)?, agent.at)?;
+            with_lock(least(alloc, env, lock)?, lock.at)
         }
     }
 }
@@ -86,47 +68,34 @@ fn leasts(alloc: Global, env: &Env, parts: &[Expr]) -> Result<List<Ty>, LeastFai
     Ok(types)
 }
 
-fn takes_first(op: Op, first: &Ty) -> bool
-    ensures { result ≡ takes_first op (out-Ty first.now) }
+/// The type of a value, or a fault where it has none.
+fn value_type(alloc: Global, value: &Value, at: u32) -> Result<Ty, LeastFail>
+    ensures { Told result (want (kind bare value.now) at rule.Mismatch) }
 {
-    match op {
-        Op::Equal => is_basic(first),
-        Op::Add | Op::Sub | Op::Mul | Op::Less => is_int(first),
+    match kind(alloc, value)? {
+        Some(ty) => Ok(ty),
+        None => fault(at, Rule::Mismatch),
     }
 }
 
-fn first_rule(op: Op) -> Rule
-    ensures { result ≡ first_rule op }
+/// The type of a variable, or a fault where it has none.
+fn binder_type(alloc: Global, env: &Env, binder: u32, at: u32) -> Result<Ty, LeastFail>
+    ensures { Told result (want (map.get env.now binder) at rule.Mismatch) }
 {
-    match op {
-        Op::Equal => Rule::NotComparable,
-        Op::Add | Op::Sub | Op::Mul | Op::Less => Rule::NotInt,
+    match env.get(binder) {
+        Some(ty) => Ok(ty.copy(alloc)?),
+        None => fault(at, Rule::Mismatch),
     }
 }
 
-fn takes_second(op: Op, first: &Ty, second: &Ty) -> bool
-    ensures { result ≡ takes_second op (out-Ty first.now) (out-Ty second.now) }
+/// The type of a tuple, or a fault where it is too wide.
+fn tuple_type(types: List<Ty>, at: u32) -> Result<Ty, LeastFail>
+    ensures { Told result (checked (narrow (shape.Tuple types)) at rule.Wide (shape.Tuple types)) }
 {
-    match op {
-        Op::Equal => same_basic(first, second),
-        Op::Add | Op::Sub | Op::Mul | Op::Less => is_int(second),
-    }
-}
-
-fn second_rule(op: Op) -> Rule
-    ensures { result ≡ second_rule op }
-{
-    match op {
-        Op::Equal => Rule::Mismatch,
-        Op::Add | Op::Sub | Op::Mul | Op::Less => Rule::NotInt,
-    }
-}
-
-fn type_of(op: Op) -> Ty
-    ensures { result ≡ type_of op }
-{
-    match op {
-        Op::Equal | Op::Less => Ty::Bool,
-        Op::Add | Op::Sub | Op::Mul => Ty::Int,
+    let ty = Ty::Tuple(types);
+    if is_narrow(&ty) {
+        Ok(ty)
+    } else {
+        fault(at, Rule::Wide)
     }
 }

@@ -1,6 +1,6 @@
 ghost use Rattle.std.specs.Prelude.{◌≡◌};
 ghost use Rattle.np_syntax.specs.declared.types.Ty.{out-Ty};
-ghost use Rattle.np_types.specs.Sub.{is_int, is_bool, is_site, is_agent, is_letter, is_places};
+ghost use Rattle.np_types.specs.Sub.{is_int, is_bool, is_str, is_site, is_agent, is_letter, is_places};
 ghost use Rattle.np_types.specs.Least.{basic, same_basic, is_lock_type};
 
 use np_syntax::{Cap, Ty};
@@ -15,6 +15,12 @@ pub fn is_bool(ty: &Ty) -> bool
     ensures { result ≡ is_bool (out-Ty ty.now) }
 {
     matches!(ty, Ty::Bool)
+}
+
+pub fn is_str(ty: &Ty) -> bool
+    ensures { result ≡ is_str (out-Ty ty.now) }
+{
+    matches!(ty, Ty::Str)
 }
 
 pub fn is_site(ty: &Ty) -> bool
@@ -65,7 +71,7 @@ pub fn same_basic(first: &Ty, second: &Ty) -> bool
     match first {
         Ty::Int => is_int(second),
         Ty::Bool => is_bool(second),
-        Ty::Str => matches!(second, Ty::Str),
+        Ty::Str => is_str(second),
         Ty::Site => is_site(second),
         Ty::Agent => is_agent(second),
         Ty::Chan(_, _) | Ty::Tuple(_) | Ty::Letter | Ty::Places => false,

@@ -8,6 +8,7 @@ mod expressions;
 mod fault;
 mod forms;
 mod laws;
+mod operands;
 mod patterns;
 mod subtyping;
 mod values;

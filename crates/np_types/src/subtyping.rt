@@ -2,6 +2,7 @@ ghost use Rattle.std.specs.Prelude.{◌≡◌};
 ghost use Rattle.np_types.specs.Sub.{sub};
 ghost use Rattle.np_types.specs.Ordered.{Ordered, OrderedAll};
 
+use super::forms::{is_agent, is_bool, is_int, is_letter, is_places, is_site, is_str};
 use np_syntax::{Cap, Ty};
 
 /// Whether the type is below the other one. It takes no memory, and looks at each node of the two at most
@@ -20,11 +21,11 @@ fn compare(a: &Ty, b: &Ty, up: bool) -> bool
     ensures { result ≡ Ordered up a.now b.now }
 {
     match a {
-        Ty::Int => matches!(b, Ty::Int),
-        Ty::Bool => matches!(b, Ty::Bool),
-        Ty::Str => matches!(b, Ty::Str),
-        Ty::Site => matches!(b, Ty::Site),
-        Ty::Agent => matches!(b, Ty::Agent),
+        Ty::Int => is_int(b),
+        Ty::Bool => is_bool(b),
+        Ty::Str => is_str(b),
+        Ty::Site => is_site(b),
+        Ty::Agent => is_agent(b),
         Ty::Chan(c, s) => match b {
             Ty::Chan(d, t) => match *c {
                 Cap::Both => match *d {
@@ -49,8 +50,8 @@ fn compare(a: &Ty, b: &Ty, up: bool) -> bool
             Ty::Tuple(y) => compare_all(x.as_slice(), y.as_slice(), up),
             _ => false,
         },
-        Ty::Letter => matches!(b, Ty::Letter),
-        Ty::Places => matches!(b, Ty::Places),
+        Ty::Letter => is_letter(b),
+        Ty::Places => is_places(b),
     }
 }
 

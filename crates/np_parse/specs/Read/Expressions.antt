@@ -12,6 +12,8 @@ use Rattle.np_tree.specs.declared.tree.RawExpr.{RawExpr}
 use Rattle.np_tree.specs.declared.tree.RawExprForm.{RawExprForm}
 use Rattle.np_tree.specs.declared.tree.RawExprForm as form
 use Rattle.np_tree.specs.Grammar.{expression}
+use Rattle.np_parse.specs.declared.operator.Rank.{Rank}
+use Rattle.np_parse.specs.declared.operator.Rank.TheVariants as rank
 use Rattle.np_parse.specs.Input.{Parser, ◌>>=◌, ◌>>◌, pure, refuse, refuse_deep, peek, take, nothing, name, expect_sign}
 use Rattle.np_parse.specs.Read.Tuples.{Sized, tuple_in}
 
@@ -92,6 +94,19 @@ chain operator operand levels (suc turns) left = peek >>= (λ w. operate (chain 
 unfoldable pub comparison : Parser ReadExpr → ℕ → ReadExpr → Parser ReadExpr
 comparison operand levels left = peek >>= (λ w. operate pure operand levels left (compares w))
 
+abbrev pub operator : Rank → What → Option Op
+operator rank.Product = multiplies
+operator rank.Sum = adds
+operator rank.Comparison = compares
+
+abbrev pub operator_by : ℕ → ℕ → Option Op → Parser (Option Op)
+operator_by levels depth (Some o) = if nat_le levels depth then refuse_deep else (take >> pure (Some o))
+operator_by levels depth None = pure None
+
+-- takes the operator behind an operand of this depth, if one of this rank stands there
+unfoldable pub next_operator : Rank → ℕ → ℕ → Parser (Option Op)
+next_operator r levels depth = peek >>= (λ w. operator_by levels depth (operator r w))
+
 -- ---- expressions
 
 -- the readers of atoms, products, sums and expressions of so many levels
@@ -128,3 +143,9 @@ sum levels = (readers levels).sum
 
 abbrev pub expr : ℕ → Parser ReadExpr
 expr levels = (readers levels).expr
+
+-- an operand of the operators of this rank, of so many levels
+abbrev pub operand : Rank → ℕ → Parser ReadExpr
+operand rank.Product = atom
+operand rank.Sum = prod
+operand rank.Comparison = sum

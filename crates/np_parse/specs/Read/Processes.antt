@@ -1,6 +1,6 @@
 -- How processes are read, from left to right (docs/LANGUAGE.md, "Grammar" and "Depth"). A number of levels is how deep a process
 -- may be; the limit is how deep each expression, pattern and type in it may be.
-use Rattle.std.specs.Prelude.{ℕ, zero, suc, ◌+◌, max, nat_le, Bool, true, false, if◌then◌else◌}
+use Rattle.std.specs.Prelude.{ℕ, zero, suc, ◌+◌, max, nat_le, Bool, true, false, if◌then◌else◌, Option, Some, None}
 use Rattle.np_lex.specs.declared.token.Key.TheVariants as key
 use Rattle.np_lex.specs.declared.token.Sign.TheVariants as sign
 use Rattle.np_lex.specs.declared.token.What.{What}
@@ -68,6 +68,15 @@ more_by again inner levels at left _ = refuse
 unfoldable pub more : Parser ReadProc → ℕ → ℕ → ℕ → ReadProc → Parser ReadProc
 more inner levels at zero left = refuse_deep
 more inner levels at (suc turns) left = peek >>= more_by (more inner levels at turns) inner levels at left
+
+abbrev pub bar_by : ℕ → ℕ → What → Parser (Option ℕ)
+bar_by levels depth (what.Sign sign.RoundClose) = take >> pure None
+bar_by levels depth (what.Sign sign.Bar) = if nat_le levels depth then refuse_deep else (take >>= (λ at. pure (Some at)))
+bar_by levels depth _ = refuse
+
+-- takes the sign behind the processes so far of a bracket: a bar, with its offset, or the closing bracket
+unfoldable pub bar : ℕ → ℕ → Parser (Option ℕ)
+bar levels depth = peek >>= bar_by levels depth
 
 -- behind the first bar of a bracket
 abbrev pub others : Parser ReadProc → ℕ → ℕ → ReadProc → Parser ReadProc

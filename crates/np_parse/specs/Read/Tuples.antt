@@ -1,14 +1,20 @@
 -- The parts of a tuple, of a tuple pattern and of a tuple type (docs/LANGUAGE.md, "Grammar").
-use Rattle.std.specs.Prelude.{ℕ, zero, suc, ◌+◌, max, Bool, true, false, List, [], ◌∷◌, ◌++◌}
+use Rattle.std.specs.Prelude.{ℕ, zero, suc, ◌+◌, max, Bool, true, false, List, [], ◌∷◌, ◌++◌, Result, Ok, Err}
 use Rattle.np_syntax.specs.declared.limits.TheConstants.{MOST_PARTS}
 use Rattle.np_lex.specs.declared.token.Sign.TheVariants as sign
 use Rattle.np_lex.specs.declared.token.What.{What}
 use Rattle.np_lex.specs.declared.token.What.TheVariants as what
+use Rattle.np_parse.specs.declared.fail.ParseFail.{ParseFail}
 use Rattle.np_parse.specs.Input.{Parser, ◌>>=◌, ◌>>◌, pure, refuse, peek, take}
 
 -- what is read, with its depth
 abbrev pub Sized : Type 0 → Type 0
 Sized A = A × ℕ
+
+-- these parts with the depth of the deepest, where it is given
+abbrev pub sized : {A : Type 0} → List A → Result ℕ ParseFail → Result (Sized (List A)) ParseFail
+sized items (Ok depth) = Ok (items, depth)
+sized items (Err e) = Err e
 
 abbrev pub closes : What → Bool
 closes (what.Sign sign.SquareClose) = true

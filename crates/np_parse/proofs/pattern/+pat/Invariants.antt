@@ -1,4 +1,4 @@
-use Rattle.std.proofs.Common.{◌+◌, ◌*◌, ◌-◌, ◌≡◌, ◌≤◌, []}
+use Rattle.std.proofs.Common.{◌+◌, ◌*◌, ◌-◌, ◌≡◌, ◌≤◌}
 use Rattle.np_syntax.specs.declared.limits.TheConstants.{MOST_PARTS}
 use Rattle.np_parse.specs.Read.Tuples.{parts}
 use Rattle.np_parse.specs.Read.Patterns.{pat}
@@ -18,6 +18,6 @@ decreases-pat_parts l = 6 * l.below + 1
 
 abbrev pub invariant-pat_parts-parts : goal.invariant-pat_parts-parts
 invariant-pat_parts-parts l = record {
-  same : parts (pat l.below) MOST_PARTS [] 0 l.initial.tokens ≡ parts (pat l.below) (MOST_PARTS - l.counter) l.items l.depth l.tokens;
+  same : parts (pat l.below) MOST_PARTS l.initial.items 0 l.initial.tokens ≡ parts (pat l.below) (MOST_PARTS - l.counter) l.items l.depth l.tokens;
   within : l.depth ≤ l.below;
 }

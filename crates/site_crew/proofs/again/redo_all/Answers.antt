@@ -17,6 +17,9 @@ loop-k-preserved g c = record { done = c.in_ok-redo_one.ensures.ok c.if-not-bran
 pub returns-in_err-redo_one-clause-grow : goal.returns-in_err-redo_one-clause-grow
 returns-in_err-redo_one-clause-grow g c = grow_trans c.loop-k.invariant.grow c.redo_one.ensures.grow
 
+pub returns-then-not-branch-clause-grow : goal.returns-then-not-branch-clause-grow
+returns-then-not-branch-clause-grow g c = grow_trans c.loop-k.invariant.grow c.redo_one.ensures.grow
+
 pub catch_all-requires-clause-early : goal.catch_all-requires-clause-early
 catch_all-requires-clause-early g c κs within =
     let is : c.loop-k.k ≡ length c.args.events.now = omega arith in

@@ -1,8 +1,12 @@
 use Rattle.std.proofs.Common.{◌≡◌, Some, get_or}
+use borrow.Author.Rules.{scaled_Fits}
 use Rattle.std.specs.Prelude.{slice_get}
 use Rattle.std.proofs.lemmas.Option.{slice_get-get_or}
 use Rattle.site_crew.proofs.Replacing.{late_caught, rests_caught, stand_caught}
 use Rattle.site_crew.proofs.bringing.catch_at.Goals as goal
+
+pub offset_bounds-seats-at : goal.offset_bounds-seats-at
+offset_bounds-seats-at g c = scaled_Fits _ _ _ c.requires.at (search (c.well_formed))
 
 pub returns-clause-stand : goal.returns-clause-stand
 returns-clause-stand g c =

@@ -1,10 +1,14 @@
 use Rattle.std.proofs.Common.{◌≡◌, ◌<◌, Some, get_or, length, arith}
+use borrow.Author.Rules.{scaled_Fits}
 use Rattle.std.specs.Prelude.{slice_get}
 use Rattle.std.proofs.lemmas.Option.{slice_get-get_or}
 use Rattle.site_crew.proofs.Redoing.{stand_sent}
 use Rattle.site_crew.proofs.Goings.{seat_seated}
 use Rattle.site_crew.proofs.Replacing.{all_rest_refl, all_rest_trans, one_rests}
 use Rattle.site_crew.proofs.bringing.send_for.Goals as goal
+
+pub offset_bounds-seats-from : goal.offset_bounds-seats-from
+offset_bounds-seats-from g c = let less : c.loop-from.from < length c.args.seats.now = omega arith in scaled_Fits _ _ _ less (search (c.well_formed))
 
 pub loop-from-init : goal.loop-from-init
 loop-from-init g c = record { stand = c.requires.stand; rest = all_rest_refl 0 _ }

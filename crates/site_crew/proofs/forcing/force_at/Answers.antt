@@ -1,4 +1,5 @@
 use Rattle.std.proofs.Common.{◌≡◌, Some, get_or, subst}
+use borrow.Author.Rules.{scaled_Fits}
 use Rattle.std.specs.Prelude.{slice_get}
 use Rattle.std.proofs.lemmas.List.{get_or-set_same}
 use Rattle.std.proofs.lemmas.Option.{slice_get-get_or}
@@ -8,6 +9,12 @@ use Rattle.site_crew.proofs.Goings.{seat_seated}
 use Rattle.site_crew.proofs.Redoing.{added_one, on_ok, stand_alone}
 use Rattle.site_crew.proofs.Replacing.{grows_moved}
 use Rattle.site_crew.proofs.forcing.force_at.Goals as goal
+
+pub offset_bounds-seats-at : goal.offset_bounds-seats-at
+offset_bounds-seats-at g c = scaled_Fits _ _ _ c.requires.at (search (c.well_formed))
+
+pub offset_bounds-seats-at-2 : goal.offset_bounds-seats-at-2
+offset_bounds-seats-at-2 g c = scaled_Fits _ _ _ c.requires.at (search (c.well_formed))
 
 pub force-done-requires-clause-seated : goal.force-done-requires-clause-seated
 force-done-requires-clause-seated g c κs within =

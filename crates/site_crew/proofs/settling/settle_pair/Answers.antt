@@ -1,8 +1,18 @@
 use Rattle.std.proofs.Common.{◌≡◌, ◌≢◌, ◌<◌, get_or, sym, arith, Some}
+use borrow.Author.Rules.{scaled_Fits}
 use Rattle.std.specs.Prelude.{slice_get}
 use Rattle.std.proofs.lemmas.Option.{slice_get-get_or}
 use Rattle.site_crew.proofs.Pairs.{pair_of_own, pair_of_two, read_back, read_front, seam, settles, settles_own, two_sets, two_swap, with_port}
 use Rattle.site_crew.proofs.settling.settle_pair.Goals as goal
+
+pub offset_bounds-left-to : goal.offset_bounds-left-to
+offset_bounds-left-to g c = scaled_Fits _ _ _ c.requires.places.1 (search (c.well_formed))
+
+pub offset_bounds-left-from : goal.offset_bounds-left-from
+offset_bounds-left-from g c = scaled_Fits _ _ _ c.requires.places.0 (search (c.well_formed))
+
+pub offset_bounds-seats-from : goal.offset_bounds-seats-from
+offset_bounds-seats-from g c = scaled_Fits _ _ _ c.requires.places.0 (search (c.well_formed))
 
 pub settle_own-requires : goal.settle_own-requires
 settle_own-requires g c =

@@ -1,9 +1,13 @@
 use Rattle.std.proofs.Common.{◌≡◌, ◌<◌, ℕ, Some, get_or, length, arith, subst}
+use borrow.Author.Rules.{scaled_Fits}
 use Rattle.std.specs.Prelude.{slice_get}
 use Rattle.std.proofs.lemmas.Option.{slice_get-get_or}
 use Rattle.site_crew.specs.Links.{IsSettled, IsToldBelow}
 use Rattle.site_crew.proofs.Pairs.{all_still_refl, all_still_trans, here_kept, here_then, linked_after, other_kept, other_then, still_of_pair, still_then, told_nothing}
 use Rattle.site_crew.proofs.settling.settle_to.Goals as goal
+
+pub offset_bounds-seats-to : goal.offset_bounds-seats-to
+offset_bounds-seats-to g c = scaled_Fits _ _ _ c.requires.to (search (c.well_formed))
 
 pub loop-from-init : goal.loop-from-init
 loop-from-init g c = record {

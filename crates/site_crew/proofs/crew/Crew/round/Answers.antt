@@ -1,10 +1,10 @@
-use Rattle.std.proofs.Common.{IfSome, nat_lt, List, ap, length, refl, subst, sym, ◌∙◌}
+use Rattle.std.proofs.Common.{IfSome, nat_lt, List, ap, length, refl, rules, subst, sym, subst₂, ◌∙◌}
 use Rattle.np_calculus.specs.Config.{Config}
 use Rattle.np_code.specs.Programs.{program}
 use Rattle.site_turn.specs.declared.seat.Seat.{Seat}
 use Rattle.site_crew.specs.Crews.{HasRun, IsJudged}
 use Rattle.site_crew.specs.Runs.{IsCrewRun}
-use Rattle.site_crew.specs.Seats.{event_count, histories}
+use Rattle.site_crew.specs.Seats.{AllGrow, AllLater, Stand, clocks, event_count, histories}
 use Rattle.site_crew.proofs.Crewing.{has_run, later_refl, round_told, slice_whole, told_ok}
 use Rattle.site_crew.proofs.CrewRuns.{crew_run}
 use Rattle.site_crew.proofs.crew.Crew.round.Goals as goal
@@ -36,3 +36,31 @@ returns-clause-ok g c =
 
 pub returns-then-self-clause-later : goal.returns-then-self-clause-later
 returns-then-self-clause-later g c = later_refl _ _
+
+pub returns-clause-on : goal.returns-clause-on
+returns-clause-on g c =
+    let was = c.self.inside in
+    let now = c.threads_round-after.new.seats in
+    let same = c.threads_round-after.ensures.count ∙ ap length c.as_mut_slice.ensures.value in
+    let whole = slice_whole was.seats.items now was.seats.len was.seats.ok.0 same in
+    let grow = subst₂ (λ (xs ys : List (Seat _)). AllGrow (histories xs) (histories ys)) c.as_mut_slice.ensures.value (sym whole) c.threads_round-after.ensures.grow in
+    rw (← c.self.view_is) (record { code = refl; budget = refl; histories = grow })
+
+pub returns-clause-later : goal.returns-clause-later
+returns-clause-later g c =
+    let was = c.self.inside in
+    let now = c.threads_round-after.new.seats in
+    let same = c.threads_round-after.ensures.count ∙ ap length c.as_mut_slice.ensures.value in
+    let whole = slice_whole was.seats.items now was.seats.len was.seats.ok.0 same in
+    let later =
+    subst₂ (λ (xs ys : List (Seat _)). AllLater (clocks xs) (histories xs) (clocks ys) (histories ys)) c.as_mut_slice.ensures.value (sym whole) c.threads_round-after.ensures.later in
+    rw (← c.self.view_is) later
+
+pub invariant_of-self : goal.invariant_of-self
+invariant_of-self g c =
+    let was = c.self.inside in
+    let now = c.threads_round-after.new.seats in
+    let same = c.threads_round-after.ensures.count ∙ ap length c.as_mut_slice.ensures.value in
+    let whole = slice_whole was.seats.items now was.seats.len was.seats.ok.0 same in
+    let stand = subst (λ (xs : List (Seat _)). Stand g.P.Port was.code was.budget xs) (sym whole) c.threads_round-after.ensures.stand in
+    record { program = c.self.invariant.program; budget = c.self.invariant.budget; stand = stand; sound = search rules }

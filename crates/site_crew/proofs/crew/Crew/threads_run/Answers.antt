@@ -32,3 +32,12 @@ returns-in-Rest-clause-later g c = all_later_trans c.loop.invariant.later c.roun
 
 pub returns-in-Spent-clause-later : goal.returns-in-Spent-clause-later
 returns-in-Spent-clause-later g c = all_later_trans c.loop.invariant.later c.round.ensures.later
+
+pub returns-in_err-round-clause-on : goal.returns-in_err-round-clause-on
+returns-in_err-round-clause-on g c = on_trans c.loop.invariant.on c.round.ensures.on
+
+pub returns-in-Rest-clause-on : goal.returns-in-Rest-clause-on
+returns-in-Rest-clause-on g c = on_trans c.loop.invariant.on c.round.ensures.on
+
+pub returns-in-Spent-clause-on : goal.returns-in-Spent-clause-on
+returns-in-Spent-clause-on g c = on_trans c.loop.invariant.on c.round.ensures.on
