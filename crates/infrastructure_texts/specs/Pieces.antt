@@ -1,6 +1,7 @@
 -- What the translation and the daemon write out (docs/LANGUAGE.md, "Translation and daemon"). It has the offset 0; what is
 -- taken over from the source keeps its own.
-use Rattle.std.specs.Prelude.{ℕ, [], ◌∷◌}
+use Rattle.std.specs.Prelude.{ℕ, ◌≡◌, [], ◌∷◌, Result, IfOk}
+use Rattle.np_syntax.specs.declared.memory.Memory.{Memory}
 use Rattle.np_syntax.specs.declared.value.Value as value
 use Rattle.np_syntax.specs.declared.expression.Expr.{Expr}
 use Rattle.np_syntax.specs.declared.expression.ExprForm.{ExprForm}
@@ -14,6 +15,10 @@ use Rattle.np_syntax.specs.declared.process.Proc.{Proc}
 use Rattle.np_syntax.specs.declared.process.ProcForm.{ProcForm}
 use Rattle.np_syntax.specs.declared.process.ProcForm as form
 use Rattle.np_calculus.specs.Starts.{own}
+
+-- what was written out is x, unless memory was wanting
+abbrev pub Writes : {A : Type 0} → Result A Memory → A → Type 0
+Writes written x = IfOk written (λ y. y ≡ x)
 
 -- ---- expressions and patterns
 

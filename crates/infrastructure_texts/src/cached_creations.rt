@@ -1,19 +1,21 @@
 //! Agents with caches: a creation, and main's bracket.
 
 ghost use Rattle.std.specs.Prelude.{◌≡◌, ◌+◌, ◌≤◌, IfOk};
+ghost use Rattle.np_syntax.specs.declared.process.Proc.{Proc};
+ghost use Rattle.infrastructure_texts.specs.Pieces.{Writes};
 ghost use Rattle.infrastructure_texts.specs.CacheTexts as spec;
 
 use super::caches::with_cache;
 use super::own_names::{CURRENTLOC, REGISTER};
 use super::pieces::{name, pair, variable};
-use super::writer::Writer;
-use np_syntax::{Boxed, Expr, Memory, Proc, ProcForm};
+use super::writer::{Writer, Written};
+use np_syntax::{Boxed, Expr, Memory, Proc};
 
 /// A new agent tells the daemon its site.
-fn registers(writer: Writer, agent: u32, at: u32) -> Result<Boxed<Proc>, Memory>
-    ensures { IfOk result (λ p. p ≡ spec.registers writer.sites writer.node agent at) }
+fn registers(writer: Writer, agent: u32, at: u32) -> Written
+    ensures { Writes result (spec.registers writer.sites writer.node agent at) }
 {
-    let told = pair(writer.alloc, variable(agent), variable(at))?;
+    let told = pair(writer.alloc, Ok(variable(agent)), Ok(variable(at)));
     writer.tells(writer.channel(REGISTER), told)
 }
 
@@ -24,17 +26,15 @@ fn child_text(
     agent: u32,
     at: u32,
     first: u32,
-    body: Boxed<Proc>,
-) -> Result<Boxed<Proc>, Memory>
+    body: Written,
+) -> Written
     requires { first + 6 ≤ u32.MAX }
-    ensures { IfOk result (λ p. p ≡ spec.child_text writer.sites writer.node parent.now agent at first (first + 1) (first + 2) body) }
+    ensures { (p : Proc) → Writes body p → Writes result (spec.child_text writer.sites writer.node parent.now agent at first (first + 1) (first + 2) p) }
 {
-    let begins = writer.begins(parent, at, body)?;
-    let server = writer.server_text(variable(agent), first, first + 1)?;
-    let both = writer.beside(begins, server)?;
-    let kept = with_cache(writer, first + 2, both)?;
-    let registers = registers(writer, agent, at)?;
-    writer.beside(kept, registers)
+    let begins = writer.begins(parent, at, body);
+    let server = writer.server_text(variable(agent), first, first + 1);
+    let kept = with_cache(writer, first + 2, writer.beside(begins, server));
+    writer.beside(kept, registers(writer, agent, at))
 }
 
 /// A creation by an agent, and what the new agent and the other do.
@@ -50,9 +50,9 @@ pub fn agent_text(
     requires { first + 6 ≤ u32.MAX }
     ensures { IfOk result (λ p. p ≡ spec.agent_text writer.sites writer.node parent.now agent at first (first + 1) (first + 2) body rest) }
 {
-    let child = child_text(writer, parent, agent, at, first, body)?;
-    let rest = writer.settles(variable(at), rest)?;
-    let creates = writer.plain(ProcForm::Agent(agent, child, rest))?;
+    let child = child_text(writer, parent, agent, at, first, Ok(body));
+    let rest = writer.settles(variable(at), Ok(rest));
+    let creates = writer.creates(agent, child, rest);
     writer.takes(writer.channel(CURRENTLOC), name(at), creates)
 }
 
@@ -67,6 +67,6 @@ pub fn main_text(
     requires numbers { first + 6 ≤ u32.MAX }
     ensures { IfOk result (λ p. p ≡ spec.main_text writer.sites at first (first + 1) (first + 2) body) }
 {
-    let main = writer.main_text(at, first, first + 1, body)?;
+    let main = writer.main_text(at, first, first + 1, body);
     with_cache(writer, first + 2, main)
 }

@@ -1,65 +1,54 @@
 //! A post, which goes by a messenger where the cache has a hint. It is a post from an agent to another, of a value for a channel.
 
 ghost use Rattle.std.specs.Prelude.{◌≡◌, ◌+◌, ◌≤◌, IfOk};
+ghost use Rattle.np_syntax.specs.declared.process.Proc.{Proc};
 ghost use Rattle.np_syntax.specs.declared.process.ProcForm as shape;
 ghost use Rattle.infrastructure_texts.specs.Pieces as piece;
+ghost use Rattle.infrastructure_texts.specs.Pieces.{Writes};
 ghost use Rattle.infrastructure_texts.specs.Texts as central;
 ghost use Rattle.infrastructure_texts.specs.CacheTexts as spec;
 
 use super::caches::{keeps, looks};
 use super::own_names::{CACHE, MESSAGE, WHERE};
 use super::pieces::{name, pair, variable};
-use super::writer::Writer;
+use super::writer::{Writer, Written};
 use np_syntax::process_forms::iflocal;
 use np_syntax::{Boxed, Expr, Memory, Proc, ProcForm, Role};
 
 /// The daemon is asked where an agent is.
-fn asks(writer: Writer, from: &Expr, to: &Expr) -> Result<Boxed<Proc>, Memory>
-    ensures { IfOk result (λ p. p ≡ spec.asks writer.sites writer.node from.now to.now) }
+fn asks(writer: Writer, from: &Expr, to: &Expr) -> Written
+    ensures { Writes result (spec.asks writer.sites writer.node from.now to.now) }
 {
-    let from = from.copy(writer.alloc)?;
-    let to = to.copy(writer.alloc)?;
-    let asked = pair(writer.alloc, from, to)?;
+    let asked = pair(writer.alloc, from.copy(writer.alloc), to.copy(writer.alloc));
     writer.tells(writer.channel(WHERE), asked)
 }
 
 /// The letter of a post, and who it is for.
 fn addressed(writer: Writer, to: &Expr, chan: &Expr, value: &Expr) -> Result<Expr, Memory>
-    ensures { IfOk result (λ e. e ≡ piece.pair to.now (central.letter chan.now value.now)) }
+    ensures { Writes result (piece.pair to.now (central.letter chan.now value.now)) }
 {
-    let letter = writer.letter(chan, value)?;
-    let to = to.copy(writer.alloc)?;
-    pair(writer.alloc, to, letter)
+    pair(
+        writer.alloc,
+        to.copy(writer.alloc),
+        writer.letter(chan, value),
+    )
 }
 
 /// What a messenger does that misses the agent.
-fn hands_back(
-    writer: Writer,
-    from: &Expr,
-    to: &Expr,
-    chan: &Expr,
-    value: &Expr,
-) -> Result<Boxed<Proc>, Memory>
-    ensures { IfOk result (λ p. p ≡ spec.hands_back writer.sites writer.node from.now to.now chan.now value.now) }
+fn hands_back(writer: Writer, from: &Expr, to: &Expr, chan: &Expr, value: &Expr) -> Written
+    ensures { Writes result (spec.hands_back writer.sites writer.node from.now to.now chan.now value.now) }
 {
-    let addressed = addressed(writer, to, chan, value)?;
-    let message = writer.tells(writer.channel(MESSAGE), addressed)?;
-    let asks = asks(writer, from, to)?;
-    writer.beside(message, asks)
+    let addressed = addressed(writer, to, chan, value);
+    let message = writer.tells(writer.channel(MESSAGE), addressed);
+    writer.beside(message, asks(writer, from, to))
 }
 
 /// A messenger looks for the agent at its site.
-fn meets(
-    writer: Writer,
-    to: &Expr,
-    chan: &Expr,
-    value: &Expr,
-    unmet: Boxed<Proc>,
-) -> Result<Boxed<Proc>, Memory>
-    ensures { IfOk result (λ p. p ≡ piece.infra writer.node (shape.IfLocal to.now chan.now value.now (piece.stop writer.node) unmet)) }
+fn meets(writer: Writer, to: &Expr, chan: &Expr, value: &Expr, unmet: Written) -> Written
+    ensures { (p : Proc) → Writes unmet p → Writes result (piece.infra writer.node (shape.IfLocal to.now chan.now value.now (piece.stop writer.node) p)) }
 {
-    let stop = writer.infra(ProcForm::Stop)?;
-    let tried = iflocal(writer.alloc, to, chan, value, stop, unmet)?;
+    let stop = writer.infra(ProcForm::Stop);
+    let tried = iflocal(writer.alloc, to, chan, value, stop?, unmet?)?;
     writer.infra(tried)
 }
 
@@ -71,12 +60,12 @@ fn messenger_text(
     chan: &Expr,
     value: &Expr,
     at: u32,
-) -> Result<Boxed<Proc>, Memory>
-    ensures { IfOk result (λ p. p ≡ spec.messenger_text writer.sites writer.node from.now to.now chan.now value.now at) }
+) -> Written
+    ensures { Writes result (spec.messenger_text writer.sites writer.node from.now to.now chan.now value.now at) }
 {
-    let unmet = hands_back(writer, from, to, chan, value)?;
-    let tries = meets(writer, to, chan, value, unmet)?;
-    writer.infra(ProcForm::Migrate(variable(at), tries))
+    let unmet = hands_back(writer, from, to, chan, value);
+    let tries = meets(writer, to, chan, value, unmet);
+    writer.infra(ProcForm::Migrate(variable(at), tries?))
 }
 
 /// A messenger is made.
@@ -88,24 +77,23 @@ fn makes_messenger(
     value: &Expr,
     at: u32,
     messenger: u32,
-) -> Result<Boxed<Proc>, Memory>
-    ensures { IfOk result (λ p. p ≡ spec.makes_messenger writer.sites writer.node from.now to.now chan.now value.now at messenger) }
+) -> Written
+    ensures { Writes result (spec.makes_messenger writer.sites writer.node from.now to.now chan.now value.now at messenger) }
 {
-    let body = messenger_text(writer, from, to, chan, value, at)?;
-    let stop = writer.infra(ProcForm::Stop)?;
-    writer.boxed(Role::Post, ProcForm::Agent(messenger, body, stop))
+    let body = messenger_text(writer, from, to, chan, value, at);
+    let stop = writer.infra(ProcForm::Stop);
+    writer.boxed(Role::Post, ProcForm::Agent(messenger, body?, stop?))
 }
 
 /// A process takes the site of a hint, and another has the cache.
-fn reads_hint(writer: Writer, places: u32, made: Boxed<Proc>) -> Result<Boxed<Proc>, Memory>
+fn reads_hint(writer: Writer, places: u32, made: Written) -> Written
     requires { places + 3 ≤ u32.MAX }
-    ensures { IfOk result (λ p. p ≡ spec.reads_hint writer.sites writer.node places made) }
+    ensures { (p : Proc) → Writes made p → Writes result (spec.reads_hint writer.sites writer.node places p) }
 {
-    let holds = writer.gives(variable(places + 1), variable(places + 2))?;
-    let both = writer.beside(made, holds)?;
-    let reads = writer.takes(variable(places + 1), name(places + 2), both)?;
-    let keeps = keeps(writer, places)?;
-    writer.beside(reads, keeps)
+    let holds = writer.gives(variable(places + 1), variable(places + 2));
+    let both = writer.beside(made, holds);
+    let reads = writer.takes(variable(places + 1), name(places + 2), both);
+    writer.beside(reads, keeps(writer, places))
 }
 
 /// What becomes of a post where there is a hint: its binders are numbered from that of the cache on.
@@ -116,11 +104,11 @@ fn goes_by_hint(
     chan: &Expr,
     value: &Expr,
     places: u32,
-) -> Result<Boxed<Proc>, Memory>
+) -> Written
     requires { places + 3 ≤ u32.MAX }
-    ensures { IfOk result (λ p. p ≡ spec.goes_by_hint writer.sites writer.node from.now to.now chan.now value.now places) }
+    ensures { Writes result (spec.goes_by_hint writer.sites writer.node from.now to.now chan.now value.now places) }
 {
-    let made = makes_messenger(writer, from, to, chan, value, places + 2, places + 3)?;
+    let made = makes_messenger(writer, from, to, chan, value, places + 2, places + 3);
     reads_hint(writer, places, made)
 }
 
@@ -132,14 +120,12 @@ fn goes_by_daemon(
     chan: &Expr,
     value: &Expr,
     places: u32,
-) -> Result<Boxed<Proc>, Memory>
-    ensures { IfOk result (λ p. p ≡ spec.goes_by_daemon writer.sites writer.node from.now to.now chan.now value.now places) }
+) -> Written
+    ensures { Writes result (spec.goes_by_daemon writer.sites writer.node from.now to.now chan.now value.now places) }
 {
-    let message = writer.post_text(to, chan, value)?;
-    let asks = asks(writer, from, to)?;
-    let both = writer.beside(message, asks)?;
-    let keeps = keeps(writer, places)?;
-    writer.beside(both, keeps)
+    let message = writer.post_text(to, chan, value);
+    let both = writer.beside(message, asks(writer, from, to));
+    writer.beside(both, keeps(writer, places))
 }
 
 /// A post: its binders are numbered from the first on.
@@ -154,8 +140,9 @@ pub fn post_text(
     requires { first + 3 ≤ u32.MAX }
     ensures { IfOk result (λ p. p ≡ spec.post_text writer.sites writer.node from.now to.now chan.now value.now first) }
 {
-    let met = goes_by_hint(writer, from, to, chan, value, first)?;
-    let unmet = goes_by_daemon(writer, from, to, chan, value, first)?;
-    let known = looks(writer, to.copy(writer.alloc)?, first, first + 1, met, unmet)?;
+    let to_copy = to.copy(writer.alloc)?;
+    let met = goes_by_hint(writer, from, to, chan, value, first);
+    let unmet = goes_by_daemon(writer, from, to, chan, value, first);
+    let known = looks(writer, to_copy, first, first + 1, met, unmet);
     writer.takes(writer.channel(CACHE), name(first), known)
 }

@@ -1,12 +1,13 @@
 //! The daemon's process.
 
 ghost use Rattle.std.specs.Prelude.{◌≡◌, ◌+◌, ◌≤◌, IfOk};
+ghost use Rattle.infrastructure_texts.specs.Pieces.{Writes};
 ghost use Rattle.infrastructure_texts.specs.CacheDaemon as spec;
 
 use super::own_names::{FOUND, WHERE};
 use super::pieces::{name, pair, two_names, variable};
 use super::servers::daemon;
-use super::writer::Writer;
+use super::writer::{Writer, Written};
 use np_syntax::{Boxed, Memory, Proc};
 use std::alloc::Global;
 
@@ -28,53 +29,43 @@ pub fn cached_daemon(
         sites,
         node: 0,
     };
-    let central = Boxed::of(alloc, daemon(alloc, sites, at, first_binder)?)?;
-    let server = where_server(writer, first_binder + 21)?;
-    writer.beside(central, server)
+    let central = Boxed::of(alloc, daemon(alloc, sites, at, first_binder)?);
+    writer.beside(central, where_server(writer, first_binder + 21))
 }
 
 /// An agent is told where another was found.
-fn hints(
-    writer: Writer,
-    asking: u32,
-    agent: u32,
-    lock: u32,
-    found: u32,
-    at: u32,
-) -> Result<Boxed<Proc>, Memory>
+fn hints(writer: Writer, asking: u32, agent: u32, lock: u32, found: u32, at: u32) -> Written
     requires { writer.node ≡ 0 }
-    ensures { IfOk result (λ p. p ≡ spec.hints writer.sites asking agent lock found at) }
+    ensures { Writes result (spec.hints writer.sites asking agent lock found at) }
 {
-    let holds = writer.gives(variable(lock), variable(at))?;
-    let told = pair(writer.alloc, variable(agent), variable(found))?;
-    let tells = writer.sends(variable(asking), variable(at), writer.channel(FOUND), told)?;
+    let holds = writer.gives(variable(lock), variable(at));
+    let told = pair(writer.alloc, Ok(variable(agent)), Ok(variable(found)));
+    let tells = writer.sends(variable(asking), variable(at), writer.channel(FOUND), told);
     writer.beside(holds, tells)
 }
 
 /// Both locks are read: the binders of the server are numbered from the first on.
-fn reads_locks(writer: Writer, first: u32) -> Result<Boxed<Proc>, Memory>
+fn reads_locks(writer: Writer, first: u32) -> Written
     requires zero { writer.node ≡ 0 }
     requires numbers { first + 6 ≤ u32.MAX }
-    ensures { IfOk result (λ p. p ≡ spec.reads_locks writer.sites first (first + 1) (first + 3) (first + 4) (first + 5) (first + 6)) }
+    ensures { Writes result (spec.reads_locks writer.sites first (first + 1) (first + 3) (first + 4) (first + 5) (first + 6)) }
 {
-    let hints = hints(writer, first, first + 1, first + 4, first + 5, first + 6)?;
-    let waits = writer.takes(variable(first + 4), name(first + 6), hints)?;
-    let holds = writer.gives(variable(first + 3), variable(first + 5))?;
-    let both = writer.beside(holds, waits)?;
+    let hints = hints(writer, first, first + 1, first + 4, first + 5, first + 6);
+    let waits = writer.takes(variable(first + 4), name(first + 6), hints);
+    let holds = writer.gives(variable(first + 3), variable(first + 5));
+    let both = writer.beside(holds, waits);
     writer.takes(variable(first + 3), name(first + 5), both)
 }
 
 /// The server for agents that ask where another is.
-fn where_server(writer: Writer, first: u32) -> Result<Boxed<Proc>, Memory>
+fn where_server(writer: Writer, first: u32) -> Written
     requires zero { writer.node ≡ 0 }
     requires numbers { first + 6 ≤ u32.MAX }
-    ensures { IfOk result (λ p. p ≡ spec.where_server writer.sites first (first + 1) (first + 2) (first + 3) (first + 4) (first + 5) (first + 6)) }
+    ensures { Writes result (spec.where_server writer.sites first (first + 1) (first + 2) (first + 3) (first + 4) (first + 5) (first + 6)) }
 {
-    let reads = reads_locks(writer, first)?;
-    let frees = writer.frees(first + 2)?;
-    let both = writer.beside(reads, frees)?;
-    let known = writer.finds(first, first + 2, first + 4, both)?;
-    let found = writer.finds(first + 1, first + 2, first + 3, known)?;
-    let names = two_names(writer.alloc, first, first + 1)?;
+    let both = writer.beside(reads_locks(writer, first), writer.frees(first + 2));
+    let known = writer.finds(first, first + 2, first + 4, both);
+    let found = writer.finds(first + 1, first + 2, first + 3, known);
+    let names = two_names(writer.alloc, first, first + 1);
     writer.notes(WHERE, names, first + 2, found)
 }

@@ -1,7 +1,9 @@
 //! Expressions and patterns that are written out, which have the offset 0.
 
-ghost use Rattle.std.specs.Prelude.{◌≡◌, IfOk};
+ghost use Rattle.std.specs.Prelude.{◌≡◌};
 ghost use Rattle.infrastructure_texts.specs.Pieces as spec;
+ghost use Rattle.infrastructure_texts.specs.Pieces.{Writes};
+ghost use Rattle.np_syntax.specs.declared.expression.Expr as expression;
 
 use np_syntax::{Expr, ExprForm, List, Memory, Pat, PatForm, Value};
 use std::alloc::Global;
@@ -36,12 +38,17 @@ pub fn unit(alloc: Global) -> Expr
     expression(ExprForm::Tuple(List::new(alloc)))
 }
 
-pub fn pair(alloc: Global, first: Expr, second: Expr) -> Result<Expr, Memory>
-    ensures { IfOk result (λ e. e ≡ spec.pair first second) }
+/// `[e e']`
+pub fn pair(
+    alloc: Global,
+    first: Result<Expr, Memory>,
+    second: Result<Expr, Memory>,
+) -> Result<Expr, Memory>
+    ensures { (e f : expression.Expr) → Writes first e → Writes second f → Writes result (spec.pair e f) }
 {
     let mut parts = List::new(alloc);
-    parts.add(first)?;
-    parts.add(second)?;
+    parts.add(first?)?;
+    parts.add(second?)?;
     Ok(expression(ExprForm::Tuple(parts)))
 }
 
@@ -58,7 +65,7 @@ pub fn name(binder: u32) -> Pat
 }
 
 pub fn two_names(alloc: Global, first: u32, second: u32) -> Result<Pat, Memory>
-    ensures { IfOk result (λ p. p ≡ spec.two_names first second) }
+    ensures { Writes result (spec.two_names first second) }
 {
     let mut parts = List::new(alloc);
     parts.add(name(first))?;

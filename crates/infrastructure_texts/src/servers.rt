@@ -1,7 +1,11 @@
 //! The daemon's process.
 
 ghost use Rattle.std.specs.Prelude.{◌≡◌, ◌+◌, ◌≤◌, IfOk};
+ghost use Rattle.np_syntax.specs.declared.pattern.Pat.{Pat};
+ghost use Rattle.np_syntax.specs.declared.process.Proc.{Proc};
+ghost use Rattle.np_syntax.specs.declared.process.ProcForm as form;
 ghost use Rattle.infrastructure_texts.specs.Pieces as piece;
+ghost use Rattle.infrastructure_texts.specs.Pieces.{Writes};
 ghost use Rattle.infrastructure_texts.specs.Daemon as spec;
 ghost use Rattle.np_check.specs.Faults.{lock_type};
 
@@ -9,7 +13,7 @@ use super::own_names::{
     ACK, DACK, DELIVER, HERE, LOCK, MAIN, MESSAGE, MIGRATED, MIGRATING, REGISTER,
 };
 use super::pieces::{expression, name, pair, site, two_names, unit, variable};
-use super::writer::Writer;
+use super::writer::{Writer, Written};
 use np_syntax::{Boxed, Cap, Expr, ExprForm, List, Memory, Pat, Proc, ProcForm, Ty, Value};
 use std::alloc::Global;
 
@@ -39,39 +43,35 @@ pub fn lock_type(alloc: Global) -> Result<Ty, Memory>
 
 impl Writer {
     /// The whole of the daemon.
-    fn daemon_text(self, at: u32, x: u32) -> Result<Boxed<Proc>, Memory>
+    fn daemon_text(self, at: u32, x: u32) -> Written
         requires zero { self.node ≡ 0 }
         requires numbers { x + 20 ≤ u32.MAX }
-        ensures { IfOk result (λ p. p ≡ spec.daemon_text self.sites at x) }
+        ensures { Writes result (spec.daemon_text self.sites at x) }
     {
-        let moves = self.moves_text(at, x)?;
-        let message = self.message_server(x + 12, x + 13, x + 14, x + 15, x + 16)?;
-        let both = self.beside(moves, message)?;
-        let dack = self.dack_server(x + 17, x + 18, x + 19, x + 20)?;
-        self.beside(both, dack)
+        let moves = self.moves_text(at, x);
+        let message = self.message_server(x + 12, x + 13, x + 14, x + 15, x + 16);
+        let dack = self.dack_server(x + 17, x + 18, x + 19, x + 20);
+        self.beside(self.beside(moves, message), dack)
     }
 
     /// The map, main's lock, and the servers that note where agents are.
-    fn moves_text(self, at: u32, x: u32) -> Result<Boxed<Proc>, Memory>
+    fn moves_text(self, at: u32, x: u32) -> Written
         requires zero { self.node ≡ 0 }
         requires numbers { x + 20 ≤ u32.MAX }
-        ensures { IfOk result (λ p. p ≡ spec.moves_text self.sites at x) }
+        ensures { Writes result (spec.moves_text self.sites at x) }
     {
-        let places = self.first_places()?;
-        let here = self.gives(self.channel(HERE), site(at))?;
-        let both = self.beside(places, here)?;
-        let register = self.register_server(x, x + 1, x + 2, x + 3)?;
-        let both = self.beside(both, register)?;
-        let migrating = self.migrating_server(x + 4, x + 5, x + 6, x + 7)?;
-        let both = self.beside(both, migrating)?;
-        let migrated = self.migrated_server(x + 8, x + 9, x + 10, x + 11)?;
-        self.beside(both, migrated)
+        let here = self.gives(self.channel(HERE), site(at));
+        let register = self.register_server(x, x + 1, x + 2, x + 3);
+        let migrating = self.migrating_server(x + 4, x + 5, x + 6, x + 7);
+        let migrated = self.migrated_server(x + 8, x + 9, x + 10, x + 11);
+        let registers = self.beside(self.beside(self.first_places(), here), register);
+        self.beside(self.beside(registers, migrating), migrated)
     }
 
     /// The map of places at first.
-    fn first_places(self) -> Result<Boxed<Proc>, Memory>
+    fn first_places(self) -> Written
         requires { self.node ≡ 0 }
-        ensures { IfOk result (λ p. p ≡ spec.first_places self.sites) }
+        ensures { Writes result (spec.first_places self.sites) }
     {
         let mut places = List::new(self.alloc);
         places.add((self.own(MAIN), self.own(HERE)))?;
@@ -80,25 +80,19 @@ impl Writer {
     }
 
     /// The map is given back.
-    pub fn frees(self, places: u32) -> Result<Boxed<Proc>, Memory>
+    pub fn frees(self, places: u32) -> Written
         requires { self.node ≡ 0 }
-        ensures { IfOk result (λ p. p ≡ spec.frees self.sites places) }
+        ensures { Writes result (spec.frees self.sites places) }
     {
         self.gives(self.channel(LOCK), variable(places))
     }
 
     /// A server that takes the map for what it is told.
-    pub fn notes(
-        self,
-        chan: u32,
-        names: Pat,
-        places: u32,
-        body: Boxed<Proc>,
-    ) -> Result<Boxed<Proc>, Memory>
+    pub fn notes(self, chan: u32, names: Result<Pat, Memory>, places: u32, body: Written) -> Written
         requires { self.node ≡ 0 }
-        ensures { IfOk result (λ p. p ≡ spec.notes self.sites (piece.channel self.sites chan) names places body) }
+        ensures { (n : Pat) (p : Proc) → Writes names n → Writes body p → Writes result (spec.notes self.sites (piece.channel self.sites chan) n places p) }
     {
-        let locked = self.takes(self.channel(LOCK), name(places), body)?;
+        let locked = self.takes(self.channel(LOCK), name(places), body);
         self.serves(self.channel(chan), names, locked)
     }
 
@@ -106,31 +100,30 @@ impl Writer {
     fn looks_up(
         self,
         chan: u32,
-        names: Pat,
+        names: Result<Pat, Memory>,
         agent: u32,
         places: u32,
         lock: u32,
-        body: Boxed<Proc>,
-    ) -> Result<Boxed<Proc>, Memory>
+        body: Written,
+    ) -> Written
         requires { self.node ≡ 0 }
-        ensures { IfOk result (λ p. p ≡ spec.looks_up self.sites (piece.channel self.sites chan) names agent places lock body) }
+        ensures { (n : Pat) (p : Proc) → Writes names n → Writes body p → Writes result (spec.looks_up self.sites (piece.channel self.sites chan) n agent places lock p) }
     {
-        let frees = self.frees(places)?;
-        let both = self.beside(body, frees)?;
-        let found = self.finds(agent, places, lock, both)?;
+        let both = self.beside(body, self.frees(places));
+        let found = self.finds(agent, places, lock, both);
         self.notes(chan, names, places, found)
     }
 
     /// An agent at a site is told that its request is granted or done.
-    fn acks(self, agent: u32, at: u32) -> Result<Boxed<Proc>, Memory>
+    fn acks(self, agent: u32, at: u32) -> Written
         requires { self.node ≡ 0 }
-        ensures { IfOk result (λ p. p ≡ spec.acks self.sites agent at) }
+        ensures { Writes result (spec.acks self.sites agent at) }
     {
         self.sends(
             variable(agent),
             variable(at),
             self.channel(ACK),
-            unit(self.alloc),
+            Ok(unit(self.alloc)),
         )
     }
 
@@ -145,100 +138,77 @@ impl Writer {
     }
 
     /// A new agent's lock channel is noted, with its site in it, and the agent is told.
-    fn enters(self, agent: u32, at: u32, places: u32, lock: u32) -> Result<Boxed<Proc>, Memory>
+    fn enters(self, agent: u32, at: u32, places: u32, lock: u32) -> Written
         requires { self.node ≡ 0 }
-        ensures { IfOk result (λ p. p ≡ spec.enters self.sites agent at places lock) }
+        ensures { Writes result (spec.enters self.sites agent at places lock) }
     {
         let noted = self.with_lock(places, agent, lock)?;
-        let frees = self.gives(self.channel(LOCK), noted)?;
-        let holds = self.gives(variable(lock), variable(at))?;
-        let both = self.beside(frees, holds)?;
-        let acks = self.acks(agent, at)?;
-        self.beside(both, acks)
+        let frees = self.gives(self.channel(LOCK), noted);
+        let holds = self.gives(variable(lock), variable(at));
+        self.beside(self.beside(frees, holds), self.acks(agent, at))
+    }
+
+    /// `new l : ^Site in P`
+    pub fn new_lock(self, lock: u32, body: Written) -> Written
+        ensures { (p : Proc) → Writes body p → Writes result (piece.infra self.node (form.New lock lock_type p)) }
+    {
+        self.infra(ProcForm::New(lock, lock_type(self.alloc)?, body?))
     }
 
     /// The server for new agents.
-    fn register_server(
-        self,
-        agent: u32,
-        at: u32,
-        places: u32,
-        lock: u32,
-    ) -> Result<Boxed<Proc>, Memory>
+    fn register_server(self, agent: u32, at: u32, places: u32, lock: u32) -> Written
         requires { self.node ≡ 0 }
-        ensures { IfOk result (λ p. p ≡ spec.register_server self.sites agent at places lock) }
+        ensures { Writes result (spec.register_server self.sites agent at places lock) }
     {
-        let enters = self.enters(agent, at, places, lock)?;
-        let made = self.infra(ProcForm::New(lock, lock_type(self.alloc)?, enters))?;
-        let names = two_names(self.alloc, agent, at)?;
-        self.notes(REGISTER, names, places, made)
+        let enters = self.enters(agent, at, places, lock);
+        let names = two_names(self.alloc, agent, at);
+        self.notes(REGISTER, names, places, self.new_lock(lock, enters))
     }
 
     /// The server for agents that ask to move.
-    fn migrating_server(
-        self,
-        agent: u32,
-        places: u32,
-        lock: u32,
-        at: u32,
-    ) -> Result<Boxed<Proc>, Memory>
+    fn migrating_server(self, agent: u32, places: u32, lock: u32, at: u32) -> Written
         requires { self.node ≡ 0 }
-        ensures { IfOk result (λ p. p ≡ spec.migrating_server self.sites agent places lock at) }
+        ensures { Writes result (spec.migrating_server self.sites agent places lock at) }
     {
-        let acks = self.acks(agent, at)?;
-        let waits = self.takes(variable(lock), name(at), acks)?;
-        self.looks_up(MIGRATING, name(agent), agent, places, lock, waits)
+        let waits = self.takes(variable(lock), name(at), self.acks(agent, at));
+        self.looks_up(MIGRATING, Ok(name(agent)), agent, places, lock, waits)
     }
 
     /// The server for agents that have moved.
-    fn migrated_server(
-        self,
-        agent: u32,
-        at: u32,
-        places: u32,
-        lock: u32,
-    ) -> Result<Boxed<Proc>, Memory>
+    fn migrated_server(self, agent: u32, at: u32, places: u32, lock: u32) -> Written
         requires { self.node ≡ 0 }
-        ensures { IfOk result (λ p. p ≡ spec.migrated_server self.sites agent at places lock) }
+        ensures { Writes result (spec.migrated_server self.sites agent at places lock) }
     {
-        let holds = self.gives(variable(lock), variable(at))?;
-        let acks = self.acks(agent, at)?;
-        let both = self.beside(holds, acks)?;
-        let names = two_names(self.alloc, agent, at)?;
+        let holds = self.gives(variable(lock), variable(at));
+        let both = self.beside(holds, self.acks(agent, at));
+        let names = two_names(self.alloc, agent, at);
         self.looks_up(MIGRATED, names, agent, places, lock, both)
     }
 
     /// The server for letters to agents.
-    fn message_server(
-        self,
-        agent: u32,
-        letter: u32,
-        places: u32,
-        lock: u32,
-        at: u32,
-    ) -> Result<Boxed<Proc>, Memory>
+    fn message_server(self, agent: u32, letter: u32, places: u32, lock: u32, at: u32) -> Written
         requires { self.node ≡ 0 }
-        ensures { IfOk result (λ p. p ≡ spec.message_server self.sites agent letter places lock at) }
+        ensures { Writes result (spec.message_server self.sites agent letter places lock at) }
     {
-        let carried = pair(self.alloc, variable(letter), variable(at))?;
+        let carried = pair(self.alloc, Ok(variable(letter)), Ok(variable(at)));
         let delivers = self.sends(
             variable(agent),
             variable(at),
             self.channel(DELIVER),
             carried,
-        )?;
-        let waits = self.takes(variable(lock), name(at), delivers)?;
-        let names = two_names(self.alloc, agent, letter)?;
+        );
+        let waits = self.takes(variable(lock), name(at), delivers);
+        let names = two_names(self.alloc, agent, letter);
         self.looks_up(MESSAGE, names, agent, places, lock, waits)
     }
 
     /// The server for agents that have taken a letter.
-    fn dack_server(self, agent: u32, at: u32, places: u32, lock: u32) -> Result<Boxed<Proc>, Memory>
+    fn dack_server(self, agent: u32, at: u32, places: u32, lock: u32) -> Written
         requires { self.node ≡ 0 }
-        ensures { IfOk result (λ p. p ≡ spec.dack_server self.sites agent at places lock) }
+        ensures { Writes result (spec.dack_server self.sites agent at places lock) }
     {
-        let holds = self.gives(variable(lock), variable(at))?;
-        let names = two_names(self.alloc, agent, at)?;
+        let holds = self.gives(variable(lock), variable(at));
+        let names = two_names(self.alloc, agent, at);
         self.looks_up(DACK, names, agent, places, lock, holds)
     }
 }

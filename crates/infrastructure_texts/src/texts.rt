@@ -1,14 +1,18 @@
 //! The three forms that are translated, and main's bracket.
 
 ghost use Rattle.std.specs.Prelude.{◌≡◌, IfOk};
+ghost use Rattle.np_syntax.specs.declared.process.Proc.{Proc};
+ghost use Rattle.np_syntax.specs.declared.process.ProcForm as form;
+ghost use Rattle.np_syntax.specs.declared.process.Role.TheVariants as role;
 ghost use Rattle.infrastructure_texts.specs.Pieces as piece;
+ghost use Rattle.infrastructure_texts.specs.Pieces.{Writes};
 ghost use Rattle.infrastructure_texts.specs.Texts as spec;
 
 use super::own_names::{
     ACK, CURRENTLOC, DACK, DAEMON, DELIVER, MAIN, MESSAGE, MIGRATED, MIGRATING, REGISTER,
 };
 use super::pieces::{expression, name, nothing, pair, site, two_names, unit, variable};
-use super::writer::Writer;
+use super::writer::{Writer, Written};
 use np_syntax::{Boxed, Expr, ExprForm, Memory, Proc, ProcForm};
 
 impl Writer {
@@ -27,40 +31,34 @@ impl Writer {
     pub fn post_text(self, agent: &Expr, chan: &Expr, value: &Expr) -> Result<Boxed<Proc>, Memory>
         ensures { IfOk result (λ p. p ≡ spec.post_text self.sites self.node agent.now chan.now value.now) }
     {
-        let letter = self.letter(chan, value)?;
-        let agent = agent.copy(self.alloc)?;
-        let told = pair(self.alloc, agent, letter)?;
+        let letter = self.letter(chan, value);
+        let told = pair(self.alloc, agent.copy(self.alloc), letter);
         self.posts(self.agent(DAEMON), site(0), self.channel(MESSAGE), told)
     }
 
     /// An agent waits for its site, and then has it.
-    pub fn settles(self, at: Expr, body: Boxed<Proc>) -> Result<Boxed<Proc>, Memory>
-        ensures { IfOk result (λ p. p ≡ spec.settles self.sites self.node at body) }
+    pub fn settles(self, at: Expr, body: Written) -> Written
+        ensures { (p : Proc) → Writes body p → Writes result (spec.settles self.sites self.node at p) }
     {
-        let place = self.gives(self.channel(CURRENTLOC), at)?;
-        let body = self.beside(body, place)?;
-        self.takes(self.channel(ACK), nothing(), body)
+        let place = self.gives(self.channel(CURRENTLOC), at);
+        self.takes(self.channel(ACK), nothing(), self.beside(body, place))
     }
 
     /// An agent tells its new site.
-    fn reports(self, agent: &Expr, at: &Expr) -> Result<Boxed<Proc>, Memory>
-        ensures { IfOk result (λ p. p ≡ piece.tells self.sites self.node (piece.migrated self.sites) (piece.pair agent.now at.now)) }
+    fn reports(self, agent: &Expr, at: &Expr) -> Written
+        ensures { Writes result (piece.tells self.sites self.node (piece.migrated self.sites) (piece.pair agent.now at.now)) }
     {
-        let agent = agent.copy(self.alloc)?;
-        let at = at.copy(self.alloc)?;
-        let report = pair(self.alloc, agent, at)?;
+        let report = pair(self.alloc, agent.copy(self.alloc), at.copy(self.alloc));
         self.tells(self.channel(MIGRATED), report)
     }
 
     /// The migration itself, and the report of the new site.
-    fn move_text(self, agent: &Expr, to: &Expr, body: Boxed<Proc>) -> Result<Boxed<Proc>, Memory>
-        ensures { IfOk result (λ p. p ≡ spec.move_text self.sites self.node agent.now to.now body) }
+    fn move_text(self, agent: &Expr, to: &Expr, body: Written) -> Written
+        ensures { (p : Proc) → Writes body p → Writes result (spec.move_text self.sites self.node agent.now to.now p) }
     {
-        let settled = self.settles(to.copy(self.alloc)?, body)?;
-        let reports = self.reports(agent, to)?;
-        let arrived = self.beside(settled, reports)?;
-        let to = to.copy(self.alloc)?;
-        self.plain(ProcForm::Migrate(to, arrived))
+        let settled = self.settles(to.copy(self.alloc)?, body);
+        let arrived = self.beside(settled, self.reports(agent, to));
+        self.plain(ProcForm::Migrate(to.copy(self.alloc)?, arrived?))
     }
 
     /// A migration of an agent, and what it does at the site.
@@ -72,51 +70,47 @@ impl Writer {
     ) -> Result<Boxed<Proc>, Memory>
         ensures { IfOk result (λ p. p ≡ spec.migrate_text self.sites self.node agent.now to.now body) }
     {
-        let moves = self.move_text(agent, to, body)?;
-        let granted = self.takes(self.channel(ACK), nothing(), moves)?;
-        let asks = self.tells(self.channel(MIGRATING), agent.copy(self.alloc)?)?;
-        let both = self.beside(granted, asks)?;
+        let moves = self.move_text(agent, to, Ok(body));
+        let granted = self.takes(self.channel(ACK), nothing(), moves);
+        let asks = self.tells(self.channel(MIGRATING), agent.copy(self.alloc));
+        let both = self.beside(granted, asks);
         self.takes(self.channel(CURRENTLOC), nothing(), both)
     }
 
     /// What takes the letters of an agent.
-    pub fn server_text(self, agent: Expr, letter: u32, place: u32) -> Result<Boxed<Proc>, Memory>
-        ensures { IfOk result (λ p. p ≡ spec.server_text self.sites self.node agent letter place) }
+    pub fn server_text(self, agent: Expr, letter: u32, place: u32) -> Written
+        ensures { Writes result (spec.server_text self.sites self.node agent letter place) }
     {
-        let taken = pair(self.alloc, agent, variable(place))?;
-        let answers = self.tells(self.channel(DACK), taken)?;
-        let opens = self.infra(ProcForm::Open(variable(letter)))?;
-        let body = self.beside(opens, answers)?;
-        let names = two_names(self.alloc, letter, place)?;
-        self.serves(self.channel(DELIVER), names, body)
+        let taken = pair(self.alloc, Ok(agent), Ok(variable(place)));
+        let answers = self.tells(self.channel(DACK), taken);
+        let opens = self.infra(ProcForm::Open(variable(letter)));
+        let names = two_names(self.alloc, letter, place);
+        self.serves(self.channel(DELIVER), names, self.beside(opens, answers))
     }
 
     /// What a new agent does once it is registered.
-    pub fn begins(self, parent: &Expr, at: u32, body: Boxed<Proc>) -> Result<Boxed<Proc>, Memory>
-        ensures { IfOk result (λ p. p ≡ spec.begins self.sites self.node parent.now at body) }
+    pub fn begins(self, parent: &Expr, at: u32, body: Written) -> Written
+        ensures { (p : Proc) → Writes body p → Writes result (spec.begins self.sites self.node parent.now at p) }
     {
         let parent = parent.copy(self.alloc)?;
-        let tells = self.sends(parent, variable(at), self.channel(ACK), unit(self.alloc))?;
-        let body = self.beside(body, tells)?;
-        self.settles(variable(at), body)
+        let tells = self.sends(
+            parent,
+            variable(at),
+            self.channel(ACK),
+            Ok(unit(self.alloc)),
+        );
+        self.settles(variable(at), self.beside(body, tells))
     }
 
     /// What a new agent does.
-    fn child_text(
-        self,
-        parent: &Expr,
-        agent: u32,
-        made: Made,
-        body: Boxed<Proc>,
-    ) -> Result<Boxed<Proc>, Memory>
-        ensures { IfOk result (λ p. p ≡ spec.child_text self.sites self.node parent.now agent made.at made.letter made.place body) }
+    fn child_text(self, parent: &Expr, agent: u32, made: Made, body: Written) -> Written
+        ensures { (p : Proc) → Writes body p → Writes result (spec.child_text self.sites self.node parent.now agent made.at made.letter made.place p) }
     {
-        let begins = self.begins(parent, made.at, body)?;
-        let server = self.server_text(variable(agent), made.letter, made.place)?;
-        let both = self.beside(begins, server)?;
-        let told = pair(self.alloc, variable(agent), variable(made.at))?;
-        let registers = self.tells(self.channel(REGISTER), told)?;
-        self.beside(both, registers)
+        let begins = self.begins(parent, made.at, body);
+        let server = self.server_text(variable(agent), made.letter, made.place);
+        let told = pair(self.alloc, Ok(variable(agent)), Ok(variable(made.at)));
+        let registers = self.tells(self.channel(REGISTER), told);
+        self.beside(self.beside(begins, server), registers)
     }
 
     /// A creation by an agent, and what the new agent and the other do.
@@ -130,10 +124,17 @@ impl Writer {
     ) -> Result<Boxed<Proc>, Memory>
         ensures { IfOk result (λ p. p ≡ spec.agent_text self.sites self.node parent.now agent made.at made.letter made.place body rest) }
     {
-        let child = self.child_text(parent, agent, made, body)?;
-        let rest = self.settles(variable(made.at), rest)?;
-        let creates = self.plain(ProcForm::Agent(agent, child, rest))?;
+        let child = self.child_text(parent, agent, made, Ok(body));
+        let rest = self.settles(variable(made.at), Ok(rest));
+        let creates = self.creates(agent, child, rest);
         self.takes(self.channel(CURRENTLOC), name(made.at), creates)
+    }
+
+    /// `agent b = P in Q`
+    pub fn creates(self, agent: u32, child: Written, rest: Written) -> Written
+        ensures { (p q : Proc) → Writes child p → Writes rest q → Writes result (piece.process self.node role.Plain (form.Agent agent p q)) }
+    {
+        self.plain(ProcForm::Agent(agent, child?, rest?))
     }
 
     /// Main's bracket, at this site.
@@ -147,10 +148,9 @@ impl Writer {
         requires { self.node ≡ 0 }
         ensures { IfOk result (λ p. p ≡ spec.main_text self.sites at letter place body) }
     {
-        let holds = self.gives(self.channel(CURRENTLOC), site(at))?;
-        let both = self.beside(body, holds)?;
-        let server = self.server_text(self.agent(MAIN), letter, place)?;
-        self.beside(both, server)
+        let holds = self.gives(self.channel(CURRENTLOC), site(at));
+        let server = self.server_text(self.agent(MAIN), letter, place);
+        self.beside(self.beside(Ok(body), holds), server)
     }
 }
 

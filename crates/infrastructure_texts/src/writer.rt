@@ -1,14 +1,22 @@
-//! Processes that are written out for a node of the source.
+//! Processes that are written out for a node of the source. What is written out of parts takes them as they came, so that want of
+//! memory at a part is want of memory of the whole.
 
-ghost use Rattle.std.specs.Prelude.{◌≡◌, IfOk};
+ghost use Rattle.std.specs.Prelude.{◌≡◌};
 ghost use Rattle.np_calculus.specs.Starts.{own};
 ghost use Rattle.np_syntax.specs.declared.process.Role.TheVariants as role;
+ghost use Rattle.np_syntax.specs.declared.expression.Expr.{Expr};
+ghost use Rattle.np_syntax.specs.declared.pattern.Pat.{Pat};
+ghost use Rattle.np_syntax.specs.declared.process.Proc.{Proc};
 ghost use Rattle.infrastructure_texts.specs.Pieces as spec;
+ghost use Rattle.infrastructure_texts.specs.Pieces.{Writes};
 
 use super::own_names::DAEMON;
 use super::pieces::{expression, site, variable};
 use np_syntax::{Boxed, Expr, ExprForm, Memory, Name, Pat, Proc, ProcForm, Role, Tag, Value};
 use std::alloc::Global;
+
+/// A process that was written out, unless memory was wanting.
+pub type Written = Result<Boxed<Proc>, Memory>;
 
 /// Writes processes that stand for the source node of this number, in a program of so many sites.
 #[derive(Clone, Copy)]
@@ -51,99 +59,81 @@ impl Writer {
         Proc { tag, at: 0, form }
     }
 
-    pub fn boxed(self, role: Role, form: ProcForm) -> Result<Boxed<Proc>, Memory>
-        ensures { IfOk result (λ p. p ≡ spec.process self.node role form) }
+    pub fn boxed(self, role: Role, form: ProcForm) -> Written
+        ensures { Writes result (spec.process self.node role form) }
     {
         Boxed::of(self.alloc, self.process(role, form))
     }
 
     /// A process that the infrastructure takes a step of its own for.
-    pub fn infra(self, form: ProcForm) -> Result<Boxed<Proc>, Memory>
-        ensures { IfOk result (λ p. p ≡ spec.infra self.node form) }
+    pub fn infra(self, form: ProcForm) -> Written
+        ensures { Writes result (spec.infra self.node form) }
     {
         self.boxed(Role::Infra, form)
     }
 
     /// A process that the source's node itself takes its step by.
-    pub fn plain(self, form: ProcForm) -> Result<Boxed<Proc>, Memory>
-        ensures { IfOk result (λ p. p ≡ spec.process self.node role.Plain form) }
+    pub fn plain(self, form: ProcForm) -> Written
+        ensures { Writes result (spec.process self.node role.Plain form) }
     {
         self.boxed(Role::Plain, form)
     }
 
     /// The sending of a post.
-    pub fn posts(
-        self,
-        agent: Expr,
-        at: Expr,
-        chan: Expr,
-        value: Expr,
-    ) -> Result<Boxed<Proc>, Memory>
-        ensures { IfOk result (λ p. p ≡ spec.posts self.node agent at chan value) }
+    pub fn posts(self, agent: Expr, at: Expr, chan: Expr, value: Result<Expr, Memory>) -> Written
+        ensures { (e : Expr) → Writes value e → Writes result (spec.posts self.node agent at chan e) }
     {
-        self.boxed(Role::Post, ProcForm::Send(agent, at, chan, value))
+        self.boxed(Role::Post, ProcForm::Send(agent, at, chan, value?))
     }
 
     /// `(P | Q)`
-    pub fn beside(self, left: Boxed<Proc>, right: Boxed<Proc>) -> Result<Boxed<Proc>, Memory>
-        ensures { IfOk result (λ p. p ≡ spec.beside self.node left right) }
+    pub fn beside(self, left: Written, right: Written) -> Written
+        ensures { (p q : Proc) → Writes left p → Writes right q → Writes result (spec.beside self.node p q) }
     {
-        self.infra(ProcForm::Par(left, right))
+        self.infra(ProcForm::Par(left?, right?))
     }
 
     /// `c!e`
-    pub fn gives(self, chan: Expr, value: Expr) -> Result<Boxed<Proc>, Memory>
-        ensures { IfOk result (λ p. p ≡ spec.gives self.node chan value) }
+    pub fn gives(self, chan: Expr, value: Expr) -> Written
+        ensures { Writes result (spec.gives self.node chan value) }
     {
         self.infra(ProcForm::Out(chan, value))
     }
 
     /// `c?p -> P`
-    pub fn takes(self, chan: Expr, names: Pat, body: Boxed<Proc>) -> Result<Boxed<Proc>, Memory>
-        ensures { IfOk result (λ p. p ≡ spec.takes self.node chan names body) }
+    pub fn takes(self, chan: Expr, names: Pat, body: Written) -> Written
+        ensures { (p : Proc) → Writes body p → Writes result (spec.takes self.node chan names p) }
     {
-        self.infra(ProcForm::Inp(chan, names, body))
+        self.infra(ProcForm::Inp(chan, names, body?))
     }
 
     /// `*c?p -> P`
-    pub fn serves(self, chan: Expr, names: Pat, body: Boxed<Proc>) -> Result<Boxed<Proc>, Memory>
-        ensures { IfOk result (λ p. p ≡ spec.serves self.node chan names body) }
+    pub fn serves(self, chan: Expr, names: Result<Pat, Memory>, body: Written) -> Written
+        ensures { (n : Pat) (p : Proc) → Writes names n → Writes body p → Writes result (spec.serves self.node chan n p) }
     {
-        self.infra(ProcForm::Rep(chan, names, body))
+        self.infra(ProcForm::Rep(chan, names?, body?))
     }
 
     /// `<b@s>c!e`
-    pub fn sends(
-        self,
-        agent: Expr,
-        at: Expr,
-        chan: Expr,
-        value: Expr,
-    ) -> Result<Boxed<Proc>, Memory>
-        ensures { IfOk result (λ p. p ≡ spec.sends self.node agent at chan value) }
+    pub fn sends(self, agent: Expr, at: Expr, chan: Expr, value: Result<Expr, Memory>) -> Written
+        ensures { (e : Expr) → Writes value e → Writes result (spec.sends self.node agent at chan e) }
     {
-        self.infra(ProcForm::Send(agent, at, chan, value))
+        self.infra(ProcForm::Send(agent, at, chan, value?))
     }
 
     /// `c!e`, sent to the daemon.
-    pub fn tells(self, chan: Expr, value: Expr) -> Result<Boxed<Proc>, Memory>
-        ensures { IfOk result (λ p. p ≡ spec.tells self.sites self.node chan value) }
+    pub fn tells(self, chan: Expr, value: Result<Expr, Memory>) -> Written
+        ensures { (e : Expr) → Writes value e → Writes result (spec.tells self.sites self.node chan e) }
     {
         self.sends(self.agent(DAEMON), site(0), chan, value)
     }
 
     /// `lookup a in m then l -> P else 0`
-    pub fn finds(
-        self,
-        agent: u32,
-        places: u32,
-        lock: u32,
-        body: Boxed<Proc>,
-    ) -> Result<Boxed<Proc>, Memory>
-        ensures { IfOk result (λ p. p ≡ spec.finds self.node agent places lock body) }
+    pub fn finds(self, agent: u32, places: u32, lock: u32, body: Written) -> Written
+        ensures { (p : Proc) → Writes body p → Writes result (spec.finds self.node agent places lock p) }
     {
-        let stop = self.infra(ProcForm::Stop)?;
+        let stop = self.infra(ProcForm::Stop);
         let (agent, places) = (variable(agent), variable(places));
-        self.infra(ProcForm::Lookup(agent, places, lock, body, stop))
+        self.infra(ProcForm::Lookup(agent, places, lock, body?, stop?))
     }
 }

@@ -81,11 +81,32 @@ pub fn add_piece<R: Files + Alloc>(
         Form::Line => add_line(bytes, rest),
         Form::Tree => add_tree(alloc, bytes, rest, number),
         Form::Numbered => add_numbered(bytes, rest, number),
-        Form::File => add_file(rt, bytes, format!(in alloc; "{folder}{rest}")?.as_str()),
+        Form::File => add_named(rt, alloc, folder, bytes, rest),
         Form::Part => add_part(rt, alloc, folder, bytes, rest, number),
-        Form::Quoted => add_text(bytes, quoted(line, number)?),
-        Form::Times => add_times(bytes, quoted(rest, number)?, count_of(key, number)?),
+        Form::Quoted => add_quoted(bytes, line, number),
+        Form::Times => add_repeated(bytes, key, rest, number),
     }
+}
+
+/// What is quoted.
+fn add_quoted(bytes: &mut Vec<u8>, line: &str, number: u32) -> Result<(), ExampleFail>
+    ensures made { OnOk result (Adds (these_or_refused (spec.quoted line.now)) bytes.old.items bytes.new.items) }
+    ensures refused { IfErr result (IsFault (these_or_refused (spec.quoted line.now)) number) }
+    ensures kept { IsLonger bytes.old.items bytes.new.items }
+{
+    let text = quoted(line, number)?;
+    add_text(bytes, text)
+}
+
+/// What is quoted, so many times.
+fn add_repeated(bytes: &mut Vec<u8>, key: &str, rest: &str, number: u32) -> Result<(), ExampleFail>
+    ensures made { OnOk result (Adds (these_or_refused (spec.times_of key.now rest.now)) bytes.old.items bytes.new.items) }
+    ensures refused { IfErr result (IsFault (these_or_refused (spec.times_of key.now rest.now)) number) }
+    ensures kept { IsLonger bytes.old.items bytes.new.items }
+{
+    let text = quoted(rest, number)?;
+    let count = count_of(key, number)?;
+    add_times(bytes, text, count)
 }
 
 fn add_text(bytes: &mut Vec<u8>, text: &str) -> Result<(), ExampleFail>
@@ -153,6 +174,22 @@ fn add_numbered(bytes: &mut Vec<u8>, rest: &str, number: u32) -> Result<(), Exam
         bytes.push(byte)?;
     }
     Ok(())
+}
+
+/// A file of the folder.
+fn add_named<R: Files + Alloc>(
+    rt: &R,
+    alloc: Global,
+    folder: &str,
+    bytes: &mut Vec<u8>,
+    name: &str,
+) -> Result<(), ExampleFail>
+    ensures made { OnOk result (Adds (File name.now) bytes.old.items bytes.new.items) }
+    ensures refused { IfErr result (λ e. (line : ℕ) → e ≢ ExampleFail.Line line) }
+    ensures kept { IsLonger bytes.old.items bytes.new.items }
+{
+    let path = format!(in alloc; "{folder}{name}")?;
+    add_file(rt, bytes, path.as_str())
 }
 
 fn add_file<R: Files + Alloc>(rt: &R, bytes: &mut Vec<u8>, path: &str) -> Result<(), ExampleFail>
