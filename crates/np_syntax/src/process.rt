@@ -49,7 +49,6 @@ impl Drop for Proc {
 /// The forms of a process, with their parts in the order of the source. `Post` stands at the high level
 /// alone, `Open` and `Lookup` at the low level alone.
 #[cycle(process)]
-#[derive(Drop)]
 pub enum ProcForm {
     Stop,
     Par(Boxed<Proc>, Boxed<Proc>),
@@ -67,6 +66,30 @@ pub enum ProcForm {
     Print(Expr),
     Open(Expr),
     Lookup(Expr, Expr, u32, Boxed<Proc>, Boxed<Proc>),
+}
+
+impl Drop for ProcForm {
+    #[cycle(drop_proc)]
+    fn drop(self) {
+        match self {
+            ProcForm::Stop
+            | ProcForm::Par(_, _)
+            | ProcForm::New(_, _, _)
+            | ProcForm::Out(_, _)
+            | ProcForm::Inp(_, _, _)
+            | ProcForm::Rep(_, _, _)
+            | ProcForm::Agent(_, _, _)
+            | ProcForm::Migrate(_, _)
+            | ProcForm::IfLocal(_, _, _, _, _)
+            | ProcForm::Send(_, _, _, _)
+            | ProcForm::Post(_, _, _)
+            | ProcForm::If(_, _, _)
+            | ProcForm::Let(_, _, _)
+            | ProcForm::Print(_)
+            | ProcForm::Open(_)
+            | ProcForm::Lookup(_, _, _, _, _) => {}
+        }
+    }
 }
 
 impl Proc {
