@@ -1,5 +1,5 @@
 -- What the moves of an atom's parts make of the atoms.
-use Rattle.std.specs.Prelude.{◌≡◌, ℕ, Bool, cond, Option, None, Some}
+use Rattle.std.specs.Prelude.{◌≡◌, ℕ, Bool, Option, Some}
 use Rattle.std.specs.FinMap as map
 use Rattle.np_syntax.specs.declared.value.Name.{Name}
 use Rattle.np_syntax.specs.declared.process.Proc.{Proc}
@@ -7,9 +7,9 @@ use Rattle.np_calculus.specs.declared.config.Atom.{Atom}
 use Rattle.np_tables.specs.Names.{NameMap}
 use Rattle.np_syntax.specs.Options.{◌>>=◌}
 use Rattle.np_eval.specs.Eval.{Env}
-use Rattle.np_eval.specs.Forms.{Layer, layer}
+pub use Rattle.np_syntax.specs.Parts.{body_at, way_at}
+use Rattle.np_eval.specs.Forms.{layer}
 use Rattle.np_eval.specs.FormParts.{as_par, as_agent_form}
-use Rattle.np_syntax.specs.declared.process.ProcForm.{ProcForm-F}
 use Rattle.np_calculus.specs.Reductions.{goes, goes_under}
 
 -- the parts of the atom of a mark that is a composition
@@ -21,14 +21,7 @@ pub record Splits (old new : NameMap Atom) (actor mark : Name) (env : Env) : Typ
   pub each : (a : Atom) (parts : Proc × Proc) → map.get old actor ≡ Some a → as_par (layer a.proc) ≡ Some parts
       → new ≡ map.insert (map.insert old mark (goes_under a parts.1 env)) actor (goes a parts.0)
 
--- the one process in a form that has one, and is not kept when it goes on
-abbrev pub body_at : Layer → Option Proc
-body_at (ProcForm-F.New x ty body) = Some body
-body_at (ProcForm-F.Inp x pat body) = Some body
-body_at (ProcForm-F.Let pat e body) = Some body
-body_at (ProcForm-F.Migrate s body) = Some body
-body_at _ = None
-
+-- the one process in the form of the atom of a mark that has one
 abbrev pub body_in : NameMap Atom → Name → Option Proc
 body_in atoms mark = map.get atoms mark >>= λ a. body_at (layer a.proc)
 
@@ -36,14 +29,7 @@ body_in atoms mark = map.get atoms mark >>= λ a. body_at (layer a.proc)
 pub record Enters (old new : NameMap Atom) (actor : Name) (env : Env) : Type 0 where
   pub each : (a : Atom) (body : Proc) → map.get old actor ≡ Some a → body_at (layer a.proc) ≡ Some body → new ≡ map.insert old actor (goes_under a body env)
 
--- the process that a migration, a test or a lookup goes on as: of two it is the first or the second
-abbrev pub way_at : Layer → Bool → Option Proc
-way_at (ProcForm-F.Migrate s body) first = Some body
-way_at (ProcForm-F.If e met unmet) first = Some (cond first met unmet)
-way_at (ProcForm-F.IfLocal b c e met unmet) first = Some (cond first met unmet)
-way_at (ProcForm-F.Lookup b m x met unmet) first = Some (cond first met unmet)
-way_at _ first = None
-
+-- the process that the atom of a mark goes on as: of two it is the first or the second
 abbrev pub way_in : NameMap Atom → Name → Bool → Option Proc
 way_in atoms mark first = map.get atoms mark >>= λ a. way_at (layer a.proc) first
 

@@ -7,7 +7,7 @@ ghost use Rattle.np_calculus.specs.Reductions.{goes, goes_under};
 
 use np_calculus::Atom;
 use np_eval::Frame;
-use np_syntax::{Boxed, Name, Proc, ProcForm};
+use np_syntax::{Name, Proc, ProcForm};
 use np_tables::Table;
 
 /// The atoms that a composition goes on as, moved out of it; the second has a frame of its own.
@@ -19,24 +19,18 @@ pub fn halves(atom: Atom, env: Frame) -> Option<(Atom, Atom)>
         proc,
         env: own,
     } = atom;
-    match proc.into_form() {
-        ProcForm::Par(left, right) => Some((
-            Atom {
-                agent,
-                proc: left.into_inner(),
-                env: own,
-            },
-            Atom {
-                agent,
-                proc: right.into_inner(),
-                env,
-            },
-        )),
-        other => {
-            drop(other);
-            None
-        }
-    }
+    let (left, right) = proc.into_form().into_parts()?;
+    let left = Atom {
+        agent,
+        proc: left,
+        env: own,
+    };
+    let right = Atom {
+        agent,
+        proc: right,
+        env,
+    };
+    Some((left, right))
 }
 
 /// Takes the form of an atom's process out of it.
@@ -63,27 +57,11 @@ fn go_with(atom: &mut Atom, proc: Proc, env: Frame)
     atom.env = env;
 }
 
-/// The body of a form that has one, moved out of it.
-fn body_of(form: ProcForm) -> Option<Proc>
-    ensures { result ≡ body_at (out-ProcForm form) }
-{
-    match form {
-        ProcForm::New(_binder, _ty, body) => Some(body.into_inner()),
-        ProcForm::Inp(_chan, _pat, body) => Some(body.into_inner()),
-        ProcForm::Let(_pat, _value, body) => Some(body.into_inner()),
-        ProcForm::Migrate(_site, body) => Some(body.into_inner()),
-        other => {
-            drop(other);
-            None
-        }
-    }
-}
-
 /// An atom of a form with one body goes on as that, under another frame.
 fn become_body(atom: &mut Atom, env: Frame)
     ensures { (body : Proc) → body_at (layer atom.old.proc) ≡ Some body → atom.new ≡ goes_under atom.old body env }
 {
-    if let Some(body) = body_of(take_form(atom)) {
+    if let Some(body) = take_form(atom).into_body() {
         go_with(atom, body, env);
     }
 }
@@ -120,38 +98,11 @@ pub fn chosen<'a>(met: &'a Proc, unmet: &'a Proc, first: bool) -> &'a Proc
     if first { met } else { unmet }
 }
 
-/// The same of processes that are moved.
-fn either(met: Boxed<Proc>, unmet: Boxed<Proc>, first: bool) -> Proc
-    ensures { result ≡ cond first met unmet }
-{
-    if first {
-        met.into_inner()
-    } else {
-        unmet.into_inner()
-    }
-}
-
-/// The process that a migration, a test or a lookup goes on as, moved out of it.
-fn way_of(form: ProcForm, first: bool) -> Option<Proc>
-    ensures { result ≡ way_at (out-ProcForm form) first }
-{
-    match form {
-        ProcForm::Migrate(_site, body) => Some(body.into_inner()),
-        ProcForm::If(_test, met, unmet) => Some(either(met, unmet, first)),
-        ProcForm::IfLocal(_agent, _chan, _value, met, unmet) => Some(either(met, unmet, first)),
-        ProcForm::Lookup(_agent, _places, _binder, met, unmet) => Some(either(met, unmet, first)),
-        other => {
-            drop(other);
-            None
-        }
-    }
-}
-
 /// An atom goes on as a process in it.
 fn become_way(atom: &mut Atom, first: bool)
     ensures { (p : Proc) → way_at (layer atom.old.proc) first ≡ Some p → atom.new ≡ goes atom.old p }
 {
-    if let Some(proc) = way_of(take_form(atom), first) {
+    if let Some(proc) = take_form(atom).into_way(first) {
         go(atom, proc);
     }
 }
@@ -168,7 +119,7 @@ pub fn go_on(atoms: &mut Table<Atom>, actor: Name, first: bool)
 fn become_way_under(atom: &mut Atom, first: bool, env: Frame)
     ensures { (p : Proc) → way_at (layer atom.old.proc) first ≡ Some p → atom.new ≡ goes_under atom.old p env }
 {
-    if let Some(proc) = way_of(take_form(atom), first) {
+    if let Some(proc) = take_form(atom).into_way(first) {
         go_with(atom, proc, env);
     }
 }
@@ -190,24 +141,18 @@ fn agent_halves(atom: Atom, agent: Name, env: Frame, own: Frame) -> Option<(Atom
         proc,
         ..
     } = atom;
-    match proc.into_form() {
-        ProcForm::Agent(_binder, body, rest) => Some((
-            Atom {
-                agent,
-                proc: body.into_inner(),
-                env,
-            },
-            Atom {
-                agent: at,
-                proc: rest.into_inner(),
-                env: own,
-            },
-        )),
-        other => {
-            drop(other);
-            None
-        }
-    }
+    let (_, body, rest) = proc.into_form().into_creation()?;
+    let body = Atom {
+        agent,
+        proc: body,
+        env,
+    };
+    let rest = Atom {
+        agent: at,
+        proc: rest,
+        env: own,
+    };
+    Some((body, rest))
 }
 
 /// Lets an atom that makes an agent go on, and puts the agent's process under a mark; each has one of two equal frames.

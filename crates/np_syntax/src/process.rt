@@ -1,4 +1,6 @@
-ghost use Rattle.std.specs.Prelude.{◌≡◌, IfOk};
+ghost use Rattle.std.specs.Prelude.{◌≡◌, cond, IfOk};
+ghost use Rattle.np_syntax.specs.Parts.{as_agent_form, as_par, body_at, way_at};
+ghost use Rattle.np_syntax.specs.declared.process.ProcForm.{out-ProcForm};
 
 use super::boxed::Boxed;
 use super::expression::Expr;
@@ -127,6 +129,70 @@ fn copy_boxed(alloc: Global, proc: &Boxed<Proc>) -> Result<Boxed<Proc>, Memory>
 }
 
 impl ProcForm {
+    /// The two parts of a composition, moved out of it.
+    pub fn into_parts(self) -> Option<(Proc, Proc)>
+        ensures { result ≡ as_par (out-ProcForm self) }
+    {
+        match self {
+            ProcForm::Par(left, right) => Some((left.into_inner(), right.into_inner())),
+            other => {
+                drop(other);
+                None
+            }
+        }
+    }
+
+    /// The binder of a creation, the new agent's process and what goes on, moved out of it.
+    pub fn into_creation(self) -> Option<(u32, Proc, Proc)>
+        ensures { result ≡ as_agent_form (out-ProcForm self) }
+    {
+        match self {
+            ProcForm::Agent(binder, body, rest) => Some((
+                binder,
+                body.into_inner(),
+                rest.into_inner(),
+            )),
+            other => {
+                drop(other);
+                None
+            }
+        }
+    }
+
+    /// The body of a form that has one, and is not kept when it goes on, moved out of it.
+    pub fn into_body(self) -> Option<Proc>
+        ensures { result ≡ body_at (out-ProcForm self) }
+    {
+        match self {
+            ProcForm::New(_binder, _ty, body) => Some(body.into_inner()),
+            ProcForm::Inp(_chan, _pat, body) => Some(body.into_inner()),
+            ProcForm::Let(_pat, _value, body) => Some(body.into_inner()),
+            ProcForm::Migrate(_site, body) => Some(body.into_inner()),
+            other => {
+                drop(other);
+                None
+            }
+        }
+    }
+
+    /// The process that a migration, a test or a lookup goes on as, moved out of it.
+    pub fn into_way(self, first: bool) -> Option<Proc>
+        ensures { result ≡ way_at (out-ProcForm self) first }
+    {
+        match self {
+            ProcForm::Migrate(_site, body) => Some(body.into_inner()),
+            ProcForm::If(_test, met, unmet) => Some(either(met, unmet, first)),
+            ProcForm::IfLocal(_agent, _chan, _value, met, unmet) => Some(either(met, unmet, first)),
+            ProcForm::Lookup(_agent, _places, _binder, met, unmet) => Some(either(
+                met, unmet, first,
+            )),
+            other => {
+                drop(other);
+                None
+            }
+        }
+    }
+
     #[cycle(proc_copy)]
     pub fn copy(&self, alloc: Global) -> Result<ProcForm, Memory>
         ensures { IfOk result (λ copied. copied ≡ self.now) }
@@ -171,5 +237,16 @@ impl ProcForm {
                 lookup(alloc, agent, places, *found, met, unmet)
             }
         }
+    }
+}
+
+/// The first or the second of two processes.
+fn either(met: Boxed<Proc>, unmet: Boxed<Proc>, first: bool) -> Proc
+    ensures { result ≡ cond first met unmet }
+{
+    if first {
+        met.into_inner()
+    } else {
+        unmet.into_inner()
     }
 }
