@@ -7,7 +7,7 @@ use Rattle.np_calculus.specs.declared.config.Atom.{Atom}
 use Rattle.np_tables.specs.Names.{NameMap}
 use Rattle.np_syntax.specs.Options.{◌>>=◌}
 use Rattle.np_eval.specs.Eval.{Env}
-pub use Rattle.np_syntax.specs.Parts.{body_at, way_at}
+pub use Rattle.np_syntax.specs.ProcessParts.{body_at, way_at}
 use Rattle.np_eval.specs.Forms.{layer}
 use Rattle.np_eval.specs.FormParts.{as_par, as_agent_form}
 use Rattle.np_calculus.specs.Reductions.{goes, goes_under}

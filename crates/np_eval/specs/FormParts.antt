@@ -5,7 +5,7 @@ use Rattle.np_syntax.specs.declared.expression.Expr.{Expr}
 use Rattle.np_syntax.specs.declared.pattern.Pat.{Pat}
 use Rattle.np_syntax.specs.declared.process.Proc.{Proc}
 use Rattle.np_syntax.specs.declared.process.ProcForm.{ProcForm-F}
-pub use Rattle.np_syntax.specs.Parts.{as_par, as_agent_form}
+pub use Rattle.np_syntax.specs.ProcessParts.{as_par, as_agent_form}
 use Rattle.np_eval.specs.Forms.{Layer}
 
 abbrev pub as_stop : Layer → Option (Unit {0})

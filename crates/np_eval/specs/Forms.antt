@@ -3,8 +3,10 @@ use Rattle.std.specs.Prelude.{Option, None, Some}
 use Rattle.np_syntax.specs.declared.expression.Expr.{Expr}
 use Rattle.np_syntax.specs.declared.pattern.Pat.{Pat}
 use Rattle.np_syntax.specs.declared.process.Proc.{Proc}
-use Rattle.np_syntax.specs.declared.process.ProcForm.{ProcForm-F, out-ProcForm}
-pub use Rattle.np_syntax.specs.Parts.{Layer}
+use Rattle.np_syntax.specs.declared.process.ProcForm.{ProcForm, ProcForm-F, out-ProcForm}
+
+abbrev pub Layer : Type 0
+Layer = ProcForm-F ProcForm Proc
 
 abbrev pub layer : Proc → Layer
 layer p = out-ProcForm p.form

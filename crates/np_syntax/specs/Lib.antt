@@ -2,5 +2,6 @@ pub mod Escapes
 pub mod Options
 pub mod Parts
 pub mod Printed
+pub mod ProcessParts
 pub mod Results
 pub mod formers

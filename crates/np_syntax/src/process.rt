@@ -1,5 +1,5 @@
 ghost use Rattle.std.specs.Prelude.{◌≡◌, cond, IfOk};
-ghost use Rattle.np_syntax.specs.Parts.{as_agent_form, as_par, body_at, way_at};
+ghost use Rattle.np_syntax.specs.ProcessParts.{as_agent_form, as_par, body_at, way_at};
 ghost use Rattle.np_syntax.specs.declared.process.ProcForm.{out-ProcForm};
 
 use super::boxed::Boxed;
