@@ -1,7 +1,7 @@
 use np_syntax::{Kind, Name, Tag};
 
 /// What an agent can do: an atom that acts alone, or an input and an output that meet.
-#[derive(Clone, Copy, Debug, PartialEq, Eq)]
+#[derive(Clone, Copy, PartialEq, Eq)]
 pub struct Ready {
     pub kind: Kind,
     pub actor: Name,

@@ -8,7 +8,7 @@ use np_syntax::{Event, Kind, List, Memory, Name};
 use std::alloc::Global;
 
 /// How the history of a run is changed before it is replayed. All but the first are made at each place in turn.
-#[derive(Clone, Copy, Debug, PartialEq, Eq)]
+#[derive(Clone, Copy, PartialEq, Eq)]
 pub enum Change {
     /// Not at all.
     Whole,

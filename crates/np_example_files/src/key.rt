@@ -4,7 +4,7 @@ ghost use Rattle.np_example_files.specs.Examples as spec;
 use super::change::Change;
 
 /// The keys of the lines of an example, other than those of pieces.
-#[derive(Clone, Copy, Debug, PartialEq, Eq)]
+#[derive(Clone, Copy, PartialEq, Eq)]
 pub enum Key {
     Words,
     Main,

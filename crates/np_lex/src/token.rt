@@ -4,7 +4,7 @@ ghost use Rattle.np_lex.specs.Tokens.{key_text, sign_text};
 use np_syntax::Text;
 
 /// A keyword.
-#[derive(Clone, Copy, Debug, PartialEq, Eq)]
+#[derive(Clone, Copy, PartialEq, Eq)]
 pub enum Key {
     Sites,
     Main,
@@ -86,7 +86,7 @@ impl Key {
 }
 
 /// A sign.
-#[derive(Clone, Copy, Debug, PartialEq, Eq)]
+#[derive(Clone, Copy, PartialEq, Eq)]
 pub enum Sign {
     Semi,
     Equals,

@@ -14,7 +14,7 @@ pub struct Answer {
 }
 
 /// What a program tells of an answer: the exit status, and how many events the run has, if there was one.
-#[derive(Clone, Copy, Debug, PartialEq, Eq)]
+#[derive(Clone, Copy, PartialEq, Eq)]
 pub struct Told {
     pub status: u8,
     pub events: Option<u64>,

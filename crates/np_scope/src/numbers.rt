@@ -8,7 +8,7 @@ use np_syntax::{Boxed, Memory, Proc, ProcForm, Role, Tag};
 use std::alloc::Global;
 
 /// The numbers of the next process node and of the next binder.
-#[derive(Clone, Copy, Debug, PartialEq, Eq)]
+#[derive(Clone, Copy, PartialEq, Eq)]
 pub struct Numbers {
     pub node: u32,
     pub binder: u32,

@@ -2,7 +2,7 @@ use super::process::Tag;
 use super::value::Name;
 
 /// The kinds of event, one for each row of the table of reductions.
-#[derive(Clone, Copy, Debug, PartialEq, Eq)]
+#[derive(Clone, Copy, PartialEq, Eq)]
 pub enum Kind {
     Stop,
     Fork,
@@ -24,7 +24,7 @@ pub enum Kind {
 }
 
 /// The names that an event makes.
-#[derive(Clone, Copy, Debug, PartialEq, Eq)]
+#[derive(Clone, Copy, PartialEq, Eq)]
 pub enum Made {
     Nothing,
     One(Name),
@@ -33,7 +33,7 @@ pub enum Made {
 
 /// One reduction at one site. `actor` is the mark of the acting atom, the mark of the packet that lands,
 /// or the agent that arrives; `other` is the mark of the output that is taken.
-#[derive(Clone, Copy, Debug, PartialEq, Eq)]
+#[derive(Clone, Copy, PartialEq, Eq)]
 pub struct Event {
     pub site: u32,
     pub kind: Kind,
@@ -44,7 +44,7 @@ pub struct Event {
 }
 
 /// How a run ended: no event was possible, or the budget was used and one was.
-#[derive(Clone, Copy, Debug, PartialEq, Eq)]
+#[derive(Clone, Copy, PartialEq, Eq)]
 pub enum End {
     Rest,
     Spent,

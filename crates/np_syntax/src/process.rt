@@ -15,7 +15,7 @@ use std::alloc::Global;
 
 /// What a process node is there for: a node of the source, the sending of a post, or a step of the
 /// infrastructure.
-#[derive(Clone, Copy, Debug, PartialEq, Eq)]
+#[derive(Clone, Copy, PartialEq, Eq)]
 pub enum Role {
     Plain,
     Post,
@@ -23,7 +23,7 @@ pub enum Role {
 }
 
 /// The number of the source's process node that a process stands for, 0 for none, and its role.
-#[derive(Clone, Copy, Debug, PartialEq, Eq)]
+#[derive(Clone, Copy, PartialEq, Eq)]
 pub struct Tag {
     pub node: u32,
     pub role: Role,

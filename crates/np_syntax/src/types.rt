@@ -9,7 +9,7 @@ use super::memory::Memory;
 use std::alloc::Global;
 
 /// What may be done with a channel: `^` both, `?` input alone, `!` output alone.
-#[derive(Clone, Copy, Debug, PartialEq, Eq)]
+#[derive(Clone, Copy, PartialEq, Eq)]
 pub enum Cap {
     Both,
     Input,

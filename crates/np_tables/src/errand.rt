@@ -6,7 +6,7 @@ use np_syntax::Name;
 use std::hash::{Hash, Hasher};
 
 /// Where the outputs and the inputs of one agent on one channel meet.
-#[derive(Clone, Copy, Debug, PartialEq, Eq)]
+#[derive(Clone, Copy, PartialEq, Eq)]
 pub struct Meeting {
     pub agent: Name,
     pub chan: Name,
@@ -42,7 +42,7 @@ impl Hash for Meeting {
 }
 
 /// What an atom waits for: it acts alone, it is an output or an input on a channel, or it waits on none.
-#[derive(Clone, Copy, Debug, PartialEq, Eq)]
+#[derive(Clone, Copy, PartialEq, Eq)]
 pub enum Errand {
     Acts,
     Gives(Meeting),
@@ -83,7 +83,7 @@ impl Errand {
 }
 
 /// What can go on: an atom that acts alone, or an input and an output that meet.
-#[derive(Clone, Copy, Debug, PartialEq, Eq)]
+#[derive(Clone, Copy, PartialEq, Eq)]
 pub enum Ready {
     Acts(Name),
     Meets(Name, Name),

@@ -6,21 +6,21 @@ use np_configuration::Cfg;
 use np_syntax::{Event, Name};
 
 /// What goes from site to site: an agent, or the packet of a mark.
-#[derive(Clone, Copy, Debug, PartialEq, Eq, Hash)]
+#[derive(Clone, Copy, PartialEq, Eq, Hash)]
 pub enum Item {
     Agent(Name),
     Packet(Name),
 }
 
 /// The way from one site to another, or to the same one.
-#[derive(Clone, Copy, Debug, PartialEq, Eq, Hash)]
+#[derive(Clone, Copy, PartialEq, Eq, Hash)]
 pub struct Link {
     pub from: u32,
     pub to: u32,
 }
 
 /// An item on a link.
-#[derive(Clone, Copy, Debug, PartialEq, Eq)]
+#[derive(Clone, Copy, PartialEq, Eq)]
 pub struct Trip {
     pub item: Item,
     pub link: Link,

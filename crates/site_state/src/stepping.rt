@@ -12,7 +12,7 @@ use np_syntax::{Kind, Memory, Name};
 use std::alloc::Global;
 
 /// What came of a step: an event was done, no agent could do anything, or there was no room for an event.
-#[derive(Clone, Copy, Debug, PartialEq, Eq)]
+#[derive(Clone, Copy, PartialEq, Eq)]
 pub enum Stepped {
     Did,
     Quiet,

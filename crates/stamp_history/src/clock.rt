@@ -3,7 +3,7 @@ ghost use Rattle.std.specs.Prelude.{◌≡◌, ◌<◌, ◌+◌, ◌^◌, max};
 use std::marker::Model;
 
 /// The clock of a site, which contracts see as a number. No call takes memory.
-#[derive(Debug, Drop)]
+#[derive(Drop)]
 pub struct Clock {
     stamp: u64,
 }

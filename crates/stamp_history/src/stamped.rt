@@ -2,7 +2,7 @@ use np_syntax::Event;
 use std::mem::size_of;
 
 /// An event with its stamp: how far the clock of its site was then.
-#[derive(Clone, Copy, Debug, PartialEq, Eq)]
+#[derive(Clone, Copy, PartialEq, Eq)]
 pub struct Stamped {
     pub stamp: u64,
     pub event: Event,
