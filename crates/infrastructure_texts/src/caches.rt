@@ -1,6 +1,6 @@
 //! What keeps the cache of an agent.
 
-ghost use Rattle.std.specs.Prelude.{◌≡◌, ◌+◌, ◌≤◌};
+ghost use Rattle.std.specs.Prelude.{◌+◌, ◌≤◌};
 ghost use Rattle.np_syntax.specs.declared.process.Proc.{Proc};
 ghost use Rattle.infrastructure_texts.specs.Pieces.{Writes};
 ghost use Rattle.infrastructure_texts.specs.CacheTexts as spec;
@@ -8,7 +8,7 @@ ghost use Rattle.infrastructure_texts.specs.CacheTexts as spec;
 use super::own_names::{CACHE, FOUND};
 use super::pieces::{expression, name, nothing, two_names, variable};
 use super::writer::{Writer, Written};
-use np_syntax::{Boxed, Expr, ExprForm, List, Memory, Proc, ProcForm, Value};
+use np_syntax::{Expr, ExprForm, List, ProcForm, Value};
 
 /// The cache is put back.
 pub fn keeps(writer: Writer, places: u32) -> Written
