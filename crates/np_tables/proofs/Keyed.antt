@@ -1,7 +1,6 @@
 -- A map of names that is stored as entries in some order, whose keys a derived comparison tells apart.
-use Rattle.std.proofs.Common.{◌≡◌, suc, Bool, true, false, cond, ◌&&◌, nat_eq, List, [], ◌∷◌, length, position, slice_index_or, ℕ, Option, None, Some, IsSome, IfSome, refl, sym, ap, subst, ◌∙◌, arith}
+use Rattle.std.proofs.Common.{◌≡◌, suc, Bool, true, false, cond, ◌&&◌, nat_eq, List, [], ◌∷◌, length, Option, None, Some, IsSome, refl, sym, ap, subst, ◌∙◌, arith}
 use Rattle.std.specs.Map.{lookup, keys_of}
-use Rattle.std.proofs.lemmas.List.Quantifiers.{position-Some}
 use Rattle.std.specs.FinMap as map
 use Rattle.std.specs.FinMap.{get-from_entries, find}
 use Rattle.np_syntax.specs.declared.value.Name.{Name}
@@ -31,11 +30,6 @@ alike-itself a = grind arith
 -- the derived comparison answers as the order of names does
 pub alike-same : (a b : Name) → alike a b ≡ same_name a b
 alike-same a b = both_true _ _ (λ e. subst (λ x. same_name a x ≡ true) (alike-is a b e) (same_name-itself a)) (λ e. subst (λ x. alike a x ≡ true) (same_name-is a b e) (alike-itself a))
-
--- a name stands where it is first met
-pub first_met : (names : List Name) (q : Name) (o : Option ℕ) → o ≡ position (alike q) names → IfSome o (λ i. slice_index_or names i q ≡ q)
-first_met names q None e = tt
-first_met names q (Some i) e = let at = position-Some (alike q) names i q (sym e) in sym (alike-is q (slice_index_or names i q) at.1)
 
 none_some : {A : Type 0} {x : A} → None ≡ Some x → ⊥
 none_some e = cc

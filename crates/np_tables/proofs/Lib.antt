@@ -1,4 +1,5 @@
 pub mod Keyed
+pub mod Lendings
 pub mod LineLaws
 pub mod Mapped
 pub mod MarkLaws

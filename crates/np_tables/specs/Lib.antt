@@ -2,6 +2,7 @@ pub mod Changed
 pub mod Errands
 pub mod Fed
 pub mod InStep
+pub mod Lent
 pub mod Lines
 pub mod Mapped
 pub mod Names

@@ -1,6 +1,8 @@
-ghost use Rattle.std.specs.Prelude.{◌≡◌, ◌<◌, ◌≤◌, ◌+◌, ◌↔◌, length, slice_index_or, OnOk, OnErr, IsOk, IsSome, IfSome, IsTrue, is_some};
-ghost use Rattle.std.specs.Option.{option_copied};
+ghost use Rattle.std.specs.Prelude.{◌≡◌, ◌<◌, ◌≤◌, ◌+◌, ◌↔◌, length, slice_index_or, OnOk, OnErr, IsOk, IsSome, IfSome, IsTrue, is_some, Some};
+ghost use Rattle.std.specs.Option.{option_copied, option_copied_mut};
+ghost use Rattle.std.specs.Borrow.{sem};
 ghost use Rattle.std.specs.FinMap as map;
+ghost use Rattle.np_tables.specs.Lent.{IsPlace, lends_item, lends_there};
 ghost use Rattle.np_tables.specs.Stored.{Covers};
 ghost use Rattle.np_tables.specs.Changed.{Changed};
 
@@ -9,7 +11,7 @@ use np_syntax::{Memory, Name};
 use std::alloc::Global;
 use std::marker::Model;
 
-/// A finite map from names. Its `spare` is how many new names are sure to find room, and its `keys` are the
+/// A finite map from names, which lends its values to be changed in place. Its `spare` is how many new names are sure to find room, and its `keys` are the
 /// names in the order of a walk, which `take` and `remove` change.
 pub struct Table<V> {
     entries: IndexMap<Name, V>,
@@ -48,13 +50,29 @@ impl<V> Table<V> {
         self.entries.get(&key)
     }
 
+    /// The value of a name, to be changed in place.
+    pub fn get_mut(&mut self, key: Name) -> Option<&mut V>
+        ensures* writes_back { sem 𝓛 (lends_item V.row self.entry key result) }
+        ensures value { option_copied_mut result ≡ map.get self.old.items key }
+    {
+        self.entries.get_mut(&key)
+    }
+
     /// Where a name stands in the order of the walk.
     pub fn index(&self, key: Name) -> Option<usize>
         ensures found { is_some result ≡ is_some (map.get self.now.items key) }
-        ensures within { IfSome result (λ index. index < length self.now.keys) }
-        ensures at { IfSome result (λ index. slice_index_or self.now.keys index key ≡ key) }
+        ensures place { IfSome result (IsPlace self.now.keys key) }
     {
         self.entries.get_index_of(&key)
+    }
+
+    /// The value of the name at an index of the walk, to be changed in place. No name is looked up.
+    pub fn value_at(&mut self, key: Name, index: usize) -> &mut V
+        requires { IsPlace self.old.keys key index }
+        ensures* writes_back { sem 𝓛 (lends_there V.row self.entry key result) }
+        ensures value { Some result.now ≡ map.get self.old.items key }
+    {
+        &mut self.entries[index]
     }
 
     /// The value of a name, which is looked for at an index first. Where it stands there, this takes no search.

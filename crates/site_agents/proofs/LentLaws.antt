@@ -1,5 +1,5 @@
 -- What the agents at a site end as, where one of them was lent.
-use Rattle.std.proofs.Common.{◌≡◌, ℕ, Bool, true, false, List, Option, None, Some, refl, sym, ap, subst, ◌∙◌}
+use Rattle.std.proofs.Common.{◌≡◌, is_some, ℕ, Bool, true, false, List, Option, None, Some, refl, sym, ap, subst, ◌∙◌}
 use Rattle.std.specs.FinMap as map
 use Rattle.np_syntax.specs.declared.value.Name.{Name}
 use Rattle.np_tables.specs.Names.{NameMap}
@@ -15,6 +15,11 @@ use Rattle.site_agents.specs.Standings.{Standing, agent_of, agents_of}
 use Rattle.site_agents.proofs.Comings.{keeps_itself}
 use Rattle.site_agents.proofs.Reading.{seen, mapped_none, put_agents, put_quiet}
 use Rattle.site_agents.proofs.Seatings.{by_bool, all_but, in_turn_changed, agents_changed}
+
+-- what is not found is not there
+pub absent : {A : Type 0} (o : Option A) → false ≡ is_some o → o ≡ None
+absent None e = refl
+absent (Some x) e = absurd cc
 
 none_some : {A : Type 0} {x : A} → Some x ≡ None → ⊥
 none_some e = cc

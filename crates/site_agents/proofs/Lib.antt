@@ -1,5 +1,4 @@
 pub mod Comings
-pub mod Lendings
 pub mod LentLaws
 pub mod Lines
 pub mod Reading

@@ -12,7 +12,7 @@ use Rattle.agent_pool.specs.Pools.{atoms_of}
 use Rattle.agent_pool.specs.Readies.{IsReady}
 use Rattle.agent_pool.specs.declared.ready.Ready.{Ready}
 use Rattle.site_agents.specs.declared.seat.Seat.{Seat}
-use Rattle.site_agents.specs.Lent.{with_item}
+use Rattle.np_tables.specs.Lent.{with_item}
 use Rattle.site_agents.specs.Queues.{Waiting, waits, Keeps, KeepsBut}
 use Rattle.site_agents.specs.Rounds.{InTurn, QuietCan, GoesOn, changed_in, changed, with_changed, doubted, called, settled}
 use Rattle.site_agents.specs.Standings.{is_quiet, agent_of, agents_of, CanDo, CanNothing}

@@ -1,4 +1,3 @@
-pub mod Lent
 pub mod LentAgents
 pub mod LentSeats
 pub mod Queues

@@ -10,11 +10,11 @@ ghost use Rattle.site_agents.specs.Standings.{AreNamed, AreQuiet, AreIdle, CanDo
 use super::lending::{agent_at, call_again};
 use super::queue::Queue;
 use super::seat::Seat;
-use super::seats::Seats;
 use super::serving::{all_idle, any_ready, next_doubtful, next_likely, take_seat, who_can};
 use agent_pool::{Agent, Ready};
 use np_code::Code;
 use np_syntax::{Memory, Name};
+use np_tables::Table;
 use std::alloc::Global;
 use std::marker::Model;
 
@@ -22,7 +22,7 @@ use std::marker::Model;
 /// first served, or among the doubtful, of which no index tells what they can do. The others were found to be quiet, and
 /// cost nothing until they are changed.
 pub struct Agents {
-    seats: Seats<Seat>,
+    seats: Table<Seat>,
     turns: Queue,
     doubtful: Queue,
 }
@@ -57,7 +57,7 @@ impl Agents {
         ensures quiet { result.quiet ≡ map.empty }
     {
         Agents {
-            seats: Seats::new(alloc),
+            seats: Table::new(alloc),
             turns: Queue::new(alloc),
             doubtful: Queue::new(alloc),
         }
@@ -146,7 +146,7 @@ impl Agents {
         ensures* writes_back { sem 𝓛 (lends_agent self.entry name result) }
         ensures agent { option_copied_mut result ≡ map.get self.old.agents name }
     {
-        match self.seats.place(name) {
+        match self.seats.index(name) {
             Some(index) => {
                 call_again(&mut self.seats, &mut self.turns, name, index);
                 Some(agent_at(&mut self.seats, name, index))

@@ -5,7 +5,6 @@ mod agents;
 mod lending;
 mod queue;
 mod seat;
-mod seats;
 mod serving;
 
 pub use agents::Agents;

@@ -7,13 +7,13 @@ ghost use Rattle.site_agents.specs.declared.seat.Seat.{Seat as Sat};
 
 use super::queue::Queue;
 use super::seat::Seat;
-use super::seats::Seats;
 use agent_pool::{Agent, Ready};
 use np_code::Code;
 use np_syntax::Name;
+use np_tables::Table;
 
 /// What the agent of a name can do, if its index tells any.
-fn likely(code: &Code, seats: &Seats<Seat>, name: Name) -> Option<Ready>
+fn likely(code: &Code, seats: &Table<Seat>, name: Name) -> Option<Ready>
     ensures { IfSome result (CanDo code.now (agents_of seats.now.items) name) }
 {
     match seats.get(name) {
@@ -23,7 +23,7 @@ fn likely(code: &Code, seats: &Seats<Seat>, name: Name) -> Option<Ready>
 }
 
 /// What the agent of a name can do, and none exactly where it can do nothing.
-fn exact(code: &Code, seats: &Seats<Seat>, name: Name) -> Option<Ready>
+fn exact(code: &Code, seats: &Table<Seat>, name: Name) -> Option<Ready>
     ensures some { IfSome result (CanDo code.now (agents_of seats.now.items) name) }
     ensures none { IfNone result ((s : Sat) → map.get seats.now.items name ≡ Some s → CanNothing code.now s.agent) }
 {
@@ -34,7 +34,7 @@ fn exact(code: &Code, seats: &Seats<Seat>, name: Name) -> Option<Ready>
 }
 
 /// An agent is doubtful, and has no turn.
-fn doubt(seats: &mut Seats<Seat>, doubtful: &mut Queue, name: Name)
+fn doubt(seats: &mut Table<Seat>, doubtful: &mut Queue, name: Name)
     ensures seats { seats.new ≡ with_changed seats.old name doubted }
     ensures keeps { Keeps doubtful.old doubtful.new }
     ensures waits { (s : Sat) → map.get seats.old.items name ≡ Some s → s.doubted ≡ false → waits doubtful.new name ≡ true }
@@ -50,7 +50,7 @@ fn doubt(seats: &mut Seats<Seat>, doubtful: &mut Queue, name: Name)
 }
 
 /// An agent has a turn, and is not doubtful.
-fn call(seats: &mut Seats<Seat>, turns: &mut Queue, name: Name)
+fn call(seats: &mut Table<Seat>, turns: &mut Queue, name: Name)
     ensures seats { seats.new ≡ with_changed seats.old name called }
     ensures keeps { Keeps turns.old turns.new }
     ensures waits { (s : Sat) → map.get seats.old.items name ≡ Some s → s.queued ≡ false → waits turns.new name ≡ true }
@@ -66,7 +66,7 @@ fn call(seats: &mut Seats<Seat>, turns: &mut Queue, name: Name)
 }
 
 /// An agent is not doubtful.
-fn settle(seats: &mut Seats<Seat>, name: Name)
+fn settle(seats: &mut Table<Seat>, name: Name)
     ensures { seats.new ≡ with_changed seats.old name settled }
 {
     if let Some(seat) = seats.get_mut(name) {
@@ -78,7 +78,7 @@ fn settle(seats: &mut Seats<Seat>, name: Name)
 /// told are doubtful.
 pub fn next_likely(
     code: &Code,
-    seats: &mut Seats<Seat>,
+    seats: &mut Table<Seat>,
     turns: &mut Queue,
     doubtful: &mut Queue,
 ) -> Option<(Name, Ready)>
@@ -99,7 +99,7 @@ pub fn next_likely(
 /// Serves the first of the doubtful that can do anything, which has a turn then. Those before it are doubtful no more.
 pub fn next_doubtful(
     code: &Code,
-    seats: &mut Seats<Seat>,
+    seats: &mut Table<Seat>,
     turns: &mut Queue,
     doubtful: &mut Queue,
 ) -> Option<(Name, Ready)>
@@ -119,7 +119,7 @@ pub fn next_doubtful(
 }
 
 /// Any agent that can do something, and none exactly where none can. It walks over them.
-pub fn any_ready(code: &Code, seats: &Seats<Seat>) -> Option<(Name, Ready)>
+pub fn any_ready(code: &Code, seats: &Table<Seat>) -> Option<(Name, Ready)>
     ensures some { IfSome result (λ found. CanDo code.now (agents_of seats.now.items) found.0 found.1) }
     ensures none { IfNone result (NoneCan code.now (agents_of seats.now.items)) }
 {
@@ -133,7 +133,7 @@ pub fn any_ready(code: &Code, seats: &Seats<Seat>) -> Option<(Name, Ready)>
 }
 
 /// An agent that can do this, and none exactly where none can. It walks over them.
-pub fn who_can(code: &Code, seats: &Seats<Seat>, r: Ready) -> Option<Name>
+pub fn who_can(code: &Code, seats: &Table<Seat>, r: Ready) -> Option<Name>
     ensures some { IfSome result (λ name. CanDo code.now (agents_of seats.now.items) name r) }
     ensures none { IfNone result (NoneCanDo code.now (agents_of seats.now.items) r) }
 {
@@ -147,7 +147,7 @@ pub fn who_can(code: &Code, seats: &Seats<Seat>, r: Ready) -> Option<Name>
 }
 
 /// Whether the agent of a name can do this, if there is one.
-fn can_do(code: &Code, seats: &Seats<Seat>, name: Name, r: Ready) -> bool
+fn can_do(code: &Code, seats: &Table<Seat>, name: Name, r: Ready) -> bool
     ensures { IsTrue result ↔ CanDo code.now (agents_of seats.now.items) name r }
 {
     match seats.get(name) {
@@ -157,7 +157,7 @@ fn can_do(code: &Code, seats: &Seats<Seat>, name: Name, r: Ready) -> bool
 }
 
 /// Whether each agent is idle. It walks over them.
-pub fn all_idle(code: &Code, seats: &Seats<Seat>) -> bool
+pub fn all_idle(code: &Code, seats: &Table<Seat>) -> bool
     ensures { IsTrue result ↔ AreIdle code.now.processes (agents_of seats.now.items) }
 {
     for at in 0..seats.len() {
@@ -169,7 +169,7 @@ pub fn all_idle(code: &Code, seats: &Seats<Seat>) -> bool
 }
 
 /// Whether the agent of a name is idle, if there is one.
-fn is_idle(code: &Code, seats: &Seats<Seat>, name: Name) -> bool
+fn is_idle(code: &Code, seats: &Table<Seat>, name: Name) -> bool
     ensures { IsTrue result ↔ IdleAt code.now.processes (agents_of seats.now.items) name }
 {
     match seats.get(name) {
@@ -180,7 +180,7 @@ fn is_idle(code: &Code, seats: &Seats<Seat>, name: Name) -> bool
 
 /// Takes a seat out, and its name out of the queue of those with a turn. Among the doubtful its name may stay: of an agent
 /// that is not here it is passed over.
-pub fn take_seat(seats: &mut Seats<Seat>, turns: &mut Queue, name: Name) -> Option<Agent>
+pub fn take_seat(seats: &mut Table<Seat>, turns: &mut Queue, name: Name) -> Option<Agent>
     ensures agent { result ≡ map.get (agents_of seats.old.items) name }
     ensures items { seats.new.items ≡ map.remove seats.old.items name }
     ensures spare { seats.old.spare ≤ seats.new.spare }

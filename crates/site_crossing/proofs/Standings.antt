@@ -5,14 +5,14 @@ use Rattle.site_agents.specs.contracts.agents.Agents as agents
 use Rattle.site_agents.specs.contracts.agents.Agents.TheInside as inside
 use Rattle.site_agents.specs.contracts.seat.Seat as seat
 use Rattle.site_agents.proofs.queue.Queue.TheSendSync as queue_laws
-use Rattle.site_agents.proofs.seats.Seats.TheSendSync as seats_laws
+use Rattle.np_tables.proofs.table.Table.TheSendSync as table_laws
 use Rattle.np_crossing.proofs.Agents.{agent_send}
 
 pub seat_send : IsSend seat.the_row
 seat_send = search (sendable, agent_send) depth 40
 
 inside_send : IsSend inside.the_row
-inside_send = let seats = seats_laws.the_send seat.the_row seat_send in
+inside_send = let seats = table_laws.the_send seat.the_row seat_send in
     declared_send inside.the_type (search (sendable, seats), (search (sendable, queue_laws.the_send), (search (sendable, queue_laws.the_send), tt)))
 
 pub agents_send : IsSend agents.the_row

@@ -1,10 +1,10 @@
--- What a map of seats ends as, where one of its values was lent to be changed in place.
+-- What a table ends as, where one of its values was lent to be changed in place.
 use Rattle.std.specs.Prelude.{◌≡◌, ℕ, nat_eq, ◌&&◌, List, position, Option, Some}
 use Rattle.std.specs.FinMap as map
 use Rattle.std.specs.Borrow.{Lends, LendsIf, Fml, RattleType, MutBor}
 use Rattle.np_syntax.specs.declared.value.Name.{Name}
 use Rattle.np_tables.specs.Stored.{Stored}
-use Rattle.site_agents.specs.contracts.seats.Seats.{the_row}
+use Rattle.np_tables.specs.contracts.table.Table.{the_row}
 
 -- the map with this value under a name
 abbrev pub with_item : {X : Type 0} → Stored X → Name → X → Stored X

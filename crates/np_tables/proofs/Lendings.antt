@@ -1,15 +1,15 @@
--- What a map of seats ends as, where one of its values was lent.
+-- What a table ends as, where one of its values was lent.
 use Rattle.std.proofs.Common.{◌≡◌, ℕ, ◌<◌, List, length, Option, None, Some, refl, sym, ap, subst, ◌∙◌}
-use Rattle.std.specs.Prelude.{MatchOption, position, slice_get}
+use Rattle.std.specs.Prelude.{IfSome, position, slice_get}
 use Rattle.std.specs.FinMap as map
 use Rattle.std.specs.Cmp.{IsEquivalence, eq_by_cmp_equiv}
 use Rattle.std.specs.Map.{keys_of, values_of}
 use Rattle.std_collections.proofs.HashLookup.{first-lt, Updated-set}
 use Rattle.indexmap.specs.IndexMap.{set_value_at}
-use Rattle.indexmap.proofs.MapLemmas.{Found-position, Missing-position}
+use Rattle.indexmap.proofs.MapLemmas.{Found-position}
 use Rattle.np_tables.proofs.Keyed.{alike, alike-same, get-found, put_found}
 use Rattle.np_tables.proofs.Tables.{total}
-use Rattle.site_agents.specs.Lent.{IsPlace}
+use Rattle.np_tables.specs.Lent.{IsPlace}
 use Rattle.std.specs.Borrow.{MutBor}
 use Rattle.std.specs.Option.{ghost_name_of}
 use Rattle.np_tables.specs.Names.{NameMap}
@@ -44,7 +44,7 @@ module _ {X : Type 0} (es : List (Name × X)) (k : Name) (i : ℕ) (place : IsPl
   pub value_at : (w : X) → slice_get (values_of es) i ≡ Some w → Some w ≡ map.get (map_of es) k
   value_at w e = sym (get-found es k ∙ (Found-position (alike k) es i place).value ∙ e)
 
--- a place tells that the name is there, and none that it is not
-pub place_tells : {X : Type 0} (es : List (Name × X)) (k : Name) (o : Option ℕ) → o ≡ position (alike k) (keys_of es) → MatchOption o (map.get (map_of es) k ≡ None) (IsPlace (keys_of es) k)
-place_tells es k None e = get-found es k ∙ (Missing-position (alike k) es (sym e)).value
-place_tells es k (Some i) e = sym e
+-- where a name is found there is its place
+pub place_found : (names : List Name) (k : Name) (o : Option ℕ) → o ≡ position (alike k) names → IfSome o (IsPlace names k)
+place_found names k None e = tt
+place_found names k (Some i) e = sym e

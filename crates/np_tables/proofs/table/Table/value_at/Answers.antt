@@ -1,9 +1,9 @@
 use Rattle.std.proofs.Common.{refl, sym, subst}
 use Rattle.indexmap.proofs.CallerLemmas.{keys-with_value_at}
 use Rattle.np_tables.specs.Stored.{Stored}
-use Rattle.site_agents.specs.Lent.{IsPlace}
-use Rattle.site_agents.proofs.Lendings.{place_within, set_at, value_at, same_stored}
-use Rattle.site_agents.proofs.seats.Seats.at.Goals as goal
+use Rattle.np_tables.specs.Lent.{IsPlace}
+use Rattle.np_tables.proofs.Lendings.{place_within, set_at, value_at, same_stored}
+use Rattle.np_tables.proofs.table.Table.value_at.Goals as goal
 
 pub index_mut-requires : goal.index_mut-requires
 index_mut-requires g c =

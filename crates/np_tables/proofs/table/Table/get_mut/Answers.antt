@@ -3,8 +3,8 @@ use Rattle.std.specs.Option.{option_copied_mut}
 use Rattle.indexmap.specs.IndexMap as indexed
 use Rattle.np_tables.specs.Stored.{map_of}
 use Rattle.np_tables.proofs.Keyed.{get-found, write_found}
-use Rattle.site_agents.proofs.Lendings.{same_lent, stored, same_stored}
-use Rattle.site_agents.proofs.seats.Seats.get_mut.Goals as goal
+use Rattle.np_tables.proofs.Lendings.{same_lent, stored, same_stored}
+use Rattle.np_tables.proofs.table.Table.get_mut.Goals as goal
 
 pub returns : goal.returns
 returns g c =
