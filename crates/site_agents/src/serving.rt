@@ -1,4 +1,4 @@
-ghost use Rattle.std.specs.Prelude.{◌≡◌, ◌<◌, ◌≤◌, ◌↔◌, length, [], false, true, IfSome, IfNone, IsTrue, Some};
+ghost use Rattle.std.specs.Prelude.{◌≡◌, ◌<◌, ◌≤◌, ◌↔◌, [], false, true, IfSome, IfNone, IsTrue, Some};
 ghost use Rattle.std.specs.FinMap as map;
 ghost use Rattle.site_agents.specs.Queues.{waits, Keeps, KeepsBut, Leaves};
 ghost use Rattle.site_agents.specs.Rounds.{GoesOn, with_changed, doubted, called, settled};
