@@ -7,7 +7,7 @@ use Rattle.site_agents.proofs.lending.agent_at.Goals as goal
 
 pub returns : goal.returns
 returns c =
-    let there = c.at-seat.ensures.value in (
-      (refl, λ w. changed_there c.args.seats.now c.args.name c.at-seat.result.now (filled w) there),
-      record { writes_back = tt; value = sym (mapped_there agent_of c.args.seats.now.items c.args.name c.at-seat.result.now (sym there)) },
+    let there = c.value_at-seat.ensures.value in (
+      (refl, λ w. changed_there c.args.seats.now c.args.name c.value_at-seat.result.now (filled w) there),
+      record { writes_back = tt; value = sym (mapped_there agent_of c.args.seats.now.items c.args.name c.value_at-seat.result.now (sym there)) },
     )
