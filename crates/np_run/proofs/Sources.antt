@@ -19,16 +19,13 @@ use Rattle.np_on_sites.specs.declared.record.Record.{Record}
 use Rattle.np_modes.specs.Readings.{IsUnread}
 use Rattle.np_modes.specs.Causes.{Does, HasMade, IsFaultySource, IsUnfit, RefusesSource, RefusesRun, RefusesSaved, RefusesPlan, Stands}
 use Rattle.np_run.specs.Answers.{Call}
-use Rattle.np_run.specs.Laws.{HasSource, IsTold, Reads, ReadsBoth, Replays}
+use Rattle.np_run.specs.Laws.{FailsWith, HasSource, IsTold, Reads, ReadsBoth, Replays}
 use Rattle.np_run.proofs.Outcomes.{one, refused_plan, told, same_text}
 
 -- ---- what a refusal says
 
-abbrev pub Says : Reach → List ℕ → Refusal → Type 0
-Says reach bytes refusal = ((refusal ≡ TooLong) × (LONGEST_SOURCE < length bytes)) ⊎ ((length bytes ≤ LONGEST_SOURCE) × FaultyTo reach bytes refusal)
-
 by_cause : (call : Call) (file : List ℕ) (reach : Reach) (bytes : List ℕ) (refusal : Refusal) → IsTold call file bytes
-    → IsUnread call.texts file LONGEST_SOURCE TooLong refusal ⊎ IsFaultySource call.texts file reach refusal → Says reach bytes refusal
+    → IsUnread call.texts file LONGEST_SOURCE TooLong refusal ⊎ IsFaultySource call.texts file reach refusal → FailsWith reach bytes refusal
 by_cause call file reach bytes refusal t (inl (inl f)) = absurd (t.whole f.1.rose)
 by_cause call file reach bytes refusal t (inl (inr l)) = inl (l.0, told call file bytes (λ b. LONGEST_SOURCE < length b) t l.1.more)
 by_cause call file reach bytes refusal t (inr s) =
@@ -36,11 +33,11 @@ by_cause call file reach bytes refusal t (inr s) =
     (s.read.text.short, s.faulty))
 
 pub source_says : (call : Call) (file : List ℕ) (reach : Reach) (bytes : List ℕ) (refusal : Refusal) → IsTold call file bytes
-    → RefusesSource call.texts file reach refusal → Says reach bytes refusal
+    → RefusesSource call.texts file reach refusal → FailsWith reach bytes refusal
 source_says call file reach bytes refusal t r = by_cause call file reach bytes refusal t r.cause
 
 -- what is said of a source within the limit is what is wrong with it
-pub says_faulty : (reach : Reach) (bytes : List ℕ) (refusal : Refusal) → length bytes ≤ LONGEST_SOURCE → Says reach bytes refusal → FaultyTo reach bytes refusal
+pub says_faulty : (reach : Reach) (bytes : List ℕ) (refusal : Refusal) → length bytes ≤ LONGEST_SOURCE → FailsWith reach bytes refusal → FaultyTo reach bytes refusal
 says_faulty reach bytes refusal short (inl s) = let long = s.1 in absurd (omega arith)
 says_faulty reach bytes refusal short (inr s) = s.1
 
@@ -67,7 +64,7 @@ module _ (sources : source_laws.HaveOneAnswer) (histories : history_laws.HaveOne
 
 -- a refusal speaks of the source, or of the history behind it
 pub data Cause (asked : Plan) (reach : Reach) (bytes : List ℕ) (refusal : Refusal) : Type 0 where
-  of_source : Says reach bytes refusal → Cause asked reach bytes refusal
+  of_source : FailsWith reach bytes refusal → Cause asked reach bytes refusal
   of_later : Replays asked bytes → length bytes ≤ LONGEST_SOURCE → TakenTo reach bytes → IsOfHistory refusal → Cause asked reach bytes refusal
 
 module _ (sources : source_laws.HaveOneAnswer) (histories : history_laws.HaveOneAnswer) where

@@ -171,11 +171,15 @@ pub record RefusesAlone (status : ℕ) (call : Call) (answer : Answer) (refusal 
   pub refused : IsRefused call answer refusal
   pub only : (other : Refusal) → Stands call.words call.texts other → other ≡ refusal
 
--- a source that is not too long, and that the mode refuses, has this one refusal
+-- what is wrong with a source: it is too long, or the mode refuses it
+abbrev pub FailsWith : Reach → List ℕ → Refusal → Type 0
+FailsWith reach bytes refusal = ((refusal ≡ TooLong) × (LONGEST_SOURCE < length bytes)) ⊎ ((length bytes ≤ LONGEST_SOURCE) × FaultyTo reach bytes refusal)
+
+-- a source with which something is wrong has this one refusal
 abbrev pub RefusesOnce : Type 0
 RefusesOnce = (call : Call) (answer : Answer) (asked : Plan) (reach : Reach) (bytes : List ℕ) (refusal : Refusal) → HasCauses call answer
-    → Reads call asked reach bytes → ¬ Rose call.err.before call.err.now → answer.status ≢ NO_MEMORY → length bytes ≤ LONGEST_SOURCE
-    → FaultyTo reach bytes refusal → RefusesAlone BAD_SOURCE call answer refusal
+    → Reads call asked reach bytes → ¬ Rose call.err.before call.err.now → answer.status ≢ NO_MEMORY
+    → FailsWith reach bytes refusal → RefusesAlone BAD_SOURCE call answer refusal
 
 -- a history is refused as too long exactly where it is
 abbrev pub RefusesLongHistories : Type 0

@@ -40,7 +40,7 @@ pub fn law_refuses_sources()
     np_histories::law_one_answer();
 }
 
-/// A source that is not too long, and that the mode refuses, has one refusal, with status 3.
+/// A source that is too long, or that the mode refuses, has one refusal, with status 3.
 pub fn law_refuses_once()
     ensures { RefusesOnce }
 {
