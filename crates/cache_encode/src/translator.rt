@@ -37,7 +37,8 @@ fn form(
         ProcForm::Par(left, right) => {
             let left = translate(forms, left.get(), agent, next)?;
             let right = translate(forms, right.get(), agent, left.next)?;
-            forms.kept(tag, at, ProcForm::Par(left.proc, right.proc), right.next)
+            let both = Ok(ProcForm::Par(left.proc, right.proc));
+            forms.kept(tag, at, both, right.next)
         }
         ProcForm::New(chan, ty, body) => {
             let body = translate(forms, body.get(), agent, next)?;

@@ -5,6 +5,7 @@ ghost use Rattle.daemon_encode.specs.Encoded as spec;
 ghost use Rattle.infrastructure_texts.specs.Texts as text;
 ghost use Rattle.infrastructure_texts.specs.Pieces as piece;
 ghost use Rattle.np_syntax.specs.declared.process.ProcForm as shape;
+ghost use Rattle.np_syntax.specs.declared.process.ProcForm.{ProcForm as Form};
 
 use super::translated::Translated;
 use infrastructure_texts::{Made, Writer, variable};
@@ -40,10 +41,17 @@ impl Translator {
         }
     }
 
-    /// A form that is kept, with its tag and offset.
-    pub fn kept(self, tag: Tag, at: u32, form: ProcForm, next: u32) -> Result<Translated, Memory>
-        ensures { IfOk result (λ t. t ≡ spec.kept tag at form next) }
+    /// A form that is kept, with its tag and offset. The form comes as it was made, or not, for want of memory.
+    pub fn kept(
+        self,
+        tag: Tag,
+        at: u32,
+        form: Result<ProcForm, Memory>,
+        next: u32,
+    ) -> Result<Translated, Memory>
+        ensures { (made : Form) → piece.Writes form made → piece.Writes result (spec.kept tag at made next) }
     {
+        let form = form?;
         let proc = Boxed::of(self.alloc, Proc { tag, at, form })?;
         Ok(Translated { proc, next })
     }
@@ -73,7 +81,8 @@ impl Translator {
             ProcForm::Par(left, right) => {
                 let left = self.translate(left.get(), agent, next)?;
                 let right = self.translate(right.get(), agent, left.next)?;
-                self.kept(tag, at, ProcForm::Par(left.proc, right.proc), right.next)
+                let both = Ok(ProcForm::Par(left.proc, right.proc));
+                self.kept(tag, at, both, right.next)
             }
             ProcForm::New(chan, ty, body) => {
                 let body = self.translate(body.get(), agent, next)?;
@@ -146,8 +155,7 @@ impl Translator {
     pub fn same(self, tag: Tag, at: u32, form: &ProcForm, next: u32) -> Result<Translated, Memory>
         ensures { IfOk result (λ t. t ≡ spec.kept tag at form.now next) }
     {
-        let form = form.copy(self.alloc)?;
-        self.kept(tag, at, form, next)
+        self.kept(tag, at, form.copy(self.alloc), next)
     }
 
     pub fn channel(
@@ -160,7 +168,7 @@ impl Translator {
     ) -> Result<Translated, Memory>
         ensures { IfOk result (λ t. t ≡ spec.kept tag at (shape.New chan ty.now body.proc) body.next) }
     {
-        let form = process_forms::channel(self.alloc, chan, ty, body.proc)?;
+        let form = process_forms::channel(self.alloc, chan, ty, body.proc);
         self.kept(tag, at, form, body.next)
     }
 
@@ -174,7 +182,7 @@ impl Translator {
     ) -> Result<Translated, Memory>
         ensures { IfOk result (λ t. t ≡ spec.kept tag at (shape.Inp chan.now names.now body.proc) body.next) }
     {
-        let form = process_forms::input(self.alloc, chan, names, body.proc)?;
+        let form = process_forms::input(self.alloc, chan, names, body.proc);
         self.kept(tag, at, form, body.next)
     }
 
@@ -188,7 +196,7 @@ impl Translator {
     ) -> Result<Translated, Memory>
         ensures { IfOk result (λ t. t ≡ spec.kept tag at (shape.Rep chan.now names.now body.proc) body.next) }
     {
-        let form = process_forms::replicated(self.alloc, chan, names, body.proc)?;
+        let form = process_forms::replicated(self.alloc, chan, names, body.proc);
         self.kept(tag, at, form, body.next)
     }
 
@@ -202,7 +210,7 @@ impl Translator {
     ) -> Result<Translated, Memory>
         ensures { IfOk result (λ t. t ≡ spec.kept tag at (shape.Let names.now value.now body.proc) body.next) }
     {
-        let form = process_forms::bind(self.alloc, names, value, body.proc)?;
+        let form = process_forms::bind(self.alloc, names, value, body.proc);
         self.kept(tag, at, form, body.next)
     }
 
@@ -216,7 +224,7 @@ impl Translator {
     ) -> Result<Translated, Memory>
         ensures { IfOk result (λ t. t ≡ spec.kept tag at (shape.If test.now met unmet.proc) unmet.next) }
     {
-        let form = process_forms::test(self.alloc, test, met, unmet.proc)?;
+        let form = process_forms::test(self.alloc, test, met, unmet.proc);
         self.kept(tag, at, form, unmet.next)
     }
 
@@ -232,7 +240,7 @@ impl Translator {
     ) -> Result<Translated, Memory>
         ensures { IfOk result (λ t. t ≡ spec.kept tag at (shape.IfLocal agent.now chan.now value.now met unmet.proc) unmet.next) }
     {
-        let form = process_forms::iflocal(self.alloc, agent, chan, value, met, unmet.proc)?;
+        let form = process_forms::iflocal(self.alloc, agent, chan, value, met, unmet.proc);
         self.kept(tag, at, form, unmet.next)
     }
 
@@ -248,7 +256,7 @@ impl Translator {
     ) -> Result<Translated, Memory>
         ensures { IfOk result (λ t. t ≡ spec.kept tag at (shape.Lookup agent.now places.now found met unmet.proc) unmet.next) }
     {
-        let form = process_forms::lookup(self.alloc, agent, places, found, met, unmet.proc)?;
+        let form = process_forms::lookup(self.alloc, agent, places, found, met, unmet.proc);
         self.kept(tag, at, form, unmet.next)
     }
 
