@@ -7,6 +7,7 @@ use Rattle.std.proofs.Math.ListN.{length-map}
 use Rattle.std.proofs.lemmas.Bool.Decides.{nat_tests}
 use Rattle.std.proofs.lemmas.Slice.Eq.{bytes_eq-Decides}
 use Rattle.std.proofs.lemmas.Fmt.{decimal_nonempty}
+use Rattle.std.specs.Char.{is_ascii_digit}
 use Rattle.np_syntax.proofs.Bools.{and-out, clash}
 use Rattle.np_syntax.specs.declared.event.Event.{Event}
 use Rattle.history_text.specs.declared.fail.HistFail.{HistFail}
@@ -16,7 +17,7 @@ use Rattle.history_text.specs.Spelling.{event_line, first_line, end_line}
 use Rattle.history_text.specs.Histories.{lines, Fits, IsSkipped, IsFaulty, Beginning, lines_of, lines_up_to, IsHistory, IsRefused, IsRefusal}
 use Rattle.history_text.specs.Laws.{IsSomeHistory, IsSomewhereRefused, HasOneReading}
 use Rattle.history_text.specs.Histories as h
-use Rattle.history_text.specs.Reading.{is_digit, is_end, event_of, format_of, after, event_then, events_from, format_then, history_from, Reads}
+use Rattle.history_text.specs.Reading.{is_end, event_of, format_of, after, event_then, events_from, format_then, history_from, Reads}
 use Rattle.history_text.proofs.Numbers.{decimal_digits}
 use Rattle.history_text.proofs.Parts.{event_again, event_takes, format_back, format_is, line_number}
 
@@ -25,10 +26,10 @@ use Rattle.history_text.proofs.Parts.{event_again, event_takes, format_back, for
 end_is : (line : List ℕ) → is_end line ≡ true → line ≡ end_line
 end_is line e = (bytes_eq-Decides line end_line).0 e
 
-no_end_here : (digits rest : List ℕ) → 0 < length digits → list_all is_digit digits ≡ true → is_end (digits ++ rest) ≡ false
+no_end_here : (digits rest : List ℕ) → 0 < length digits → list_all is_ascii_digit digits ≡ true → is_end (digits ++ rest) ≡ false
 no_end_here [] rest some all = absurd (omega arith)
 no_end_here (digit ∷ digits) rest some all =
-    let first = (and-out (is_digit digit) (list_all is_digit digits) all).0 in
+    let first = (and-out (is_ascii_digit digit) (list_all is_ascii_digit digits) all).0 in
     let other : (digit == 101) ≡ false = grind (arith, nat_tests) in
     rw other refl
 

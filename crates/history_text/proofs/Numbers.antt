@@ -1,41 +1,20 @@
 -- A number's text, read from the front of bytes.
-use Rattle.std.proofs.Common.{◌≡◌, ℕ, zero, suc, ◌+◌, ◌*◌, ◌-◌, ◌<◌, ◌≤◌, ◌^◌, List, [], ◌∷◌, ◌++◌, take, drop, get_or}
-use Rattle.std.proofs.Common.{length, decimal, refl, sym, ap, ◌∙◌, None, Some, arith}
+use Rattle.std.proofs.Common.{◌≡◌, ℕ, zero, suc, ◌+◌, ◌*◌, ◌-◌, ◌<◌, ◌^◌, List, [], ◌∷◌, ◌++◌, take, drop, get_or}
+use Rattle.std.proofs.Common.{length, decimal, refl, sym, ap, ◌∙◌, None, Some, rules, arith}
 use Rattle.std.specs.Prelude.{Bool, true, false, ◌==◌, fold, nat_le, cond}
+use Rattle.std.specs.Char.{is_ascii_digit}
 use Rattle.std.specs.List.{prefix_len, list_all}
-use Rattle.std.specs.Int.{IsInRange}
 use Rattle.std.proofs.lemmas.Bool.Decides.{nat_tests}
-use Rattle.std.proofs.lemmas.List.Sums.{fold-append, fold_more}
 use Rattle.std.proofs.lemmas.List.{take-append-drop}
 use Rattle.std.proofs.lemmas.Str.Parse.{IsNumeralModel, numerals_by_fold}
 use Rattle.std.proofs.lemmas.Fmt.{decimal_digit, decimal_nonempty, first_decimal, digits_decimal, digits_value-decimal, decimal-digits_value}
 use Rattle.std.proofs.Math.Numerals.{one-add}
 use Rattle.std.proofs.Math.Seq.{take-append_seam, drop-append_seam}
-use Rattle.np_syntax.proofs.Bools.{and-in, and-out}
+use Rattle.np_syntax.specs.Numerals.{value}
+use Rattle.np_syntax.specs.declared.limits.TheConstants.{LARGEST_NUMBER}
+use Rattle.np_syntax.proofs.Bools.{and-out}
 use Rattle.np_syntax.proofs.Options.{then, needed, done}
-use Rattle.history_text.specs.Reading.{is_digit, value, is_canonical, bounded, number_of, number_at}
-
--- ---- a number does not shrink as digits come
-
-abbrev step : ℕ → ℕ → ℕ
-step number digit = 10 * number + (digit - 48)
-
-grows : (number : ℕ) (digits : List ℕ) → number ≤ fold step number digits
-grows number [] = omega arith
-grows number (digit ∷ digits) = omega (arith, grows (10 * number + (digit - 48)) digits)
-
-value_take : (digits : List ℕ) (count : ℕ) → value (take count digits) ≤ value digits
-value_take digits count =
-    let whole : value digits ≡ value (take count digits ++ drop count digits) = ap value (sym (take-append-drop count digits)) in
-    let more : value (take count digits ++ drop count digits) ≡ fold step (value (take count digits)) (drop count digits) = fold-append step 0 (take count digits) (drop count digits) in
-    omega (arith, grows (value (take count digits)) (drop count digits))
-
-pub too_large : (digits : List ℕ) (index number : ℕ) → index < length digits → number ≡ value (take index digits)
-    → 4294967295 < 10 * number + (get_or digits index 0 - 48) → None ≡ bounded digits
-too_large digits index number inside same large =
-    let next : value (take (index + 1) digits) ≡ 10 * value (take index digits) + (get_or digits index 0 - 48) = fold_more step 0 digits index 0 inside in
-    let above : nat_le (value digits) 4294967295 ≡ false = grind (arith, nat_tests, value_take digits (index + 1)) in
-    rw above
+use Rattle.history_text.specs.Reading.{is_canonical, bounded, number_of, number_at}
 
 -- ---- the longest front of which each byte passes a test
 
@@ -74,26 +53,13 @@ front_all test (byte ∷ bytes) = go (test byte) refl (front_all test bytes)
 
 -- ---- digits
 
-digit_range : (byte : ℕ) → is_digit byte ≡ true → IsInRange 48 57 byte
-digit_range byte digit = grind (arith, nat_tests)
-
-range_digit : (byte : ℕ) → IsInRange 48 57 byte → is_digit byte ≡ true
-range_digit byte range = grind (arith, nat_tests)
-
 abbrev AreDigits : List ℕ → Type 0
-AreDigits digits = list_all is_digit digits ≡ true
+AreDigits digits = list_all is_ascii_digit digits ≡ true
 
 digits_model : IsNumeralModel AreDigits value
-digits_model = numerals_by_fold AreDigits
-    (record {
-      empty = refl;
-      parts = λ byte bytes all. (let both = and-out (is_digit byte) (list_all is_digit bytes) all in (digit_range byte both.0, both.1));
-      more = λ byte bytes range all. and-in (range_digit byte range) all;
-    })
-    (fold step)
-    (record { empty = λ n. refl; more = λ n byte bytes range. ap (λ k. fold step k bytes) (omega arith) })
+digits_model = numerals_by_fold _ (search rules) (fold (λ number digit. 10 * number + (digit - 48))) (search rules)
 
-pub decimal_digits : (n : ℕ) → n < 2 ^ 32 → list_all is_digit (decimal n) ≡ true
+pub decimal_digits : (n : ℕ) → n < 2 ^ 32 → list_all is_ascii_digit (decimal n) ≡ true
 decimal_digits n small = digits_decimal digits_model n (omega arith)
 
 canonical_text : (digits : List ℕ) → 0 < length digits → (get_or digits 0 0 ≡ 48 → length digits ≡ 1) → is_canonical digits ≡ true
@@ -124,13 +90,13 @@ alone (suc n) small nought = absurd (omega (arith, first_decimal (suc n) (omega 
 bounded_text : (n : ℕ) → n < 2 ^ 32 → bounded (decimal n) ≡ Some n
 bounded_text n small =
     let same : value (decimal n) ≡ n = digits_value-decimal digits_model n (omega arith) in
-    let fits : nat_le (value (decimal n)) 4294967295 ≡ true = rw same (grind (arith, nat_tests)) in
+    let fits : nat_le (value (decimal n)) LARGEST_NUMBER ≡ true = rw same (grind (arith, nat_tests)) in
     rw fits (ap (λ m. Some m) same)
 
 text_bounded : (digits : List ℕ) (n : ℕ) → bounded digits ≡ Some n → (value digits ≡ n) × (value digits < 2 ^ 32)
-text_bounded digits n e = go (nat_le (value digits) 4294967295) refl e
+text_bounded digits n e = go (nat_le (value digits) LARGEST_NUMBER) refl e
   where
-    go : (b : Bool) → nat_le (value digits) 4294967295 ≡ b → cond b (Some (value digits)) None ≡ Some n → (value digits ≡ n) × (value digits < 2 ^ 32)
+    go : (b : Bool) → nat_le (value digits) LARGEST_NUMBER ≡ b → cond b (Some (value digits)) None ≡ Some n → (value digits ≡ n) × (value digits < 2 ^ 32)
     go true fits k = (cc, grind (arith, nat_tests))
     go false fits k = cc
 
@@ -140,7 +106,7 @@ number_text n small =
     let canonical : is_canonical (decimal n) ≡ true = canonical_text (decimal n) (decimal_nonempty n (omega arith)) (alone n small) in
     rw canonical (bounded_text n small)
 
-text_number : (digits : List ℕ) (n : ℕ) → list_all is_digit digits ≡ true → number_of digits ≡ Some n → (digits ≡ decimal n) × (n < 2 ^ 32)
+text_number : (digits : List ℕ) (n : ℕ) → list_all is_ascii_digit digits ≡ true → number_of digits ≡ Some n → (digits ≡ decimal n) × (n < 2 ^ 32)
 unfolding number_of
 text_number digits n all e =
     let parts = needed (is_canonical digits) (bounded digits) e in
@@ -151,11 +117,11 @@ text_number digits n all e =
     let text : decimal (value digits) ≡ digits = decimal-digits_value digits_model digits all form.0 form.1 (omega arith) in
     (sym text ∙ ap decimal same, omega arith)
 
-pub number_again : (n : ℕ) (rest : List ℕ) → n < 2 ^ 32 → Ends is_digit rest → number_at (decimal n ++ rest) ≡ Some (n, rest)
+pub number_again : (n : ℕ) (rest : List ℕ) → n < 2 ^ 32 → Ends is_ascii_digit rest → number_at (decimal n ++ rest) ≡ Some (n, rest)
 unfolding number_at
 number_again n rest small ends =
-    let digits : take (prefix_len is_digit (decimal n ++ rest)) (decimal n ++ rest) ≡ decimal n = front_take is_digit (decimal n) rest (decimal_digits n small) ends in
-    let others : drop (prefix_len is_digit (decimal n ++ rest)) (decimal n ++ rest) ≡ rest = front_drop is_digit (decimal n) rest (decimal_digits n small) ends in
+    let digits : take (prefix_len is_ascii_digit (decimal n ++ rest)) (decimal n ++ rest) ≡ decimal n = front_take is_ascii_digit (decimal n) rest (decimal_digits n small) ends in
+    let others : drop (prefix_len is_ascii_digit (decimal n ++ rest)) (decimal n ++ rest) ≡ rest = front_drop is_ascii_digit (decimal n) rest (decimal_digits n small) ends in
     rw (digits, others, number_text n small) refl
 
 -- what was read at the front of bytes: this text, and the rest
@@ -164,10 +130,10 @@ pub record Takes (bytes text rest : List ℕ) : Type 0 where
 
 pub number_takes : (bytes : List ℕ) (x : ℕ × List ℕ) → number_at bytes ≡ Some x → Takes bytes (decimal x.0) x.1 × (x.0 < 2 ^ 32)
 unfolding number_at
-number_takes bytes x e = then (number_of (take (prefix_len is_digit bytes) bytes)) _ e (λ n reads same.
-    let here : x ≡ (n, drop (prefix_len is_digit bytes) bytes) = done same in
-    let worth = text_number (take (prefix_len is_digit bytes) bytes) n (front_all is_digit bytes) reads in
+number_takes bytes x e = then (number_of (take (prefix_len is_ascii_digit bytes) bytes)) _ e (λ n reads same.
+    let here : x ≡ (n, drop (prefix_len is_ascii_digit bytes) bytes) = done same in
+    let worth = text_number (take (prefix_len is_ascii_digit bytes) bytes) n (front_all is_ascii_digit bytes) reads in
     let number : x.0 ≡ n = ap (λ (p : ℕ × List ℕ). p.0) here in
-    let rest : x.1 ≡ drop (prefix_len is_digit bytes) bytes = ap (λ (p : ℕ × List ℕ). p.1) here in
+    let rest : x.1 ≡ drop (prefix_len is_ascii_digit bytes) bytes = ap (λ (p : ℕ × List ℕ). p.1) here in
     let small : n < 2 ^ 32 = worth.1 in
-    (record { is = sym (take-append-drop (prefix_len is_digit bytes) bytes) ∙ ap (λ l. l ++ drop (prefix_len is_digit bytes) bytes) worth.0 ∙ rw (number, rest) refl }, omega arith))
+    (record { is = sym (take-append-drop (prefix_len is_ascii_digit bytes) bytes) ∙ ap (λ l. l ++ drop (prefix_len is_ascii_digit bytes) bytes) worth.0 ∙ rw (number, rest) refl }, omega arith))

@@ -2,16 +2,18 @@
 use Rattle.std.proofs.Common.{◌≡◌, ℕ, ◌<◌, ◌^◌, List, [], ◌∷◌, ◌++◌, take, drop, length, decimal, refl, sym}
 use Rattle.std.proofs.Common.{ap, ◌∙◌, None, Some, Option, arith, append_assoc}
 use Rattle.std.specs.Prelude.{Bool, true, false, cond, ◌==◌, codes}
-use Rattle.std.specs.List.{prefix_len, list_all, find, flat_map}
+use Rattle.std.specs.List.{prefix_len, list_all, flat_map}
 use Rattle.std.specs.Str.{bytes_eq}
 use Rattle.std.proofs.lemmas.Bool.Decides.{nat_tests}
 use Rattle.std.proofs.lemmas.List.{take-append-drop}
 use Rattle.std.proofs.lemmas.Slice.Eq.{bytes_eq-Decides}
 use Rattle.std.proofs.lemmas.Fmt.{decimal_nonempty}
+use Rattle.std.specs.Char.{is_ascii_digit}
 use Rattle.np_syntax.specs.Printed.{spaced}
 use Rattle.np_syntax.specs.Options.{◌>>=◌, ◌>>◌, need}
 use Rattle.np_syntax.proofs.Options.{then, when, done}
 use Rattle.np_syntax.proofs.Bools.{and-out}
+use Rattle.np_syntax.proofs.Searching.{found_passes}
 use Rattle.np_syntax.specs.declared.value.Name.{Name}
 use Rattle.np_syntax.specs.declared.process.Role.{Role}
 use Rattle.np_syntax.specs.declared.process.Role.TheVariants as roles
@@ -26,7 +28,7 @@ use Rattle.history_text.specs.declared.format.Format.TheVariants as formats
 use Rattle.history_text.specs.declared.words.TheConstants.{KINDS, ROLES, FORMATS}
 use Rattle.history_text.specs.Spelling.{name_text, optional_text, kind_word, role_word, first_made, second_made, event_line, first_line}
 use Rattle.history_text.specs.Histories.{NameFits, OptionalFits, Fits}
-use Rattle.history_text.specs.Reading.{is_digit, in_field, kind_of, role_of, format_of, number_at, behind, name_at, optional_by, optional_at, kind_at, role_at}
+use Rattle.history_text.specs.Reading.{in_field, kind_of, role_of, format_of, number_at, behind, name_at, optional_by, optional_at, kind_at, role_at}
 use Rattle.history_text.specs.Reading.{tag_at, made_of, made_at, ninth, ends_well, event_of}
 use Rattle.history_text.proofs.Numbers.{Ends, Takes, front_take, front_drop, decimal_digits, number_again, number_takes}
 use Rattle.history_text.proofs.Written.{with_ninth}
@@ -53,14 +55,6 @@ behind_takes sign (byte ∷ bytes) rest e = go (byte == sign) refl e
     go false is k = cc
 
 -- ---- words
-
-found_passes : {X : Type 0} (test : X → Bool) (xs : List X) (x : X) → find test xs ≡ Some x → test x ≡ true
-found_passes test [] x e = cc
-found_passes test (y ∷ ys) x e = go (test y) refl (found_passes test ys x) e
-  where
-    go : (b : Bool) → test y ≡ b → (find test ys ≡ Some x → test x ≡ true) → cond b (Some y) (find test ys) ≡ Some x → test x ≡ true
-    go true passes later k = let same : y ≡ x = cc in ap test (sym same) ∙ passes
-    go false fails later k = later k
 
 kind_back : (kind : Kind) → kind_of (kind_word kind) ≡ Some kind
 kind_back kinds.Stop = refl
@@ -121,7 +115,7 @@ role_takes bytes x e = then (role_of (take (prefix_len in_field bytes) bytes)) (
 
 -- ---- names
 
-name_again : (name : Name) (rest : List ℕ) → NameFits name → Ends is_digit rest → name_at (name_text name ++ rest) ≡ Some (name, rest)
+name_again : (name : Name) (rest : List ℕ) → NameFits name → Ends is_ascii_digit rest → name_at (name_text name ++ rest) ≡ Some (name, rest)
 unfolding name_at
 name_again name rest fits ends =
     ap name_at (append_assoc (decimal name.site ++ codes ".") (decimal name.n) rest ∙ append_assoc (decimal name.site) (codes ".") (decimal name.n ++ rest))
@@ -139,10 +133,10 @@ name_takes bytes x e =
 
 -- ---- a name, or none
 
-digit_first : (digits rest : List ℕ) → 0 < length digits → list_all is_digit digits ≡ true → behind 45 (digits ++ rest) ≡ None
+digit_first : (digits rest : List ℕ) → 0 < length digits → list_all is_ascii_digit digits ≡ true → behind 45 (digits ++ rest) ≡ None
 digit_first [] rest some all = absurd (omega arith)
 digit_first (digit ∷ digits) rest some all =
-    let first = (and-out (is_digit digit) (list_all is_digit digits) all).0 in
+    let first = (and-out (is_ascii_digit digit) (list_all is_ascii_digit digits) all).0 in
     let other : (digit == 45) ≡ false = grind (arith, nat_tests) in
     rw other refl
 
@@ -152,7 +146,7 @@ no_dash name rest fits =
     ap (behind 45) (append_assoc (decimal name.site ++ codes ".") (decimal name.n) rest ∙ append_assoc (decimal name.site) (codes ".") (decimal name.n ++ rest))
     ∙ digit_first (decimal name.site) (46 ∷ (decimal name.n ++ rest)) (decimal_nonempty name.site (omega arith)) (decimal_digits name.site small)
 
-optional_again : (name : Option Name) (rest : List ℕ) → OptionalFits name → Ends is_digit rest
+optional_again : (name : Option Name) (rest : List ℕ) → OptionalFits name → Ends is_ascii_digit rest
     → optional_at (optional_text name ++ rest) ≡ Some (name, rest)
 unfolding optional_at
 optional_again None rest fits ends = refl
@@ -209,7 +203,7 @@ made_is (Some name) None m e = let is : m ≡ made.One name = done e in rw is (r
 made_is (Some name) (Some other) m e = let is : m ≡ made.Two name other = done e in rw is (record { first = refl; second = refl })
 made_is None (Some other) m e = cc
 
-made_again : (m : Made) (rest : List ℕ) → OptionalFits (first_made m) → OptionalFits (second_made m) → Ends is_digit rest
+made_again : (m : Made) (rest : List ℕ) → OptionalFits (first_made m) → OptionalFits (second_made m) → Ends is_ascii_digit rest
     → made_at (made_text m ++ rest) ≡ Some (m, rest)
 unfolding made_at
 made_again m rest first second ends =
@@ -267,7 +261,7 @@ as_read format e =
 pub line_number : (format : Format) (e : Event) → (rest : List ℕ) × (event_line format e ≡ decimal e.site ++ rest)
 line_number format e = (_, as_read format e)
 
-ninth_ends : (format : Format) (kind : Kind) (role : Role) → Ends is_digit (ninth format kind role)
+ninth_ends : (format : Format) (kind : Kind) (role : Role) → Ends is_ascii_digit (ninth format kind role)
 ninth_ends formats.First kind role = tt
 ninth_ends formats.Second kind role = refl
 

@@ -3,6 +3,7 @@ use Rattle.std.proofs.Common.{◌≡◌, ℕ, ◌<◌, ◌^◌, List, [], ◌∷
 use Rattle.std.specs.Prelude.{Bool, true, false, ◌==◌, codes}
 use Rattle.std.specs.List.{onto_first, list_all, flat_map, AllByRecursion}
 use Rattle.std.proofs.lemmas.Bool.Decides.{nat_tests}
+use Rattle.std.specs.Char.{is_ascii_digit}
 use Rattle.np_syntax.proofs.Bools.{and-in, and-out}
 use Rattle.np_syntax.specs.Printed.{spaced}
 use Rattle.np_syntax.specs.declared.value.Name.{Name}
@@ -16,7 +17,7 @@ use Rattle.history_text.specs.declared.format.Format.TheVariants as formats
 use Rattle.history_text.specs.Spelling.{name_text, optional_text, kind_word, role_word, first_made, second_made, high_word, fields, event_line}
 use Rattle.history_text.specs.Spelling.{first_line, end_line, text_of, lines_under, history_text}
 use Rattle.history_text.specs.Histories.{lines, NameFits, OptionalFits, Fits, IsHistory}
-use Rattle.history_text.specs.Reading.{in_line, is_digit}
+use Rattle.history_text.specs.Reading.{in_line}
 use Rattle.history_text.proofs.Numbers.{decimal_digits}
 
 -- no byte is a line feed
@@ -29,14 +30,14 @@ joined (byte ∷ a) b first second = let both = and-out (in_line byte) (list_all
 
 -- ---- fields
 
-digits_plain : (digits : List ℕ) → list_all is_digit digits ≡ true → IsPlain digits
+digits_plain : (digits : List ℕ) → list_all is_ascii_digit digits ≡ true → IsPlain digits
 digits_plain [] all = refl
 digits_plain (digit ∷ digits) all =
-    let both = and-out (is_digit digit) (list_all is_digit digits) all in
+    let both = and-out (is_ascii_digit digit) (list_all is_ascii_digit digits) all in
     let here : in_line digit ≡ true = in_line_digit digit both.0 in
     and-in here (digits_plain digits both.1)
   where
-    in_line_digit : (digit : ℕ) → is_digit digit ≡ true → in_line digit ≡ true
+    in_line_digit : (digit : ℕ) → is_ascii_digit digit ≡ true → in_line digit ≡ true
     in_line_digit digit is = let other : (digit == 10) ≡ false = grind (arith, nat_tests) in rw other refl
 
 number_plain : (n : ℕ) → n < 2 ^ 32 → IsPlain (decimal n)

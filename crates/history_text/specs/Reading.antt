@@ -1,9 +1,12 @@
 -- A history's lines and an event's fields, as they are read from left to right.
-use Rattle.std.specs.Prelude.{◌≡◌, ℕ, ◌≤◌, ◌+◌, ◌-◌, ◌*◌, Bool, true, false, ◌&&◌, nat_le, ◌==◌, if◌then◌else◌, List, [], ◌∷◌, ◌++◌, length}
-use Rattle.std.specs.Prelude.{take, drop, fold, Option, Some, None, Result, Ok, Err}
+use Rattle.std.specs.Prelude.{◌≡◌, ℕ, ◌≤◌, ◌+◌, Bool, true, false, ◌==◌, if◌then◌else◌, List, [], ◌∷◌, ◌++◌, length}
+use Rattle.std.specs.Prelude.{take, drop, Option, Some, None, Result, Ok, Err}
+use Rattle.std.specs.Char.{is_ascii_digit}
 use Rattle.std.specs.List.{prefix_len, find}
 use Rattle.std.specs.Str.{bytes_eq}
+use Rattle.np_syntax.specs.Numerals.{value_within}
 use Rattle.np_syntax.specs.Options.{◌>>=◌, ◌>>◌, need}
+use Rattle.np_syntax.specs.declared.limits.TheConstants.{LARGEST_NUMBER}
 use Rattle.np_syntax.specs.declared.value.Name.{Name}
 use Rattle.np_syntax.specs.declared.process.Role.{Role}
 use Rattle.np_syntax.specs.declared.process.Tag.{Tag}
@@ -44,18 +47,11 @@ Gives view (Some x) read = read ≡ Some (view x)
 abbrev pub in_line : ℕ → Bool
 in_line byte = if byte == 10 then false else true
 
-abbrev pub is_digit : ℕ → Bool
-is_digit byte = nat_le 48 byte && nat_le byte 57
-
 -- any byte but a space
 abbrev pub in_field : ℕ → Bool
 in_field byte = if byte == 32 then false else true
 
 -- ---- a field, and the bytes behind it
-
--- the number that the digits write
-abbrev pub value : List ℕ → ℕ
-value = fold (λ number digit. 10 * number + (digit - 48)) 0
 
 -- digits without a leading zero
 abbrev pub is_canonical : List ℕ → Bool
@@ -64,15 +60,15 @@ is_canonical (digit ∷ []) = true
 is_canonical (digit ∷ _ ∷ _) = if digit == 48 then false else true
 
 abbrev pub bounded : List ℕ → Option ℕ
-bounded digits = if nat_le (value digits) 4294967295 then Some (value digits) else None
+bounded = value_within LARGEST_NUMBER
 
 unfoldable pub number_of : List ℕ → Option ℕ
 number_of digits = need (is_canonical digits) >> bounded digits
 
 unfoldable pub number_at : List ℕ → Option (ℕ × List ℕ)
 number_at bytes = do
-  number ← number_of (take (prefix_len is_digit bytes) bytes)
-  Some (number, drop (prefix_len is_digit bytes) bytes)
+  number ← number_of (take (prefix_len is_ascii_digit bytes) bytes)
+  Some (number, drop (prefix_len is_ascii_digit bytes) bytes)
 
 -- the bytes behind this one
 abbrev pub behind : ℕ → List ℕ → Option (List ℕ)

@@ -1,24 +1,22 @@
 //! Reading the fields of an event's line, each at the front of bytes.
 
 ghost use Rattle.std.specs.Prelude.{◌≡◌, ◌≤◌, length};
+ghost use Rattle.std.specs.Char.{is_ascii_digit};
 ghost use Rattle.std.specs.List.{prefix_len};
 ghost use Rattle.history_text.specs.Reading as spec;
 ghost use Rattle.history_text.specs.Reading.{Gives};
 
 use super::words::{kind_of, role_of};
-use np_syntax::{Kind, Made, Name, Role, Tag};
-
-/// The largest number of a history.
-const LARGEST: u64 = 4294967295;
+use np_syntax::{Kind, LARGEST_NUMBER, Made, Name, Role, Tag};
 
 fn is_digit(byte: u8) -> bool
-    ensures { result ≡ spec.is_digit byte }
+    ensures { result ≡ is_ascii_digit byte }
 {
     byte.is_ascii_digit()
 }
 
 fn digits_len(bytes: &[u8]) -> usize
-    ensures value { result ≡ prefix_len spec.is_digit bytes.now }
+    ensures value { result ≡ prefix_len is_ascii_digit bytes.now }
     ensures within { result ≤ length bytes.now }
 {
     bytes.iter().take_while(|byte| is_digit(**byte)).count()
@@ -43,7 +41,7 @@ fn bounded(digits: &[u8]) -> Option<u32>
     'digits: for byte in digits {
         let digit = u64::from(byte.saturating_sub(b'0'));
         number = 10 * number + digit;
-        if number > LARGEST {
+        if number > LARGEST_NUMBER {
             return None;
         }
     }

@@ -4,6 +4,7 @@ use Rattle.std.specs.Prelude.{◌==◌}
 use Rattle.std.specs.Fmt.{signed_decimal}
 use Rattle.std.proofs.Math.Seq.{drop-append_seam}
 use Rattle.std.proofs.lemmas.Bool.Decides.{nat_tests}
+use Rattle.std.specs.Char.{is_ascii_digit}
 use Rattle.np_lex.specs.declared.token.Token.{Token}
 use Rattle.np_lex.specs.declared.token.What.{What}
 use Rattle.np_lex.specs.declared.token.What.TheVariants as what
@@ -11,7 +12,7 @@ use Rattle.np_lex.specs.declared.token.Key.{Key}
 use Rattle.np_lex.specs.declared.token.Sign.{Sign}
 use Rattle.np_lex.specs.declared.token.Sign.TheVariants as signs
 use Rattle.np_lex.specs.Tokens as t
-use Rattle.np_lex.specs.Tokens.{is_digit, is_letter, is_blank, goes_on, skip_len, IsToken, IsLegal, IsLongest, Lexes, token, sign_at, word_at, name_at, sign_text, key_text}
+use Rattle.np_lex.specs.Tokens.{is_letter, is_blank, goes_on, skip_len, IsToken, IsLegal, IsLongest, Lexes, token, sign_at, word_at, name_at, sign_text, key_text}
 use Rattle.np_syntax.specs.Printed.{quoted}
 use Rattle.np_syntax.proofs.Bools.{and-out, clash}
 use Rattle.np_lex.proofs.Longest.{Stops, Alone, head, is_word, key_word, name_word, word_longest, digits_longest, nought_longest, single_longest, pair_longest}
@@ -82,8 +83,8 @@ no_more test rest passes soft (byte ∷ more) after e each = absurd (clash (subs
 word_stops : (rest : List ℕ) → Soft rest → Stops goes_on rest
 word_stops rest soft = no_more goes_on rest (λ byte e. e) soft
 
-digits_stop : (rest : List ℕ) → Soft rest → Stops is_digit rest
-digits_stop rest soft = no_more is_digit rest (λ byte digit. grind (arith, nat_tests)) soft
+digits_stop : (rest : List ℕ) → Soft rest → Stops is_ascii_digit rest
+digits_stop rest soft = no_more is_ascii_digit rest (λ byte digit. grind (arith, nat_tests)) soft
 
 no_skip : (byte : ℕ) (rest : List ℕ) → is_blank byte ≡ false → (byte == 45) ≡ false → skip_len (byte ∷ rest) ≡ 0
 no_skip byte rest blank minus = rw (blank, minus)
@@ -92,7 +93,7 @@ word_skip : (text rest : List ℕ) → is_word text ≡ true → skip_len (text 
 word_skip [] rest word = cc
 word_skip (byte ∷ bytes) rest word = let letter = (and-out (is_letter byte) _ word).0 in no_skip byte (bytes ++ rest) (grind (arith, nat_tests)) (grind (arith, nat_tests))
 
-digit_skip : (byte : ℕ) (rest : List ℕ) → is_digit byte ≡ true → skip_len (byte ∷ rest) ≡ 0
+digit_skip : (byte : ℕ) (rest : List ℕ) → is_ascii_digit byte ≡ true → skip_len (byte ∷ rest) ≡ 0
 digit_skip byte rest digit = no_skip byte rest (grind (arith, nat_tests)) (grind (arith, nat_tests))
 
 word_goes : {text : List ℕ} {w : What} → is_word text ≡ true → IsToken text w → (at : ℕ) (rest : List ℕ) → Soft rest → Goes at (text ++ rest) (token at (at + length text) w ∷ []) (at + length text) rest

@@ -1,7 +1,6 @@
 pub mod Longest
 pub mod Quotes
 pub mod Readings
-pub mod Digits
 pub mod Steps
 pub mod Once
 pub mod Spelling

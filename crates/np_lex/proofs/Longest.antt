@@ -3,13 +3,14 @@ use Rattle.std.proofs.Common.{◌≡◌, ℕ, ◌⊎◌, inl, inr, List, [], ◌
 use Rattle.std.specs.Prelude.{Bool, true, false, ◌&&◌, ◌||◌, ◌==◌}
 use Rattle.std.specs.List.{prefix_len, list_all}
 use Rattle.std.proofs.lemmas.Bool.Decides.{nat_tests}
+use Rattle.std.specs.Char.{is_ascii_digit}
 use Rattle.np_syntax.proofs.Bools.{and-out, clash}
 use Rattle.np_lex.specs.declared.token.Key.{Key}
 use Rattle.np_lex.specs.declared.token.Key.TheVariants as keys
 use Rattle.np_lex.specs.declared.token.Sign.{Sign}
 use Rattle.np_lex.specs.declared.token.Sign.TheVariants as signs
 use Rattle.np_lex.specs.Tokens as t
-use Rattle.np_lex.specs.Tokens.{is_digit, is_letter, goes_on, Each, IsForm, IsBody, IsLongest, sign_text, key_text}
+use Rattle.np_lex.specs.Tokens.{is_letter, goes_on, Each, IsForm, IsBody, IsLongest, sign_text, key_text}
 use Rattle.np_lex.specs.Lexing.{is_pair}
 
 -- ---- the longest front of which each byte passes a test
@@ -78,24 +79,24 @@ tail (byte ∷ bytes) = bytes
 pub differ : (a b : ℕ) → (a == b) ≡ false → a ≡ b → ⊥
 differ a b fails same = grind (arith, nat_tests)
 
-pub apart : (byte : ℕ) → is_letter byte ≡ true → is_digit byte ≡ true → ⊥
+pub apart : (byte : ℕ) → is_letter byte ≡ true → is_ascii_digit byte ≡ true → ⊥
 apart byte letter digit = grind (arith, nat_tests)
 
 -- a byte with which a word, a number or a string begins
 abbrev pub starts : ℕ → Bool
-starts byte = is_letter byte || is_digit byte || byte == 34
+starts byte = is_letter byte || is_ascii_digit byte || byte == 34
 
 letter_starts : (byte : ℕ) → is_letter byte ≡ true → starts byte ≡ true
 letter_starts byte letter = rw letter
 
-digit_starts : (byte : ℕ) → is_digit byte ≡ true → starts byte ≡ true
+digit_starts : (byte : ℕ) → is_ascii_digit byte ≡ true → starts byte ≡ true
 digit_starts byte digit = grind (arith, nat_tests)
 
 quote_letter : (byte : ℕ) → 34 ≡ byte → is_letter byte ≡ true → ⊥
 quote_letter byte e letter = let wrong : is_letter 34 ≡ true = subst (λ b. is_letter b ≡ true) (sym e) letter in cc
 
-quote_digit : (byte : ℕ) → 34 ≡ byte → is_digit byte ≡ true → ⊥
-quote_digit byte e digit = let wrong : is_digit 34 ≡ true = subst (λ b. is_digit b ≡ true) (sym e) digit in cc
+quote_digit : (byte : ℕ) → 34 ≡ byte → is_ascii_digit byte ≡ true → ⊥
+quote_digit byte e digit = let wrong : is_ascii_digit 34 ≡ true = subst (λ b. is_ascii_digit b ≡ true) (sym e) digit in cc
 
 nought_letter : (byte : ℕ) → 48 ≡ byte → is_letter byte ≡ true → ⊥
 nought_letter byte e letter = let wrong : is_letter 48 ≡ true = subst (λ b. is_letter b ≡ true) (sym e) letter in cc
@@ -149,14 +150,14 @@ sign_splits s byte rest e = go rest (ap shaped (sym e) ∙ sign_shaped s)
 pub form_word : {text : List ℕ} → IsForm text → (byte : ℕ) (rest : List ℕ) → text ≡ byte ∷ rest → is_letter byte ≡ true → Each goes_on rest
 form_word (t.word {bytes = bytes} first each) byte rest e letter = let same : bytes ≡ rest = cc in subst (Each goes_on) same each
 form_word t.nought byte rest e letter = let same : 48 ≡ byte = cc in absurd (nought_letter byte same letter)
-form_word (t.number {byte = first} digit other each) byte rest e letter = let same : first ≡ byte = cc in absurd (apart byte letter (subst (λ b. is_digit b ≡ true) same digit))
+form_word (t.number {byte = first} digit other each) byte rest e letter = let same : first ≡ byte = cc in absurd (apart byte letter (subst (λ b. is_ascii_digit b ≡ true) same digit))
 form_word (t.string body) byte rest e letter = absurd (quote_letter byte (ap head e) letter)
 form_word (t.sign s) byte rest e letter = absurd (clash (sign_starts s byte rest e) (letter_starts byte letter))
 
-pub form_digits : {text : List ℕ} → IsForm text → (byte : ℕ) (rest : List ℕ) → text ≡ byte ∷ rest → is_digit byte ≡ true → Each is_digit rest
+pub form_digits : {text : List ℕ} → IsForm text → (byte : ℕ) (rest : List ℕ) → text ≡ byte ∷ rest → is_ascii_digit byte ≡ true → Each is_ascii_digit rest
 form_digits (t.word {byte = first} letter each) byte rest e digit = let same : first ≡ byte = cc in absurd (apart byte (subst (λ b. is_letter b ≡ true) same letter) digit)
-form_digits t.nought byte rest e digit = let same : [] ≡ rest = cc in subst (Each is_digit) same tt
-form_digits (t.number {bytes = bytes} first other each) byte rest e digit = let same : bytes ≡ rest = cc in subst (Each is_digit) same each
+form_digits t.nought byte rest e digit = let same : [] ≡ rest = cc in subst (Each is_ascii_digit) same tt
+form_digits (t.number {bytes = bytes} first other each) byte rest e digit = let same : bytes ≡ rest = cc in subst (Each is_ascii_digit) same each
 form_digits (t.string body) byte rest e digit = absurd (quote_digit byte (ap head e) digit)
 form_digits (t.sign s) byte rest e digit = absurd (clash (sign_starts s byte rest e) (digit_starts byte digit))
 
@@ -189,7 +190,7 @@ pub form_sign : {text : List ℕ} → IsForm text → (byte : ℕ) (rest : List 
 form_sign (t.word {byte = first} letter each) byte rest e plain = let same : first ≡ byte = cc in absurd (clash plain (letter_starts byte (subst (λ b. is_letter b ≡ true) same letter)))
 form_sign t.nought byte rest e plain = absurd (clash plain (subst (λ b. starts b ≡ true) (ap head e) refl))
 form_sign (t.number {byte = first} digit other each) byte rest e plain =
-    let same : first ≡ byte = cc in absurd (clash plain (digit_starts byte (subst (λ b. is_digit b ≡ true) same digit)))
+    let same : first ≡ byte = cc in absurd (clash plain (digit_starts byte (subst (λ b. is_ascii_digit b ≡ true) same digit)))
 form_sign (t.string body) byte rest e plain = absurd (clash plain (subst (λ b. starts b ≡ true) (ap head e) refl))
 form_sign (t.sign s) byte rest e plain = record { s = s; is = e }
 
@@ -207,8 +208,8 @@ word_longest [] rest word stops = cc
 word_longest (byte ∷ bytes) rest word stops = λ more after e f.
     stops more after e (each_rest goes_on bytes more (form_word f byte (bytes ++ more) refl (and-out (is_letter byte) (list_all goes_on bytes) word).0))
 
-pub digits_longest : (byte : ℕ) (bytes rest : List ℕ) → is_digit byte ≡ true → Stops is_digit rest → IsLongest (byte ∷ bytes) rest
-digits_longest byte bytes rest digit stops more after e f = stops more after e (each_rest is_digit bytes more (form_digits f byte (bytes ++ more) refl digit))
+pub digits_longest : (byte : ℕ) (bytes rest : List ℕ) → is_ascii_digit byte ≡ true → Stops is_ascii_digit rest → IsLongest (byte ∷ bytes) rest
+digits_longest byte bytes rest digit stops more after e f = stops more after e (each_rest is_ascii_digit bytes more (form_digits f byte (bytes ++ more) refl digit))
 
 pub nought_longest : (rest : List ℕ) → IsLongest (48 ∷ []) rest
 nought_longest rest more after e f = form_nought f more refl

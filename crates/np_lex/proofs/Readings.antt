@@ -1,13 +1,16 @@
 -- The token that is read at the front of bytes is the one that they begin with.
 use Rattle.std.proofs.Common.{◌≡◌, ℕ, suc, pos, ◌+◌, ◌≤◌, inl, inr, List, [], ◌∷◌, ◌++◌, length, take, Option, Some, None, refl, sym, ap, ◌∙◌, subst, arith, append_assoc, length-append}
-use Rattle.std.specs.Prelude.{Bool, true, false, cond, ◌≢◌, nat_le, ◌==◌, if◌then◌else◌}
-use Rattle.std.specs.List.{prefix_len, find}
+use Rattle.std.specs.Prelude.{Bool, true, false, ◌≢◌, nat_le, ◌==◌, if◌then◌else◌}
+use Rattle.std.specs.Char.{is_ascii_digit}
+use Rattle.std.specs.List.{prefix_len}
 use Rattle.std.specs.Str.{bytes_eq}
 use Rattle.std.proofs.lemmas.Bool.Decides.{nat_tests}
 use Rattle.std.proofs.Math.Seq.{take-append_seam}
 use Rattle.std.proofs.lemmas.Slice.Eq.{bytes_eq-Decides}
-use Rattle.np_syntax.specs.declared.limits.TheConstants.{LONGEST_NAME, LONGEST_STRING}
+use Rattle.np_syntax.specs.declared.limits.TheConstants.{LARGEST_INTEGER, LONGEST_NAME, LONGEST_STRING}
+use Rattle.np_syntax.specs.Numerals.{value}
 use Rattle.np_syntax.proofs.Bools.{clash}
+use Rattle.np_syntax.proofs.Searching.{found_passes}
 use Rattle.np_lex.specs.declared.token.Key.{Key}
 use Rattle.np_lex.specs.declared.token.Key.TheVariants as keys
 use Rattle.np_lex.specs.declared.token.Sign.{Sign}
@@ -16,7 +19,7 @@ use Rattle.np_lex.specs.declared.token.TheConstants.{KEYS, SIGNS}
 use Rattle.np_lex.specs.declared.token.What.{What}
 use Rattle.np_lex.specs.declared.token.What.TheVariants as what
 use Rattle.np_lex.specs.Tokens as t
-use Rattle.np_lex.specs.Tokens.{is_digit, is_letter, goes_on, Each, IsForm, IsBody, IsToken, IsLongest, Begins, key_text, sign_text, value}
+use Rattle.np_lex.specs.Tokens.{is_letter, goes_on, Each, IsForm, IsBody, IsToken, IsLongest, Begins, key_text, sign_text}
 use Rattle.np_lex.specs.Lexing.{sized, key_of, word_by, word_kind, number_len, bounded, numbered, number_kind, is_pair, sign_len, sign_of, signed, sign_kind, front, first_token}
 use Rattle.np_lex.specs.Strings.{unquoted, limited, string}
 use Rattle.np_lex.proofs.Longest.{Run, run_of, head, tail, starts, key_word, name_word, word_form, sign_splits, Signed, form_some, word_longest, digits_longest, nought_longest, Alone, single_longest, pair_longest, same_longest}
@@ -26,7 +29,7 @@ use Rattle.np_lex.proofs.Quotes.{body_read, read_body, string_longest}
 
 -- letters, digits, the double quote, and other bytes
 abbrev pub lead : ℕ → ℕ
-lead byte = if is_letter byte then 0 else (if is_digit byte then 1 else (if byte == 34 then 2 else 3))
+lead byte = if is_letter byte then 0 else (if is_ascii_digit byte then 1 else (if byte == 34 then 2 else 3))
 
 abbrev pub class : What → ℕ
 class (what.Word k) = 0
@@ -47,10 +50,10 @@ sign_lead s = refl
 letter_lead : (byte : ℕ) → is_letter byte ≡ true → lead byte ≡ 0
 letter_lead byte letter = rw letter
 
-digit_lead : (byte : ℕ) → is_digit byte ≡ true → lead byte ≡ 1
+digit_lead : (byte : ℕ) → is_ascii_digit byte ≡ true → lead byte ≡ 1
 digit_lead byte digit = let no_letter : is_letter byte ≡ false = grind (arith, nat_tests) in rw (no_letter, digit)
 
-other_lead : (byte : ℕ) → is_letter byte ≡ false → is_digit byte ≡ false → (byte == 34) ≡ false → lead byte ≡ 3
+other_lead : (byte : ℕ) → is_letter byte ≡ false → is_ascii_digit byte ≡ false → (byte == 34) ≡ false → lead byte ≡ 3
 other_lead byte letter digit quote = rw (letter, digit, quote)
 
 pub lead_is : {text : List ℕ} {w : What} → IsToken text w → lead (head text) ≡ class w
@@ -70,14 +73,6 @@ form_of (t.string body few) = t.string body
 form_of (t.sign s) = t.sign s
 
 -- ---- keywords and signs are found by their texts
-
-found_passes : {X : Type 0} (test : X → Bool) (xs : List X) (x : X) → find test xs ≡ Some x → test x ≡ true
-found_passes test [] x e = cc
-found_passes test (y ∷ ys) x e = go (test y) refl (found_passes test ys x) e
-  where
-    go : (b : Bool) → test y ≡ b → (find test ys ≡ Some x → test x ≡ true) → cond b (Some y) (find test ys) ≡ Some x → test x ≡ true
-    go true passes later k = let same : y ≡ x = cc in ap test (sym same) ∙ passes
-    go false fails later k = later k
 
 key_back : (k : Key) → key_of (key_text k) ≡ Some k
 key_back keys.Sites = refl
@@ -132,8 +127,8 @@ word_means byte bytes w letter each e = go (key_of (byte ∷ bytes)) refl e
     go (Some k) h m = let same : what.Word k ≡ w = cc in subst (λ l. IsToken l w) (key_is (byte ∷ bytes) k h) (subst (IsToken (key_text k)) same (t.key k))
     go None h m = named (nat_le (length (byte ∷ bytes)) LONGEST_NAME) refl h m
 
-bounded_says : (text : List ℕ) → value text ≤ 9223372036854775807 → bounded text ≡ Some (value text)
-bounded_says text small = ap (λ b. if b then Some (value text) else None) (few_test (value text) 9223372036854775807 small)
+bounded_says : (text : List ℕ) → value text ≤ LARGEST_INTEGER → bounded text ≡ Some (value text)
+bounded_says text small = ap (λ b. if b then Some (value text) else None) (few_test (value text) LARGEST_INTEGER small)
 
 number_only : {text : List ℕ} {w : What} → IsToken text w → lead (head text) ≡ 1 → number_kind text ≡ Some w
 unfolding number_kind
@@ -142,16 +137,16 @@ number_only (t.number {byte = byte} {bytes = bytes} digit other each same small)
     ap numbered (bounded_says (byte ∷ bytes) (rw same small)) ∙ ap (λ v. Some (what.Number (pos v))) same
 number_only p h = let k = lead_is p in absurd (omega arith)
 
-number_is : (text : List ℕ) (w : What) → number_kind text ≡ Some w → (value text ≤ 9223372036854775807) × (what.Number (pos (value text)) ≡ w)
+number_is : (text : List ℕ) (w : What) → number_kind text ≡ Some w → (value text ≤ LARGEST_INTEGER) × (what.Number (pos (value text)) ≡ w)
 unfolding number_kind
-number_is text w e = go (nat_le (value text) 9223372036854775807) refl e
+number_is text w e = go (nat_le (value text) LARGEST_INTEGER) refl e
   where
-    go : (small : Bool) → nat_le (value text) 9223372036854775807 ≡ small → numbered (if small then Some (value text) else None) ≡ Some w
-        → (value text ≤ 9223372036854775807) × (what.Number (pos (value text)) ≡ w)
-    go true s k = (few_is (value text) 9223372036854775807 s, cc)
+    go : (small : Bool) → nat_le (value text) LARGEST_INTEGER ≡ small → numbered (if small then Some (value text) else None) ≡ Some w
+        → (value text ≤ LARGEST_INTEGER) × (what.Number (pos (value text)) ≡ w)
+    go true s k = (few_is (value text) LARGEST_INTEGER s, cc)
     go false s k = cc
 
-number_means : (byte : ℕ) (bytes : List ℕ) (w : What) → is_digit byte ≡ true → byte ≢ 48 → Each is_digit bytes → number_kind (byte ∷ bytes) ≡ Some w → IsToken (byte ∷ bytes) w
+number_means : (byte : ℕ) (bytes : List ℕ) (w : What) → is_ascii_digit byte ≡ true → byte ≢ 48 → Each is_ascii_digit bytes → number_kind (byte ∷ bytes) ≡ Some w → IsToken (byte ∷ bytes) w
 number_means byte bytes w digit other each e = let h = number_is (byte ∷ bytes) w e in subst (IsToken (byte ∷ bytes)) h.1 (t.number digit other each refl h.0)
 
 nought_means : (w : What) → number_kind (48 ∷ []) ≡ Some w → IsToken (48 ∷ []) w
@@ -229,21 +224,21 @@ word_says byte bytes letter = front_says f word_kind (λ w e. word_means byte r.
       longest = word_longest (byte ∷ r.text) r.rest (name_word byte r.text letter r.each) r.stops;
     }
 
-number_says : (byte : ℕ) (bytes : List ℕ) → is_digit byte ≡ true → (byte == 48) ≡ false → Says (byte ∷ bytes) (front number_kind (number_len (byte ∷ bytes)) (byte ∷ bytes))
+number_says : (byte : ℕ) (bytes : List ℕ) → is_ascii_digit byte ≡ true → (byte == 48) ≡ false → Says (byte ∷ bytes) (front number_kind (number_len (byte ∷ bytes)) (byte ∷ bytes))
 number_says byte bytes digit differs = front_says f number_kind (λ w e. number_means byte r.text w digit other r.each e) (λ w p. number_only p (digit_lead byte digit))
   where
     other : byte ≢ 48
     other e = grind (arith, nat_tests)
 
-    r : Run is_digit bytes
-    r = run_of is_digit bytes
+    r : Run is_ascii_digit bytes
+    r = run_of is_ascii_digit bytes
 
     f : Front byte bytes (number_len (byte ∷ bytes))
     f = record {
       inner = r.text;
       rest = r.rest;
       is = r.is;
-      counts = rw (differs, digit) (let c : length r.text ≡ prefix_len is_digit bytes = r.counts in omega arith);
+      counts = rw (differs, digit) (let c : length r.text ≡ prefix_len is_ascii_digit bytes = r.counts in omega arith);
       form = t.number digit other r.each;
       longest = digits_longest byte r.text r.rest digit r.stops;
     }
@@ -266,7 +261,7 @@ pair_form first second pair = go (first == 45) refl
     go true e = same_pair 45 62 (grind (arith, nat_tests)) (grind (arith, nat_tests)) (t.sign signs.Arrow)
     go false e = same_pair 61 61 (grind (arith, nat_tests)) (grind (arith, nat_tests)) (t.sign signs.Same)
 
-other_starts : (byte : ℕ) → is_letter byte ≡ false → is_digit byte ≡ false → (byte == 34) ≡ false → starts byte ≡ false
+other_starts : (byte : ℕ) → is_letter byte ≡ false → is_ascii_digit byte ≡ false → (byte == 34) ≡ false → starts byte ≡ false
 other_starts byte letter digit quote = rw (letter, digit, quote)
 
 pair_says : (first second : ℕ) (rest : List ℕ) → starts first ≡ false → lead first ≡ 3 → is_pair first second ≡ true → Says (first ∷ second ∷ rest) (front sign_kind 2 (first ∷ second ∷ rest))
@@ -298,7 +293,7 @@ single_says byte rest plain leads alone = record {
           | inr pair ↦ absurd (pair_none pair.0 after (others ∙ ap (λ l. l ++ after) pair.1) (ap (λ b. is_pair b pair.0) same ∙ pair.2))
         ]
 
-other_says : (byte : ℕ) (bytes : List ℕ) → is_letter byte ≡ false → is_digit byte ≡ false → (byte == 34) ≡ false → Says (byte ∷ bytes) (front sign_kind (sign_len (byte ∷ bytes)) (byte ∷ bytes))
+other_says : (byte : ℕ) (bytes : List ℕ) → is_letter byte ≡ false → is_ascii_digit byte ≡ false → (byte == 34) ≡ false → Says (byte ∷ bytes) (front sign_kind (sign_len (byte ∷ bytes)) (byte ∷ bytes))
 other_says byte [] letter digit quote = single_says byte [] (other_starts byte letter digit quote) (other_lead byte letter digit quote) tt
 other_says byte (second ∷ rest) letter digit quote = go (is_pair byte second) refl
   where
@@ -381,17 +376,17 @@ unfolding first_token
 first_says [] = nothing_says
 first_says (byte ∷ bytes) = quote (byte == 34) refl
   where
-    number : (test : Bool) → (byte == 48) ≡ test → is_digit byte ≡ true → Says (byte ∷ bytes) (front number_kind (number_len (byte ∷ bytes)) (byte ∷ bytes))
+    number : (test : Bool) → (byte == 48) ≡ test → is_ascii_digit byte ≡ true → Says (byte ∷ bytes) (front number_kind (number_len (byte ∷ bytes)) (byte ∷ bytes))
     number true e digit = let same : byte ≡ 48 = grind (arith, nat_tests) in subst (λ b. Says (b ∷ bytes) (front number_kind (number_len (b ∷ bytes)) (b ∷ bytes))) (sym same) (nought_says bytes)
     number false e digit = number_says byte bytes digit e
 
-    digit : (test : Bool) → is_digit byte ≡ test → is_letter byte ≡ false → (byte == 34) ≡ false → Says (byte ∷ bytes) (first_token (byte ∷ bytes))
+    digit : (test : Bool) → is_ascii_digit byte ≡ test → is_letter byte ≡ false → (byte == 34) ≡ false → Says (byte ∷ bytes) (first_token (byte ∷ bytes))
     digit true e letter q = subst (Says (byte ∷ bytes)) (sym (third _ _ _ _ q letter e)) (number (byte == 48) refl e)
     digit false e letter q = subst (Says (byte ∷ bytes)) (sym (fourth _ _ _ _ q letter e)) (other_says byte bytes letter e q)
 
     letter : (test : Bool) → is_letter byte ≡ test → (byte == 34) ≡ false → Says (byte ∷ bytes) (first_token (byte ∷ bytes))
     letter true e q = subst (Says (byte ∷ bytes)) (sym (second _ _ _ q e)) (word_says byte bytes e)
-    letter false e q = digit (is_digit byte) refl e q
+    letter false e q = digit (is_ascii_digit byte) refl e q
 
     quote : (test : Bool) → (byte == 34) ≡ test → Says (byte ∷ bytes) (first_token (byte ∷ bytes))
     quote true e = let same : byte ≡ 34 = grind (arith, nat_tests) in rw e (subst (λ b. Says (b ∷ bytes) (string bytes)) (sym same) (string_says bytes))

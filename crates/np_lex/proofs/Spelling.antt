@@ -1,36 +1,25 @@
 -- Each token has one text.
-use Rattle.std.proofs.Common.{◌≡◌, ℕ, ℤ, ◌+◌, ◌-◌, ◌*◌, true, false, List, [], ◌∷◌, ◌++◌, decimal, inl, inr, refl, sym, ap, arith, subst, ◌∙◌}
+use Rattle.std.proofs.Common.{◌≡◌, ℕ, ℤ, ◌+◌, ◌-◌, ◌*◌, true, false, List, [], ◌∷◌, ◌++◌, decimal, inl, inr, refl, sym, ap, arith, rules, subst, ◌∙◌}
 use Rattle.std.specs.Prelude.{fold, ◌==◌}
 use Rattle.std.specs.Fmt.{signed_decimal}
 use Rattle.std.specs.List.{flat_map}
 use Rattle.std.proofs.lemmas.Bool.Decides.{nat_tests}
-use Rattle.std.specs.Int.{IsInRange}
+use Rattle.std.specs.Char.{is_ascii_digit}
 use Rattle.std.proofs.lemmas.Str.Parse.{IsNumeralModel, numerals_by_fold}
 use Rattle.std.proofs.lemmas.Fmt.{decimal-digits_value, decimal_digit}
 use Rattle.np_syntax.specs.Escapes.{IsEscape}
+use Rattle.np_syntax.specs.Numerals.{value}
 use Rattle.np_syntax.specs.Printed.{escaped}
 use Rattle.np_lex.specs.declared.token.What.{What}
 use Rattle.np_lex.specs.declared.token.What.TheVariants as what
 use Rattle.np_lex.specs.Tokens as t
-use Rattle.np_lex.specs.Tokens.{is_digit, is_plain, Each, IsBody, IsToken, IsLegal, value}
+use Rattle.np_lex.specs.Tokens.{is_plain, Each, IsBody, IsToken, IsLegal}
 use Rattle.np_lex.specs.Spelling.{spelling}
 
 -- ---- numbers
 
-digit_range : (byte : ℕ) → is_digit byte ≡ true → IsInRange 48 57 byte
-digit_range byte digit = grind (arith, nat_tests)
-
-range_digit : (byte : ℕ) → IsInRange 48 57 byte → is_digit byte ≡ true
-range_digit byte range = grind (arith, nat_tests)
-
-abbrev step : ℕ → ℕ → ℕ
-step number digit = 10 * number + (digit - 48)
-
-digits_model : IsNumeralModel (Each is_digit) value
-digits_model = numerals_by_fold (Each is_digit)
-    (record { empty = tt; parts = λ byte bytes each. (digit_range byte each.0, each.1); more = λ byte bytes range each. (range_digit byte range, each) })
-    (fold step)
-    (record { empty = λ n. refl; more = λ n byte bytes range. ap (λ k. fold step k bytes) (omega arith) })
+digits_model : IsNumeralModel (Each is_ascii_digit) value
+digits_model = numerals_by_fold _ (search rules) (fold (λ number digit. 10 * number + (digit - 48))) (search rules)
 
 pub number_text : {text : List ℕ} {n : ℤ} → IsToken text (what.Number n) → text ≡ signed_decimal n
 number_text t.nought = sym (decimal_digit 0 (omega arith))

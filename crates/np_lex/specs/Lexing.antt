@@ -1,14 +1,16 @@
 -- The token at the front of bytes, as it is read from left to right.
 use Rattle.std.specs.Prelude.{ℕ, pos, Bool, ◌&&◌, ◌||◌, nat_le, ◌==◌, if◌then◌else◌, List, [], ◌∷◌, length, take, Option, Some, None}
+use Rattle.std.specs.Char.{is_ascii_digit}
 use Rattle.std.specs.List.{prefix_len, find}
 use Rattle.std.specs.Str.{bytes_eq}
-use Rattle.np_syntax.specs.declared.limits.TheConstants.{LONGEST_NAME}
+use Rattle.np_syntax.specs.Numerals.{value_within}
+use Rattle.np_syntax.specs.declared.limits.TheConstants.{LARGEST_INTEGER, LONGEST_NAME}
 use Rattle.np_lex.specs.declared.token.Key.{Key}
 use Rattle.np_lex.specs.declared.token.Sign.{Sign}
 use Rattle.np_lex.specs.declared.token.TheConstants.{KEYS, SIGNS}
 use Rattle.np_lex.specs.declared.token.What.{What}
 use Rattle.np_lex.specs.declared.token.What.TheVariants as what
-use Rattle.np_lex.specs.Tokens.{is_letter, is_digit, goes_on, value, key_text, sign_text}
+use Rattle.np_lex.specs.Tokens.{is_letter, goes_on, key_text, sign_text}
 use Rattle.np_lex.specs.Strings.{string}
 
 -- the token that is so long, if there is one
@@ -30,10 +32,10 @@ word_kind text = word_by (key_of text) text
 -- the length of the `0` or of the digits at the front
 abbrev pub number_len : List ℕ → ℕ
 number_len [] = 0
-number_len (byte ∷ rest) = if byte == 48 then 1 else prefix_len is_digit (byte ∷ rest)
+number_len (byte ∷ rest) = if byte == 48 then 1 else prefix_len is_ascii_digit (byte ∷ rest)
 
 abbrev pub bounded : List ℕ → Option ℕ
-bounded digits = if nat_le (value digits) 9223372036854775807 then Some (value digits) else None
+bounded = value_within LARGEST_INTEGER
 
 abbrev pub numbered : Option ℕ → Option What
 numbered None = None
@@ -71,5 +73,5 @@ first_token [] = None
 first_token (byte ∷ rest) =
     if byte == 34 then string rest
     else (if is_letter byte then front word_kind (prefix_len goes_on (byte ∷ rest)) (byte ∷ rest)
-    else (if is_digit byte then front number_kind (number_len (byte ∷ rest)) (byte ∷ rest)
+    else (if is_ascii_digit byte then front number_kind (number_len (byte ∷ rest)) (byte ∷ rest)
     else front sign_kind (sign_len (byte ∷ rest)) (byte ∷ rest)))

@@ -1,9 +1,11 @@
 -- Which bytes are which tokens (docs/LANGUAGE.md, "Tokens").
-use Rattle.std.specs.Prelude.{◌≡◌, ◌≢◌, ℕ, pos, ◌+◌, ◌*◌, ◌-◌, ◌<◌, ◌≤◌, Bool, true, ◌&&◌, ◌||◌, not, nat_le, ◌==◌, if◌then◌else◌}
-use Rattle.std.specs.Prelude.{List, [], ◌∷◌, ◌++◌, length, drop, fold, codes}
+use Rattle.std.specs.Prelude.{◌≡◌, ◌≢◌, ℕ, pos, ◌+◌, ◌<◌, ◌≤◌, Bool, true, ◌&&◌, ◌||◌, not, nat_le, ◌==◌, if◌then◌else◌}
+use Rattle.std.specs.Prelude.{List, [], ◌∷◌, ◌++◌, length, drop, codes}
+use Rattle.std.specs.Char.{is_ascii_digit}
 use Rattle.std.specs.List.{prefix_len}
 use Rattle.np_syntax.specs.Escapes.{IsEscape}
-use Rattle.np_syntax.specs.declared.limits.TheConstants.{LONGEST_NAME, LONGEST_STRING}
+use Rattle.np_syntax.specs.Numerals.{value}
+use Rattle.np_syntax.specs.declared.limits.TheConstants.{LARGEST_INTEGER, LONGEST_NAME, LONGEST_STRING}
 use Rattle.np_lex.specs.declared.token.Key.{Key}
 use Rattle.np_lex.specs.declared.token.Key.TheVariants as keys
 use Rattle.np_lex.specs.declared.token.Sign.{Sign}
@@ -29,17 +31,13 @@ name_at at end text = token at end (what.Ident text)
 
 -- ---- bytes
 
--- `0` to `9`
-abbrev pub is_digit : ℕ → Bool
-is_digit byte = nat_le 48 byte && nat_le byte 57
-
 -- `A` to `Z` and `a` to `z`
 abbrev pub is_letter : ℕ → Bool
 is_letter byte = (nat_le 65 byte && nat_le byte 90) || (nat_le 97 byte && nat_le byte 122)
 
 -- letters, digits, `_` and `'`
 abbrev pub goes_on : ℕ → Bool
-goes_on byte = is_letter byte || is_digit byte || byte == 95 || byte == 39
+goes_on byte = is_letter byte || is_ascii_digit byte || byte == 95 || byte == 39
 
 -- a byte that stands for itself in a string: any from 32 on but the double quote and the backslash
 abbrev pub is_plain : ℕ → Bool
@@ -117,13 +115,9 @@ pub data IsBody : List ℕ → List ℕ → Type 0 where
 pub data IsForm : List ℕ → Type 0 where
   word : {byte : ℕ} {bytes : List ℕ} → is_letter byte ≡ true → Each goes_on bytes → IsForm (byte ∷ bytes)
   nought : IsForm (48 ∷ [])
-  number : {byte : ℕ} {bytes : List ℕ} → is_digit byte ≡ true → byte ≢ 48 → Each is_digit bytes → IsForm (byte ∷ bytes)
+  number : {byte : ℕ} {bytes : List ℕ} → is_ascii_digit byte ≡ true → byte ≢ 48 → Each is_ascii_digit bytes → IsForm (byte ∷ bytes)
   string : {bytes text : List ℕ} → IsBody bytes text → IsForm (34 ∷ (bytes ++ 34 ∷ []))
   sign : (s : Sign) → IsForm (sign_text s)
-
--- the number that the digits write
-abbrev pub value : List ℕ → ℕ
-value = fold (λ number digit. 10 * number + (digit - 48)) 0
 
 -- the text is this token: it is of a form, and within the limit of its form
 pub data IsToken : List ℕ → What → Type 0 where
@@ -131,7 +125,7 @@ pub data IsToken : List ℕ → What → Type 0 where
   name : {byte : ℕ} {bytes : List ℕ} → is_letter byte ≡ true → Each goes_on bytes → length (byte ∷ bytes) ≤ LONGEST_NAME → ((k : Key) → key_text k ≢ byte ∷ bytes)
       → IsToken (byte ∷ bytes) (what.Ident (byte ∷ bytes))
   nought : IsToken (48 ∷ []) (what.Number (pos 0))
-  number : {byte n : ℕ} {bytes : List ℕ} → is_digit byte ≡ true → byte ≢ 48 → Each is_digit bytes → value (byte ∷ bytes) ≡ n → n ≤ 9223372036854775807
+  number : {byte n : ℕ} {bytes : List ℕ} → is_ascii_digit byte ≡ true → byte ≢ 48 → Each is_ascii_digit bytes → value (byte ∷ bytes) ≡ n → n ≤ LARGEST_INTEGER
       → IsToken (byte ∷ bytes) (what.Number (pos n))
   string : {bytes text : List ℕ} → IsBody bytes text → length text ≤ LONGEST_STRING → IsToken (34 ∷ (bytes ++ 34 ∷ [])) (what.Str text)
   sign : (s : Sign) → IsToken (sign_text s) (what.Sign s)

@@ -1,6 +1,7 @@
 //! What stands at the front of bytes: a blank, a comment or a token.
 
 ghost use Rattle.std.specs.Prelude.{◌≡◌, ◌≤◌, length, IfOk};
+ghost use Rattle.std.specs.Char.{is_ascii_digit};
 ghost use Rattle.std.specs.List.{prefix_len};
 ghost use Rattle.np_lex.specs.Tokens as spec;
 ghost use Rattle.np_lex.specs.Lexing as lexing;
@@ -9,14 +10,11 @@ ghost use Rattle.np_lex.specs.Refusals.{refusal as refusal_of};
 use super::fail::LexFail;
 use super::strings::string;
 use super::token::{KEYS, Key, SIGNS, Sign, What};
-use np_syntax::{LONGEST_NAME, List, Memory};
+use np_syntax::{LARGEST_INTEGER, LONGEST_NAME, List, Memory};
 use std::alloc::Global;
 
-/// The largest number.
-const LARGEST: u64 = 9223372036854775807;
-
 fn is_digit(byte: u8) -> bool
-    ensures { result ≡ spec.is_digit byte }
+    ensures { result ≡ is_ascii_digit byte }
 {
     byte.is_ascii_digit()
 }
@@ -104,7 +102,7 @@ fn word_kind(alloc: Global, text: &[u8]) -> Result<Option<What>, Memory>
 }
 
 fn digits_len(bytes: &[u8]) -> usize
-    ensures value { result ≡ prefix_len spec.is_digit bytes.now }
+    ensures value { result ≡ prefix_len is_ascii_digit bytes.now }
     ensures within { result ≤ length bytes.now }
 {
     bytes.iter().take_while(|byte| is_digit(**byte)).count()
@@ -128,7 +126,7 @@ fn bounded(digits: &[u8]) -> Option<u64>
     let mut number: u64 = 0;
     'digits: for byte in digits {
         let digit = u64::from(byte.saturating_sub(b'0'));
-        if number > (LARGEST - digit) / 10 {
+        if number > (LARGEST_INTEGER - digit) / 10 {
             return None;
         }
         number = 10 * number + digit;

@@ -1,4 +1,5 @@
 ghost use Rattle.std.specs.Prelude.{◌≡◌, ◌≢◌, ◌≤◌, ◌+◌, List as Items, length, IfOk, IfErr};
+ghost use Rattle.np_syntax.specs.declared.limits.TheConstants.{LONGEST_TEXT};
 ghost use Rattle.np_lex.specs.declared.fail.LexFail.TheVariants as fail;
 ghost use Rattle.np_lex.specs.declared.token.Token.{Token as OneToken};
 ghost use Rattle.np_lex.specs.Tokens.{Lexes, AreTokens};
@@ -40,7 +41,7 @@ impl Tokens {
 
 /// The tokens of the source.
 pub fn lex(alloc: Global, source: &[u8]) -> Result<Tokens, LexFail>
-    requires { length source.now ≤ 16777216 }
+    requires { length source.now ≤ LONGEST_TEXT }
     ensures found { IfOk result (λ tokens. Lexes 0 source.now tokens) }
     ensures only { IfOk result (λ tokens. (others : Items OneToken) → Lexes 0 source.now others → others ≡ tokens) }
     ensures refused { IfErr result (λ e. e ≢ fail.Memory → IsRefused source.now e) }

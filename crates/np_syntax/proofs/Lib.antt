@@ -1,6 +1,8 @@
 pub mod Bools
+pub mod Numerals
 pub mod Options
 pub mod Results
+pub mod Searching
 mod Tells
 pub mod Texts
 pub mod Trees

@@ -22,8 +22,9 @@ pub use copies::{copy_bound, copy_pair};
 pub use event::{End, Event, Kind, Made};
 pub use expression::{Expr, ExprForm, Op};
 pub use limits::{
-    DEEPEST, LARGEST_BUDGET, LONGEST_NAME, LONGEST_SOURCE, LONGEST_STRING, MOST_BINDERS,
-    MOST_NODES, MOST_PARTS, MOST_SITES, MOST_TOKENS, USUAL_BUDGET, WIDEST_TYPE,
+    DEEPEST, LARGEST_BUDGET, LARGEST_INTEGER, LARGEST_NUMBER, LONGEST_NAME, LONGEST_SOURCE,
+    LONGEST_STRING, LONGEST_TEXT, MOST_BINDERS, MOST_NODES, MOST_PARTS, MOST_SITES, MOST_TOKENS,
+    USUAL_BUDGET, WIDEST_TYPE,
 };
 pub use list::{List, Text, copy_texts};
 pub use memory::Memory;

@@ -3,6 +3,9 @@
 /// How many bytes a source may have.
 pub const LONGEST_SOURCE: usize = 1_048_576;
 
+/// How many bytes a text may have whose tokens are read.
+pub const LONGEST_TEXT: usize = 16_777_216;
+
 /// How many bytes a name may have.
 pub const LONGEST_NAME: usize = 64;
 
@@ -35,3 +38,9 @@ pub const USUAL_BUDGET: u32 = 10_000;
 
 /// The largest number of events that the words may say.
 pub const LARGEST_BUDGET: u32 = 200_000;
+
+/// The largest integer.
+pub const LARGEST_INTEGER: u64 = 9_223_372_036_854_775_807;
+
+/// The largest number of a site, a name, a node or a line.
+pub const LARGEST_NUMBER: u64 = 4_294_967_295;

@@ -1,6 +1,7 @@
 use Rattle.std.proofs.Common.{◌≡◌, ◌≤◌, take}
-use Rattle.np_lex.specs.Tokens.{value}
+use Rattle.np_syntax.specs.Numerals.{value}
+use Rattle.np_syntax.specs.declared.limits.TheConstants.{LARGEST_INTEGER}
 use Rattle.np_lex.proofs.front.bounded.Given as goal
 
 abbrev pub invariant-digits : goal.invariant-digits
-invariant-digits l = record { same : l.number ≡ value (take l.byte-index l.digits); small : l.number ≤ 9223372036854775807 }
+invariant-digits l = record { same : l.number ≡ value (take l.byte-index l.digits); small : l.number ≤ LARGEST_INTEGER }
