@@ -1,9 +1,10 @@
 -- The lines of the generated source, piece by piece.
-use Rattle.std.proofs.Common.{◌≡◌, ℕ, ◌+◌, ◌-◌, ◌*◌, ◌%◌, ◌≤◌, Result, OnOk, subst, decimal, List, [], ◌∷◌, ◌++◌, map, codes, ap, sym, ◌∙◌, append_assoc, append-nil, arith}
+use Rattle.std.proofs.Common.{◌≡◌, ℕ, ◌+◌, ◌-◌, ◌*◌, ◌%◌, ◌≤◌, decimal, List, [], ◌∷◌, ◌++◌, map, codes, ap, sym, ◌∙◌, append_assoc, append-nil, arith}
 use Rattle.std.specs.List.{range_with_len}
 use Rattle.std.proofs.lemmas.List.{flat_map_more}
 use Rattle.std.proofs.lemmas.List.Concat.{flat_map-append}
 use Rattle.std.proofs.lemmas.List.FromFn.{map-range_with_len_more}
+use Rattle.np_syntax.proofs.Joining.{five, seven}
 use Rattle.np_generate.specs.Generated.{head, name, next, agent_line, last_line, text_of, generated}
 
 -- the lines up to this agent, and one more
@@ -16,16 +17,6 @@ one_more text agent some =
     ∙ flat_map_more (λ line. line ++ codes "\n") text (map agent_line before) (agent_line agent)
     ∙ ap (λ lines. text ++ text_of lines) (sym (map-range_with_len_more agent_line 1 (agent - 1) agent (omega (arith, some))))
     ∙ ap (λ n. text ++ text_of (map agent_line (range_with_len 1 n))) (sym longer)
-
--- what an Ok ensures, with what is written in another form
-pub on_same : {A E : Type 0} (r : Result A E) (a : List ℕ) {b c : List ℕ} → b ≡ c → OnOk r (a ≡ b) → OnOk r (a ≡ c)
-on_same r a e h = subst (λ b. OnOk r (a ≡ b)) e h
-
-seven : (text a b c d e f g : List ℕ) → text ++ a ++ b ++ c ++ d ++ e ++ f ++ g ≡ text ++ (a ++ b ++ c ++ d ++ e ++ f ++ g)
-seven text a b c d e f g = simp append_assoc
-
-five : (text a b c d e : List ℕ) → text ++ a ++ b ++ c ++ d ++ e ≡ text ++ (a ++ b ++ c ++ d ++ e)
-five text a b c d e = simp append_assoc
 
 pub agent_steps : (text : List ℕ) (agent : ℕ) {a b c d e f : List ℕ} → a ≡ text ++ codes "agent " → b ≡ a ++ name agent → c ≡ b ++ codes " = *go?k -> migrate to s"
     → d ≡ c ++ decimal (agent % 4) → e ≡ d ++ codes " -> (<" → f ≡ e ++ next agent

@@ -16,7 +16,8 @@ use Rattle.np_tree.specs.declared.tree.RawProcForm.{RawProcForm}
 use Rattle.np_tree.specs.declared.tree.RawProcForm as form
 use Rattle.np_tree.specs.Grammar.{cap_sign}
 use Rattle.np_show.specs.Shown.{type_text, pat_text, op_sign, strength, left, right, joined, expr_text, expr_form_text, message_text, proc_text, proc_form_text}
-use Rattle.np_show.proofs.Joining.{glue, behind, four, five, six, eight, opened, closed, bracketed_is}
+use Rattle.np_syntax.proofs.Joining.{four, five, six, eight}
+use Rattle.np_show.proofs.Joining.{glue, behind, opened, closed, bracketed_is}
 use Rattle.np_show.proofs.Equations.{text-chan, text-bin, text-par, text-new, text-inp, text-rep, text-agent, text-migrate, text-iflocal, text-if, text-let}
 
 -- ---- types and expressions

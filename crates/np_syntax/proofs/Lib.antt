@@ -1,4 +1,5 @@
 pub mod Bools
+pub mod Joining
 pub mod Numerals
 pub mod Options
 pub mod Results

@@ -1,4 +1,5 @@
-use Rattle.np_generate.proofs.Lines.{on_same, agent_steps}
+use Rattle.np_syntax.proofs.Joining.{on_same}
+use Rattle.np_generate.proofs.Lines.{agent_steps}
 use Rattle.np_generate.proofs.source.put_agent.Goals as goal
 
 pub returns : goal.returns

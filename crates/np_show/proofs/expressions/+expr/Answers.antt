@@ -1,7 +1,7 @@
 use Rattle.std.proofs.Common.{◌≡◌, ap, ◌∙◌}
 use Rattle.np_show.specs.Shown.{expr_form_text}
 use Rattle.np_show.proofs.Equations.{text-tuple}
-use Rattle.np_show.proofs.Joining.{on_same}
+use Rattle.np_syntax.proofs.Joining.{on_same}
 use Rattle.np_show.proofs.Pieces.{bin_steps}
 use Rattle.np_show.proofs.expressions.+expr.Goals as goal
 

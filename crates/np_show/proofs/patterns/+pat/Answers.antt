@@ -1,7 +1,7 @@
 use Rattle.std.proofs.Common.{◌≡◌, ap, ◌∙◌}
 use Rattle.np_show.specs.Shown.{pat_form_text}
 use Rattle.np_show.proofs.Equations.{text-tuple_pat}
-use Rattle.np_show.proofs.Joining.{on_same}
+use Rattle.np_syntax.proofs.Joining.{on_same}
 use Rattle.np_show.proofs.patterns.+pat.Goals as goal
 
 pub put_pat-returns-in-Tuple : goal.put_pat-returns-in-Tuple

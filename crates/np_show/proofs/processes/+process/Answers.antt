@@ -1,4 +1,4 @@
-use Rattle.np_show.proofs.Joining.{on_same}
+use Rattle.np_syntax.proofs.Joining.{on_same}
 use Rattle.np_show.proofs.Pieces.{par_steps, new_steps, inp_steps, rep_steps, agent_steps, migrate_steps, iflocal_steps, if_steps, let_steps}
 use Rattle.np_show.proofs.processes.+process.Goals as goal
 

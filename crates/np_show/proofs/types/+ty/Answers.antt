@@ -1,7 +1,7 @@
 use Rattle.std.proofs.Common.{◌≡◌, ap, ◌∙◌}
 use Rattle.np_show.specs.Shown.{type_text}
 use Rattle.np_show.proofs.Equations.{text-tuple_type}
-use Rattle.np_show.proofs.Joining.{on_same}
+use Rattle.np_syntax.proofs.Joining.{on_same}
 use Rattle.np_show.proofs.Pieces.{chan_steps}
 use Rattle.np_show.proofs.types.+ty.Goals as goal
 
