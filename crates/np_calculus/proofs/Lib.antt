@@ -13,6 +13,7 @@ pub mod NotEnabled
 pub mod OwnNames
 pub mod Puts
 pub mod Rows
+pub mod Runs
 pub mod Steps
 pub mod Touches
 pub mod Writes

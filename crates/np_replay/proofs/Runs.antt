@@ -1,40 +1,15 @@
 -- Runs of the first events of a list.
 use Rattle.std.proofs.Common.{◌≡◌, ℕ, suc, ◌+◌, ◌<◌, ◌≤◌, List, [], ◌∷◌, ◌++◌, take, drop, get_or, length, Option, None, Some, refl, sym, ap, ◌∙◌, arith, add-one, inl, inr, ◌⊎◌}
 use Rattle.std.proofs.lemmas.Bool.{cases_order}
-use Rattle.std.proofs.lemmas.List.{take-append-drop, take-take, take_more}
+use Rattle.std.proofs.lemmas.List.{take-append-drop, take-take}
 use Rattle.np_syntax.specs.Options.{◌>>=◌}
-use Rattle.np_syntax.proofs.Options.{then}
 use Rattle.np_syntax.specs.declared.event.Event.{Event}
 use Rattle.np_calculus.specs.Config.{Config}
 use Rattle.np_calculus.specs.Reductions.{apply, run}
+use Rattle.np_calculus.proofs.Runs.{none-behind, one-more}
 use Rattle.np_replay.specs.Replays.{StopsAt, HasOneEnd}
 
--- ---- one list behind another
-
-run-behind : (c : Config) (events later : List Event) (d : Config) → run c events ≡ Some d → run c (events ++ later) ≡ run d later
-run-behind c [] later d h = let same : c ≡ d = cc in ap (λ (x : Config). run x later) same
-run-behind c (e ∷ events) later d h =
-    then (apply c e) (λ x. run x events) h (λ x first rest. ap (λ o. o >>= λ z. run z (events ++ later)) first ∙ run-behind x events later d rest)
-
-none-behind : (c : Config) (events later : List Event) → run c events ≡ None → run c (events ++ later) ≡ None
-none-behind c [] later h = cc
-none-behind c (e ∷ events) later h = go (apply c e) refl h (λ x. none-behind x events later)
-  where
-    go : (o : Option Config) → apply c e ≡ o → (o >>= λ x. run x events) ≡ None → ((x : Config) → run x events ≡ None → run x (events ++ later) ≡ None) → run c (e ∷ (events ++ later)) ≡ None
-    go None is h rest = ap (λ o. o >>= λ z. run z (events ++ later)) is
-    go (Some x) is h rest = ap (λ o. o >>= λ z. run z (events ++ later)) is ∙ rest x h
-
--- ---- one event more
-
-one-more : (start : Config) (events : List Event) (index : ℕ) (e : Event) (c : Config) → index < length events → run start (take index events) ≡ Some c
-    → run start (take (index + 1) events) ≡ (apply c (get_or events index e) >>= λ d. Some d)
-one-more start events index e c inside reaches =
-    ap (run start) (take_more events index e inside) ∙ run-behind start (take index events) (get_or events index e ∷ []) c reaches
-
--- the event at this place is enabled, and leads on
-pub goes-on : (start : Config) (events : List Event) (index : ℕ) (e : Event) (c d : Config) → index < length events → run start (take index events) ≡ Some c → apply c (get_or events index e) ≡ Some d
-    → run start (take (index + 1) events) ≡ Some d
-goes-on start events index e c d inside reaches enabled = one-more start events index e c inside reaches ∙ ap (λ o. o >>= λ x. Some x) enabled
+-- ---- where an event is not enabled
 
 -- the event at this place is not enabled
 pub stops-here : (start : Config) (events : List Event) (index : ℕ) (e : Event) (c : Config) → index < length events → run start (take index events) ≡ Some c → apply c (get_or events index e) ≡ None

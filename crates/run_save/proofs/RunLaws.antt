@@ -8,6 +8,7 @@ use Rattle.np_syntax.proofs.Options.{none_there, then}
 use Rattle.np_syntax.specs.declared.event.Event.{Event}
 use Rattle.np_calculus.specs.Config.{Config}
 use Rattle.np_calculus.specs.Reductions.{apply, run}
+use Rattle.np_calculus.proofs.Runs.{none-behind, one-more}
 use Rattle.run_save.specs.declared.notes.Notes.{Notes}
 use Rattle.run_save.specs.Travels.{IsFirstInFirstOut, Travels, none_yet, travels, travels_along, travels_on}
 use Rattle.run_save.specs.Ours.{AreNext, IsOursFrom, StopsBeingOurs, names_by, names_of}
@@ -16,11 +17,6 @@ use Rattle.run_save.proofs.LinkLaws.{told-order}
 use Rattle.run_save.proofs.NameLaws.{counts-more, names-more, names-not, names-prefix}
 
 -- ---- one event behind a run
-
-run-behind : (c : Config) (events later : List Event) (d : Config) → run c events ≡ Some d → run c (events ++ later) ≡ run d later
-run-behind c [] later d h = let same : c ≡ d = cc in ap (λ (x : Config). run x later) same
-run-behind c (e ∷ events) later d h =
-    then (apply c e) (λ x. run x events) h (λ x first rest. ap (λ o. o >>= λ z. run z (events ++ later)) first ∙ run-behind x events later d rest)
 
 pub travels-more : (t : Travels) (c : Config) (events : List Event) (e : Event) (before after : Config) → run c events ≡ Some before → apply before e ≡ Some after
     → travels_along t c (events ++ e ∷ []) ≡ travels_on e.kind (travels_along t c events) after e
@@ -82,24 +78,6 @@ module _ (old new : Notes) (start before after : Config) (events : List Event) (
   noted-more met next counts told = met-noted met next counts (subst (IsTold met new.links) (sym (travels-more none_yet start events e before after reaches enabled)) told)
 
 -- ---- along a list
-
-one-more : (start : Config) (events : List Event) (index : ℕ) (e : Event) (c : Config) → index < length events → run start (take index events) ≡ Some c
-    → run start (take (index + 1) events) ≡ (apply c (get_or events index e) >>= λ d. Some d)
-one-more start events index e c inside reaches =
-    ap (run start) (take_more events index e inside) ∙ run-behind start (take index events) (get_or events index e ∷ []) c reaches
-
--- the event at this place is enabled, and leads on
-pub goes-on : (start : Config) (events : List Event) (index : ℕ) (e : Event) (c d : Config) → index < length events → run start (take index events) ≡ Some c
-    → apply c (get_or events index e) ≡ Some d → run start (take (index + 1) events) ≡ Some d
-goes-on start events index e c d inside reaches enabled = one-more start events index e c inside reaches ∙ ap (λ o. o >>= λ x. Some x) enabled
-
-none-behind : (c : Config) (events later : List Event) → run c events ≡ None → run c (events ++ later) ≡ None
-none-behind c [] later h = cc
-none-behind c (e ∷ events) later h = go (apply c e) refl h (λ x. none-behind x events later)
-  where
-    go : (o : Option Config) → apply c e ≡ o → (o >>= λ x. run x events) ≡ None → ((x : Config) → run x events ≡ None → run x (events ++ later) ≡ None) → run c (e ∷ (events ++ later)) ≡ None
-    go None is h rest = ap (λ o. o >>= λ z. run z (events ++ later)) is
-    go (Some x) is h rest = ap (λ o. o >>= λ z. run z (events ++ later)) is ∙ rest x h
 
 -- each event of a run is enabled in its turn
 pub never-refused : (start : Config) (events : List Event) (index : ℕ) (e : Event) (c : Config) → IsSome (run start events) → index < length events → run start (take index events) ≡ Some c

@@ -1,11 +1,12 @@
 use Rattle.std.proofs.Common.{◌+◌, ap}
-use Rattle.np_replay.proofs.Runs.{goes-on, stops-here, none-whole}
+use Rattle.np_calculus.proofs.Runs.{goes-on}
+use Rattle.np_replay.proofs.Runs.{stops-here, none-whole}
 use Rattle.np_replay.proofs.run.follow_on.Goals as goal
 
 pub loop-event-preserved : goal.loop-event-preserved
 loop-event-preserved c = record {
   counts = ap (λ n. n + 1) c.loop-event.invariant.counts;
-  reaches = goes-on c.args.reached.now c.args.events.now c.loop-event.event-index _ c.loop-event.reached c.apply.new.c c.loop-event-test.true c.loop-event.invariant.reaches c.in-Ok.ensures;
+  reaches = goes-on c.args.reached.now c.args.events.now c.loop-event.event-index _ c.loop-event.reached c.loop-event-test.true c.loop-event.invariant.reaches c.apply.new.c c.in-Ok.ensures;
 }
 
 pub returns-in-Err-NotEnabled-clause-refused : goal.returns-in-Err-NotEnabled-clause-refused

@@ -1,6 +1,7 @@
 use Rattle.std.proofs.Common.{◌+◌, take, refl, sym, ap, subst}
 use Rattle.run_save.specs.Ours.{StopsBeingOurs}
-use Rattle.run_save.proofs.RunLaws.{goes-on, met-at, never-refused, nothing-ours, stops-at}
+use Rattle.np_calculus.proofs.Runs.{goes-on}
+use Rattle.run_save.proofs.RunLaws.{met-at, never-refused, nothing-ours, stops-at}
 use Rattle.run_save.proofs.ours.first_not_ours.Goals as goal
 
 pub loop-event-init : goal.loop-event-init
@@ -31,7 +32,7 @@ loop-event-preserved c =
     (c.in_ok-note.ensures start c.loop-event.reached before invariant.noted invariant.reaches c.in-Ok.ensures invariant.ours) in
     record {
       counts = ap (λ n. n + 1) invariant.counts;
-      reaches = goes-on start events c.loop-event.event-index _ c.loop-event.reached c.apply.new.c c.loop-event-test.true invariant.reaches c.in-Ok.ensures;
+      reaches = goes-on start events c.loop-event.event-index _ c.loop-event.reached c.loop-event-test.true invariant.reaches c.apply.new.c c.in-Ok.ensures;
       noted = met.0;
       ours = met.1;
     }
