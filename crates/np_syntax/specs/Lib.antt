@@ -1,4 +1,5 @@
 pub mod Escapes
+pub mod Events
 pub mod Numerals
 pub mod Options
 pub mod Parts

@@ -1,5 +1,6 @@
 -- The causal past of an event of a run.
 use Rattle.std.specs.Prelude.{◌≡◌, ◌<◌, ℕ, suc, Bool, true, false, cond, ◌||◌, List, [], ◌∷◌, ◌++◌, Option, None, Some, get_or}
+pub use Rattle.np_syntax.specs.Events.{is_print, made_names}
 use Rattle.np_syntax.specs.declared.value.Name.{Name}
 use Rattle.np_syntax.specs.declared.event.Event.{Event}
 use Rattle.np_syntax.specs.declared.event.Kind.{Kind}
@@ -13,19 +14,9 @@ use Rattle.np_calculus.specs.Footprints.{Footprint, listed, touches}
 use Rattle.np_calculus.specs.Reductions.{apply}
 use Rattle.np_calculus.specs.Sight.{Contents, inside}
 
--- whether an event of this kind prints a value
-abbrev pub is_print : Kind → Bool
-is_print kind.Print = true
-is_print _ = false
-
 -- ---- what an event writes
 
--- the names that an event makes, and the agent among them
-abbrev pub made_names : Made → List Name
-made_names made.Nothing = []
-made_names (made.One m) = m ∷ []
-made_names (made.Two m n) = m ∷ n ∷ []
-
+-- the agent that an event makes
 abbrev pub made_agent : Made → List Name
 made_agent (made.Two agent mark) = agent ∷ []
 made_agent _ = []

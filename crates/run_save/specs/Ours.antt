@@ -1,12 +1,11 @@
 -- Which runs the sites of a program make by themselves (docs/LANGUAGE.md, "History text").
 use Rattle.std.specs.Prelude.{◌≡◌, ◌<◌, ◌≤◌, ◌+◌, ◌==◌, ◌↔◌, ℕ, List, [], ◌∷◌, ◌++◌, length, take, Some, if◌then◌else◌}
 use Rattle.std.specs.List.{flat_map}
+pub use Rattle.np_syntax.specs.Events.{made_names as names_of}
 use Rattle.np_syntax.specs.declared.value.Name.{Name}
 use Rattle.np_syntax.specs.declared.event.Event.{Event}
 use Rattle.np_syntax.specs.declared.event.Kind.{Kind}
 use Rattle.np_syntax.specs.declared.event.Kind.TheVariants as kind
-use Rattle.np_syntax.specs.declared.event.Made.{Made}
-use Rattle.np_syntax.specs.declared.event.Made.TheVariants as made
 use Rattle.np_syntax.specs.declared.program.LowProgram.{LowProgram}
 use Rattle.np_calculus.specs.Config.{Config}
 use Rattle.np_calculus.specs.Reductions.{apply, run}
@@ -15,12 +14,6 @@ use Rattle.run_save.specs.declared.trips.Item.{Item}
 use Rattle.run_save.specs.declared.trips.Item.TheVariants as item
 use Rattle.run_save.specs.declared.trips.Link.{Link}
 use Rattle.run_save.specs.Travels.{IsFirstInFirstOut, Travels, on_link, sender, travels}
-
--- the names that an event makes, in order: an agent's name before the mark
-abbrev pub names_of : Made → List Name
-names_of made.Nothing = []
-names_of (made.One m) = m ∷ []
-names_of (made.Two m n) = m ∷ n ∷ []
 
 -- the names that a site makes, in the order of the events
 abbrev pub names_by : ℕ → List Event → List Name
