@@ -21,9 +21,6 @@ last_or_before k at h = let le : k ≤ at = omega arith in elim (eq-or-lt_of_le 
 later : (events : List Event) (agent : Name) (k at : ℕ) → ArrivesBetween events agent k at → ArrivesBetween events agent k (at + 1)
 later events agent k at a = record { place = a.place; arrival = a.arrival; arrival_at = a.arrival_at; after = a.after; before = omega arith; arrives = a.arrives }
 
-apart : kind.Arrive ≡ kind.Depart → ⊥
-apart e = cc
-
 -- an arrival before the next place stands at this one or before it
 arrived : (events : List Event) (agent : Name) (k at : ℕ) (event : Event) → slice_get events at ≡ Some event → (IsArrivalOf agent event → ⊥)
     → ArrivesBetween events agent k (at + 1) → ArrivesBetween events agent k at

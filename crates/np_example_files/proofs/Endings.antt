@@ -5,6 +5,7 @@ use Rattle.std.specs.Str.Lines.{lines}
 use Rattle.std.proofs.lemmas.Result.{on_ok_weaker}
 use Rattle.std.proofs.lemmas.List.{length-map, map-append}
 use Rattle.std.proofs.Math.Seq.{take-suc, take-length, split_at}
+use Rattle.np_syntax.specs.declared.limits.TheConstants.{LARGEST_NUMBER}
 use Rattle.np_example_files.specs.declared.fail.ExampleFail.{ExampleFail}
 use Rattle.np_example_files.specs.declared.fail.ExampleFail.TheVariants as fail
 use Rattle.np_example_files.specs.declared.example.NamedText.{NamedText}
@@ -109,14 +110,14 @@ fails_at text seen x number old e so_far turn far at fault = record {
 pub failing : {T : Type 0} (text : List ℕ) (r : Result T ExampleFail) (e : ExampleFail) → FailsAtLine text e → r ≡ Err e → IfErr r (FailsAtLine text)
 failing text r e fails is = rw is fails
 
-pub number_next : (seen : List (Bor (List ℕ))) (number next : ℕ) → number ≡ min (length seen) 4294967295 → next ≡ min (number + 1) (2 ^ 32 - 1)
+pub number_next : (seen : List (Bor (List ℕ))) (number next : ℕ) → number ≡ min (length seen) LARGEST_NUMBER → next ≡ min (number + 1) (2 ^ 32 - 1)
     → next ≡ number_behind (map (λ (line : Bor (List ℕ)). line.now) seen)
 number_next seen number next e f =
     let same : length (map (λ (line : Bor (List ℕ)). line.now) seen) ≡ length seen = length-map seen (λ (line : Bor (List ℕ)). line.now) in
     omega arith
 
-pub number_more : (seen : List (Bor (List ℕ))) (x : Bor (List ℕ)) (number next : ℕ) → number ≡ min (length seen) 4294967295 → next ≡ min (number + 1) (2 ^ 32 - 1)
-    → next ≡ min (length (seen ++ x ∷ [])) 4294967295
+pub number_more : (seen : List (Bor (List ℕ))) (x : Bor (List ℕ)) (number next : ℕ) → number ≡ min (length seen) LARGEST_NUMBER → next ≡ min (number + 1) (2 ^ 32 - 1)
+    → next ≡ min (length (seen ++ x ∷ [])) LARGEST_NUMBER
 number_more seen x number next e f =
     let same : length (seen ++ x ∷ []) ≡ length seen + 1 = length-append seen (x ∷ []) in
     omega arith

@@ -4,6 +4,7 @@ use Rattle.std.specs.Bool.{MatchBool}
 use Rattle.std.specs.List.{starts_with}
 use Rattle.std.specs.Str.Lines.{lines}
 use Rattle.np_syntax.specs.Options.{◌>>=◌}
+use Rattle.np_syntax.specs.declared.limits.TheConstants.{LARGEST_NUMBER}
 use Rattle.np_example_files.specs.declared.fail.ExampleFail.{ExampleFail}
 use Rattle.np_example_files.specs.declared.fail.ExampleFail.TheVariants as fail
 use Rattle.np_example_files.specs.Examples.{Said, begun, followed, keyed}
@@ -88,9 +89,9 @@ IsFaultAt number line examples (fail.Line refused) = (refused ≡ number) × IsN
 
 -- ---- a file
 
--- the number of the line behind these, counted from 1, and from 2 ^ 32 - 1 on no further
+-- the number of the line behind these, counted from 1, and from the largest number on no further
 abbrev pub number_behind : List (List ℕ) → ℕ
-number_behind lines = min (length lines + 1) 4294967295
+number_behind lines = min (length lines + 1) LARGEST_NUMBER
 
 -- what the examples of these lines say
 pub data AreRead : List (List ℕ) → List Said → Type 0 where

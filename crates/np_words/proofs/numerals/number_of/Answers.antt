@@ -1,17 +1,15 @@
-use Rattle.std.proofs.Common.{◌≡◌, ℕ, ◌<◌, ◌^◌, List, length, Option, None, Result, Ok, Err, true, false, ◌&&◌, refl, sym, ap, ◌∙◌, rules, arith}
+use Rattle.std.proofs.Common.{◌≡◌, ℕ, ◌<◌, ◌^◌, List, length, Option, None, Result, Ok, Err, true, false, ◌&&◌, refl, sym, ap, ◌∙◌, arith}
 use Rattle.std.specs.Prelude.{nat_le, nat_lt}
 use Rattle.std.specs.List.{list_all}
 use Rattle.std.specs.Char.{is_ascii_digit}
 use Rattle.std.specs.Str.Parse.{digits_value, ParsesUnsigned}
 use Rattle.std.specs.Result.{OkIff}
 use Rattle.std.proofs.lemmas.Bool.Decides.{nat_tests}
-use Rattle.std.proofs.lemmas.Str.Parse.{IsNumeralModel, numerals_by_value, parse_digits}
+use Rattle.std.proofs.lemmas.Str.Parse.{parse_digits}
 use Rattle.np_syntax.proofs.Bools.{and-out, and-false}
+use Rattle.np_syntax.proofs.Numerals.{digits_model}
 use Rattle.np_words.specs.Modes.{number_of, is_numeral, within}
 use Rattle.np_words.proofs.numerals.number_of.Goals as goal
-
-own : IsNumeralModel (λ ds. list_all is_ascii_digit ds ≡ true) (digits_value 10)
-own = numerals_by_value _ (search rules)
 
 -- a numeral is of digits, and not empty
 digits : (n : ℕ) (word : List ℕ) → is_numeral n word ≡ true → (list_all is_ascii_digit word ≡ true) × (0 < length word)
@@ -37,7 +35,7 @@ gives : {E : Type 0} (n most : ℕ) (word : List ℕ) (r : Result ℕ E) → mos
     → read most r ≡ number_of n most word
 gives n most word r m h e =
     let d = digits n word e in
-    let parsed : OkIff r ((0 < length word) × (digits_value 10 word < 2 ^ 32)) (digits_value 10 word) = parse_digits own 32 word r h d.0 in
+    let parsed : OkIff r ((0 < length word) × (digits_value 10 word < 2 ^ 32)) (digits_value 10 word) = parse_digits digits_model 32 word r h d.0 in
     rw e (by_value most word r m d.1 parsed)
 
 pub returns-in-Ok-clause-is : goal.returns-in-Ok-clause-is
