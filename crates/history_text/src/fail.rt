@@ -2,7 +2,7 @@ use np_syntax::Memory;
 use thiserror::Error;
 
 /// Why a text is not read as a history.
-#[derive(Clone, Copy, Debug, PartialEq, Eq, Error)]
+#[derive(Clone, Copy, Debug, Error)]
 pub enum HistFail {
     #[error("out of memory")]
     Memory,

@@ -2,7 +2,7 @@ use np_syntax::Memory;
 use thiserror::Error;
 
 /// Why a low program has no code.
-#[derive(Clone, Copy, Debug, PartialEq, Eq, Error)]
+#[derive(Clone, Copy, Debug, Error)]
 pub enum CodeFail {
     #[error("out of memory")]
     Memory,

@@ -2,7 +2,7 @@ ghost use Rattle.std.specs.Prelude.{◌≡◌, ◌==◌, slice_index};
 ghost use Rattle.np_example_files.specs.Pieces.{form_by, key_of, rest_of};
 
 /// The forms of the pieces that make up a text.
-#[derive(Clone, Copy, PartialEq, Eq)]
+#[derive(Clone, Copy)]
 pub enum Form {
     /// A line with its line feed.
     Line,

@@ -4,7 +4,7 @@ ghost use Rattle.np_example_files.specs.Examples as spec;
 use super::change::Change;
 
 /// The keys of the lines of an example, other than those of pieces.
-#[derive(Clone, Copy, PartialEq, Eq)]
+#[derive(Clone, Copy)]
 pub enum Key {
     Words,
     Main,

@@ -1,3 +1,3 @@
 /// A read or a write failed. The object that was called has counted it.
-#[derive(Clone, Copy, PartialEq, Eq)]
+#[derive(Clone, Copy)]
 pub struct Fault;

@@ -27,7 +27,7 @@ pub trait Sink {
 }
 
 /// Why bytes were not written whole.
-#[derive(Clone, Copy, Debug, PartialEq, Eq, Error)]
+#[derive(Clone, Copy, Debug, Error)]
 pub enum WriteFail {
     /// A call of the sink failed.
     #[error("the bytes cannot be written")]

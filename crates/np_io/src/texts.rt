@@ -62,7 +62,7 @@ pub trait Texts {
 }
 
 /// Why a text was not read whole.
-#[derive(Clone, Copy, Debug, PartialEq, Eq, Error)]
+#[derive(Clone, Copy, Debug, Error)]
 pub enum ReadFail {
     #[error("out of memory")]
     Memory,

@@ -2,7 +2,7 @@ use np_syntax::Memory;
 use thiserror::Error;
 
 /// Why a source has no tokens. The offset, in bytes, is that of the first place where no token begins.
-#[derive(Clone, Copy, Debug, PartialEq, Eq, Error)]
+#[derive(Clone, Copy, Debug, Error)]
 pub enum LexFail {
     #[error("out of memory")]
     Memory,

@@ -2,7 +2,7 @@ use np_syntax::Memory;
 use thiserror::Error;
 
 /// Why the events are not followed to their end.
-#[derive(Clone, Copy, Debug, PartialEq, Eq, Error)]
+#[derive(Clone, Copy, Debug, Error)]
 pub enum ReplayFail {
     #[error("out of memory")]
     Memory,

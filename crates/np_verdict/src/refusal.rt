@@ -13,7 +13,7 @@ use thiserror::Error;
 
 /// Why np did not do what the command line asks for. An offset counts the bytes of the source from
 /// 0.
-#[derive(Clone, Copy, Debug, PartialEq, Eq, Error)]
+#[derive(Clone, Copy, Debug, Error)]
 pub enum Refusal {
     #[error("out of memory")]
     Memory,

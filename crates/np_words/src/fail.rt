@@ -2,7 +2,7 @@ use np_syntax::Memory;
 use thiserror::Error;
 
 /// Why there is no plan.
-#[derive(Clone, Copy, Debug, PartialEq, Eq, Error)]
+#[derive(Clone, Copy, Debug, Error)]
 pub enum PlanFail {
     #[error("out of memory")]
     Memory,

@@ -4,7 +4,7 @@ ghost use Rattle.std.specs.Prelude.{◌≡◌};
 ghost use Rattle.np_words.specs.Modes as spec;
 
 /// What the program does.
-#[derive(Clone, Copy, PartialEq, Eq)]
+#[derive(Clone, Copy)]
 pub enum Mode {
     Run,
     High,
@@ -21,7 +21,7 @@ pub enum Mode {
 
 /// What carries agents and packets from site to site: lists that are handed over while all sites pause, or a ring for each
 /// ordered pair of sites, or one queue for each receiving site, into which all sites push.
-#[derive(Clone, Copy, PartialEq, Eq)]
+#[derive(Clone, Copy)]
 pub enum Links {
     Tray,
     Rings,
@@ -30,7 +30,7 @@ pub enum Links {
 
 /// What passes on the messages that are for an agent wherever it is: a daemon alone, or beside it a cache in each agent, of where others
 /// were last found, and a messenger that goes there.
-#[derive(Clone, Copy, PartialEq, Eq)]
+#[derive(Clone, Copy)]
 pub enum Infrastructure {
     Central,
     Cache,
@@ -38,7 +38,7 @@ pub enum Infrastructure {
 
 /// The text of the events of the high level that a report has: none, or one in which a migration is a Depart and later an
 /// Arrive, or one in which the Arrive stands directly behind the Depart.
-#[derive(Clone, Copy, PartialEq, Eq)]
+#[derive(Clone, Copy)]
 pub enum HighText {
     Absent,
     TwoSteps,

@@ -18,7 +18,7 @@ use np_syntax::{LARGEST_BUDGET, USUAL_BUDGET};
 use std::alloc::Global;
 
 /// What is done with a source.
-#[derive(Clone, Copy, PartialEq, Eq)]
+#[derive(Clone, Copy)]
 pub enum Task {
     /// Its low program of this infrastructure is run on the sites, each of which makes at most `budget` events: one after
     /// another with `serial`, or each on a thread of its own. With `history` the report has the merged history, and `high` says
@@ -44,7 +44,7 @@ pub enum Task {
 }
 
 /// What is shown of a history that is replayed.
-#[derive(Clone, Copy, PartialEq, Eq)]
+#[derive(Clone, Copy)]
 pub enum View {
     /// What the run printed.
     Said,

@@ -20,7 +20,7 @@ pub struct Link {
 }
 
 /// An item on a link.
-#[derive(Clone, Copy, PartialEq, Eq)]
+#[derive(Clone, Copy)]
 pub struct Trip {
     pub item: Item,
     pub link: Link,
