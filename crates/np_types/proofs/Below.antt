@@ -1,116 +1,59 @@
 -- What is below a type of each form.
-use Rattle.std.proofs.Common.{◌≡◌, ℕ, ◌+◌, Bool, true, Some, refl, subst, map, List, [], ◌∷◌, sym, ap, ◌∙◌}
+use Rattle.std.proofs.Common.{◌≡◌, ℕ, ◌+◌, Bool, true, false, Some, refl, subst, map, List, [], ◌∷◌, sym, ap, ◌∙◌}
 use Rattle.np_syntax.specs.declared.types.Cap.{Cap}
 use Rattle.np_syntax.specs.declared.types.Cap.TheVariants as cap
-use Rattle.np_syntax.specs.declared.types.Ty.{Ty, Ty-F, out-Ty, map-Ty, fold_out-Ty}
+use Rattle.np_syntax.specs.declared.types.Ty.{Ty, Ty-F, out-Ty, roll-Ty, out-roll-Ty, map-Ty, fold_out-Ty}
 use Rattle.np_types.specs.Sub.{reads, writes, TyLayer, sub, sub_at, sub_all, is_int, is_bool, is_str, is_site, is_agent, is_letter, is_places, as_tuple}
 use Rattle.np_syntax.specs.Parts.{as_channel}
 use Rattle.np_types.specs.Widths.{nodes, nodes_step, sum_all, printable, printable_step, every}
 use Rattle.np_syntax.proofs.Bools.{and-in, and-out}
 use Rattle.np_types.proofs.Implies.{imp-out}
 use Rattle.np_syntax.proofs.Trees.{With, TyHyps, ty_of, ty_ind}
-use Rattle.np_types.proofs.Subs.{sub-out}
+use Rattle.np_types.proofs.Subs.{sub-out, sub-trans}
 
 -- a form that holds of each type below one that has it
 abbrev pub Down : (TyLayer → Bool) → Type 0
 Down test = (s t : Ty) → test (out-Ty t) ≡ true → sub s t ≡ true → test (out-Ty s) ≡ true
 
-abbrev DownAt : (TyLayer → Bool) → Type 0
-DownAt test = (y z : TyLayer) → test z ≡ true → sub_at y z ≡ true → test y ≡ true
+-- the forms that have no type in them
+abbrev pub plain : TyLayer → Bool
+plain (Ty-F.Chan c t) = false
+plain (Ty-F.Tuple ts) = false
+plain _ = true
 
-down : (test : TyLayer → Bool) → DownAt test → Down test
-down test at s t h k = at (out-Ty s) (out-Ty t) h (sym (sub-out s t) ∙ k)
+-- what is below such a form is of this form
+pub plain_turned : (b y : TyLayer) → plain b ≡ true → sub_at y b ≡ sub_at b y
+plain_turned (Ty-F.Chan c t) y h = absurd cc
+plain_turned (Ty-F.Tuple ts) y h = absurd cc
+plain_turned _ (Ty-F.Chan c t) h = refl
+plain_turned _ (Ty-F.Tuple ts) h = refl
+plain_turned _ _ h = refl
 
-pub to_int : (y : TyLayer) → sub_at y Ty-F.Int ≡ is_int y
-to_int Ty-F.Int = refl
-to_int (Ty-F.Chan c s) = refl
-to_int (Ty-F.Tuple ss) = refl
-to_int _ = refl
-
-int_at : DownAt is_int
-int_at y Ty-F.Int h k = sym (to_int y) ∙ k
-int_at y _ h k = absurd cc
+plain_below : (b : TyLayer) → plain b ≡ true → Down (sub_at b)
+plain_below b plainly s t of_form below =
+    let to_b : (u : Ty) → sub u (roll-Ty b) ≡ sub_at b (out-Ty u) = λ u. sub-out u (roll-Ty b) ∙ ap (sub_at (out-Ty u)) (out-roll-Ty b) ∙ plain_turned b (out-Ty u) plainly in
+    sym (to_b s) ∙ sub-trans s t (roll-Ty b) below (to_b t ∙ of_form)
 
 pub int_below : Down is_int
-int_below = down is_int int_at
-
-pub to_bool : (y : TyLayer) → sub_at y Ty-F.Bool ≡ is_bool y
-to_bool Ty-F.Bool = refl
-to_bool (Ty-F.Chan c s) = refl
-to_bool (Ty-F.Tuple ss) = refl
-to_bool _ = refl
-
-bool_at : DownAt is_bool
-bool_at y Ty-F.Bool h k = sym (to_bool y) ∙ k
-bool_at y _ h k = absurd cc
+int_below = plain_below Ty-F.Int refl
 
 pub bool_below : Down is_bool
-bool_below = down is_bool bool_at
-
-pub to_str : (y : TyLayer) → sub_at y Ty-F.Str ≡ is_str y
-to_str Ty-F.Str = refl
-to_str (Ty-F.Chan c s) = refl
-to_str (Ty-F.Tuple ss) = refl
-to_str _ = refl
-
-str_at : DownAt is_str
-str_at y Ty-F.Str h k = sym (to_str y) ∙ k
-str_at y _ h k = absurd cc
+bool_below = plain_below Ty-F.Bool refl
 
 pub str_below : Down is_str
-str_below = down is_str str_at
-
-pub to_site : (y : TyLayer) → sub_at y Ty-F.Site ≡ is_site y
-to_site Ty-F.Site = refl
-to_site (Ty-F.Chan c s) = refl
-to_site (Ty-F.Tuple ss) = refl
-to_site _ = refl
-
-site_at : DownAt is_site
-site_at y Ty-F.Site h k = sym (to_site y) ∙ k
-site_at y _ h k = absurd cc
+str_below = plain_below Ty-F.Str refl
 
 pub site_below : Down is_site
-site_below = down is_site site_at
-
-pub to_agent : (y : TyLayer) → sub_at y Ty-F.Agent ≡ is_agent y
-to_agent Ty-F.Agent = refl
-to_agent (Ty-F.Chan c s) = refl
-to_agent (Ty-F.Tuple ss) = refl
-to_agent _ = refl
-
-agent_at : DownAt is_agent
-agent_at y Ty-F.Agent h k = sym (to_agent y) ∙ k
-agent_at y _ h k = absurd cc
+site_below = plain_below Ty-F.Site refl
 
 pub agent_below : Down is_agent
-agent_below = down is_agent agent_at
-
-pub to_letter : (y : TyLayer) → sub_at y Ty-F.Letter ≡ is_letter y
-to_letter Ty-F.Letter = refl
-to_letter (Ty-F.Chan c s) = refl
-to_letter (Ty-F.Tuple ss) = refl
-to_letter _ = refl
-
-letter_at : DownAt is_letter
-letter_at y Ty-F.Letter h k = sym (to_letter y) ∙ k
-letter_at y _ h k = absurd cc
+agent_below = plain_below Ty-F.Agent refl
 
 pub letter_below : Down is_letter
-letter_below = down is_letter letter_at
-
-pub to_places : (y : TyLayer) → sub_at y Ty-F.Places ≡ is_places y
-to_places Ty-F.Places = refl
-to_places (Ty-F.Chan c s) = refl
-to_places (Ty-F.Tuple ss) = refl
-to_places _ = refl
-
-places_at : DownAt is_places
-places_at y Ty-F.Places h k = sym (to_places y) ∙ k
-places_at y _ h k = absurd cc
+letter_below = plain_below Ty-F.Letter refl
 
 pub places_below : Down is_places
-places_below = down is_places places_at
+places_below = plain_below Ty-F.Places refl
 
 -- a channel type that is below another
 pub record Narrower (s : Ty) (k : Cap × Ty) : Type 0 where

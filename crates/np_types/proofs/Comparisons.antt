@@ -1,70 +1,26 @@
 -- Subtyping at each form of the first type, in both directions.
-use Rattle.std.proofs.Common.{◌≡◌, Bool, true, false, cond, ◌&&◌, List, [], ◌∷◌, length, suc, refl, sym, ap, ◌∙◌}
+use Rattle.std.proofs.Common.{◌≡◌, Bool, true, false, not, cond, ◌&&◌, List, [], ◌∷◌, length, suc, refl, sym, ap, ◌∙◌}
 use Rattle.np_syntax.specs.declared.types.Cap.{Cap}
 use Rattle.np_syntax.specs.declared.types.Cap.TheVariants as cap
-use Rattle.np_syntax.specs.declared.types.Ty.{Ty, Ty-F, out-Ty}
+use Rattle.np_syntax.specs.declared.types.Ty.{Ty, Ty-F, out-Ty, roll-Ty, roll-out-Ty}
 use Rattle.np_syntax.specs.declared.types.Ty as ty
-use Rattle.np_syntax.specs.declared.types.Ty.TheVariants.{outs-Int, outs-Bool, outs-Str, outs-Site, outs-Agent, outs-Letter, outs-Places, outs-Chan, outs-Tuple}
+use Rattle.np_syntax.specs.declared.types.Ty.TheVariants.{outs-Chan, outs-Tuple, rolls-Chan, rolls-Tuple}
 use Rattle.np_syntax.proofs.Bools.{and-in, and-false}
 use Rattle.np_types.specs.Ordered.{Ordered, OrderedAll}
-use Rattle.np_types.specs.Sub.{◌⇒◌, reads, writes, TyLayer, sub, sub_at, sub_all, is_int, is_bool, is_str, is_site, is_agent, is_letter, is_places}
-use Rattle.np_types.proofs.Subs.{sub-out, sub-exact, sub-itself}
-use Rattle.np_types.proofs.Below.{to_int, to_bool, to_str, to_site, to_agent, to_letter, to_places}
+use Rattle.np_types.specs.Sub.{◌⇒◌, reads, writes, TyLayer, sub, sub_at, sub_all, chans_at}
+use Rattle.np_types.proofs.Subs.{sub-out, sub-chans, sub-exact, sub-itself}
+use Rattle.np_types.proofs.Below.{plain, plain_turned}
 
-pub sub-int : (t : Ty) → sub ty.Int t ≡ sub_at Ty-F.Int (out-Ty t)
-sub-int t = rw (sub-out ty.Int t, outs-Int) refl
-
-pub sub-bool : (t : Ty) → sub ty.Bool t ≡ sub_at Ty-F.Bool (out-Ty t)
-sub-bool t = rw (sub-out ty.Bool t, outs-Bool) refl
-
-pub sub-str : (t : Ty) → sub ty.Str t ≡ sub_at Ty-F.Str (out-Ty t)
-sub-str t = rw (sub-out ty.Str t, outs-Str) refl
-
-pub sub-site : (t : Ty) → sub ty.Site t ≡ sub_at Ty-F.Site (out-Ty t)
-sub-site t = rw (sub-out ty.Site t, outs-Site) refl
-
-pub sub-agent : (t : Ty) → sub ty.Agent t ≡ sub_at Ty-F.Agent (out-Ty t)
-sub-agent t = rw (sub-out ty.Agent t, outs-Agent) refl
-
-pub sub-letter : (t : Ty) → sub ty.Letter t ≡ sub_at Ty-F.Letter (out-Ty t)
-sub-letter t = rw (sub-out ty.Letter t, outs-Letter) refl
-
-pub sub-places : (t : Ty) → sub ty.Places t ≡ sub_at Ty-F.Places (out-Ty t)
-sub-places t = rw (sub-out ty.Places t, outs-Places) refl
-
-pub sub-chan : (c : Cap) (s t : Ty) → sub (ty.Chan c s) t ≡ sub_at (Ty-F.Chan c s) (out-Ty t)
+sub-chan : (c : Cap) (s t : Ty) → sub (ty.Chan c s) t ≡ sub_at (Ty-F.Chan c s) (out-Ty t)
 sub-chan c s t = rw (sub-out (ty.Chan c s) t, outs-Chan c s) refl
 
-pub sub-tuple : (ss : List Ty) (t : Ty) → sub (ty.Tuple ss) t ≡ sub_at (Ty-F.Tuple ss) (out-Ty t)
+sub-tuple : (ss : List Ty) (t : Ty) → sub (ty.Tuple ss) t ≡ sub_at (Ty-F.Tuple ss) (out-Ty t)
 sub-tuple ss t = rw (sub-out (ty.Tuple ss) t, outs-Tuple ss) refl
 
-pub ordered-int : (up : Bool) (t : Ty) → Ordered up ty.Int t ≡ is_int (out-Ty t)
-ordered-int true t = sub-int t
-ordered-int false t = sub-out t ty.Int ∙ ap (sub_at (out-Ty t)) outs-Int ∙ to_int (out-Ty t)
-
-pub ordered-bool : (up : Bool) (t : Ty) → Ordered up ty.Bool t ≡ is_bool (out-Ty t)
-ordered-bool true t = sub-bool t
-ordered-bool false t = sub-out t ty.Bool ∙ ap (sub_at (out-Ty t)) outs-Bool ∙ to_bool (out-Ty t)
-
-pub ordered-str : (up : Bool) (t : Ty) → Ordered up ty.Str t ≡ is_str (out-Ty t)
-ordered-str true t = sub-str t
-ordered-str false t = sub-out t ty.Str ∙ ap (sub_at (out-Ty t)) outs-Str ∙ to_str (out-Ty t)
-
-pub ordered-site : (up : Bool) (t : Ty) → Ordered up ty.Site t ≡ is_site (out-Ty t)
-ordered-site true t = sub-site t
-ordered-site false t = sub-out t ty.Site ∙ ap (sub_at (out-Ty t)) outs-Site ∙ to_site (out-Ty t)
-
-pub ordered-agent : (up : Bool) (t : Ty) → Ordered up ty.Agent t ≡ is_agent (out-Ty t)
-ordered-agent true t = sub-agent t
-ordered-agent false t = sub-out t ty.Agent ∙ ap (sub_at (out-Ty t)) outs-Agent ∙ to_agent (out-Ty t)
-
-pub ordered-letter : (up : Bool) (t : Ty) → Ordered up ty.Letter t ≡ is_letter (out-Ty t)
-ordered-letter true t = sub-letter t
-ordered-letter false t = sub-out t ty.Letter ∙ ap (sub_at (out-Ty t)) outs-Letter ∙ to_letter (out-Ty t)
-
-pub ordered-places : (up : Bool) (t : Ty) → Ordered up ty.Places t ≡ is_places (out-Ty t)
-ordered-places true t = sub-places t
-ordered-places false t = sub-out t ty.Places ∙ ap (sub_at (out-Ty t)) outs-Places ∙ to_places (out-Ty t)
+-- a type that has no type in it, and any other
+pub ordered_plain : (b : TyLayer) → plain b ≡ true → (s : Ty) → out-Ty s ≡ b → (up : Bool) (t : Ty) → Ordered up s t ≡ sub_at b (out-Ty t)
+ordered_plain b plainly s is true t = sub-out s t ∙ ap (λ y. sub_at y (out-Ty t)) is
+ordered_plain b plainly s is false t = sub-out t s ∙ ap (sub_at (out-Ty t)) is ∙ plain_turned b (out-Ty t) plainly
 
 abbrev pub ordered_chan : Bool → Cap → Ty → TyLayer → Bool
 ordered_chan true c s (Ty-F.Chan d t) = (reads d ⇒ (reads c && sub s t)) && (writes d ⇒ (writes c && sub t s))
@@ -115,12 +71,78 @@ both false s t false c h k f g = refl
 pub sub-both : (r : Bool) (s t : Ty) → (r ≡ true → s ≡ t) → (s ≡ t → r ≡ true) → r ≡ sub (ty.Chan cap.Both s) (ty.Chan cap.Both t)
 sub-both r s t f g = both r s t (sub s t) (sub t s) refl refl f g ∙ sym (sub-chan cap.Both s (ty.Chan cap.Both t) ∙ ap (sub_at (Ty-F.Chan cap.Both s)) (outs-Chan cap.Both t))
 
-pub ordered-lengths : (up : Bool) (ss ts : List Ty) → ¬ (length ss ≡ length ts) → OrderedAll up ss ts ≡ false
-ordered-lengths true ss ts h = sub_all-lengths ss ts h
-ordered-lengths false ss ts h = sub_all-lengths ts ss (λ e. h (sym e))
+pub ordered_lengths : (up : Bool) (ss ts : List Ty) → ¬ (length ss ≡ length ts) → OrderedAll up ss ts ≡ false
+ordered_lengths true ss ts h = sub_all-lengths ss ts h
+ordered_lengths false ss ts h = sub_all-lengths ts ss (λ e. h (sym e))
 
 pub ordered-both : (up : Bool) (r : Bool) (s t : Ty) → (r ≡ true → s ≡ t) → (s ≡ t → r ≡ true) → r ≡ Ordered up (ty.Chan cap.Both s) (ty.Chan cap.Both t)
 ordered-both true r s t f g = sub-both r s t f g
 ordered-both false r s t f g = sub-both r t s (λ e. sym (f e)) (λ e. g (sym e))
 
-pub ruleset comparisons = (ordered-int, ordered-bool, ordered-str, ordered-site, ordered-agent, ordered-letter, ordered-places, ordered-chan, ordered-tuple, ordered-lengths, outs-Chan, outs-Tuple)
+-- ---- what a comparison answers, form by form
+
+-- a form that has no type in it
+pub plainly : (b : TyLayer) → plain b ≡ true → (up : Bool) (s u t : Ty) {r : Bool} → s ≡ u → out-Ty u ≡ b → r ≡ sub_at b (out-Ty t) → r ≡ Ordered up s t
+plainly b h up s u t is form told = told ∙ sym (ordered_plain b h s (ap out-Ty is ∙ form) up t)
+
+-- channels on both sides: the table's lines, read either way
+abbrev pub chans_told : Bool → Cap → Ty → Cap → Ty → Bool
+chans_told true c s d t = chans_at c s d t
+chans_told false c s d t = chans_at d t c s
+
+ordered_chans : (up : Bool) (c d : Cap) (s t : Ty) → Ordered up (ty.Chan c s) (ty.Chan d t) ≡ chans_told up c s d t
+ordered_chans true c d s t = sub-chans c d s t
+ordered_chans false c d s t = sub-chans d c t s
+
+pub channels : (up : Bool) {a b : Ty} {c d e f : Cap} (s t : Ty) {r : Bool} → a ≡ ty.Chan c s → b ≡ ty.Chan d t → c ≡ e → d ≡ f → r ≡ chans_told up e s f t → r ≡ Ordered up a b
+channels up {c = c} {d = d} s t left right first second told =
+    told ∙ (λ i. chans_told up (sym first i) s (sym second i) t) ∙ sym (ordered_chans up c d s t) ∙ (λ i. Ordered up (sym left i) (sym right i))
+
+-- a comparison of what they carry
+pub carried : (up : Bool) {r : Bool} {s t u v : Ty} → r ≡ Ordered up s t → s ≡ u → t ≡ v → r ≡ Ordered up u v
+carried up told left right = told ∙ (λ i. Ordered up (left i) (right i))
+
+pub inputs : (up : Bool) (s t : Ty) → Ordered up s t ≡ chans_told up cap.Input s cap.Input t
+inputs true s t = refl
+inputs false s t = refl
+
+pub outputs : (up : Bool) (s t : Ty) → Ordered (not up) s t ≡ chans_told up cap.Output s cap.Output t
+outputs true s t = refl
+outputs false s t = refl
+
+pub input_output : (up : Bool) (s t : Ty) → false ≡ chans_told up cap.Input s cap.Output t
+input_output true s t = refl
+input_output false s t = refl
+
+pub output_input : (up : Bool) (s t : Ty) → false ≡ chans_told up cap.Output s cap.Input t
+output_input true s t = refl
+output_input false s t = refl
+
+-- a channel beside what is none
+pub no_channel : (up : Bool) {a : Ty} {c : Cap} (s b : Ty) → a ≡ ty.Chan c s → ((d : Cap) (t : Ty) → b ≡ ty.Chan d t → ⊥) → false ≡ Ordered up a b
+no_channel up {c = c} s b is other = go (out-Ty b) refl ∙ sym (ordered-chan up c s b) ∙ ap (λ a. Ordered up a b) (sym is)
+  where
+    go : (y : TyLayer) → out-Ty b ≡ y → false ≡ ordered_chan up c s y
+    go (Ty-F.Chan d t) form = absurd (other d t (sym (roll-out-Ty b) ∙ ap roll-Ty form ∙ rolls-Chan d t))
+    go (Ty-F.Tuple ts) form = neither up
+      where
+        neither : (up : Bool) → false ≡ ordered_chan up c s (Ty-F.Tuple ts)
+        neither true = refl
+        neither false = refl
+    go y form = neither up
+      where
+        neither : (up : Bool) → false ≡ ordered_chan up c s y
+        neither true = refl
+        neither false = refl
+
+-- tuples on both sides, and a tuple beside what is none
+pub tuples : (up : Bool) {a b : Ty} (ss ts : List Ty) {r : Bool} → a ≡ ty.Tuple ss → b ≡ ty.Tuple ts → r ≡ OrderedAll up ss ts → r ≡ Ordered up a b
+tuples up ss ts left right told =
+    told ∙ ap (ordered_tuple up ss) (sym (outs-Tuple ts)) ∙ sym (ordered-tuple up ss (ty.Tuple ts)) ∙ (λ i. Ordered up (sym left i) (sym right i))
+
+pub no_tuple : (up : Bool) {a : Ty} (ss : List Ty) (b : Ty) → a ≡ ty.Tuple ss → ((ts : List Ty) → b ≡ ty.Tuple ts → ⊥) → false ≡ Ordered up a b
+no_tuple up ss b is other = go (out-Ty b) refl ∙ sym (ordered-tuple up ss b) ∙ ap (λ a. Ordered up a b) (sym is)
+  where
+    go : (y : TyLayer) → out-Ty b ≡ y → false ≡ ordered_tuple up ss y
+    go (Ty-F.Tuple ts) form = absurd (other ts (sym (roll-out-Ty b) ∙ ap roll-Ty form ∙ rolls-Tuple ts))
+    go _ form = refl

@@ -1,5 +1,5 @@
 -- The nodes of each form of type, and which are printable.
-use Rattle.std.proofs.Common.{◌≡◌, ℕ, ◌+◌, ◌<◌, Bool, true, false, ◌&&◌, List, [], ◌∷◌, map, refl, sym, ap, ◌∙◌, subst, arith}
+use Rattle.std.proofs.Common.{◌≡◌, ◌⊎◌, inl, inr, ℕ, ◌+◌, ◌<◌, Bool, true, false, ◌&&◌, List, [], ◌∷◌, map, refl, sym, ap, ◌∙◌, subst, arith}
 use Rattle.np_syntax.specs.declared.types.Cap.{Cap}
 use Rattle.np_syntax.specs.declared.types.Ty.{Ty, Ty-F, out-Ty, map-Ty}
 use Rattle.np_syntax.specs.declared.types.Ty as ty
@@ -93,4 +93,16 @@ every-map (t ∷ ts) = ap (λ b. printable t && b) (every-map ts)
 pub printable-tuple : (ts : List Ty) → printable (ty.Tuple ts) ≡ printable_all ts
 printable-tuple ts = showing (ty.Tuple ts) (Ty-F.Tuple ts) (outs-Tuple ts) ∙ every-map ts
 
-pub ruleset prints = (printable-int, printable-bool, printable-str, printable-site, printable-agent, printable-letter, printable-places, printable-chan, printable-tuple)
+pub printed : (t : Ty) → (t ≡ ty.Int) ⊎ ((t ≡ ty.Bool) ⊎ ((t ≡ ty.Str) ⊎ (t ≡ ty.Site))) → true ≡ printable t
+printed t (inl is) = rw (is, printable-int) refl
+printed t (inr (inl is)) = rw (is, printable-bool) refl
+printed t (inr (inr (inl is))) = rw (is, printable-str) refl
+printed t (inr (inr (inr is))) = rw (is, printable-site) refl
+
+pub hidden : (t : Ty) → (t ≡ ty.Agent) ⊎ (((c : Cap) × (s : Ty) × (t ≡ ty.Chan c s)) ⊎ ((t ≡ ty.Letter) ⊎ (t ≡ ty.Places))) → false ≡ printable t
+hidden t (inl is) = rw (is, printable-agent) refl
+hidden t (inr (inl is)) = rw (is.2, printable-chan) refl
+hidden t (inr (inr (inl is))) = rw (is, printable-letter) refl
+hidden t (inr (inr (inr is))) = rw (is, printable-places) refl
+
+pub ruleset prints = (printable-tuple)

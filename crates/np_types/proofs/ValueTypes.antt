@@ -1,5 +1,5 @@
 -- The least type of each form of value.
-use Rattle.std.proofs.Common.{◌≡◌, ℕ, ℤ, Bool, List, [], ◌∷◌, ◌++◌, length, map, Option, None, Some, refl, ap, ◌∙◌, arith}
+use Rattle.std.proofs.Common.{◌≡◌, ℕ, ℤ, Bool, List, [], ◌∷◌, ◌++◌, length, map, Option, None, Some, refl, sym, ap, ◌∙◌, arith}
 use Rattle.np_syntax.specs.declared.value.Name.{Name}
 use Rattle.np_syntax.specs.declared.value.Value.{Value, Value-F, out-Value, map-Value, fold_out-Value}
 use Rattle.np_syntax.specs.declared.value.Value as value
@@ -18,6 +18,10 @@ kind-out w v = fold_out-Value (Option Ty) (kind_step w) v
 
 pub kind_of : (w : World) (v : Value) (y : Value-F Value) → out-Value v ≡ y → kind w v ≡ kind_layer w y
 kind_of w v y is = kind-out w v ∙ ap (kind_layer w) is
+
+-- what is told of a value by its form
+pub told : {v u : Value} {o : Option Ty} → v ≡ u → kind bare u ≡ o → o ≡ kind bare v
+told is tells = sym tells ∙ ap (kind bare) (sym is)
 
 pub kind-int : (i : ℤ) → kind bare (value.Int i) ≡ Some ty.Int
 kind-int i = kind_of bare (value.Int i) (Value-F.Int i) (outs-Int i)
@@ -63,4 +67,4 @@ abbrev pub after_types : List Ty → Option (List Ty) → Option (List Ty)
 after_types ts None = None
 after_types ts (Some rest) = Some (ts ++ rest)
 
-pub ruleset value_types = (kind-int, kind-truth, kind-str, kind-site, kind-agent, kind-chan, kind-letter, kind-tuple, places_none, places_some)
+pub ruleset value_types = (kind-tuple)

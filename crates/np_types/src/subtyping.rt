@@ -15,7 +15,6 @@ pub fn sub(a: &Ty, b: &Ty) -> bool
 
 /// Whether `a` is below `b`, or, where not `up`, above it. What two `^` carry is looked at once, for equality:
 /// to compare it both ways would double the work at each level.
-#[tactic(auto, using(crate::proofs::Comparisons::comparisons))]
 #[cycle(compare)]
 fn compare(a: &Ty, b: &Ty, up: bool) -> bool
     ensures { result ≡ Ordered up a.now b.now }
@@ -55,7 +54,7 @@ fn compare(a: &Ty, b: &Ty, up: bool) -> bool
     }
 }
 
-#[tactic(auto, using(crate::proofs::Comparisons::comparisons))]
+#[tactic(auto, using(crate::proofs::Comparisons::ordered_lengths))]
 #[cycle(compare)]
 fn compare_all(a: &[Ty], b: &[Ty], up: bool) -> bool
     ensures { result ≡ OrderedAll up a.now b.now }
