@@ -4,6 +4,7 @@ pub mod Related
 pub mod Making
 pub mod DaemonTyped
 pub mod TextsTyped
+pub mod Binders
 pub mod Binding
 pub mod ProcessesTyped
 pub mod SoundBinds

@@ -9,7 +9,6 @@ use Rattle.np_syntax.specs.declared.process.Proc.{Proc}
 use Rattle.np_syntax.specs.declared.process.ProcForm.TheVariants as forms
 use Rattle.np_syntax.specs.declared.program.LowProgram.{LowProgram}
 use Rattle.np_syntax.specs.declared.limits.TheConstants.{MOST_SITES}
-use Rattle.np_scope.specs.Written.{IsLiteral}
 use Rattle.np_calculus.specs.Agents.{Each, expr_agents, joined}
 use Rattle.np_calculus.specs.Runs.{RunsWell}
 use Rattle.np_calculus.specs.Starts.{start_low, main_agent, daemon_agent, own}
@@ -18,6 +17,7 @@ use Rattle.np_calculus.proofs.AgentValues.{OfValue, agent-fits, chan-fits, of-va
 use Rattle.np_calculus.proofs.Housed.{IsOwn, low-housed, stays-lodged}
 use Rattle.np_safety.specs.Low.{IsFaultless}
 use Rattle.np_safety.proofs.Lows.{low-well-typed}
+use Rattle.np_safety.proofs.SoundAgents.{literal}
 use Rattle.daemon_encode.specs.Encoded.{encoded}
 use Rattle.daemon_encode.specs.LowSound.{IsLowValue, IsLowExpr, AreLowExprs, IsLowProc, IsLowSound}
 use Rattle.daemon_encode.specs.Typed.{EncodesRunsWell}
@@ -28,13 +28,8 @@ module _ (n : ℕ) where
   abbrev P : Name → Type 0
   P = IsOwn n
 
-  literal : {v : Value} → IsLiteral v → OfValue P v
-  literal (IsLiteral.number {n = m}) = of-value P _ _ (values.outs-Int m) (nobody P)
-  literal (IsLiteral.truth {b = b}) = of-value P _ _ (values.outs-Truth b) (nobody P)
-  literal (IsLiteral.string {text = text}) = of-value P _ _ (values.outs-Str text) (nobody P)
-
   low-value : {v : Value} → IsLowValue n v → OfValue P v
-  low-value (IsLowValue.literal l) = literal l
+  low-value (IsLowValue.literal l) = literal P l
   low-value (IsLowValue.site {s = s} within) = of-value P _ _ (values.outs-Site s) (nobody P)
   low-value IsLowValue.main = agent-fits P (main_agent n) (inl refl)
   low-value IsLowValue.daemon = agent-fits P (daemon_agent n) (inr refl)

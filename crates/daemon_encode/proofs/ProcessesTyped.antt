@@ -37,14 +37,12 @@ use Rattle.np_safety.proofs.Processes.{ProcHyps, proc_of, proc_ind}
 use Rattle.daemon_encode.specs.declared.translated.Translated.{Translated}
 use Rattle.infrastructure_texts.specs.Pieces.{variable}
 use Rattle.daemon_encode.specs.Encoded.{Translation, around_both, translate_step, translated, translated_form}
+use Rattle.np_safety.proofs.Widening.{itself}
 use Rattle.daemon_encode.proofs.Binding.{Free, without, taken, taken_all, taken_step, after, clean, clean_step, Takes, takens, taken-out, Cleans, cleans, clean-out}
 use Rattle.daemon_encode.proofs.DaemonTyped.{low}
 use Rattle.daemon_encode.proofs.Forms.{translated-form, translated-layer}
 use Rattle.daemon_encode.proofs.Making.{slot_here, slot_past, good-made, an_agent}
 use Rattle.daemon_encode.proofs.TextsTyped.{created, good-post, good-migrate, good-agent}
-
-itself : (types : Types) → Narrower types types
-itself types = record { all = λ x t h. record { type = t; is = h; below = sub-itself t } }
 
 -- a binder that no one has yet
 pub newer : (types : Types) (s : ℕ) (t : Ty) → table.get types s ≡ None → Narrower (table.insert types s t) types

@@ -22,7 +22,8 @@ use Rattle.daemon_encode.proofs.DaemonTyped.{low, good-daemon}
 use Rattle.daemon_encode.proofs.LowSounds.{encodes-sound}
 use Rattle.daemon_encode.proofs.Making.{least-agent}
 use Rattle.daemon_encode.proofs.ProcessesTyped.{Place, translated-good}
-use Rattle.daemon_encode.proofs.SoundBinds.{among-below, sound-clean}
+use Rattle.daemon_encode.proofs.Binders.{among-below}
+use Rattle.daemon_encode.proofs.SoundBinds.{sound-clean}
 use Rattle.daemon_encode.proofs.TextsTyped.{good-main}
 
 is_below : (x n : ℕ) → nat_lt x n ≡ true → x < n

@@ -1,5 +1,5 @@
 -- A resolved program binds no number twice on one path, and each is below its number of binders.
-use Rattle.std.proofs.Common.{◌≡◌, ◌<◌, inl, inr, ℕ, Bool, true, not, ◌&&◌, Option, Some, List, [], ◌∷◌, ◌++◌, map, refl, subst, sym, ap, ◌∙◌, append_assoc}
+use Rattle.std.proofs.Common.{◌≡◌, inl, inr, ℕ, Bool, true, not, ◌&&◌, Option, Some, List, ◌∷◌, ◌++◌, map, refl, subst, ap, ◌∙◌, append_assoc}
 use Rattle.std.specs.FinMap.{nat_cmp-IsAntisymmetric}
 use Rattle.std.specs.Ordering.{nat_cmp, eq_by_cmp}
 use Rattle.np_syntax.specs.declared.pattern.Pat.{Pat}
@@ -9,33 +9,10 @@ use Rattle.np_syntax.specs.declared.process.Proc.{Proc}
 use Rattle.np_syntax.specs.declared.process.ProcForm.TheVariants as forms
 use Rattle.np_syntax.proofs.Bools.{and-in}
 use Rattle.np_eval.specs.Forms.{Layer, layer}
-use Rattle.np_scope.specs.Sound.{Among, AllBelow, NoneTwice, Binds, BindAll, IsSoundProc}
+use Rattle.np_scope.specs.Sound.{Among, NoneTwice, Binds, BindAll, IsSoundProc}
+use Rattle.daemon_encode.proofs.Binders.{among-first, among-second, once-first, once-second}
 use Rattle.daemon_encode.proofs.Binding.{Free, without, taken, taken_all, taken_step, Takes, takens, taken-out, after, clean, clean_step, Cleans, cleans, clean-out}
 use Rattle.daemon_encode.proofs.Making.{differ}
-
--- ---- lists of binders
-
-pub among-below : (n : ℕ) (xs : List ℕ) → AllBelow n xs → (x : ℕ) → Among x xs → x < n
-among-below n [] b x m = absurd m
-among-below n (y ∷ ys) b x (inl e) = subst (λ z. z < n) (sym e) b.0
-among-below n (y ∷ ys) b x (inr m) = among-below n ys b.1 x m
-
-among-first : (x : ℕ) (xs ys : List ℕ) → Among x xs → Among x (xs ++ ys)
-among-first x [] ys m = absurd m
-among-first x (z ∷ zs) ys (inl e) = inl e
-among-first x (z ∷ zs) ys (inr m) = inr (among-first x zs ys m)
-
-among-second : (x : ℕ) (xs ys : List ℕ) → Among x ys → Among x (xs ++ ys)
-among-second x [] ys m = m
-among-second x (z ∷ zs) ys m = inr (among-second x zs ys m)
-
-once-first : (xs ys : List ℕ) → NoneTwice (xs ++ ys) → NoneTwice xs
-once-first [] ys h = tt
-once-first (x ∷ xs) ys h = ((λ m. h.0 (among-first x xs ys m)), once-first xs ys h.1)
-
-once-second : (xs ys : List ℕ) → NoneTwice (xs ++ ys) → NoneTwice ys
-once-second [] ys h = h
-once-second (x ∷ xs) ys h = once-second xs ys h.1
 
 -- these may be bound
 abbrev pub AllFree : Free → List ℕ → Type 0

@@ -13,22 +13,23 @@ use Rattle.np_calculus.specs.Starts.{main_agent}
 use Rattle.np_calculus.proofs.AgentForms.{OfExpr, OfProc, nobody, both-parts, of-proc}
 use Rattle.np_calculus.proofs.AgentValues.{OfValue, agent-fits, of-value, of-expr, expr_value}
 
+-- a literal names no agent
+pub literal : (P : Name → Type 0) {v : Value} → IsLiteral v → OfValue P v
+literal P (IsLiteral.number {n = m}) = of-value P _ _ (outs-Int m) (nobody P)
+literal P (IsLiteral.truth {b = b}) = of-value P _ _ (outs-Truth b) (nobody P)
+literal P (IsLiteral.string {text = text}) = of-value P _ _ (outs-Str text) (nobody P)
+
 module _ (n : ℕ) where
   -- the agent is main
   abbrev P : Name → Type 0
   P a = a ≡ main_agent n
-
-  literal : {v : Value} → IsLiteral v → OfValue P v
-  literal (IsLiteral.number {n = m}) = of-value P _ _ (outs-Int m) (nobody P)
-  literal (IsLiteral.truth {b = b}) = of-value P _ _ (outs-Truth b) (nobody P)
-  literal (IsLiteral.string {text = text}) = of-value P _ _ (outs-Str text) (nobody P)
 
   site : (s : ℕ) → OfValue P (value.Site s)
   site s = of-value P _ _ (outs-Site s) (nobody P)
 
   mutual
     sound-expr : {scope : List ℕ} {e : Expr} → IsSoundExpr n scope e → OfExpr P e
-    sound-expr (IsSoundExpr.literal {at = at} {v = v} l) = expr_value P at v (literal l)
+    sound-expr (IsSoundExpr.literal {at = at} {v = v} l) = expr_value P at v (literal P l)
     sound-expr (IsSoundExpr.site {at = at} {s = s} within) = expr_value P at (value.Site s) (site s)
     sound-expr (IsSoundExpr.main {at = at}) = expr_value P at (value.Agent (main_agent n)) (agent-fits P (main_agent n) refl)
     sound-expr (IsSoundExpr.variable {x = x} h) = of-expr P _ _ (exprs.outs-Var x) (nobody P)

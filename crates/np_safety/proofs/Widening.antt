@@ -5,7 +5,7 @@ use Rattle.np_safety.proofs.Fitting.{Valued, Agrees, FittingAtom, Fitting}
 use Rattle.np_safety.proofs.Narrowing.{Wider, Narrower, same-kind, weaker}
 
 -- types are as narrow as themselves
-itself : (t : Types) → Narrower t t
+pub itself : (t : Types) → Narrower t t
 itself t = record { all = λ x u h. record { type = u; is = h; below = sub-itself u } }
 
 module _ (w v : World) (wider : Wider w v) where

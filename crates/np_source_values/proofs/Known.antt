@@ -23,7 +23,7 @@ use Rattle.np_calculus.specs.Starts.{main_agent}
 use Rattle.np_scope.specs.Resolved.{expression, main_name, pattern}
 use Rattle.np_scope.specs.Sound.{AllBelow, Binds, BindAll, IsSoundExpr, AreSoundExprs}
 use Rattle.np_scope.specs.Written.{IsLiteral}
-use Rattle.daemon_encode.proofs.SoundBinds.{among-below}
+use Rattle.daemon_encode.proofs.Binders.{among-below}
 use Rattle.np_source_values.specs.Known.{AreKnown, IsKnown, Knows}
 use Rattle.np_source_values.specs.Laws.{KeepsKnown, KnownMore, ValueIsKnown}
 

@@ -20,7 +20,7 @@ use Rattle.np_eval.proofs.Binds.{bind-form, bind-any, bind-bind, bind-tuple}
 use Rattle.np_calculus.proofs.AgentValues.{slot_put}
 use Rattle.np_scope.specs.Sound.{Among, AllBelow, Binds, BindAll, IsSoundExpr, AreSoundExprs}
 use Rattle.infrastructure_texts.specs.Pieces.{main, variable}
-use Rattle.daemon_encode.proofs.SoundBinds.{among-below}
+use Rattle.daemon_encode.proofs.Binders.{among-below}
 use Rattle.np_source_values.specs.Laws.{AgentStays, BoundAlike, SameBinding, SameValue}
 use Rattle.np_source_values.specs.Sources.{Agrees, Names}
 
@@ -54,7 +54,7 @@ same-value n from scope e low high h below agrees = same_expr n from scope low h
 -- ---- patterns
 
 -- one more binder on both sides
-agrees-put : (from x : ℕ) (v : Value) (low high : Env) → Agrees from low high → Agrees from (map.insert low x v) (map.insert high x v)
+pub agrees-put : (from x : ℕ) (v : Value) (low high : Env) → Agrees from low high → Agrees from (map.insert low x v) (map.insert high x v)
 agrees-put from x v low high a = record { same = λ y h. slot_put low x v y ∙ ap (cond (eq_by_cmp nat_cmp y x) (Some v)) (a.same y h) ∙ sym (slot_put high x v y) }
 
 other-put : (x y : ℕ) (v : Value) (env : Env) → (y ≡ x → ⊥) → map.get (map.insert env x v) y ≡ map.get env y
