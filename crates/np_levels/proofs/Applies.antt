@@ -25,6 +25,7 @@ use Rattle.np_calculus.proofs.Steps.{Acts, Offers, is-none, same-offer, step-act
 use Rattle.np_eval.specs.Eval.{Env, agent_of, bind, chan_of, eval}
 use Rattle.np_eval.specs.Forms.{layer}
 
+-- an event that takes no output has no other mark
 pub takes_nothing : (o : Option Name) (u : Unit {0}) → no_other o ≡ Some u → o ≡ None
 takes_nothing None u h = refl
 takes_nothing (Some m) u h = absurd cc

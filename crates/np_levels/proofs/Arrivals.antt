@@ -32,13 +32,13 @@ use Rattle.np_levels.specs.Laws.{ArrivalsAreEvents}
 use Rattle.np_levels.proofs.Places.{put_another}
 use Rattle.np_levels.proofs.Keeping.{known_on}
 use Rattle.np_levels.proofs.Marks.{reshape}
-use Rattle.np_levels.proofs.Plains.{none-other}
 use Rattle.np_levels.proofs.Scenes.{scene_put}
 use Rattle.np_levels.proofs.Together.{together}
 use Rattle.np_levels.proofs.Caches.{by_step, reordered, same_agents}
 use Rattle.np_levels.proofs.Orders.{kept}
 use Rattle.np_levels.specs.Letters.{SameLetters}
 use Rattle.cache_rule.specs.Steps.{CacheStep}
+use Rattle.np_levels.proofs.Applies.{takes_nothing}
 
 -- what an Arrive does
 pub record IsArriving (low : Config) (e : Event) (next : Config) : Type 0 where
@@ -63,7 +63,7 @@ arriving low e next h =
       there = there ∙ ap Some (way-is p s comes ∙ ap place.Way at);
       tag = tag;
       made_none = is-none e.made u none;
-      other_none = none-other e.other w other;
+      other_none = takes_nothing e.other w other;
       is = r.is ∙ ap (effect low e) (done g ∙ ap (λ t. record still { places = put e.actor (place.At t) ∷ [] }) at);
     }
 

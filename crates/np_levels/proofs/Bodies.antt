@@ -1,54 +1,28 @@
 -- The parts of a source's process are of the source, and an atom of it stands for one of the high level still where it goes on as a part.
-use Rattle.std.proofs.Common.{◌≡◌, ◌<◌, inl, inr, ℕ, ◌+◌, Bool, true, false, cond, Some, List, [], ◌∷◌, ◌++◌, refl, sym, ap, subst, ◌∙◌}
+use Rattle.std.proofs.Common.{◌≡◌, inl, inr, ℕ, ◌+◌, Bool, Some, List, [], ◌∷◌, ◌++◌, refl, sym, subst, ◌∙◌}
 use Rattle.std.specs.FinMap as map
-use Rattle.std.specs.Ordering.{nat_cmp, eq_by_cmp}
 use Rattle.np_syntax.specs.declared.value.Name.{Name}
 use Rattle.np_syntax.specs.declared.value.Value.{Value}
 use Rattle.np_syntax.specs.declared.expression.Expr.{Expr}
 use Rattle.np_syntax.specs.declared.pattern.Pat.{Pat}
 use Rattle.np_syntax.specs.declared.process.Proc.{Proc}
-use Rattle.np_syntax.proofs.Options.{done}
 use Rattle.np_calculus.specs.declared.config.Atom.{Atom}
 use Rattle.np_calculus.specs.Reductions.{goes, goes_under}
-use Rattle.np_calculus.proofs.AgentValues.{slot_put}
 use Rattle.np_eval.specs.Eval.{Env, bind, eval}
 use Rattle.np_scope.specs.Sound.{AllBelow, Among, BindAll, Binds, IsSoundProc, NoneTwice}
 use Rattle.np_scope.proofs.SoundParts.{BodyParts, TwoParts}
+use Rattle.daemon_encode.proofs.Binders.{among-first, among-second, once-first, once-second, below-first, below-second}
 use Rattle.np_source_values.specs.Known.{IsKnown, Knows}
 use Rattle.np_source_values.specs.Sources.{Agrees, IsSource, Names}
 use Rattle.np_source_values.proofs.Known.{keeps-known}
-use Rattle.np_source_values.proofs.Values.{agent-stays, same-binding}
+use Rattle.np_source_values.proofs.Values.{agent-stays, same-binding, agrees-put}
 use Rattle.np_things.specs.Shapes.{StandsFor}
-use Rattle.np_levels.proofs.Values.{there_is}
+use Rattle.np_levels.proofs.Values.{there_is, bind-one}
+use Rattle.infrastructure_texts.specs.Pieces.{name}
 
 -- ---- lists of binders
 
-pub among_first : (y : ℕ) (xs ys : List ℕ) → Among y xs → Among y (xs ++ ys)
-among_first y [] ys m = absurd m
-among_first y (x ∷ xs) ys (inl e) = inl e
-among_first y (x ∷ xs) ys (inr m) = inr (among_first y xs ys m)
-
-pub among_second : (y : ℕ) (xs ys : List ℕ) → Among y ys → Among y (xs ++ ys)
-among_second y [] ys m = m
-among_second y (x ∷ xs) ys m = inr (among_second y xs ys m)
-
-pub once_first : (xs ys : List ℕ) → NoneTwice (xs ++ ys) → NoneTwice xs
-once_first [] ys h = tt
-once_first (x ∷ xs) ys h = ((λ m. h.0 (among_first x xs ys m)), once_first xs ys h.1)
-
-pub once_second : (xs ys : List ℕ) → NoneTwice (xs ++ ys) → NoneTwice ys
-once_second [] ys h = h
-once_second (x ∷ xs) ys h = once_second xs ys h.1
-
 module _ (from : ℕ) where
-  pub below_first : (xs ys : List ℕ) → AllBelow from (xs ++ ys) → AllBelow from xs
-  below_first [] ys h = tt
-  below_first (x ∷ xs) ys h = (h.0, below_first xs ys h.1)
-
-  pub below_second : (xs ys : List ℕ) → AllBelow from (xs ++ ys) → AllBelow from ys
-  below_second [] ys h = h
-  below_second (x ∷ xs) ys h = below_second xs ys h.1
-
   mutual
     -- the binders in scope behind a pattern
     pub below_inner : {scope inner xs : List ℕ} {p : Pat} → Binds scope p inner xs → AllBelow from scope → AllBelow from xs → AllBelow from inner
@@ -58,12 +32,18 @@ module _ (from : ℕ) where
 
     below_all : {scope inner xs : List ℕ} {ps : List Pat} → BindAll scope ps inner xs → AllBelow from scope → AllBelow from xs → AllBelow from inner
     below_all BindAll.none s b = s
-    below_all (BindAll.more {xs = xs} {ys = ys} p ps) s b = below_all ps (below_inner p s (below_first xs ys b)) (below_second xs ys b)
+    below_all (BindAll.more {xs = xs} {ys = ys} p ps) s b = below_all ps (below_inner p s (below-first from xs ys b)) (below-second from xs ys b)
 
 -- what names an agent in a process names it in a part
 pub named_part : {n from : ℕ} {xs ys : List ℕ} {a : Expr} → ((y : ℕ) → Among y ys → Among y xs) → Names n from xs a → Names n from ys a
 named_part f Names.as_main = Names.as_main
 named_part f (Names.as_binder {y = y} below apart) = Names.as_binder below (λ m. apart (f y m))
+
+-- one more binder is known of
+pub knows_put : (agents chans : Name → Bool) (from x : ℕ) (u : Value) (env : Env) → Knows agents chans from env → IsKnown agents chans u
+    → Knows agents chans from (map.insert env x u)
+knows_put agents chans from x u env k g = keeps-known agents chans from [] (x ∷ []) (x ∷ []) (name x) u env (map.insert env x u) Binds.name k g
+    (bind-one x u env)
 
 -- ---- parts
 
@@ -76,9 +56,9 @@ module _ {n from : ℕ} {a : Expr} {whole : Proc} (s : IsSource n from a whole) 
     bound = t.xs;
     sound = t.first;
     in_scope = s.in_scope;
-    below = below_first from t.xs t.ys (subst (AllBelow from) t.is s.below);
-    once = once_first t.xs t.ys (subst NoneTwice t.is s.once);
-    named = named_part (λ y m. subst (Among y) (sym t.is) (among_first y t.xs t.ys m)) s.named;
+    below = below-first from t.xs t.ys (subst (AllBelow from) t.is s.below);
+    once = once-first t.xs t.ys (subst NoneTwice t.is s.once);
+    named = named_part (λ y m. subst (Among y) (sym t.is) (among-first y t.xs t.ys m)) s.named;
   }
 
   pub second_part : {p q : Proc} → TwoParts n s.scope s.node s.after s.bound s.scope s.bound p q → IsSource n from a q
@@ -89,9 +69,9 @@ module _ {n from : ℕ} {a : Expr} {whole : Proc} (s : IsSource n from a whole) 
     bound = t.ys;
     sound = t.second;
     in_scope = s.in_scope;
-    below = below_second from t.xs t.ys (subst (AllBelow from) t.is s.below);
-    once = once_second t.xs t.ys (subst NoneTwice t.is s.once);
-    named = named_part (λ y m. subst (Among y) (sym t.is) (among_second y t.xs t.ys m)) s.named;
+    below = below-second from t.xs t.ys (subst (AllBelow from) t.is s.below);
+    once = once-second t.xs t.ys (subst NoneTwice t.is s.once);
+    named = named_part (λ y m. subst (Among y) (sym t.is) (among-second y t.xs t.ys m)) s.named;
   }
 
   -- the body behind a pattern
@@ -104,10 +84,10 @@ module _ {n from : ℕ} {a : Expr} {whole : Proc} (s : IsSource n from a whole) 
         after = s.after;
         bound = t.ys;
         sound = t.body;
-        in_scope = below_inner from t.binds s.in_scope (below_first from t.xs t.ys below);
-        below = below_second from t.xs t.ys below;
-        once = once_second t.xs t.ys (subst NoneTwice t.is s.once);
-        named = named_part (λ y m. subst (Among y) (sym t.is) (among_second y t.xs t.ys m)) s.named;
+        in_scope = below_inner from t.binds s.in_scope (below-first from t.xs t.ys below);
+        below = below-second from t.xs t.ys below;
+        once = once-second t.xs t.ys (subst NoneTwice t.is s.once);
+        named = named_part (λ y m. subst (Among y) (sym t.is) (among-second y t.xs t.ys m)) s.named;
       }
 
   -- the body behind one binder
@@ -158,7 +138,7 @@ module _ {n from : ℕ} {x : Expr} {h a : Atom} (s : StandsFor n from x h a) whe
           env = r.env;
           source = body_part s.source t;
           agrees = r.agrees;
-          stays = agent-stays n from t.xs x h.env r.env (named_part (λ z m. subst (Among z) (sym t.is) (among_first z t.xs t.ys m)) s.source.named) r.others;
+          stays = agent-stays n from t.xs x h.env r.env (named_part (λ z m. subst (Among z) (sym t.is) (among-first z t.xs t.ys m)) s.source.named) r.others;
           knows = λ agents chans k g. keeps-known agents chans from s.source.scope t.inner t.xs y v h.env r.env t.binds k g r.is;
         },
         r.is,
@@ -172,10 +152,10 @@ module _ {n from : ℕ} {x : Expr} {h a : Atom} (s : StandsFor n from x h a) whe
     record {
       env = map.insert h.env y v;
       source = binder_part s.source y xs is sound;
-      agrees = record { same = λ z l. slot_put a.env y v z ∙ ap (cond (eq_by_cmp nat_cmp z y) (Some v)) (s.agrees.same z l) ∙ sym (slot_put h.env y v z) };
+      agrees = agrees-put from y v a.env h.env s.agrees;
       stays = agent-stays n from (y ∷ []) x h.env (map.insert h.env y v) (named_part first s.source.named)
           (λ z apart. there_is h.env y z v (λ e. apart (inl e)));
-      knows = λ agents chans k g. record { each = λ z w l j. go agents chans k g (eq_by_cmp nat_cmp z y) z w l (sym (slot_put h.env y v z) ∙ j) };
+      knows = λ agents chans k g. knows_put agents chans from y v h.env k g;
     },
     refl,
   )
@@ -183,8 +163,3 @@ module _ {n from : ℕ} {x : Expr} {h a : Atom} (s : StandsFor n from x h a) whe
       first : (z : ℕ) → Among z (y ∷ []) → Among z s.source.bound
       first z (inl e) = subst (Among z) (sym is) (inl e)
       first z (inr m) = absurd m
-
-      go : (agents chans : Name → Bool) → Knows agents chans from h.env → IsKnown agents chans v → (t : Bool) (z : ℕ) (w : Value) → z < from
-          → cond t (Some v) (map.get h.env z) ≡ Some w → IsKnown agents chans w
-      go agents chans k g true z w l j = subst (IsKnown agents chans) (sym (done j)) g
-      go agents chans k g false z w l j = k.each z w l j

@@ -1,6 +1,6 @@
 -- An agent is made at both levels: the new agent begins by registering, and the one that makes it waits.
 use Rattle.std.proofs.Common.{◌≡◌, inl, inr, ◌<◌, ◌≤◌, ℕ, Bool, true, false, cond, not, ◌||◌, ◌&&◌, is_some}
-use Rattle.std.proofs.Common.{Option, None, Some, option_map, IsSome, List, [], ◌∷◌, ◌++◌, refl, sym, ap, subst, ◌∙◌, arith}
+use Rattle.std.proofs.Common.{Option, None, Some, option_map, List, [], ◌∷◌, ◌++◌, refl, sym, ap, subst, ◌∙◌, arith}
 use Rattle.std.specs.List.{All, list_any}
 use Rattle.std.proofs.lemmas.List.Sorted.{IsPermutation-refl, list_any-IsPermutation}
 use Rattle.std.proofs.lemmas.List.Elements.{All-from_recursion, All-nil, recursion_from_All}
@@ -73,15 +73,20 @@ use Rattle.np_levels.proofs.Keeping.{first_put, known_on, only_at, step_new}
 use Rattle.np_levels.proofs.Marks.{reshape, step_at}
 use Rattle.np_levels.proofs.Orders.{and_then, behind, permuted, swapped}
 use Rattle.np_levels.proofs.Outputs.{is-own}
-use Rattle.np_levels.proofs.Plains.{made_no_move, none-other, plain_tag}
+use Rattle.np_levels.proofs.Plains.{made_no_move, plain_tag}
 use Rattle.np_levels.proofs.Posts.{mirrors_put}
 use Rattle.np_levels.proofs.Quiet.{any_in, any_kept, or_second, things_born}
 use Rattle.np_levels.proofs.Scenes.{scene_put}
 use Rattle.np_levels.proofs.Shapes.{of_actor, same_role}
-use Rattle.np_levels.proofs.Sounds.{AgentParts, agent_parts, agrees_put, knows_put, named_same}
+use Rattle.np_levels.proofs.Sounds.{AgentParts, agent_parts, named_same}
 use Rattle.np_levels.proofs.Together.{IsOldOrNew, knows_wider, more_channels, one_mark, together, high_by_atom}
 use Rattle.np_levels.proofs.Values.{agent-is, channel-is, here_is, pair-is, there_is, variable-is}
 use Rattle.np_levels.proofs.Caches.{carry_put, KeepsHints, by_step}
+use Rattle.np_levels.proofs.Applies.{takes_nothing}
+use Rattle.np_calculus.proofs.Fits.{some}
+use Rattle.np_calculus.proofs.FrameRule.{not-false}
+use Rattle.np_source_values.proofs.Values.{agrees-put}
+use Rattle.np_levels.proofs.Bodies.{knows_put}
 
 -- what an Agent changes: the new agent at its site, its first atom, and the one that made it
 abbrev pub created : Event → Atom → ℕ → Proc → Proc → Name → Name → Change
@@ -108,16 +113,12 @@ pub record IsCreating (low : Config) (e : Event) (next : Config) : Type 0 where
   pub mark_new : set.contains low.born mark ≡ false
   pub is : next ≡ effect low e (created e atom binder body rest agent mark)
 
-not_so : (t : Bool) → not t ≡ true → t ≡ false
-not_so true h = absurd cc
-not_so false h = refl
-
 two_new : (born : NameSet) (b m : Name) → are_new born (made.Two b m) ≡ true
     → (same_name b m ≡ false) × (set.contains born b ≡ false) × (set.contains born m ≡ false)
 two_new born b m h =
     let x = and-out (not (same_name b m)) (not (set.contains born b) && not (set.contains born m)) h in
     let y = and-out (not (set.contains born b)) (not (set.contains born m)) x.1 in
-    (not_so (same_name b m) x.0, not_so (set.contains born b) y.0, not_so (set.contains born m) y.1)
+    (not-false (same_name b m) x.0, not-false (set.contains born b) y.0, not-false (set.contains born m) y.1)
 
 pub creating : (low : Config) (e : Event) (next : Config) → row kind.Agent low e ≡ Some next → IsCreating low e next
 unfolding act
@@ -137,7 +138,7 @@ creating low e next h =
       agent = m.0;
       mark = m.1;
       made_two = made_two;
-      other_none = none-other e.other w other;
+      other_none = takes_nothing e.other w other;
       differ = new.0;
       agent_new = new.1;
       mark_new = new.2;
@@ -279,12 +280,9 @@ module _ {structure : Infrastructure} {n from first : ℕ} {low high : Config} {
   apart = not_true _ (λ t. let bad : false ≡ true = sym s.agent_new ∙ ap (set.contains low.born) (same_name-is b (daemon_agent n) t)
       ∙ c.born (daemon_agent n) (c.own_born (daemon_agent n) (is-own n 1 refl)) in cc)
 
-  some_of : {A : Type 0} (o : Option A) (y : A) → o ≡ Some y → IsSome o
-  some_of o y j = rw j refl
-
   no_place : (o : Option Place) → map.get low.places b ≡ o → o ≡ None
   no_place None j = refl
-  no_place (Some p) j = absurd (let bad : false ≡ true = sym s.agent_new ∙ c.stand_born.agents b (some_of _ p j) in cc)
+  no_place (Some p) j = absurd (let bad : false ≡ true = sym s.agent_new ∙ c.stand_born.agents b (some _ p j) in cc)
 
   no_messenger_yet : set.contains v.standing.messengers b ≡ false
   no_messenger_yet = not_true _ (λ t. let bad : false ≡ true = sym s.agent_new ∙ c.messengers_born b t in cc)
@@ -314,7 +312,7 @@ module _ {structure : Infrastructure} {n from first : ℕ} {low high : Config} {
   things = map.insert half m ws
 
   agrees : Agrees from low_env high_env
-  agrees = agrees_put from binder (value.Agent b) s.atom.env hi.env i.stands.agrees
+  agrees = agrees-put from binder (value.Agent b) s.atom.env hi.env i.stands.agrees
 
   site_there : map.get low_env i.creates.site ≡ Some (value.Site at)
   site_there = there_is s.atom.env binder i.creates.site (value.Agent b)
@@ -405,7 +403,7 @@ module _ {structure : Infrastructure} {n from first : ℕ} {low high : Config} {
 
   no_new_packet : (o : Option _) → map.get low.packets m ≡ o → o ≡ None
   no_new_packet None j = refl
-  no_new_packet (Some k) j = absurd (let bad : false ≡ true = sym s.mark_new ∙ c.stand_born.marks m (inr (some_of _ k j)) in cc)
+  no_new_packet (Some k) j = absurd (let bad : false ≡ true = sym s.mark_new ∙ c.stand_born.marks m (inr (some _ k j)) in cc)
 
   absent : map.get half m ≡ None
   absent = get-put v.things e.actor us m ∙ ap (λ z. cond z (Some us) (map.get v.things m)) other ∙ no_things (map.get v.things m) refl

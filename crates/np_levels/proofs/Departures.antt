@@ -60,7 +60,7 @@ use Rattle.np_levels.proofs.Places.{no_messenger, put_another, same_place}
 use Rattle.np_levels.proofs.Keeping.{first_put, known_on, only_at}
 use Rattle.np_levels.proofs.Letters.{same-letters}
 use Rattle.np_levels.proofs.Marks.{reshape, step_at}
-use Rattle.np_levels.proofs.Plains.{made_no_move, none-other, plain_tag}
+use Rattle.np_levels.proofs.Plains.{made_no_move, plain_tag}
 use Rattle.np_levels.proofs.Posts.{mirrors_put}
 use Rattle.np_levels.proofs.Quiet.{any_kept}
 use Rattle.np_levels.proofs.Scenes.{scene_put}
@@ -70,6 +70,7 @@ use Rattle.np_levels.proofs.Together.{IsOldOrNew, knows_wider, more_channels, to
 use Rattle.np_levels.proofs.Values.{agent-is, channel-is, pair-is}
 use Rattle.np_levels.proofs.Caches.{by_step, carry_put, same_agents}
 use Rattle.np_levels.specs.Letters.{SameLetters}
+use Rattle.np_levels.proofs.Applies.{takes_nothing}
 
 site-value : (u : Value) (s : ℕ) → as_site (out-Value u) ≡ Some s → u ≡ value.Site s
 site-value u s h = sym (roll-out-Value u) ∙ ap roll-Value (layer_is (out-Value u) h) ∙ outs.rolls-Site s
@@ -118,7 +119,7 @@ departing low e next h =
       its_site = named.0;
       below = named.1;
       made_none = is-none e.made u none;
-      other_none = none-other e.other w other;
+      other_none = takes_nothing e.other w other;
       is = r.is ∙ ap (effect low e) (done h);
     }
 

@@ -1,10 +1,10 @@
 -- A bracket of the infrastructure is split: its things are those of its parts.
-use Rattle.std.proofs.Common.{◌≡◌, inr, ℕ, Bool, true, false, not, cond, Option, None, Some, List, [], ◌∷◌, ◌++◌, refl, sym, ap, subst, ◌∙◌}
+use Rattle.std.proofs.Common.{◌≡◌, inr, ℕ, Bool, true, false, cond, Option, None, Some, List, [], ◌∷◌, ◌++◌, refl, sym, ap, subst, ◌∙◌}
 use Rattle.std.specs.List.{All, flat_map}
 use Rattle.std.proofs.lemmas.List.Concat.{flat_map-append}
 use Rattle.std.proofs.lemmas.List.Elements.{All-head, All-tail, All-weaker}
 use Rattle.std.proofs.lemmas.List.Sorted.{list_any-IsPermutation}
-use Rattle.std.proofs.Common.{append_assoc, IsSome}
+use Rattle.std.proofs.Common.{append_assoc}
 use Rattle.std.specs.FinMap as map
 use Rattle.std.specs.FinSet as set
 use Rattle.np_syntax.specs.declared.value.Name.{Name}
@@ -50,6 +50,8 @@ use Rattle.np_levels.proofs.Starts.{any_order}
 use Rattle.np_levels.proofs.Shapes.{of_atom, same_role}
 use Rattle.np_levels.proofs.Caches.{handed_on, by_step, carry_put, reordered}
 use Rattle.np_levels.specs.Letters.{SameLetters, first_letter_of, letter_under}
+use Rattle.np_calculus.proofs.Fits.{some}
+use Rattle.np_calculus.proofs.FrameRule.{not-false}
 
 pub record IsForking (low : Config) (e : Event) (next : Config) : Type 0 where
   pub atom : Atom
@@ -78,13 +80,9 @@ forking low e next h =
       new = m;
       made_one = is-one e.made m one;
       other_none = takes_nothing e.other w other;
-      is_new = not_one (set.contains low.born m) (sym (one-new low.born e.made m one) ∙ r.new);
+      is_new = not-false (set.contains low.born m) (sym (one-new low.born e.made m one) ∙ r.new);
       is = r.is ∙ ap (effect low e) (done h);
     }
-  where
-    not_one : (t : Bool) → not t ≡ true → t ≡ false
-    not_one true h = absurd cc
-    not_one false h = refl
 
 -- the two lists of things of a bracket
 record IsSplit (i : Infrastructure) (n from first : ℕ) (a : Atom) (p q : Proc) (ts : List Thing) : Type 0 where
@@ -227,12 +225,9 @@ module _ {i : Infrastructure} {n from first : ℕ} {low high : Config} {v : View
           no_new_packet : map.get low.packets s.new ≡ None
           no_new_packet = none (map.get low.packets s.new) refl
             where
-              some_of : {A : Type 0} (o : Option A) (x : A) → o ≡ Some x → IsSome o
-              some_of o x i = rw i refl
-
               none : (o : Option _) → map.get low.packets s.new ≡ o → o ≡ None
               none None i = refl
-              none (Some k) i = absurd (let bad : false ≡ true = sym s.is_new ∙ c.stand_born.marks s.new (inr (some_of _ k i)) in cc)
+              none (Some k) i = absurd (let bad : false ≡ true = sym s.is_new ∙ c.stand_born.marks s.new (inr (some _ k i)) in cc)
 
           -- what is shown stays, in another order
           split_shown : {X : Type 0} (show : Thing → List X) → Reordered (shown show things) (shown show v.things)

@@ -1,5 +1,5 @@
 -- A messenger is made for a post: at the high level that is the post, and the messenger's mark stands for that of the post from then on.
-use Rattle.std.proofs.Common.{◌≡◌, ◌+◌, ◌≤◌, ℕ, Bool, true, false, ◌||◌, cond, Option, None, Some, IsSome, List, [], ◌∷◌, refl, sym, ap, ◌∙◌, arith}
+use Rattle.std.proofs.Common.{◌≡◌, ◌+◌, ◌≤◌, ℕ, Bool, true, false, ◌||◌, cond, Option, None, Some, List, [], ◌∷◌, refl, sym, ap, ◌∙◌, arith}
 use Rattle.std.specs.List.{All}
 use Rattle.std.proofs.lemmas.List.Elements.{All-from_recursion, All-nil, All-weaker}
 use Rattle.std.specs.FinMap as map
@@ -57,6 +57,7 @@ use Rattle.np_levels.proofs.Quiet.{any_kept, or_second, things_born}
 use Rattle.np_levels.proofs.Shapes.{of_actor, same_role}
 use Rattle.np_levels.proofs.Shifts.{Shifted, shift}
 use Rattle.np_levels.proofs.Values.{named_is, stands_under}
+use Rattle.np_calculus.proofs.Fits.{some}
 
 module _ {i : Infrastructure} {n from first : ℕ} {low high : Config} {v : View} (c : Coupled i n from first low high v) (e : Event) (next : Config) (h : apply low e ≡ Some next)
     (s : IsCreating low e next) (no_packet : map.get low.packets e.actor ≡ None) (cached : i ≡ Infrastructure.cached) (x : Expr) (hi : Atom)
@@ -108,12 +109,9 @@ module _ {i : Infrastructure} {n from first : ℕ} {low high : Config} {v : View
   apart = not_true _ (λ t. let bad : false ≡ true = sym s.agent_new ∙ ap (set.contains low.born) (same_name-is b (daemon_agent n) t)
       ∙ c.born (daemon_agent n) (c.own_born (daemon_agent n) (is-own n 1 refl)) in cc)
 
-  some_of : {A : Type 0} (o : Option A) (y : A) → o ≡ Some y → IsSome o
-  some_of o y j = rw j refl
-
   no_place : (o : Option Place) → map.get low.places b ≡ o → o ≡ None
   no_place None j = refl
-  no_place (Some q) j = absurd (let bad : false ≡ true = sym s.agent_new ∙ c.stand_born.agents b (some_of _ q j) in cc)
+  no_place (Some q) j = absurd (let bad : false ≡ true = sym s.agent_new ∙ c.stand_born.agents b (some _ q j) in cc)
 
   no_messenger_yet : set.contains v.standing.messengers b ≡ false
   no_messenger_yet = not_true _ (λ t. let bad : false ≡ true = sym s.agent_new ∙ c.messengers_born b t in cc)

@@ -24,6 +24,7 @@ pub mod Makes
 pub mod Marks
 pub mod Meets
 pub mod Messengers
+pub mod Naming
 pub mod News
 pub mod Orders
 pub mod Outputs
@@ -47,6 +48,7 @@ pub mod Stands
 pub mod Starts
 pub mod Stops
 pub mod Takes
+pub mod Takings
 pub mod Together
 pub mod Tries
 pub mod Values

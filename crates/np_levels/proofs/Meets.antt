@@ -6,10 +6,6 @@ use Rattle.std.proofs.lemmas.List.Elements.{All-from_recursion, All-weaker, recu
 use Rattle.std.specs.FinMap as map
 use Rattle.std.specs.FinSet as set
 use Rattle.np_syntax.specs.declared.value.Name.{Name}
-use Rattle.np_syntax.specs.declared.value.Value.{Value}
-use Rattle.np_syntax.specs.declared.expression.Expr.{Expr}
-use Rattle.np_syntax.specs.declared.pattern.Pat.{Pat}
-use Rattle.np_syntax.specs.declared.process.Proc.{Proc}
 use Rattle.np_syntax.specs.declared.process.ProcForm.{ProcForm-F}
 use Rattle.np_syntax.specs.declared.event.Event.{Event}
 use Rattle.np_syntax.specs.declared.event.Kind.TheVariants as kind
@@ -19,7 +15,7 @@ use Rattle.np_syntax.proofs.Options.{then, done}
 use Rattle.np_tables.specs.Names.{NameMap, same_name}
 use Rattle.np_tables.proofs.Tables.{get-cut, get-put, same_name-is, same_name-swap}
 use Rattle.np_calculus.specs.declared.config.Atom.{Atom}
-use Rattle.np_calculus.specs.Changes.{cut, effect, put, still}
+use Rattle.np_calculus.specs.Changes.{cut, put, still, Change}
 use Rattle.np_calculus.specs.Config.{Config}
 use Rattle.np_calculus.specs.Reductions.{apply, goes_under, row}
 use Rattle.np_calculus.specs.Seen.{acting}
@@ -27,8 +23,7 @@ use Rattle.np_calculus.specs.Sight.{inside, sight}
 unfoldable use Rattle.np_calculus.proofs.Common.{act}
 use Rattle.np_calculus.proofs.OwnNames.{not_true}
 use Rattle.np_calculus.proofs.Rows.{parts}
-use Rattle.np_calculus.proofs.Steps.{Acts, Offers, acting-step, offered-step, row-step, same-offer}
-use Rattle.np_eval.specs.Eval.{Env, bind, chan_of}
+use Rattle.np_calculus.proofs.Steps.{row-step}
 use Rattle.np_eval.specs.Forms.{layer}
 use Rattle.np_protocol.specs.Chips.{Chip}
 use Rattle.np_protocol.specs.Phases.{Phase}
@@ -39,7 +34,6 @@ use Rattle.infrastructure_texts.specs.Infrastructures.{Infrastructure}
 use Rattle.np_things.specs.Shapes.{Are}
 use Rattle.np_things.specs.Things.{IsHeaded, Thing, first_atom_of, first_packet_of, show_all, show_all_caches, shows, shows_caches}
 use Rattle.np_levels.specs.Coupled.{Coupled, IsShaped, KnowsOnly, View, chips, is_channel, is_child_of, may_know, scene, IsCarrier, levels, shown}
-use Rattle.np_levels.proofs.Applies.{takes}
 use Rattle.np_calculus.proofs.BornKept.{born-kept, made-kept}
 use Rattle.np_levels.proofs.Letters.{low-carries-none}
 use Rattle.np_levels.proofs.Marks.{reshape}
@@ -49,51 +43,22 @@ use Rattle.np_levels.proofs.Quiet.{knows_more, or_cases, or_second, quiet}
 use Rattle.np_levels.proofs.Caches.{by_step, carry_cut, carry_put}
 use Rattle.np_levels.specs.Letters.{SameLetters, first_letter_of, letter_under}
 use Rattle.cache_rule.specs.Steps.{CacheStep}
+use Rattle.np_levels.proofs.Values.{no_value}
+use Rattle.np_levels.proofs.Takings.{IsTaking, taking}
 
 -- what a communication does
-pub record IsMeeting (low : Config) (e : Event) (next : Config) : Type 0 where
-  pub atom : Atom
-  pub acts : Acts low e atom
-  pub on : Expr
-  pub pattern : Pat
-  pub body : Proc
-  pub form : layer atom.proc ≡ ProcForm-F.Inp on pattern body
-  pub chan : Name
-  pub its_chan : chan_of on atom.env ≡ Some chan
-  pub other : Name
-  pub its_other : e.other ≡ Some other
-  pub what : Value
-  pub offers : Offers low other atom.agent chan what
-  pub env : Env
-  pub binds : bind pattern what atom.env ≡ Some env
-  pub made_none : e.made ≡ made.Nothing
-  pub is : next ≡ effect low e (record still { atoms = put e.actor (goes_under atom body env) ∷ cut other ∷ [] })
+abbrev pub meets_by : Event → Name → Atom → Change
+meets_by e o a = record still { atoms = put e.actor a ∷ cut o ∷ [] }
+
+abbrev pub IsMeeting : Config → Event → Config → Type 0
+IsMeeting low e next = IsTaking ProcForm-F.Inp (meets_by e) low e next
 
 pub meeting : (low : Config) (e : Event) (next : Config) → row kind.Comm low e ≡ Some next → IsMeeting low e next
 unfolding act
 meeting low e next h =
     let r = row-step low e next kind.Comm h in
     then (acting low e) _ r.gives λ a acts h. parts kind.Comm (sight low.sites (inside low) e.site) e a h λ p form h.
-    takes (sight low.sites (inside low) e.site) e a p.0 p.1
-    (λ o env. record still { atoms = put e.actor (goes_under a p.2 env) ∷ cut o ∷ [] }) h λ n o v env on other offer binds none last.
-    record {
-      atom = a;
-      acts = acting-step low e a acts;
-      on = p.0;
-      pattern = p.1;
-      body = p.2;
-      form = form;
-      chan = n;
-      its_chan = on;
-      other = o;
-      its_other = other;
-      what = v;
-      offers = offered-step low o a.agent n v (sym (same-offer low e a o n acts) ∙ offer);
-      env = env;
-      binds = binds;
-      made_none = none;
-      is = r.is ∙ ap (effect low e) last;
-    }
+    taking ProcForm-F.Inp (meets_by e) low e next _ r.is a acts p.0 p.1 p.2 form h
 
 -- who goes on knows no less: an agent that it made is told of still, or is in the map
 pub may_know_on : (lock : Locks) (cs ds : List Chip) → ((a b : Name) → list_any (is_child_of a b) cs ≡ true → (list_any (is_child_of a b) ds ≡ true) ⊎ (is_some (lock b) ≡ true)) → (t : Thing) (b : Name)
@@ -233,9 +198,6 @@ module _ {i : Infrastructure} {n from first : ℕ} {low high : Config} {v : View
       letters q false true x y = ap (λ o. o >>= first_letter_of) (its q y) ∙ b.letters
           ∙ sym (ap (λ o. o >>= first_letter_of) (ap (map.get v.things) (same_name-is q e.actor y) ∙ b.there))
       letters q false false x y = ap (λ o. o >>= first_letter_of) (unchanged q x y)
-
-      no_value : {A B : Type 0} {x : A} → None ≡ Some x → B
-      no_value h = absurd cc
 
       known : (q : Name) (vs : List Thing) (t r : Bool) → same_name q s.other ≡ t → same_name q e.actor ≡ r → map.get things q ≡ Some vs → All (λ t. KnowsOnly (may_know v.lock (chips things) t) (is_channel n high.born) from t) vs
       known q vs true r x y h = no_value (sym (gone q x) ∙ h)

@@ -12,21 +12,16 @@ use Rattle.np_syntax.specs.declared.event.Event.{Event}
 use Rattle.np_syntax.specs.declared.event.Kind.TheVariants as kind
 use Rattle.np_syntax.specs.declared.event.Made.TheVariants as made
 use Rattle.np_syntax.proofs.Bools.{and-in}
-use Rattle.np_syntax.proofs.Options.{then, done}
 use Rattle.np_tables.proofs.Tables.{born_here}
 use Rattle.np_calculus.specs.declared.config.Atom.{Atom}
 use Rattle.np_calculus.specs.Begins.{begun_by}
 use Rattle.np_calculus.specs.Changes.{effect, with_made}
 use Rattle.np_calculus.specs.Config.{Config}
-use Rattle.np_calculus.specs.Reductions.{apply, becomes, goes_under, no_other, one_made, row}
-use Rattle.np_calculus.specs.Seen.{acting}
-use Rattle.np_calculus.specs.Sight.{inside, sight}
+use Rattle.np_calculus.specs.Reductions.{apply, becomes, goes_under, row}
 use Rattle.np_calculus.specs.Starts.{own_names}
 unfoldable use Rattle.np_calculus.proofs.Common.{act}
-use Rattle.np_calculus.proofs.FrameRule.{not-false}
 use Rattle.np_calculus.proofs.OwnNames.{not_true}
-use Rattle.np_calculus.proofs.Rows.{parts}
-use Rattle.np_calculus.proofs.Steps.{Acts, acting-step, is-one, one-new, row-step, step-acting}
+use Rattle.np_calculus.proofs.Steps.{Acts, step-acting}
 use Rattle.cache_lift.specs.Lift.{stands_for}
 use Rattle.np_eval.specs.Eval.{Env}
 use Rattle.np_eval.specs.Forms.{layer}
@@ -35,44 +30,11 @@ use Rattle.np_source_values.specs.Known.{IsKnown}
 use Rattle.np_levels.specs.Coupled.{Coupled, View, is_channel}
 use Rattle.np_levels.specs.Laws.{IsEvent, event_of}
 use Rattle.np_levels.proofs.Actors.{Actor, actor, agents, parts_of}
-use Rattle.np_levels.proofs.Applies.{takes_nothing}
 use Rattle.np_levels.proofs.Bodies.{binder_both, goes_on_under}
 use Rattle.np_levels.proofs.Forms.{IsFormOf}
 use Rattle.np_levels.proofs.Goes.{IsSame, goes_on_both, still_knows}
 use Rattle.np_levels.proofs.Stands.{new_mark}
-
-record IsNaming (low : Config) (e : Event) (next : Config) : Type 0 where
-  atom : Atom
-  acts : Acts low e atom
-  binder : ℕ
-  ty : Ty
-  body : Proc
-  form : layer atom.proc ≡ ProcForm-F.New binder ty body
-  new : Name
-  made_one : e.made ≡ made.One new
-  is_new : set.contains low.born new ≡ false
-  other_none : e.other ≡ None
-  is : next ≡ effect low e (becomes e (goes_under atom body (map.insert atom.env binder (value.Chan new))))
-
-naming : (low : Config) (e : Event) (next : Config) → row kind.New low e ≡ Some next → IsNaming low e next
-unfolding act
-naming low e next h =
-    let r = row-step low e next kind.New h in
-    then (acting low e) _ r.gives λ a acts h. parts kind.New (sight low.sites (inside low) e.site) e a h λ p form h.
-    then (one_made e.made) _ h λ m one h. then (no_other e.other) _ h λ w other h.
-    record {
-      atom = a;
-      acts = acting-step low e a acts;
-      binder = p.0;
-      ty = p.1;
-      body = p.2;
-      form = form;
-      new = m;
-      made_one = is-one e.made m one;
-      is_new = not-false (set.contains low.born m) (sym (one-new low.born e.made m one) ∙ r.new);
-      other_none = takes_nothing e.other w other;
-      is = r.is ∙ ap (effect low e) (done h);
-    }
+use Rattle.np_levels.proofs.Naming.{IsNaming, naming}
 
 new_applies : (c : Config) (e : Event) (a : Atom) (x : ℕ) (ty : Ty) (p : Proc) (m : Name) → Acts c e a → layer a.proc ≡ ProcForm-F.New x ty p
     → e.made ≡ made.One m → e.other ≡ None → set.contains c.born m ≡ false
@@ -95,7 +57,7 @@ module _ {i : Infrastructure} {n from first : ℕ} {low high : Config} {v : View
   named : IsSame c e next
   named =
       let f = subst (λ l. IsFormOf i n from o.named l (layer o.atom.proc)) s.form o.form in
-      let its = parts_of c e o (ProcForm-F.New s.binder s.ty f.0) f.1 in
+      let its = parts_of c e o (ProcForm-F.New s.binder s.type f.0) f.1 in
       let b = binder_both o.is.stands s.binder its.0 (value.Chan s.new) its.1 its.3 in
       let knows = b.0.knows (agents c e) (is_channel n (with_made high.born e.made)) (still_knows c e o.knows)
       (IsKnown.channel (new_channel c e s.new s.made_one s.is_new)) in
@@ -103,7 +65,7 @@ module _ {i : Infrastructure} {n from first : ℕ} {low high : Config} {v : View
       s.is (record { stands = goes_on_under s.body o.is.stands b.0; translates = f.2 }) knows in (
         effect high (event_of v e) (becomes (event_of v e) (goes_under o.atom f.0 b.0.env)),
         ap (λ k. row k high (event_of v e)) is
-            ∙ new_applies high (event_of v e) o.atom s.binder s.ty f.0 s.new o.acts f.1 s.made_one other (new_mark c e s.new s.is_new).high_new
+            ∙ new_applies high (event_of v e) o.atom s.binder s.type f.0 s.new o.acts f.1 s.made_one other (new_mark c e s.new s.is_new).high_new
             ∙ ap (λ (env : Env). Some (effect high (event_of v e) (becomes (event_of v e) (goes_under o.atom f.0 env)))) (sym b.1),
         w.0,
         w.1,

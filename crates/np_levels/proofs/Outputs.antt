@@ -49,6 +49,7 @@ use Rattle.np_levels.proofs.Marks.{step_at}
 use Rattle.cache_rule.specs.Chips.{CacheChip}
 use Rattle.cache_rule.specs.Levels.{IsHidden}
 use Rattle.cache_rule.proofs.Gives.{gives-hints}
+use Rattle.np_eval.proofs.FormsByParts.{out-form}
 
 -- the parts of an output
 pub record IsOutput (low : Atom) (chan : Name) (v : Value) : Type 0 where
@@ -58,15 +59,11 @@ pub record IsOutput (low : Atom) (chan : Name) (v : Value) : Type 0 where
   pub its_chan : chan_of on low.env ≡ Some chan
   pub its_value : eval sent low.env ≡ Some v
 
-out_form : (l : Layer) (t : Expr × Expr) → as_out l ≡ Some t → l ≡ ProcForm-F.Out t.0 t.1
-out_form (ProcForm-F.Out c e) t h = ap (λ (x : Expr × Expr). ProcForm-F.Out x.0 x.1) (sym (done h))
-out_form _ t h = absurd cc
-
 pub is_output : (low : Atom) (s : Name × Value) → sends low ≡ Some s → IsOutput low s.0 s.1
 is_output low s h =
     then (as_out (layer low.proc)) _ h λ t is rest. then (chan_of t.0 low.env) _ rest λ n on rest. then (eval t.1 low.env) _ rest λ v at last.
     let same : s ≡ (n, v) = done last in
-    record { on = t.0; sent = t.1; form = out_form (layer low.proc) t is; its_chan = on ∙ ap (λ (x : Name × Value). Some x.0) (sym same); its_value = at ∙ ap (λ (x : Name × Value). Some x.1) (sym same) }
+    record { on = t.0; sent = t.1; form = out-form (layer low.proc) t is; its_chan = on ∙ ap (λ (x : Name × Value). Some x.0) (sym same); its_value = at ∙ ap (λ (x : Name × Value). Some x.1) (sym same) }
 
 -- the channel that a source names is known
 pub chan-known : (agents chans : Name → Bool) (v : Value) → IsKnown agents chans v → (c : Name) → as_chan (out-Value v) ≡ Some c → chans c ≡ true

@@ -1,6 +1,5 @@
 -- Events of the source's own that the infrastructure's text makes for it: who is about to leave or to make an agent.
-use Rattle.std.proofs.Common.{◌≡◌, ℕ, Bool, true, false, nat_eq, Option, None, Some, refl, sym, ap, ◌∙◌}
-use Rattle.np_syntax.specs.declared.value.Name.{Name}
+use Rattle.std.proofs.Common.{◌≡◌, ℕ, Bool, true, false, nat_eq, None, Some, refl, sym, ap, ◌∙◌}
 use Rattle.np_syntax.specs.declared.expression.Expr.{Expr}
 use Rattle.np_syntax.specs.declared.process.Tag.{Tag}
 use Rattle.np_syntax.specs.declared.process.Proc.{Proc}
@@ -11,16 +10,11 @@ use Rattle.np_syntax.specs.declared.event.Kind.TheVariants as kind
 use Rattle.np_syntax.proofs.Bools.{and-in, and-out}
 use Rattle.np_syntax.proofs.Options.{done}
 use Rattle.np_calculus.specs.Begins.{begun_by}
-use Rattle.np_calculus.specs.Reductions.{no_other, role_index, same_tag}
+use Rattle.np_calculus.specs.Reductions.{role_index, same_tag}
 use Rattle.np_eval.specs.Forms.{Layer, layer}
 use Rattle.infrastructure_texts.specs.Infrastructures.{Infrastructure}
 use Rattle.daemon_encode.specs.Translates.{Translates}
 use Rattle.np_things.proofs.Acting.{PostBegins, post-begins}
-
--- an event that takes no output has no other mark
-pub none-other : (o : Option Name) (w : Unit {0}) → no_other o ≡ Some w → o ≡ None
-none-other None w h = refl
-none-other (Some m) w h = absurd cc
 
 -- an event of a process of the role Plain is one of another such process of the same node
 pub plain_tag : (a b t : Tag) → a.node ≡ b.node → a.role ≡ role.Plain → b.role ≡ role.Plain → same_tag b t ≡ true → same_tag a t ≡ true

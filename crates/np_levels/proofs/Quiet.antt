@@ -1,5 +1,5 @@
 -- Events of the low level that are none of the high level: places stay, and the things of the high level keep their marks.
-use Rattle.std.proofs.Common.{◌≡◌, ◌⊎◌, inl, inr, ℕ, Bool, true, false, ◌||◌, is_some, Option, None, Some, IsSome, List, [], ◌∷◌, ◌++◌, refl, sym, ap, ◌∙◌}
+use Rattle.std.proofs.Common.{◌≡◌, ◌⊎◌, inl, inr, ℕ, Bool, true, false, ◌||◌, is_some, Option, None, Some, List, [], ◌∷◌, ◌++◌, refl, sym, ap, ◌∙◌}
 use Rattle.std.specs.List.{All, list_any}
 use Rattle.std.proofs.lemmas.List.Sorted.{list_any-IsPermutation}
 use Rattle.std.specs.FinMap as map
@@ -22,9 +22,9 @@ use Rattle.np_source_values.proofs.Known.{more_known}
 use Rattle.np_things.specs.Things.{Thing, carried, first_atom_of, first_packet_of}
 use Rattle.np_levels.specs.Coupled.{Coupled, IsCarrier, IsShaped, KnowsLetter, KnowsOnly, View, chips, is_channel, is_high, may_know, scene, whereabouts}
 use Rattle.np_levels.proofs.Caches.{KeepsHints, low_grows}
-
-no_value : {A : Type 0} {x : A} → None ≡ Some x → ⊥
-no_value e = cc
+use Rattle.np_levels.proofs.Values.{no_value}
+use Rattle.np_calculus.proofs.Fits.{some}
+pub use Rattle.np_calculus.proofs.OwnNames.{or-second as or_second}
 
 -- ---- what is known
 
@@ -73,10 +73,6 @@ module _ (agents more chans : Name → Bool) (from : ℕ) (f : (a : Name) → ag
 
 -- ---- what any of the chips is
 
-pub or_second : (a b : Bool) → b ≡ true → (a || b) ≡ true
-or_second true b h = refl
-or_second false b h = h
-
 pub or_cases : (a b : Bool) → (a || b) ≡ true → (a ≡ true) ⊎ (b ≡ true)
 or_cases true b h = inl refl
 or_cases false b h = inr h
@@ -108,13 +104,10 @@ module _ {i : Infrastructure} {n from first : ℕ} {low high : Config} {v : View
   pub things_born : (m : Name) (ts : List Thing) → map.get v.things m ≡ Some ts → set.contains low.born m ≡ true
   things_born m ts h = go (c.shaped m)
     where
-      some_of : {A : Type 0} (o : Option A) (x : A) → o ≡ Some x → IsSome o
-      some_of o x e = rw e refl
-
       go : IsShaped i n from first low v.things m → set.contains low.born m ≡ true
-      go (IsShaped.nothing a k t) = absurd (no_value (sym t ∙ h))
-      go (IsShaped.atom a k t u r) = c.stand_born.marks m (inl (some_of _ _ a))
-      go (IsShaped.packet a k t r) = c.stand_born.marks m (inr (some_of _ _ k))
+      go (IsShaped.nothing a k t) = no_value (sym t ∙ h)
+      go (IsShaped.atom a k t u r) = c.stand_born.marks m (inl (some _ _ a))
+      go (IsShaped.packet a k t r) = c.stand_born.marks m (inr (some _ _ k))
 
   -- the low level has the same places, but for those of messengers
   abbrev pub SamePlaces : Config → Type 0

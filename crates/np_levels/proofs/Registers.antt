@@ -1,5 +1,5 @@
 -- The daemon makes a lock for a new agent, and enters it in its map.
-use Rattle.std.proofs.Common.{◌≡◌, inl, inr, ◌+◌, ℕ, Bool, true, false, cond, not, ◌||◌, is_some, None, Some, List, [], ◌∷◌, refl, sym, ap, subst, ◌∙◌, arith}
+use Rattle.std.proofs.Common.{◌≡◌, inl, inr, ◌+◌, ℕ, Bool, true, false, cond, ◌||◌, is_some, None, Some, List, [], ◌∷◌, refl, sym, ap, subst, ◌∙◌, arith}
 use Rattle.std.specs.List.{All, AllByRecursion, list_any}
 use Rattle.std.proofs.lemmas.List.Elements.{All-from_recursion, All-weaker, recursion_from_All}
 use Rattle.std.specs.FinMap as map
@@ -24,13 +24,9 @@ use Rattle.np_calculus.specs.declared.config.Atom.{Atom}
 use Rattle.np_calculus.specs.Begins.{begun_by}
 use Rattle.np_calculus.specs.Changes.{effect, put, still, with_made}
 use Rattle.np_calculus.specs.Config.{Config}
-use Rattle.np_calculus.specs.Reductions.{apply, goes_under, no_other, one_made, row}
-use Rattle.np_calculus.specs.Seen.{acting}
-use Rattle.np_calculus.specs.Sight.{inside, sight}
+use Rattle.np_calculus.specs.Reductions.{apply, goes_under, row}
 use Rattle.np_calculus.specs.Starts.{main_agent, own, own_names}
-unfoldable use Rattle.np_calculus.proofs.Common.{act}
 use Rattle.np_calculus.proofs.Rows.{parts}
-use Rattle.np_calculus.proofs.Steps.{Acts, acting-step, is-one, one-new, row-step}
 use Rattle.np_calculus.proofs.OwnNames.{not_true}
 use Rattle.np_eval.specs.Eval.{Env, eval, find_place, put_place}
 use Rattle.np_eval.specs.Forms.{Layer, layer}
@@ -66,41 +62,7 @@ use Rattle.np_levels.proofs.Values.{channel-is, here_is, there_is, unit-is, vari
 use Rattle.np_levels.proofs.Caches.{handed_on, by_step, carry_put}
 use Rattle.np_levels.specs.Letters.{SameLetters}
 use Rattle.cache_rule.specs.Steps.{CacheStep}
-
-record IsNaming (low : Config) (e : Event) (next : Config) : Type 0 where
-  atom : Atom
-  acts : Acts low e atom
-  binder : ℕ
-  type : Ty
-  body : Proc
-  form : layer atom.proc ≡ ProcForm-F.New binder type body
-  new : Name
-  made_one : e.made ≡ made.One new
-  is_new : set.contains low.born new ≡ false
-  is : next ≡ effect low e (record still { atoms = put e.actor (goes_under atom body (map.insert atom.env binder (value.Chan new))) ∷ [] })
-
-naming : (low : Config) (e : Event) (next : Config) → row kind.New low e ≡ Some next → IsNaming low e next
-unfolding act
-naming low e next h =
-    let r = row-step low e next kind.New h in
-    then (acting low e) _ r.gives λ a acts h. parts kind.New (sight low.sites (inside low) e.site) e a h λ p form h.
-    then (one_made e.made) _ h λ m one h. then (no_other e.other) _ h λ w other h.
-    record {
-      atom = a;
-      acts = acting-step low e a acts;
-      binder = p.0;
-      type = p.1;
-      body = p.2;
-      form = form;
-      new = m;
-      made_one = is-one e.made m one;
-      is_new = not_one (set.contains low.born m) (sym (one-new low.born e.made m one) ∙ r.new);
-      is = r.is ∙ ap (effect low e) (done h);
-    }
-  where
-    not_one : (t : Bool) → not t ≡ true → t ≡ false
-    not_one true h = absurd cc
-    not_one false h = refl
+use Rattle.np_levels.proofs.Naming.{IsNaming, naming}
 
 new_parts : (x y : ℕ) (t u : Ty) (p q : Proc) → ◌≡◌ {A = Layer} (ProcForm-F.New x t p) (ProcForm-F.New y u q) → (p ≡ q) × (x ≡ y)
 new_parts x y t u p q same = (cc, cc)

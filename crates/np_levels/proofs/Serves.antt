@@ -8,28 +8,25 @@ use Rattle.np_syntax.specs.declared.value.Name.{Name}
 use Rattle.np_syntax.specs.declared.value.Value.{Value}
 use Rattle.np_syntax.specs.declared.value.Value as value
 use Rattle.np_syntax.specs.declared.value.Value.TheVariants as outs
-use Rattle.np_syntax.specs.declared.expression.Expr.{Expr}
-use Rattle.np_syntax.specs.declared.pattern.Pat.{Pat}
 use Rattle.np_syntax.specs.declared.process.Proc.{Proc}
 use Rattle.np_syntax.specs.declared.process.Role.TheVariants as role
 use Rattle.np_syntax.specs.declared.process.ProcForm.{ProcForm-F}
 use Rattle.np_syntax.specs.declared.process.ProcForm.TheVariants as forms
 use Rattle.np_syntax.specs.declared.event.Event.{Event}
 use Rattle.np_syntax.specs.declared.event.Kind.TheVariants as kind
-use Rattle.np_syntax.specs.declared.event.Made.TheVariants as made
 use Rattle.np_syntax.proofs.Options.{then, done}
 use Rattle.np_tables.specs.Names.{same_name}
 use Rattle.np_tables.proofs.Tables.{same_name-is}
 use Rattle.np_calculus.specs.declared.config.Atom.{Atom}
 use Rattle.np_calculus.specs.Begins.{begun_by}
-use Rattle.np_calculus.specs.Changes.{effect, put, still}
+use Rattle.np_calculus.specs.Changes.{put, still, Change}
 use Rattle.np_calculus.specs.Config.{Config}
 use Rattle.np_calculus.specs.Reductions.{apply, goes_under, row}
 use Rattle.np_calculus.specs.Seen.{acting}
 use Rattle.np_calculus.specs.Sight.{inside, sight}
 unfoldable use Rattle.np_calculus.proofs.Common.{act}
 use Rattle.np_calculus.proofs.Rows.{parts}
-use Rattle.np_calculus.proofs.Steps.{Acts, Offers, acting-step, offered-step, row-step, same-offer}
+use Rattle.np_calculus.proofs.Steps.{row-step}
 use Rattle.np_eval.specs.Eval.{Env, bind, chan_of, eval}
 use Rattle.np_eval.specs.Forms.{layer}
 use Rattle.np_syntax.specs.declared.expression.ExprForm as expr
@@ -51,7 +48,6 @@ use Rattle.np_things.specs.Shapes.{Are, Is, IsLetters, IsServing, IsAgents}
 use Rattle.np_things.specs.Things.{Stage, Thing, high_atom, shows}
 use Rattle.np_things.specs.CacheShapes.{IsKeeping, changes}
 use Rattle.np_levels.specs.Coupled.{Coupled, View, scene, chips}
-use Rattle.np_levels.proofs.Applies.{takes}
 use Rattle.np_levels.proofs.Becomes.{becomes, cancel}
 use Rattle.np_levels.proofs.Marks.{same_chips, step_at}
 use Rattle.np_levels.proofs.Outputs.{by_number, given_by, is-own, number-of}
@@ -59,51 +55,21 @@ use Rattle.np_levels.proofs.Shapes.{of_actor, of_atom, same_role}
 use Rattle.np_levels.proofs.Values.{agent-is, bind-one, bind-two, channel-is, here_is, named_kept, pair-is, there_is, variable-is}
 use Rattle.np_levels.proofs.Caches.{handed_on}
 use Rattle.np_levels.specs.Letters.{SameLetters}
+use Rattle.np_levels.proofs.Takings.{IsTaking, taking}
 
 -- what a server's event does
-pub record IsRepeating (low : Config) (e : Event) (next : Config) : Type 0 where
-  pub atom : Atom
-  pub acts : Acts low e atom
-  pub on : Expr
-  pub pattern : Pat
-  pub body : Proc
-  pub form : layer atom.proc ≡ ProcForm-F.Rep on pattern body
-  pub chan : Name
-  pub its_chan : chan_of on atom.env ≡ Some chan
-  pub other : Name
-  pub its_other : e.other ≡ Some other
-  pub value : Value
-  pub offers : Offers low other atom.agent chan value
-  pub env : Env
-  pub binds : bind pattern value atom.env ≡ Some env
-  pub made_none : e.made ≡ made.Nothing
-  pub is : next ≡ effect low e (record still { atoms = put other (goes_under atom body env) ∷ [] })
+abbrev pub serves_by : Name → Atom → Change
+serves_by o a = record still { atoms = put o a ∷ [] }
+
+abbrev pub IsRepeating : Config → Event → Config → Type 0
+IsRepeating low e next = IsTaking ProcForm-F.Rep serves_by low e next
 
 pub repeating : (low : Config) (e : Event) (next : Config) → row kind.Rep low e ≡ Some next → IsRepeating low e next
 unfolding act
 repeating low e next h =
     let r = row-step low e next kind.Rep h in
     then (acting low e) _ r.gives λ a acts h. parts kind.Rep (sight low.sites (inside low) e.site) e a h λ p form h.
-    takes (sight low.sites (inside low) e.site) e a p.0 p.1
-    (λ o env. record still { atoms = put o (goes_under a p.2 env) ∷ [] }) h λ n o v env on other offer binds none last.
-    record {
-      atom = a;
-      acts = acting-step low e a acts;
-      on = p.0;
-      pattern = p.1;
-      body = p.2;
-      form = form;
-      chan = n;
-      its_chan = on;
-      other = o;
-      its_other = other;
-      value = v;
-      offers = offered-step low o a.agent n v (sym (same-offer low e a o n acts) ∙ offer);
-      env = env;
-      binds = binds;
-      made_none = none;
-      is = r.is ∙ ap (effect low e) last;
-    }
+    taking ProcForm-F.Rep serves_by low e next _ r.is a acts p.0 p.1 p.2 form h
 
 -- ---- the daemon serves
 
@@ -175,7 +141,7 @@ module _ {i : Infrastructure} {n from first : ℕ} {low high : Config} {v : View
         no_packet = o.no_packet;
         there = there ∙ ap (λ t. Some (t ∷ [])) thing;
         headed = All-nil (λ u. high_atom u ≡ None);
-        are = Are.one (record { agent = i.agent; service = k; took = took n first k m s.value s.atom.env s.env number (s.offers.is ∙ content) (ap (λ p. bind p s.value s.atom.env) (sym pattern) ∙ s.binds); is = body });
+        are = Are.one (record { agent = i.agent; service = k; took = took n first k m s.what s.atom.env s.env number (s.offers.is ∙ content) (ap (λ p. bind p s.what s.atom.env) (sym pattern) ∙ s.binds); is = body });
         atoms = refl;
         packets = refl;
         protocol = λ step. same_chips step c.protocol;
@@ -256,9 +222,9 @@ module _ {i : Infrastructure} {n from first : ℕ} {low high : Config} {v : View
       (sym (same_name-is s.chan s.offers.sent.0 s.offers.agree) ∙ chan) g.gift λ m thing number content for.
       letter_mail m number λ p t mail.
       let agent : s.atom.agent ≡ p.agent = same_name-is s.atom.agent s.offers.mate.agent s.offers.together ∙ for ∙ ap (receiver n) mail in
-      let what : s.value ≡ value.Tuple (value.Letter p.chan p.value ∷ value.Site t ∷ []) = s.offers.is ∙ content ∙ ap content_of mail in
+      let what : s.what ≡ value.Tuple (value.Letter p.chan p.value ∷ value.Site t ∷ []) = s.offers.is ∙ content ∙ ap content_of mail in
       let env : s.env ≡ map.insert (map.insert s.atom.env i.letter (value.Letter p.chan p.value)) i.place (value.Site t) =
-      done (sym (ap (λ q. bind q s.value s.atom.env) pattern ∙ ap (λ u. bind (two_names i.letter i.place) u s.atom.env) what ∙ bind-two i.letter i.place (value.Letter p.chan p.value) (value.Site t) s.atom.env) ∙ s.binds) in
+      done (sym (ap (λ q. bind q s.what s.atom.env) pattern ∙ ap (λ u. bind (two_names i.letter i.place) u s.atom.env) what ∙ bind-two i.letter i.place (value.Letter p.chan p.value) (value.Site t) s.atom.env) ∙ s.binds) in
       let letter_is : map.get s.env i.letter ≡ Some (value.Letter p.chan p.value) =
       ap (λ (e : Env). map.get e i.letter) env ∙ there_is (map.insert s.atom.env i.letter (value.Letter p.chan p.value)) i.place i.letter (value.Site t) i.distinct ∙ here_is s.atom.env i.letter (value.Letter p.chan p.value) in
       let place_is : map.get s.env i.place ≡ Some (value.Site t) = ap (λ (e : Env). map.get e i.place) env ∙ here_is (map.insert s.atom.env i.letter (value.Letter p.chan p.value)) i.place (value.Site t) in
@@ -326,9 +292,9 @@ module _ {i : Infrastructure} {n from first : ℕ} {low high : Config} {v : View
       (λ e. let bad : ⊥ = omega arith in bad) (no_lock_at c s.other 16 g.thing refl (λ e. let bad : ⊥ = omega arith in bad) there)
       (sym (same_name-is s.chan s.offers.sent.0 s.offers.agree) ∙ chan) g.gift λ m thing number content for.
       answer_mail m number λ a u b t mail.
-      let what : s.value ≡ value.Tuple (value.Agent b ∷ value.Site t ∷ []) = s.offers.is ∙ content ∙ ap content_of mail in
+      let what : s.what ≡ value.Tuple (value.Agent b ∷ value.Site t ∷ []) = s.offers.is ∙ content ∙ ap content_of mail in
       let env : s.env ≡ map.insert (map.insert s.atom.env j.x (value.Agent b)) (j.x + 1) (value.Site t) =
-      done (sym (ap (λ q. bind q s.value s.atom.env) pattern ∙ ap (λ u. bind (two_names j.x (j.x + 1)) u s.atom.env) what ∙ bind-two j.x (j.x + 1) (value.Agent b) (value.Site t) s.atom.env) ∙ s.binds) in
+      done (sym (ap (λ q. bind q s.what s.atom.env) pattern ∙ ap (λ u. bind (two_names j.x (j.x + 1)) u s.atom.env) what ∙ bind-two j.x (j.x + 1) (value.Agent b) (value.Site t) s.atom.env) ∙ s.binds) in
       becomes c next e s.other (goes_under s.atom s.body s.env) (Thing.mail (Mail.found a u b t) Stage.there ∷ []) (Thing.told x ∷ []) refl (record {
         applies = h;
         is = s.is;

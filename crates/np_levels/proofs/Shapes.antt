@@ -21,9 +21,7 @@ use Rattle.np_things.specs.Shapes.{Are, Is, IsUnderWay}
 use Rattle.np_things.specs.Things.{IsHeaded, Thing}
 use Rattle.np_things.proofs.Acting.{begins-by-thing}
 use Rattle.np_levels.specs.Coupled.{Coupled, IsShaped, View}
-
-no_value : {A : Type 0} {x : A} → None ≡ Some x → ⊥
-no_value e = cc
+use Rattle.np_levels.proofs.Values.{no_value}
 
 -- tags that are alike have one role
 pub same_role : (a b : Tag) → same_tag a b ≡ true → a.role ≡ b.role
@@ -48,9 +46,9 @@ module _ {i : Infrastructure} {n from first : ℕ} {low high : Config} {v : View
   of_atom m a h = go (c.shaped m)
     where
       go : IsShaped i n from first low v.things m → OfAtom m a
-      go (IsShaped.nothing x y z) = absurd (no_value (sym x ∙ h))
+      go (IsShaped.nothing x y z) = no_value (sym x ∙ h)
       go (IsShaped.atom {ts = ts} x y z u r) = record { things = ts; no_packet = y; there = z; headed = u; are = subst (λ b. Are i n from first b ts) (sym (done (sym x ∙ h))) r }
-      go (IsShaped.packet x y z r) = absurd (no_value (sym x ∙ h))
+      go (IsShaped.packet x y z r) = no_value (sym x ∙ h)
 
   -- the thing of a packet that flies
   pub record OfPacket (m : Name) (k : Packet) : Type 0 where
@@ -63,8 +61,8 @@ module _ {i : Infrastructure} {n from first : ℕ} {low high : Config} {v : View
   of_packet m k h = go (c.shaped m)
     where
       go : IsShaped i n from first low v.things m → OfPacket m k
-      go (IsShaped.nothing x y z) = absurd (no_value (sym y ∙ h))
-      go (IsShaped.atom x y z u r) = absurd (no_value (sym y ∙ h))
+      go (IsShaped.nothing x y z) = no_value (sym y ∙ h)
+      go (IsShaped.atom x y z u r) = no_value (sym y ∙ h)
       go (IsShaped.packet {t = t} x y z r) = record { thing = t; no_atom = x; there = z; is = subst (IsUnderWay n t) (sym (done (sym y ∙ h))) r }
 
   -- the one thing of an atom that begins an event of a kind, but for brackets

@@ -1,6 +1,6 @@
 -- What a thing is at the high level goes on as another thing under a new mark, which stands from then on for what its mark stands for; and what it did
 -- under that is ended.
-use Rattle.std.proofs.Common.{◌≡◌, inl, inr, ℕ, Bool, true, false, cond, Option, None, Some, IsSome, List, [], ◌∷◌, refl, sym, ap, subst, ◌∙◌, ◌++◌}
+use Rattle.std.proofs.Common.{◌≡◌, inl, inr, ℕ, Bool, true, false, cond, Option, None, Some, List, [], ◌∷◌, refl, sym, ap, subst, ◌∙◌, ◌++◌}
 use Rattle.std.specs.List.{All, list_any}
 use Rattle.std.proofs.lemmas.List.Elements.{All-from_recursion, All-nil, All-weaker}
 use Rattle.std.specs.FinMap as map
@@ -27,6 +27,8 @@ use Rattle.np_levels.proofs.Keeping.{only_at, step_new}
 use Rattle.np_levels.proofs.Marks.{may_know_more, reshape}
 use Rattle.np_levels.proofs.Quiet.{knows_more, things_born}
 use Rattle.np_levels.proofs.Together.{high_by_atom, true_or_false}
+use Rattle.np_levels.proofs.Values.{no_value}
+use Rattle.np_calculus.proofs.Fits.{some}
 
 module _ {i : Infrastructure} {n from first : ℕ} {low high : Config} {v : View} (c : Coupled i n from first low high v) (e : Event) (next then_high : Config) (m : Name) (standing : Standing)
     (old_thing new_thing : Thing) (low_rest low_child : Atom) where
@@ -85,9 +87,6 @@ module _ {i : Infrastructure} {n from first : ℕ} {low high : Config} {v : View
     was_high_thing : is_high (old_thing ∷ []) ≡ true
     was_high_thing = high_by_atom (old_thing ∷ []) s.old_atom s.was
 
-    some_of : {A : Type 0} (o : Option A) (y : A) → o ≡ Some y → IsSome o
-    some_of o y j = rw j refl
-
     other : same_name m e.actor ≡ false
     other = not_true _ (λ t. let bad : false ≡ true = sym s.new ∙ ap (set.contains low.born) (same_name-is m e.actor t) ∙ things_born c e.actor (old_thing ∷ []) s.there in cc)
 
@@ -97,7 +96,7 @@ module _ {i : Infrastructure} {n from first : ℕ} {low high : Config} {v : View
 
     no_new_packet : (o : Option Packet) → map.get low.packets m ≡ o → o ≡ None
     no_new_packet None j = refl
-    no_new_packet (Some k) j = absurd (let bad : false ≡ true = sym s.new ∙ c.stand_born.marks m (inr (some_of _ k j)) in cc)
+    no_new_packet (Some k) j = absurd (let bad : false ≡ true = sym s.new ∙ c.stand_born.marks m (inr (some _ k j)) in cc)
 
     absent : map.get half m ≡ None
     absent = get-put v.things e.actor us m ∙ ap (λ z. cond z (Some us) (map.get v.things m)) other ∙ no_things (map.get v.things m) refl
@@ -134,9 +133,6 @@ module _ {i : Infrastructure} {n from first : ℕ} {low high : Config} {v : View
     far q y j f = not_true _ (λ t.
         let same = only_at c first_atom_of high_by_atom e.actor (inl (old_thing ∷ [], s.there, was_high_thing)) q y j (same_name-is _ _ t) in
         let bad : false ≡ true = sym f ∙ ap (λ z. same_name z e.actor) same ∙ same_name-itself e.actor in cc)
-
-    no_value : {A B : Type 0} {y : A} → None ≡ Some y → B
-    no_value j = absurd cc
 
     up : (q : Name) (y : Atom) (t u : Bool) → same_name q m ≡ t → same_name q e.actor ≡ u → (map.get things q >>= first_atom_of) ≡ Some y → map.get then_high.atoms (stands_for standing q) ≡ Some y
     up q y true u f g j =

@@ -59,9 +59,8 @@ use Rattle.np_levels.proofs.Starts.{any_order}
 use Rattle.np_levels.proofs.Together.{IsOldOrNew, knows_wider, more_channels, one_mark, together, true_or_false, high_by_atom, high_by_packet}
 use Rattle.np_levels.proofs.Writes.{IsOnly, get-rewritten, mirror_at, mirrors_write, rewritten_here, rewritten_there, uncut}
 use Rattle.np_levels.proofs.Caches.{AllCarry, by_step, carry_cut, carry_put, no_carrier, reordered}
-
-no_value : {A B : Type 0} {x : A} → None ≡ Some x → B
-no_value e = absurd cc
+use Rattle.np_levels.proofs.Values.{no_value}
+use Rattle.np_calculus.proofs.Fits.{some}
 
 -- a thing that shows no chips and carries no letter
 abbrev pub IsSilent : Thing → Type 0
@@ -327,16 +326,13 @@ module _ {i : Infrastructure} {n from first : ℕ} {low high : Config} {v : View
     high_new = high_new (true_or_false (set.contains high.born m));
   }
     where
-      is_some_of : {A : Type 0} (o : Option A) (x : A) → o ≡ Some x → IsSome o
-      is_some_of o x i = rw i refl
-
       no_things : (o : Option (List Thing)) → map.get v.things m ≡ o → o ≡ None
       no_things None i = refl
       no_things (Some ts) i = absurd (let bad : false ≡ true = sym f ∙ things_born c m ts i in cc)
 
       no_packet : (o : Option Packet) → map.get low.packets m ≡ o → o ≡ None
       no_packet None i = refl
-      no_packet (Some k) i = absurd (let bad : false ≡ true = sym f ∙ c.stand_born.marks m (inr (is_some_of (map.get low.packets m) k i)) in cc)
+      no_packet (Some k) i = absurd (let bad : false ≡ true = sym f ∙ c.stand_born.marks m (inr (some (map.get low.packets m) k i)) in cc)
 
       high_new : (set.contains high.born m ≡ true) ⊎ (set.contains high.born m ≡ false) → set.contains high.born m ≡ false
       high_new (inl t) = absurd (let bad : false ≡ true = sym f ∙ c.born m t in cc)

@@ -52,6 +52,7 @@ use Rattle.np_levels.specs.Laws.{StartsCoupled}
 use Rattle.np_levels.specs.Letters.{first_letter_of}
 use Rattle.np_levels.proofs.Orders.{Reordered, and_then, behind, entries_new, flat, past, permuted, kept}
 use Rattle.np_levels.proofs.Caches.{low_grows, reordered}
+use Rattle.np_levels.proofs.Values.{no_value}
 
 -- the protocol does not see the order of chips
 pub any_order : (w : Scene) (phase : Name → Phase) (xs ys : List Chip) → IsPermutation ys xs → Protocol w phase xs → (then : Name → Phase) × Protocol w then ys
@@ -64,9 +65,6 @@ no_entries {X} = none (map.entries (map.empty {X = X} {R = name_cmp})) (sym (len
     none : {A : Type 0} (xs : List A) → length xs ≡ 0 → xs ≡ []
     none [] e = refl
     none (x ∷ xs) e = absurd (omega arith)
-
-no_value : {A : Type 0} {x : A} → None ≡ Some x → ⊥
-no_value e = cc
 
 -- ---- what there is with caches alone
 
@@ -191,7 +189,7 @@ module _ {structure : Infrastructure} (p : Program) (q : LowProgram) (low : IsLo
     where
       second : ((m ≡ main_mark n) × (ts ≡ main_things structure n p.at p.main)) ⊎ (map.get (map.empty {X = List Thing} {R = name_cmp}) m ≡ Some ts) → ThingsAtStart m ts
       second (inl e) = ThingsAtStart.of_main e.0 e.1
-      second (inr h) = absurd (no_value (sym (get-none m) ∙ h))
+      second (inr h) = no_value (sym (get-none m) ∙ h)
 
       first : ((m ≡ daemon_mark n) × (ts ≡ daemon_things structure n p.at)) ⊎ (map.get (map.insert (map.empty {X = List Thing} {R = name_cmp}) (main_mark n) (main_things structure n p.at p.main)) m ≡ Some ts) → ThingsAtStart m ts
       first (inl e) = ThingsAtStart.of_daemon e.0 e.1
@@ -242,19 +240,19 @@ module _ {structure : Infrastructure} (p : Program) (q : LowProgram) (low : IsLo
       go false false e f = IsShaped.nothing (neither (first_atom main q.main) (first_atom daemon q.daemon) m e f) (get-none m) (neither (main_things structure n p.at p.main) (daemon_things structure n p.at) m e f)
 
   up : (m : Name) (o : Option (List Thing)) (x : Atom) → map.get things m ≡ o → (o >>= first_atom_of) ≡ Some x → map.get high_start.atoms m ≡ Some x
-  up m None x e h = absurd (no_value h)
+  up m None x e h = no_value h
   up m (Some ts) x e h = go (its-things m ts e)
     where
       go : ThingsAtStart m ts → map.get high_start.atoms m ≡ Some x
       go (ThingsAtStart.of_main e f) = ap (map.get high_start.atoms) e ∙ put_here (map.empty {X = Atom} {R = name_cmp}) (main_mark n) (first_atom main p.main) ∙ ap first_atom_of (sym f) ∙ h
-      go (ThingsAtStart.of_daemon e f) = absurd (no_value (ap first_atom_of (sym f) ∙ h))
+      go (ThingsAtStart.of_daemon e f) = no_value (ap first_atom_of (sym f) ∙ h)
 
   down : (k : Name) (x : Atom) → map.get high_start.atoms k ≡ Some x → (m : Name) × (m ≡ k) × ((map.get things m >>= first_atom_of) ≡ Some x)
   down k x h = go (put_cases (map.empty {X = Atom} {R = name_cmp}) (main_mark n) (first_atom main p.main) k x h)
     where
       go : ((k ≡ main_mark n) × (x ≡ first_atom main p.main)) ⊎ (map.get (map.empty {X = Atom} {R = name_cmp}) k ≡ Some x) → (m : Name) × (m ≡ k) × ((map.get things m >>= first_atom_of) ≡ Some x)
       go (inl e) = (k, refl, ap (λ m. map.get things m >>= first_atom_of) e.0 ∙ ap (λ o. o >>= first_atom_of) (at-main (main_things structure n p.at p.main) (daemon_things structure n p.at)) ∙ ap Some (sym e.1))
-      go (inr h) = absurd (no_value (sym (get-none k) ∙ h))
+      go (inr h) = no_value (sym (get-none k) ∙ h)
 
   no-packet : (m : Name) (o : Option (List Thing)) (k : Packet) → map.get things m ≡ o → (o >>= first_packet_of) ≡ Some k → ⊥
   no-packet m None k e h = no_value h
@@ -275,7 +273,7 @@ module _ {structure : Infrastructure} (p : Program) (q : LowProgram) (low : IsLo
   is-known : (m : Name) (ts : List Thing) → ThingsAtStart m ts → All (λ t. KnowsOnly (may_know (first_locks main here) (chips things) t) (is_channel n high_start.born) p.binders t) ts
   is-known m ts (ThingsAtStart.of_main e f) = subst (All (λ t. KnowsOnly (may_know (first_locks main here) (chips things) t) (is_channel n high_start.born) p.binders t)) (sym f)
       (All-from_recursion (λ t. KnowsOnly (may_know (first_locks main here) (chips things) t) (is_channel n high_start.born) p.binders t) (main_things structure n p.at p.main) (
-        record { each = λ x v b h. absurd (no_value (sym (get-empty nat_cmp x) ∙ h)) },
+        record { each = λ x v b h. no_value (sym (get-empty nat_cmp x) ∙ h) },
         (tt, (tt, cache_holds structure main (λ t. KnowsOnly (may_know (first_locks main here) (chips things) t) (is_channel n high_start.born) p.binders t) tt tt)),
       ))
   is-known m ts (ThingsAtStart.of_daemon e f) = subst (All (λ t. KnowsOnly (may_know (first_locks main here) (chips things) t) (is_channel n high_start.born) p.binders t)) (sym f)
@@ -337,7 +335,7 @@ module _ {structure : Infrastructure} (p : Program) (q : LowProgram) (low : IsLo
       up = λ m x h. ap (map.get high_start.atoms) (stands-itself m) ∙ up m (map.get things m) x refl h;
       down = λ k x h. let d = down k x h in (d.0, stands-itself d.0 ∙ d.1, d.2);
     };
-    mirrored_packets = record { up = λ m k h. absurd (no-packet m (map.get things m) k refl h); down = λ m k h. absurd (no_value (sym (get-none m) ∙ h)) };
+    mirrored_packets = record { up = λ m k h. absurd (no-packet m (map.get things m) k refl h); down = λ m k h. no_value (sym (get-none m) ∙ h) };
     new_marks = λ m h. stands-itself m;
     old_marks = λ m h. ap (set.contains low_start.born) (stands-itself m) ∙ h;
     distinct = λ m k ts us h i t u e. sym (stands-itself m) ∙ e ∙ stands-itself k;
@@ -358,7 +356,7 @@ module _ {structure : Infrastructure} (p : Program) (q : LowProgram) (low : IsLo
       its-mark : (m : Name) → IsShaped structure n p.binders low.first low_start things m → IsMark (inside low_start) m → set.contains (own_names n) m ≡ true
       its-mark m (IsShaped.nothing a k t) (inl h) = absurd (let none = subst IsSome a h in cc)
       its-mark m (IsShaped.nothing a k t) (inr h) = absurd (let none = subst IsSome k h in cc)
-      its-mark m (IsShaped.packet a k t u) h = absurd (no_value (sym (get-none m) ∙ k))
+      its-mark m (IsShaped.packet a k t u) h = no_value (sym (get-none m) ∙ k)
       its-mark m (IsShaped.atom {ts = ts} a k t u r) h = go (its-things m ts t)
         where
           go : ThingsAtStart m ts → set.contains (own_names n) m ≡ true

@@ -222,7 +222,7 @@ communications-are-events {i = i} n from first low high v c well lodged e next i
 
 module _ {i : Infrastructure} {n from first : ℕ} {low high : Config} {v : View} (c : Coupled i n from first low high v) (e : Event) (next : Config) (is : e.kind ≡ kind.Rep)
     (h : apply low e ≡ Some next) (s : IsRepeating low e next) (o : Actor c e s.atom) (p : Proc) (form : layer o.atom.proc ≡ ProcForm-F.Rep s.on s.pattern p)
-    (translates : Translates i n from o.named p s.body) (t : Taken c e o s.on s.pattern s.chan s.other s.value s.env s.its_chan s.offers s.binds p) where
+    (translates : Translates i n from o.named p s.body) (t : Taken c e o s.on s.pattern s.chan s.other s.what s.env s.its_chan s.offers s.binds p) where
   copies_both : IsSame c e next
   copies_both =
       let r = put_atom c e (stands c e) s.other (Free.old {ts = t.given.thing ∷ []} t.given.there (ap (λ l. l ++ []) t.given.silent.0)
@@ -233,7 +233,7 @@ module _ {i : Infrastructure} {n from first : ℕ} {low high : Config} {v : View
       let w = leave c e r next low.said high.said h s.is c.said in (
         effect high (event_of v e) (record still { atoms = put (stands_for v.standing s.other) (goes_under o.atom p t.bound.env) ∷ [] }),
         ap (λ k. row k high (event_of v e)) is
-            ∙ rep_applies high (event_of v e) o.atom o.acts s.on s.pattern p s.chan (stands_for v.standing s.other) s.value t.bound.env t.on_high
+            ∙ rep_applies high (event_of v e) o.atom o.acts s.on s.pattern p s.chan (stands_for v.standing s.other) s.what t.bound.env t.on_high
             (ap (option_map (stands_for v.standing)) s.its_other) t.given.offers t.binds_high s.made_none form,
         w.0,
         w.1,
@@ -247,4 +247,4 @@ copies-are-events {i = i} n from first low high v c well lodged e next is plain 
     let o = actor c e lodged s.atom kind.Rep s.acts plain (ap begun_by s.form) (λ e. cc) (λ e. cc) in
     let f = subst (λ l. IsFormOf i n from o.named l (layer o.atom.proc)) s.form o.form in
     let its = parts_of c e o (ProcForm-F.Rep s.on s.pattern f.0) f.1 in
-    copies_both c e next is h s o f.0 f.1 f.2 (taken c e o s.on s.pattern s.chan s.other s.value s.env s.its_chan s.offers s.binds f.0 its.0 its.1)
+    copies_both c e next is h s o f.0 f.1 f.2 (taken c e o s.on s.pattern s.chan s.other s.what s.env s.its_chan s.offers s.binds f.0 its.0 its.1)

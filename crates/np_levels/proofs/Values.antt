@@ -1,5 +1,5 @@
 -- Values of the infrastructure's expressions, and what its patterns bind.
-use Rattle.std.proofs.Common.{◌≡◌, ◌≤◌, ℕ, cond, Some, [], ◌∷◌, refl, sym, ap, ◌∙◌, arith, List}
+use Rattle.std.proofs.Common.{◌≡◌, ◌≤◌, ℕ, cond, Some, [], ◌∷◌, refl, sym, ap, ◌∙◌, arith, List, None}
 use Rattle.std.specs.FinMap as map
 use Rattle.std.specs.FinMap.{nat_cmp-IsAntisymmetric}
 use Rattle.std.specs.Cmp.{nat_cmp_total, tied_itself}
@@ -27,6 +27,9 @@ use Rattle.infrastructure_texts.specs.Texts.{letter}
 use Rattle.np_source_values.specs.Sources.{Names}
 use Rattle.np_things.proofs.Starts.{constant-is}
 use Rattle.np_things.specs.Shapes.{StandsFor}
+
+pub no_value : {A B : Type 0} {x : A} → None ≡ Some x → B
+no_value e = absurd cc
 
 pub variable-is : (x : ℕ) (env : Env) → eval (variable x) env ≡ map.get env x
 variable-is x env = eval-form (variable x) env ∙ eval-var x env

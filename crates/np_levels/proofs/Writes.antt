@@ -6,9 +6,7 @@ use Rattle.np_tables.specs.Names.{NameMap, same_name}
 use Rattle.np_tables.proofs.Tables.{cut_absent, get-cut, get-put, same_name-is, same_name-itself}
 use Rattle.np_calculus.specs.Changes.{rewritten}
 use Rattle.np_levels.specs.Mirrors.{Mirrors}
-
-no_value : {A : Type 0} {x : A} → None ≡ Some x → ⊥
-no_value e = cc
+use Rattle.np_levels.proofs.Values.{no_value}
 
 module _ {X : Type 0} where
   pub get-rewritten : (t : NameMap X) (m : Name) (o : Option X) (q : Name) → map.get (rewritten t m o) q ≡ cond (same_name q m) o (map.get t q)
