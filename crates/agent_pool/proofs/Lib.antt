@@ -1,3 +1,4 @@
+pub mod Acting
 pub mod Beginnings
 pub mod Calms
 pub mod Deciding
@@ -9,6 +10,7 @@ pub mod Missing
 pub mod Naming
 pub mod Offers
 pub mod Outputs
+pub mod Rows
 pub mod Same
 pub mod Settling
 pub mod Showing

@@ -1,54 +1,30 @@
 -- A row that is met has an acting atom of its kind's form.
-use Rattle.std.proofs.Common.{◌≡◌, ℕ, Bool, true, false, List, Option, None, Some, IsSome, refl, ap, subst, ◌∙◌}
-use Rattle.std.specs.Prelude.{option_map}
-use Rattle.std.specs.FinMap as map
+use Rattle.std.proofs.Common.{◌≡◌, ℕ, Bool, List, None, IsSome, refl, ap, ◌∙◌}
 use Rattle.np_syntax.specs.declared.types.Ty.{Ty}
-use Rattle.np_calculus.proofs.Common.{Expr, Pat, Proc, Event, Kind, ◌>>=◌, ◌>>◌, need, layer, Sight, same_tag, act}
+use Rattle.np_syntax.specs.declared.event.Made.{Made}
+use Rattle.np_syntax.proofs.Options.{none_there}
+use Rattle.np_calculus.proofs.Common.{Expr, Pat, Proc, Kind, ◌>>=◌, act}
 use Rattle.np_eval.specs.Eval.{Env}
 use Rattle.np_eval.specs.FormParts.{as_par, as_new, as_inp, as_rep, as_agent_form, as_migrate, as_iflocal, as_send, as_if, as_let, as_print, as_open, as_lookup}
-use Rattle.np_calculus.specs.declared.config.Atom.{Atom}
 use Rattle.np_calculus.proofs.Rows.{asked, by}
-use Rattle.np_tables.proofs.Mapped.{get-mapped}
 use Rattle.np_code.specs.declared.node.Node.{Node}
 use Rattle.np_code.specs.declared.node.NodeForm.{NodeForm}
 use Rattle.np_code.specs.declared.node.NodeForm.TheVariants as node
 use Rattle.np_code.specs.Programs.{ProgramTable}
 use Rattle.np_code.specs.Trees.{layer_of}
-use Rattle.agent_index.specs.Shelves.{Kept, value_of}
-use Rattle.agent_pool.specs.declared.held.Held.{Held}
-use Rattle.agent_pool.specs.Held.{proc_of, IsNode}
-use Rattle.agent_pool.specs.Pools.{Pool, seen_as}
-use Rattle.agent_pool.specs.Rows.{own_sight, change_in}
+use Rattle.agent_pool.specs.declared.ready.Ready.{Ready}
+use Rattle.agent_pool.specs.Pools.{Pool}
+use Rattle.agent_pool.specs.Rows.{own_sight, event_of, change_in, ActsAs}
+use Rattle.agent_pool.proofs.Acting.{acted, row-met}
 
-none-some : {A : Type 0} (o : Option A) → o ≡ None → IsSome o → ⊥
-none-some None e h = cc
-none-some (Some a) e h = absurd (let x = e in cc)
-
-same-held : (h g : Held) → Some h ≡ Some g → h ≡ g
-same-held h g e = cc
-
-module _ (k : Kind) (code : ProgramTable) (p : Pool) (here : Bool) (e : Event) (h : Held) (n : Node) (env : Env) where
-  abbrev w : Sight
-  w = own_sight code p here
-
-  no_act : (a : Atom) → (asked k).parts (layer a.proc) ≡ None → act k (layer a.proc) w e a ≡ None
-  no_act a none = by k (layer a.proc) w e a ∙ ap (λ o. o >>= λ q. act k ((asked k).form q) w e a) none
-
-  tested : (t : Bool) (a : Atom) → (asked k).parts (layer a.proc) ≡ None → ((need t >> Some a) >>= λ b. act k (layer b.proc) w e b) ≡ None
-  tested true a none = no_act a none
-  tested false a none = refl
-
-  no_change : (o : Option (Kept Held)) → Some h ≡ value_of o → (asked k).parts (layer (proc_of code.processes h)) ≡ None
-      → ((option_map (seen_as code.processes p.name) o >>= λ a. need (same_tag a.proc.tag e.tag) >> Some a) >>= λ a. act k (layer a.proc) w e a) ≡ None
-  no_change None is none = absurd (let x = is in cc)
-  no_change (Some kept) is none =
-      tested (same_tag (proc_of code.processes kept.1).tag e.tag) (seen_as code.processes p.name kept) (subst (λ g. (asked k).parts (layer (proc_of code.processes g)) ≡ None) (same-held h kept.1 is) none)
-
-  pub no-row : Some h ≡ value_of (map.get p.atoms e.actor) → IsNode code.processes h n env → (asked k).parts (layer_of code.processes n.form) ≡ None → IsSome (change_in k w e) → ⊥
-  no-row gets is none met =
-      none-some (change_in k w e)
-      (ap (λ o. (o >>= λ a. need (same_tag a.proc.tag e.tag) >> Some a) >>= λ a. act k (layer a.proc) w e a) (get-mapped (seen_as code.processes p.name) p.atoms e.actor)
-      ∙ no_change (map.get p.atoms e.actor) gets (ap (asked k).parts is.layer ∙ none)) met
+-- an acting atom of another form
+pub no-form : {code : ProgramTable} {p : Pool} {r : Ready} {n : Node} {env : Env} (acts : ActsAs code p r n env) (k : Kind) (here : Bool)
+    (made : Made)
+    → (asked k).parts (layer_of code.processes n.form) ≡ None → IsSome (change_in k (own_sight code p here) (event_of 0 r made)) → ⊥
+no-form {code} {p} {r} {n} {env} acts k here made none met =
+    none_there (acted acts k here made n.form 0) (row-met acts k here made n.form refl met)
+    (by k (layer_of code.processes n.form) _ _ _ ∙ ap (λ o. o >>=
+    λ q. act k ((asked k).form q) (own_sight code p here) (event_of 0 r made) (record { agent = p.name; proc = acts.proc; env = env })) none)
 
 pub par-missing : (ts : List Proc) (f : NodeForm) → ((a : ℕ) (b : ℕ) → f ≡ node.Par a b → ⊥) → as_par (layer_of ts f) ≡ None
 par-missing ts (node.Par a b) differs = absurd (differs a b refl)

@@ -1,5 +1,5 @@
 -- What an index tells of whether its agent is idle.
-use Rattle.std.proofs.Common.{◌≡◌, true, false, List, Option, None, Some, refl, sym, ap, subst, ◌∙◌}
+use Rattle.std.proofs.Common.{◌≡◌, false, List, Option, None, Some, refl, sym, ap, subst, ◌∙◌}
 use Rattle.std.specs.FinMap as map
 use Rattle.np_syntax.specs.declared.value.Name.{Name}
 use Rattle.np_syntax.specs.declared.process.Proc.{Proc}
@@ -21,10 +21,6 @@ out-line wait.Acts chan = refl
 out-line wait.Stuck chan = refl
 
 module _ (ts : List Proc) (atoms : NameMap (Kept Held)) where
-  -- an output on the channel
-  pub offered : (mark chan : Name) → is_output (waits_in ts (map.get atoms mark)) chan ≡ true → NoOutputBy ts atoms chan → ⊥
-  offered mark chan is none = let e = sym is ∙ none.each mark in cc
-
   pub nowhere-settled : (q : Name) → map.get atoms q ≡ None → SettledAt ts atoms q
   nowhere-settled q none kept e = absurd (let x = sym none ∙ e in cc)
 

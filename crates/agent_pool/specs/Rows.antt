@@ -1,8 +1,9 @@
 -- The rows of the table of reductions on one agent (docs/LANGUAGE.md, "Reductions").
-use Rattle.std.specs.Prelude.{◌≡◌, ℕ, Bool, false, [], ◌∷◌, length, Option, Some, IsSome}
+use Rattle.std.specs.Prelude.{◌≡◌, ℕ, Bool, false, [], ◌∷◌, length, Option, None, Some, IsSome}
 use Rattle.std.specs.FinMap as map
 use Rattle.np_syntax.specs.declared.value.Name.{Name}
 use Rattle.np_syntax.specs.declared.pattern.Pat.{Pat}
+use Rattle.np_syntax.specs.declared.process.Proc.{Proc}
 use Rattle.np_syntax.specs.declared.event.Event.{Event}
 use Rattle.np_syntax.specs.declared.value.Value.{Value}
 use Rattle.np_syntax.specs.declared.event.Kind.{Kind}
@@ -17,7 +18,9 @@ use Rattle.np_calculus.specs.declared.config.Atom.{Atom}
 use Rattle.np_calculus.specs.Changes.{Change, put, cut, still, written}
 use Rattle.np_calculus.specs.Reductions.{act, acting_in, sends}
 use Rattle.np_calculus.specs.Sight.{Sight}
+use Rattle.np_code.specs.declared.node.Node.{Node}
 use Rattle.np_code.specs.Programs.{ProgramTable}
+use Rattle.np_code.specs.Trees.{layer_of}
 use Rattle.agent_pool.specs.declared.held.Held.{Held}
 use Rattle.agent_pool.specs.declared.ready.Ready.{Ready}
 use Rattle.agent_pool.specs.Held.{atom_of}
@@ -38,6 +41,16 @@ change_in k w e = acting_in w e >>= λ a. act k (layer a.proc) w e a
 -- the row of a kind is met by the event of a ready that makes these names
 abbrev pub IsMet : Kind → ProgramTable → Pool → Ready → Made → Type 0
 IsMet k code p r made = IsSome (change_in k (own_sight code p false) (event_of 0 r made))
+
+-- the acting atom of a ready is this node under this environment
+pub record ActsAs (code : ProgramTable) (p : Pool) (r : Ready) (n : Node) (env : Env) : Type 0 where
+  pub proc : Proc
+  pub there : map.get (atoms_of code.processes p) r.actor ≡ Some (record { agent = p.name; proc = proc; env = env })
+  pub layer : layer proc ≡ layer_of code.processes n.form
+
+-- no row of a ready is met
+pub record NeverActs (code : ProgramTable) (p : Pool) (r : Ready) : Type 0 where
+  pub row : (k : Kind) (here : Bool) (site : ℕ) (made : Made) → change_in k (own_sight code p here) (event_of site r made) ≡ None
 
 -- what an event of the agent leaves: all that it changes but the agent's atoms, and these
 abbrev pub leaves : NameMap Atom → Change → Option (Change × NameMap Atom)

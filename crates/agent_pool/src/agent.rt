@@ -7,15 +7,20 @@ ghost use Rattle.agent_pool.specs.Held.{wait_of};
 ghost use Rattle.agent_pool.specs.Idle.{IsIdle};
 ghost use Rattle.agent_pool.specs.Pools.{Unchanged, IsFiled, atoms_of};
 ghost use Rattle.agent_pool.specs.Readies.{IsReady, NothingReady};
+ghost use Rattle.agent_pool.specs.Rows.{ActsAs, NeverActs, GoesOnAs, Reduces};
+ghost use Rattle.agent_pool.specs.declared.ready.Ready.{Ready};
+ghost use Rattle.np_syntax.specs.declared.event.Kind.{Kind};
+ghost use Rattle.np_syntax.specs.declared.event.Made.{Made};
+ghost use Rattle.np_calculus.specs.Changes.{still};
 ghost use Rattle.agent_pool.specs.Waiting.{NoneWaitsOn, WaitOn};
 
 use super::decide::can_do;
-use super::held::{Held, wait_of};
+use super::held::{Held, node_of, wait_of};
 use super::ready::Ready;
 use super::resting::idle_in;
 use super::search::{likely_in, ready_in};
 use agent_index::{Index, Wait, Waiters};
-use np_code::Code;
+use np_code::{Code, Node};
 use np_eval::Frame;
 use np_syntax::{Memory, Name, Tag, Value};
 use std::alloc::Global;
@@ -58,24 +63,6 @@ impl Agent {
         ensures filed { IfOk result (λ agent. (code : ProgramTable) → wait_of code.processes (held.Node root frame) ≡ wait.Acts → IsFiled code.processes agent.atoms) }
     {
         Agent::with_atom(alloc, name, mark, Held::Node(root, frame), Wait::Acts)
-    }
-
-    /// An agent with one atom, filed by the code.
-    pub fn start(
-        alloc: Global,
-        code: &Code,
-        name: Name,
-        mark: Name,
-        root: u32,
-        frame: Frame,
-    ) -> Result<Agent, Memory>
-        ensures name { IfOk result (λ agent. agent.name ≡ name) }
-        ensures atoms { IfOk result (λ agent. agent.atoms ≡ map.insert map.empty mark (wait_of code.now.processes (held.Node root frame), held.Node root frame)) }
-        ensures filed { IfOk result (λ agent. IsFiled code.now.processes agent.atoms) }
-    {
-        let held = Held::Node(root, frame);
-        let wait = wait_of(code, &held);
-        Agent::with_atom(alloc, name, mark, held, wait)
     }
 
     /// An agent with one atom, filed under what it waits for.
@@ -181,6 +168,16 @@ impl Agent {
         self.atoms.waiting(chan)
     }
 
+    /// The node and the frame of the acting atom, if there is one and it is no output that came from outside.
+    pub(super) fn acting<'a>(&'a self, code: &'a Code, r: Ready) -> Option<(&'a Node, &'a Frame)>
+        ensures { MatchOption result (NeverActs code.now self.now r) (λ found. ActsAs code.now self.now r found.0.now found.1.now) }
+    {
+        match self.atoms.get(r.actor) {
+            Some(held) => node_of(code, held),
+            None => None,
+        }
+    }
+
     /// Puts an atom under a mark, where there is room for it.
     #[tactic(auto, using(crate::proofs::Files::files))]
     pub(super) fn file(&mut self, code: &Code, mark: Name, held: Held)
@@ -215,5 +212,22 @@ impl Agent {
         self.atoms.reserve(1)?;
         self.file(code, mark, held);
         Ok(())
+    }
+
+    /// Puts what was made under a mark. Where it is what a row gives, the agent goes on by that row.
+    #[tactic(auto, using(crate::proofs::Maps::maps))]
+    pub(super) fn reduce(
+        &mut self,
+        code: &Code,
+        mark: Name,
+        held: Result<Held, Memory>,
+    ) -> Result<(), Memory>
+        ensures row { (k : Kind) (r : Ready) (made : Made) → IfOk held (GoesOnAs k code.now self.old r made mark)
+            → OnOk result (Reduces k code.now self.old self.new r made still) }
+        ensures name { self.new.name ≡ self.old.name }
+        ensures filed { IsFiled code.now.processes self.old.atoms → IsFiled code.now.processes self.new.atoms }
+        ensures err { OnErr result (Unchanged self.old self.new) }
+    {
+        self.go_on(code, mark, held?)
     }
 }

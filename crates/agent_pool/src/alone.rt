@@ -6,7 +6,7 @@ ghost use Rattle.agent_pool.specs.Pools.{Unchanged, IsFiled};
 ghost use Rattle.agent_pool.specs.Rows.{Reduces, IsMet, GoesOnAs, IsFork, IsPrinted};
 
 use super::agent::Agent;
-use super::held::{Held, node_of};
+use super::held::Held;
 use super::ready::Ready;
 use np_code::{Code, NodeForm};
 use np_eval::{bind, eval, truth_of};
@@ -43,7 +43,6 @@ impl Agent {
     }
 
     /// The two parts that a composition goes on as.
-    #[tactic(auto, using(crate::proofs::Maps::maps), unfolding(np_calculus::specs::Reductions::act))]
     fn after_fork(
         &self,
         alloc: Global,
@@ -54,10 +53,7 @@ impl Agent {
         requires { IsMet kind.Fork code.now self.now r (made.One mark) }
         ensures { IfOk result (λ parts. IsFork code.now self.now r mark parts.0 parts.1) }
     {
-        let Some(held) = self.atoms.get(r.actor) else {
-            unreachable!();
-        };
-        let Some((node, frame)) = node_of(code, held) else {
+        let Some((node, frame)) = self.acting(code, r) else {
             unreachable!();
         };
         let NodeForm::Par(left, right) = &node.form else {
@@ -69,7 +65,6 @@ impl Agent {
     }
 
     /// A `new` binds a new channel.
-    #[tactic(auto, using(crate::proofs::Maps::maps))]
     pub fn bind_new(
         &mut self,
         alloc: Global,
@@ -83,20 +78,16 @@ impl Agent {
         ensures filed { IsFiled code.now.processes self.old.atoms → IsFiled code.now.processes self.new.atoms }
         ensures err { OnErr result (Unchanged self.old self.new) }
     {
-        let held = self.after_new(alloc, code, r, chan)?;
-        self.go_on(code, r.actor, held)
+        let held = self.after_new(alloc, code, r, chan);
+        self.reduce(code, r.actor, held)
     }
 
     /// What a `new` goes on as.
-    #[tactic(auto, using(crate::proofs::Maps::maps), unfolding(np_calculus::specs::Reductions::act))]
     fn after_new(&self, alloc: Global, code: &Code, r: Ready, chan: Name) -> Result<Held, Memory>
         requires { IsMet kind.New code.now self.now r (made.One chan) }
         ensures { IfOk result (λ held. GoesOnAs kind.New code.now self.now r (made.One chan) r.actor held) }
     {
-        let Some(held) = self.atoms.get(r.actor) else {
-            unreachable!();
-        };
-        let Some((node, frame)) = node_of(code, held) else {
+        let Some((node, frame)) = self.acting(code, r) else {
             unreachable!();
         };
         let NodeForm::New(binder, _, body) = &node.form else {
@@ -108,7 +99,6 @@ impl Agent {
     }
 
     /// A `let` binds its pattern.
-    #[tactic(auto, using(crate::proofs::Maps::maps))]
     pub fn bind_let(&mut self, alloc: Global, code: &Code, r: Ready) -> Result<(), Memory>
         requires { IsMet kind.Let code.now self.old r made.Nothing }
         ensures row { OnOk result (Reduces kind.Let code.now self.old self.new r made.Nothing still) }
@@ -116,20 +106,16 @@ impl Agent {
         ensures filed { IsFiled code.now.processes self.old.atoms → IsFiled code.now.processes self.new.atoms }
         ensures err { OnErr result (Unchanged self.old self.new) }
     {
-        let held = self.after_let(alloc, code, r)?;
-        self.go_on(code, r.actor, held)
+        let held = self.after_let(alloc, code, r);
+        self.reduce(code, r.actor, held)
     }
 
     /// What a `let` goes on as.
-    #[tactic(auto, using(crate::proofs::Maps::maps), unfolding(np_calculus::specs::Reductions::act))]
     fn after_let(&self, alloc: Global, code: &Code, r: Ready) -> Result<Held, Memory>
         requires { IsMet kind.Let code.now self.now r made.Nothing }
         ensures { IfOk result (λ held. GoesOnAs kind.Let code.now self.now r made.Nothing r.actor held) }
     {
-        let Some(held) = self.atoms.get(r.actor) else {
-            unreachable!();
-        };
-        let Some((node, frame)) = node_of(code, held) else {
+        let Some((node, frame)) = self.acting(code, r) else {
             unreachable!();
         };
         let NodeForm::Let(pat, bound, body) = &node.form else {
@@ -145,7 +131,6 @@ impl Agent {
     }
 
     /// A conditional goes on as its first or its second process.
-    #[tactic(auto, using(crate::proofs::Maps::maps))]
     pub fn branch(&mut self, alloc: Global, code: &Code, r: Ready) -> Result<(), Memory>
         requires { IsMet kind.If code.now self.old r made.Nothing }
         ensures row { OnOk result (Reduces kind.If code.now self.old self.new r made.Nothing still) }
@@ -153,20 +138,16 @@ impl Agent {
         ensures filed { IsFiled code.now.processes self.old.atoms → IsFiled code.now.processes self.new.atoms }
         ensures err { OnErr result (Unchanged self.old self.new) }
     {
-        let held = self.after_if(alloc, code, r)?;
-        self.go_on(code, r.actor, held)
+        let held = self.after_if(alloc, code, r);
+        self.reduce(code, r.actor, held)
     }
 
     /// What a conditional goes on as.
-    #[tactic(auto, using(crate::proofs::Maps::maps), unfolding(np_calculus::specs::Reductions::act))]
     fn after_if(&self, alloc: Global, code: &Code, r: Ready) -> Result<Held, Memory>
         requires { IsMet kind.If code.now self.now r made.Nothing }
         ensures { IfOk result (λ held. GoesOnAs kind.If code.now self.now r made.Nothing r.actor held) }
     {
-        let Some(held) = self.atoms.get(r.actor) else {
-            unreachable!();
-        };
-        let Some((node, frame)) = node_of(code, held) else {
+        let Some((node, frame)) = self.acting(code, r) else {
             unreachable!();
         };
         let NodeForm::If(test, met, unmet) = &node.form else {
@@ -194,15 +175,11 @@ impl Agent {
     }
 
     /// What a `print` says.
-    #[tactic(auto, using(crate::proofs::Maps::maps), unfolding(np_calculus::specs::Reductions::act))]
     fn printed(&self, alloc: Global, code: &Code, r: Ready) -> Result<Value, Memory>
         requires { IsMet kind.Print code.now self.now r made.Nothing }
         ensures { IfOk result (λ value. IsPrinted code.now self.now r value) }
     {
-        let Some(held) = self.atoms.get(r.actor) else {
-            unreachable!();
-        };
-        let Some((node, frame)) = node_of(code, held) else {
+        let Some((node, frame)) = self.acting(code, r) else {
             unreachable!();
         };
         let NodeForm::Print(said) = &node.form else {

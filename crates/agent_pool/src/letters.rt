@@ -8,7 +8,7 @@ ghost use Rattle.agent_pool.specs.Pools.{Unchanged, IsFiled};
 ghost use Rattle.agent_pool.specs.Rows.{Reduces, IsMet, GoesOnAs};
 
 use super::agent::Agent;
-use super::held::{Held, node_of};
+use super::held::Held;
 use super::operands::agent_of;
 use super::ready::Ready;
 use np_code::{Code, NodeForm};
@@ -43,7 +43,6 @@ fn place_in(
 // The rows of letters and of maps of places.
 impl Agent {
     /// An `open` becomes the output that its letter holds.
-    #[tactic(auto, using(crate::proofs::Maps::maps))]
     pub fn open_letter(&mut self, alloc: Global, code: &Code, r: Ready) -> Result<(), Memory>
         requires { IsMet kind.Open code.now self.old r made.Nothing }
         ensures row { OnOk result (Reduces kind.Open code.now self.old self.new r made.Nothing still) }
@@ -51,20 +50,16 @@ impl Agent {
         ensures filed { IsFiled code.now.processes self.old.atoms → IsFiled code.now.processes self.new.atoms }
         ensures err { OnErr result (Unchanged self.old self.new) }
     {
-        let held = self.after_open(alloc, code, r)?;
-        self.go_on(code, r.actor, held)
+        let held = self.after_open(alloc, code, r);
+        self.reduce(code, r.actor, held)
     }
 
     /// What an `open` becomes.
-    #[tactic(auto, using(crate::proofs::Maps::maps), unfolding(np_calculus::specs::Reductions::act))]
     fn after_open(&self, alloc: Global, code: &Code, r: Ready) -> Result<Held, Memory>
         requires { IsMet kind.Open code.now self.now r made.Nothing }
         ensures { IfOk result (λ held. GoesOnAs kind.Open code.now self.now r made.Nothing r.actor held) }
     {
-        let Some(held) = self.atoms.get(r.actor) else {
-            unreachable!();
-        };
-        let Some((node, frame)) = node_of(code, held) else {
+        let Some((node, frame)) = self.acting(code, r) else {
             unreachable!();
         };
         let NodeForm::Open(letter) = &node.form else {
@@ -77,7 +72,6 @@ impl Agent {
     }
 
     /// A lookup goes on with the channel that it found, or without.
-    #[tactic(auto, using(crate::proofs::Maps::maps))]
     pub fn look(&mut self, alloc: Global, code: &Code, r: Ready) -> Result<(), Memory>
         requires { IsMet kind.Lookup code.now self.old r made.Nothing }
         ensures row { OnOk result (Reduces kind.Lookup code.now self.old self.new r made.Nothing still) }
@@ -85,20 +79,16 @@ impl Agent {
         ensures filed { IsFiled code.now.processes self.old.atoms → IsFiled code.now.processes self.new.atoms }
         ensures err { OnErr result (Unchanged self.old self.new) }
     {
-        let held = self.after_look(alloc, code, r)?;
-        self.go_on(code, r.actor, held)
+        let held = self.after_look(alloc, code, r);
+        self.reduce(code, r.actor, held)
     }
 
     /// What a lookup goes on as.
-    #[tactic(auto, using(crate::proofs::Maps::maps), unfolding(np_calculus::specs::Reductions::act))]
     fn after_look(&self, alloc: Global, code: &Code, r: Ready) -> Result<Held, Memory>
         requires { IsMet kind.Lookup code.now self.now r made.Nothing }
         ensures { IfOk result (λ held. GoesOnAs kind.Lookup code.now self.now r made.Nothing r.actor held) }
     {
-        let Some(held) = self.atoms.get(r.actor) else {
-            unreachable!();
-        };
-        let Some((node, frame)) = node_of(code, held) else {
+        let Some((node, frame)) = self.acting(code, r) else {
             unreachable!();
         };
         let NodeForm::Lookup(agent, among, binder, met, unmet) = &node.form else {

@@ -8,7 +8,7 @@ ghost use Rattle.agent_pool.specs.Pools.{Unchanged, IsFiled};
 ghost use Rattle.agent_pool.specs.Rows.{Reduces, IsMet, IsComm, IsRep, taken_in};
 
 use super::agent::Agent;
-use super::held::{Held, node_of};
+use super::held::Held;
 use super::ready::Ready;
 use np_code::{Code, NodeForm};
 use np_eval::{Frame, bind, chan_of, eval};
@@ -61,15 +61,11 @@ impl Agent {
     }
 
     /// What an input goes on as, and the mark of the output that it takes.
-    #[tactic(auto, using(crate::proofs::Maps::maps, crate::proofs::Outputs::outputs), unfolding(np_calculus::specs::Reductions::act))]
     fn after_comm(&self, alloc: Global, code: &Code, r: Ready) -> Result<(Held, Name), Memory>
         requires { IsMet kind.Comm code.now self.now r made.Nothing }
         ensures { IfOk result (λ met. IsComm code.now self.now r met.0 met.1) }
     {
-        let Some(held) = self.atoms.get(r.actor) else {
-            unreachable!();
-        };
-        let Some((node, frame)) = node_of(code, held) else {
+        let Some((node, frame)) = self.acting(code, r) else {
             unreachable!();
         };
         let NodeForm::Inp(_, pat, body) = &node.form else {
@@ -88,7 +84,6 @@ impl Agent {
     }
 
     /// A replicated input takes an output, in whose place a copy of its body stands then.
-    #[tactic(auto, using(crate::proofs::Maps::maps))]
     pub fn rep(&mut self, alloc: Global, code: &Code, r: Ready) -> Result<(), Memory>
         requires { IsMet kind.Rep code.now self.old r made.Nothing }
         ensures row { OnOk result (Reduces kind.Rep code.now self.old self.new r made.Nothing still) }
@@ -97,19 +92,15 @@ impl Agent {
         ensures err { OnErr result (Unchanged self.old self.new) }
     {
         let (held, other) = self.after_rep(alloc, code, r)?;
-        self.go_on(code, other, held)
+        self.reduce(code, other, Ok(held))
     }
 
     /// The copy of a replicated input's body, and the mark of the output that it takes.
-    #[tactic(auto, using(crate::proofs::Maps::maps, crate::proofs::Outputs::outputs), unfolding(np_calculus::specs::Reductions::act))]
     fn after_rep(&self, alloc: Global, code: &Code, r: Ready) -> Result<(Held, Name), Memory>
         requires { IsMet kind.Rep code.now self.now r made.Nothing }
         ensures { IfOk result (λ met. IsRep code.now self.now r met.0 met.1) }
     {
-        let Some(held) = self.atoms.get(r.actor) else {
-            unreachable!();
-        };
-        let Some((node, frame)) = node_of(code, held) else {
+        let Some((node, frame)) = self.acting(code, r) else {
             unreachable!();
         };
         let NodeForm::Rep(_, pat, body) = &node.form else {

@@ -9,7 +9,7 @@ ghost use Rattle.agent_pool.specs.Rows.{Reduces, IsMet, change_in, own_sight, ev
 ghost use Rattle.agent_pool.specs.Moves.{IsDepart, IsSent, IsTold, IsAway, IsTarget, LocalLeaves, IsSplit, Births};
 
 use super::agent::Agent;
-use super::held::{Held, node_of, wait_of};
+use super::held::{Held, wait_of};
 use super::operands::{agent_of, site_in};
 use super::ready::Ready;
 use np_calculus::Packet;
@@ -35,15 +35,11 @@ impl Agent {
     }
 
     /// What a migration goes on as, and the site for which the agent leaves.
-    #[tactic(auto, using(crate::proofs::Maps::maps), unfolding(np_calculus::specs::Reductions::act))]
     fn after_depart(&self, alloc: Global, code: &Code, r: Ready) -> Result<(Held, u32), Memory>
         requires { IsMet kind.Depart code.now self.now r made.Nothing }
         ensures { IfOk result (λ gone. IsDepart code.now self.now r gone.0 gone.1) }
     {
-        let Some(held) = self.atoms.get(r.actor) else {
-            unreachable!();
-        };
-        let Some((node, frame)) = node_of(code, held) else {
+        let Some((node, frame)) = self.acting(code, r) else {
             unreachable!();
         };
         let NodeForm::Migrate(site, body) = &node.form else {
@@ -70,15 +66,11 @@ impl Agent {
     }
 
     /// The packet of a message.
-    #[tactic(auto, using(crate::proofs::Maps::maps), unfolding(np_calculus::specs::Reductions::act))]
     fn packet_of(&self, alloc: Global, code: &Code, r: Ready) -> Result<Packet, Memory>
         requires { IsMet kind.Send code.now self.now r made.Nothing }
         ensures { IfOk result (λ packet. IsSent code.now self.now r packet) }
     {
-        let Some(held) = self.atoms.get(r.actor) else {
-            unreachable!();
-        };
-        let Some((node, frame)) = node_of(code, held) else {
+        let Some((node, frame)) = self.acting(code, r) else {
             unreachable!();
         };
         let NodeForm::Send(agent, site, chan, value) = &node.form else {
@@ -107,15 +99,11 @@ impl Agent {
     }
 
     /// The agent for which a location test asks.
-    #[tactic(auto, using(crate::proofs::Maps::maps), unfolding(np_calculus::specs::Reductions::act))]
     pub fn target(&self, code: &Code, r: Ready) -> Name
         requires { IsMet kind.Local code.now self.now r made.Nothing }
         ensures { IsTarget code.now self.now r result }
     {
-        let Some(held) = self.atoms.get(r.actor) else {
-            unreachable!();
-        };
-        let Some((node, frame)) = node_of(code, held) else {
+        let Some((node, frame)) = self.acting(code, r) else {
             unreachable!();
         };
         let NodeForm::IfLocal(agent, _, _, _, _) = &node.form else {
@@ -169,7 +157,6 @@ impl Agent {
     }
 
     /// What a location test that finds its agent goes on as, and its output.
-    #[tactic(auto, using(crate::proofs::Maps::maps), unfolding(np_calculus::specs::Reductions::act, np_calculus::specs::Reductions::here_row))]
     fn after_told(
         &self,
         alloc: Global,
@@ -180,10 +167,7 @@ impl Agent {
         requires { IsSome (change_in kind.Local (own_sight code.now self.now true) (event_of 0 r (made.One mark))) }
         ensures { IfOk result (λ told. IsTold code.now self.now r mark told.0 told.1) }
     {
-        let Some(held) = self.atoms.get(r.actor) else {
-            unreachable!();
-        };
-        let Some((node, frame)) = node_of(code, held) else {
+        let Some((node, frame)) = self.acting(code, r) else {
             unreachable!();
         };
         let NodeForm::IfLocal(agent, chan, value, met, _) = &node.form else {
@@ -227,15 +211,11 @@ impl Agent {
     }
 
     /// What a location test that does not find its agent goes on as.
-    #[tactic(auto, using(crate::proofs::Maps::maps), unfolding(np_calculus::specs::Reductions::act, np_calculus::specs::Reductions::away_row))]
     fn after_passed(&self, alloc: Global, code: &Code, r: Ready) -> Result<Held, Memory>
         requires { IsMet kind.Local code.now self.now r made.Nothing }
         ensures { IfOk result (λ held. IsAway code.now self.now r held) }
     {
-        let Some(held) = self.atoms.get(r.actor) else {
-            unreachable!();
-        };
-        let Some((node, frame)) = node_of(code, held) else {
+        let Some((node, frame)) = self.acting(code, r) else {
             unreachable!();
         };
         let NodeForm::IfLocal(_, _, _, _, unmet) = &node.form else {
@@ -269,7 +249,6 @@ impl Agent {
     }
 
     /// The first atom of a new agent, and what the process that makes it goes on as.
-    #[tactic(auto, using(crate::proofs::Maps::maps), unfolding(np_calculus::specs::Reductions::act))]
     fn after_child(
         &self,
         alloc: Global,
@@ -281,10 +260,7 @@ impl Agent {
         requires { IsMet kind.Agent code.now self.now r (made.Two agent mark) }
         ensures { IfOk result (λ parts. IsSplit code.now self.now r agent mark parts.0 parts.1) }
     {
-        let Some(held) = self.atoms.get(r.actor) else {
-            unreachable!();
-        };
-        let Some((node, frame)) = node_of(code, held) else {
+        let Some((node, frame)) = self.acting(code, r) else {
             unreachable!();
         };
         let NodeForm::Agent(binder, body, rest) = &node.form else {
