@@ -13,15 +13,15 @@ use Rattle.np_modes.specs.Causes.{RefusesPlan, Stands}
 use Rattle.np_sources.specs.Laws as source_laws
 use Rattle.np_histories.specs.Laws as history_laws
 use Rattle.np_run.specs.Answers.{Call}
-use Rattle.np_run.specs.Laws.{Accepts, Purpose}
+use Rattle.np_run.specs.Laws.{Accepts, FailsWith, Purpose}
 use Rattle.np_run.proofs.Outcomes.{refused_plan}
-use Rattle.np_run.proofs.Sources.{Says, source_says}
+use Rattle.np_run.proofs.Sources.{source_says}
 use Rattle.np_run.proofs.Histories as history
 use Rattle.np_run.proofs.laws.law_completes.Goals as goal
 
 module _ (sources : source_laws.HaveOneAnswer) (histories : history_laws.HaveOneAnswer) where
   -- no refusal says anything of an accepted source
-  of_source : (reach : Reach) (bytes : List ℕ) (refusal : Refusal) → length bytes ≤ LONGEST_SOURCE → TakenTo reach bytes → Says reach bytes refusal → ⊥
+  of_source : (reach : Reach) (bytes : List ℕ) (refusal : Refusal) → length bytes ≤ LONGEST_SOURCE → TakenTo reach bytes → FailsWith reach bytes refusal → ⊥
   of_source reach bytes refusal short a (inl s) = let long = s.1 in omega arith
   of_source reach bytes refusal short a (inr s) = sources.not_both reach bytes refusal a s.1
 
