@@ -105,24 +105,6 @@ impl<R, P: Port<R, Item>> Crew<R, P> {
         told(self.failed, round)
     }
 
-    /// Goes on by such rounds until one adds no event.
-    pub fn serial_run(&mut self, rt: &R) -> Result<End, Memory>
-        ensures on { GoesOn self.old self.new }
-        ensures later { AddsLater self.old self.new }
-        ensures run { HasRun self.new }
-        ensures ok { IfOk result (HasEnded self.new) }
-        ensures err { OnErr result (self.new.failed ≡ true) }
-        ensures failed { self.old.failed ≡ true → self.new ≡ self.old }
-    {
-        loop {
-            match self.serial_round(rt)? {
-                Round::Went => {}
-                Round::Rest => return Ok(End::Rest),
-                Round::Spent => return Ok(End::Spent),
-            }
-        }
-    }
-
     /// Does the events of a run of the program again, in their order, under the stamps 1, 2, 3 and so on; from there the crew can go
     /// on by itself. The list is refused where a site has more events in it than the budget, or where it is no run that the sites
     /// make by themselves, and then the crew is as it was. Where memory runs out, the crew has failed: its histories are those of
@@ -254,21 +236,19 @@ impl<R: Threads + Sync, P: Port<R, Item>> Crew<R, P> {
         told(self.failed, round)
     }
 
-    /// Goes on by such rounds until one adds no event.
-    pub fn threads_run<G: Gate>(&mut self, rt: &R, gate: &G) -> Result<End, Memory>
+    /// A round of either kind.
+    fn one_round<G: Gate>(&mut self, rt: &R, gate: &G, serial: bool) -> Result<Round, Memory>
         ensures on { GoesOn self.old self.new }
         ensures later { AddsLater self.old self.new }
         ensures run { HasRun self.new }
-        ensures ok { IfOk result (HasEnded self.new) }
+        ensures ok { IfOk result (IsRoundOf self.old self.new) }
         ensures err { OnErr result (self.new.failed ≡ true) }
         ensures failed { self.old.failed ≡ true → self.new ≡ self.old }
     {
-        loop {
-            match self.round(rt, gate)? {
-                Round::Went => {}
-                Round::Rest => return Ok(End::Rest),
-                Round::Spent => return Ok(End::Spent),
-            }
+        if serial {
+            self.serial_round(rt)
+        } else {
+            self.round(rt, gate)
         }
     }
 
@@ -281,10 +261,12 @@ impl<R: Threads + Sync, P: Port<R, Item>> Crew<R, P> {
         ensures err { OnErr result (self.new.failed ≡ true) }
         ensures failed { self.old.failed ≡ true → self.new ≡ self.old }
     {
-        if serial {
-            self.serial_run(rt)
-        } else {
-            self.threads_run(rt, gate)
+        loop {
+            match self.one_round(rt, gate, serial)? {
+                Round::Went => {}
+                Round::Rest => return Ok(End::Rest),
+                Round::Spent => return Ok(End::Spent),
+            }
         }
     }
 }
