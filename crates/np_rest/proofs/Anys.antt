@@ -13,14 +13,7 @@ use Rattle.np_tables.specs.Names.{NameMap, name_cmp, same_name}
 use Rattle.np_tables.proofs.Tables.{same_name-is, same_name-itself}
 use Rattle.np_protocol.specs.Chips.{Chip, columns, counted, counts}
 use Rattle.np_protocol.specs.Columns.{Column, number}
-
-pub or_cases : (a b : Bool) → (a || b) ≡ true → (a ≡ true) ⊎ (b ≡ true)
-or_cases true b h = inl refl
-or_cases false b h = inr h
-
-pub or_second : (a b : Bool) → b ≡ true → (a || b) ≡ true
-or_second true b h = refl
-or_second false b h = h
+use Rattle.np_levels.proofs.Quiet.{or_cases, or_second}
 
 pub one_truth : (b : Bool) → (b || false) ≡ true → b ≡ true
 one_truth true h = refl

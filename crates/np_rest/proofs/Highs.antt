@@ -1,5 +1,5 @@
 -- Where no site can act at the low level, none can at the high level.
-use Rattle.std.proofs.Common.{◌≡◌, ◌+◌, inl, inr, ℕ, true, false, Option, None, Some, IsSome, List, [], ◌∷◌, refl, sym, ap, subst, ◌∙◌}
+use Rattle.std.proofs.Common.{◌≡◌, ◌+◌, inl, inr, ℕ, true, false, None, Some, IsSome, List, [], ◌∷◌, refl, sym, ap, subst, ◌∙◌}
 use Rattle.std.specs.List.{All}
 use Rattle.std.proofs.lemmas.List.Elements.{All-from_recursion, recursion_from_All}
 use Rattle.std.specs.FinMap as map
@@ -11,7 +11,7 @@ use Rattle.np_syntax.specs.declared.process.Tag.{Tag}
 use Rattle.np_syntax.specs.declared.process.ProcForm.{ProcForm-F}
 use Rattle.np_syntax.specs.declared.process.ProcForm.TheVariants as forms
 use Rattle.np_syntax.specs.Options.{◌>>=◌}
-use Rattle.np_syntax.proofs.Options.{done}
+use Rattle.np_syntax.proofs.Options.{then, done}
 use Rattle.np_calculus.specs.declared.config.Atom.{Atom}
 use Rattle.np_calculus.specs.declared.config.Packet.{Packet}
 use Rattle.np_calculus.specs.declared.config.Place.TheVariants as place
@@ -45,11 +45,6 @@ use Rattle.np_rest.proofs.Phases.{no_asking, no_beginning, no_settling, no_wanti
 use Rattle.np_rest.proofs.Resting.{MayRest, may_rest}
 use Rattle.np_rest.proofs.Standing.{map_there, told}
 use Rattle.np_rest.proofs.Waiting.{Giving, Taking, gives_there, no_arrival, no_meeting, no_work, one_thing, takes_bound}
-
--- the first that there is, out of what was found
-found : {A B : Type 0} (o : Option A) (f : A → Option B) (b : B) → (o >>= f) ≡ Some b → (a : A) × (o ≡ Some a) × (f a ≡ Some b)
-found None f b h = absurd cc
-found (Some a) f b h = (a, refl, h)
 
 -- how an atom of the high level stands at the low one: as its translation, or as the output of a letter that was opened
 data Stands (i : Infrastructure) (n from : ℕ) (h a : Atom) : Type 0 where
@@ -103,9 +98,9 @@ module _ {i : Infrastructure} {n from first : ℕ} {low high : Config} {v : View
   no_packet_above : (k : Name) (p : Packet) → map.get high.packets k ≡ Some p → ⊥
   no_packet_above k p flies =
       let d = c.mirrored_packets.down k p flies in
-      let f = found (map.get v.things d.0) first_packet_of p d.2 in
-      let o = one_thing c lodged idle d.0 f.0 f.1 in
-      no_packets o.thing p (may_rest c lodged idle d.0 o.atom o.there o.thing (f.1 ∙ ap Some o.alone) o.is) (ap first_packet_of (sym o.alone) ∙ f.2)
+      then (map.get v.things d.0) first_packet_of d.2 λ ts held shows.
+      let o = one_thing c lodged idle d.0 ts held in
+      no_packets o.thing p (may_rest c lodged idle d.0 o.atom o.there o.thing (held ∙ ap Some o.alone) o.is) (ap first_packet_of (sym o.alone) ∙ shows)
 
   no_arrival_above : (a : Name) (s : ℕ) → map.get high.places a ≡ Some (place.Way s) → ⊥
   no_arrival_above a s comes = no_arrival c lodged idle a s (same_place c a (subst IsSome (sym comes) refl) ∙ comes)
@@ -134,14 +129,14 @@ module _ {i : Infrastructure} {n from first : ℕ} {low high : Config} {v : View
   below : (k : Name) (h : Atom) → map.get high.atoms k ≡ Some h → Below h
   below k h there =
       let d = c.mirrored.down k h there in
-      let f = found (map.get v.things d.0) first_atom_of h d.2 in
-      let o = one_thing c lodged idle d.0 f.0 f.1 in
-      let under : map.get v.things d.0 ≡ Some (o.thing ∷ []) = f.1 ∙ ap Some o.alone in
+      then (map.get v.things d.0) first_atom_of d.2 λ ts held shows.
+      let o = one_thing c lodged idle d.0 ts held in
+      let under : map.get v.things d.0 ≡ Some (o.thing ∷ []) = held ∙ ap Some o.alone in
       record {
         mark = d.0;
         atom = o.atom;
         there = o.there;
-        stands = by_thing d.0 o.thing o.atom h under o.there o.is (may_rest c lodged idle d.0 o.atom o.there o.thing under o.is) (ap first_atom_of (sym o.alone) ∙ f.2);
+        stands = by_thing d.0 o.thing o.atom h under o.there o.is (may_rest c lodged idle d.0 o.atom o.there o.thing under o.is) (ap first_atom_of (sym o.alone) ∙ shows);
       }
 
   -- what gives at the high level gives at the low one

@@ -28,10 +28,7 @@ use Rattle.np_things.specs.Shapes.{Are, Gives, Is, IsAsking, IsBeginning, IsSett
 use Rattle.np_things.specs.Things.{Thing}
 use Rattle.np_levels.specs.Coupled.{Coupled, IsShaped, View}
 use Rattle.np_levels.proofs.Outputs.{is_output}
-use Rattle.np_levels.proofs.Values.{channel-is, variable-is}
-
-no_value : {A : Type 0} {x : A} → None ≡ Some x → ⊥
-no_value e = cc
+use Rattle.np_levels.proofs.Values.{channel-is, no_value, variable-is}
 
 -- an atom gives on a channel, and takes from one
 pub record Giving (a : Atom) (chan : Name) : Type 0 where
@@ -135,6 +132,6 @@ module _ {i : Infrastructure} {n from first : ℕ} {low high : Config} {v : View
       by_things a us there same (Are.both is x y) = no_work m a there (ap (λ (q : Proc). waits (layer q)) is ∙ ap waits (forms.outs-Par _ _))
 
       go : IsShaped i n from first low v.things m → Alone m ts
-      go (IsShaped.nothing a k t) = absurd (no_value (sym t ∙ h))
+      go (IsShaped.nothing a k t) = no_value (sym t ∙ h)
       go (IsShaped.packet {k = p} a k t u) = absurd (no_packet m p k)
       go (IsShaped.atom {a = a} {ts = us} there k t u r) = by_things a us there (done (sym t ∙ h)) r
