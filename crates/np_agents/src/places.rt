@@ -5,6 +5,7 @@ ghost use Rattle.np_calculus.specs.Sight.{at_site};
 ghost use Rattle.np_calculus.specs.declared.config.Place.TheVariants as place;
 
 use np_calculus::Place;
+use np_conditions::at_site;
 use np_syntax::{Memory, Name};
 use np_tables::{Names, Table};
 use std::alloc::Global;
@@ -78,10 +79,7 @@ impl Places {
     pub fn is_at(&self, agent: Name, site: u32) -> bool
         ensures { result ≡ at_site (map.get self.now.items agent) site }
     {
-        match self.get(agent) {
-            Some(Place::At(at)) => at == site,
-            _ => false,
-        }
+        at_site(self.get(agent), site)
     }
 
     /// Makes sure of room for so many agents, and for so many under way.

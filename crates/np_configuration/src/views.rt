@@ -2,7 +2,7 @@ ghost use Rattle.std.specs.Prelude.{◌≡◌};
 ghost use Rattle.np_configuration.specs.Views.{is_alone, one_new, two_new};
 
 use super::cfg::Cfg;
-use np_agents::{no_other, one_made, two_made, two_names};
+use np_conditions::{no_other, one_made, two_made, two_names};
 use np_syntax::{Event, Made, Name};
 
 /// Whether an event makes no name and takes no output.

@@ -3,31 +3,18 @@ use Rattle.std.proofs.Common.{◌≡◌, ℕ, ◌+◌, Bool, true, false, Some, 
 use Rattle.np_syntax.specs.declared.types.Cap.{Cap}
 use Rattle.np_syntax.specs.declared.types.Cap.TheVariants as cap
 use Rattle.np_syntax.specs.declared.types.Ty.{Ty, Ty-F, out-Ty, roll-Ty, out-roll-Ty, map-Ty, fold_out-Ty}
-use Rattle.np_types.specs.Sub.{reads, writes, TyLayer, sub, sub_at, sub_all, is_int, is_bool, is_str, is_site, is_agent, is_letter, is_places, as_tuple}
+use Rattle.np_subtyping.specs.Sub.{reads, writes, TyLayer, sub, sub_at, sub_all, is_int, is_bool, is_str, is_site, is_agent, is_letter, is_places, as_tuple}
 use Rattle.np_syntax.specs.Parts.{as_channel}
 use Rattle.np_types.specs.Widths.{nodes, nodes_step, sum_all, printable, printable_step, every}
 use Rattle.np_syntax.proofs.Bools.{and-in, and-out}
-use Rattle.np_types.proofs.Implies.{imp-out}
+use Rattle.np_subtyping.proofs.Comparisons.{plain, plain_turned}
+use Rattle.np_subtyping.proofs.Implies.{imp-out}
 use Rattle.np_syntax.proofs.Trees.{With, TyHyps, ty_of, ty_ind}
-use Rattle.np_types.proofs.Subs.{sub-out, sub-trans}
+use Rattle.np_subtyping.proofs.Subs.{sub-out, sub-trans}
 
 -- a form that holds of each type below one that has it
 abbrev pub Down : (TyLayer → Bool) → Type 0
 Down test = (s t : Ty) → test (out-Ty t) ≡ true → sub s t ≡ true → test (out-Ty s) ≡ true
-
--- the forms that have no type in them
-abbrev pub plain : TyLayer → Bool
-plain (Ty-F.Chan c t) = false
-plain (Ty-F.Tuple ts) = false
-plain _ = true
-
--- what is below such a form is of this form
-pub plain_turned : (b y : TyLayer) → plain b ≡ true → sub_at y b ≡ sub_at b y
-plain_turned (Ty-F.Chan c t) y h = absurd cc
-plain_turned (Ty-F.Tuple ts) y h = absurd cc
-plain_turned _ (Ty-F.Chan c t) h = refl
-plain_turned _ (Ty-F.Tuple ts) h = refl
-plain_turned _ _ h = refl
 
 plain_below : (b : TyLayer) → plain b ≡ true → Down (sub_at b)
 plain_below b plainly s t of_form below =

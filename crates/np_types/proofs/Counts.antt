@@ -4,7 +4,7 @@ use Rattle.np_syntax.specs.declared.types.Cap.{Cap}
 use Rattle.np_syntax.specs.declared.types.Ty.{Ty, Ty-F, out-Ty, map-Ty}
 use Rattle.np_syntax.specs.declared.types.Ty as ty
 use Rattle.np_syntax.specs.declared.types.Ty.TheVariants.{outs-Int, outs-Bool, outs-Str, outs-Site, outs-Agent, outs-Letter, outs-Places, outs-Chan, outs-Tuple}
-use Rattle.np_types.specs.Sub.{TyLayer}
+use Rattle.np_subtyping.specs.Sub.{TyLayer}
 use Rattle.np_types.specs.Widths.{nodes, nodes_all, nodes_step, sum_all, printable, printable_all, printable_step, every}
 use Rattle.np_types.proofs.Below.{nodes-out, printable-out}
 

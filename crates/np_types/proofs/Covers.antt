@@ -13,7 +13,7 @@ use Rattle.np_syntax.specs.declared.pattern.PatForm.{PatForm, PatForm-F, out-Pat
 use Rattle.np_syntax.specs.declared.pattern.PatForm as pat
 use Rattle.np_syntax.specs.declared.pattern.PatForm.TheVariants.{outs-Any, outs-Bind, outs-Tuple}
 use Rattle.np_types.specs.declared.fault.Rule.TheVariants as rule
-use Rattle.np_types.specs.Sub.{as_tuple}
+use Rattle.np_subtyping.specs.Sub.{as_tuple}
 use Rattle.np_syntax.specs.Results.{◌>>=◌, ◌>>◌}
 use Rattle.np_types.specs.Checks.{Check, ensure, want}
 use Rattle.np_types.specs.Least.{Types}

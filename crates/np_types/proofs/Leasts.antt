@@ -13,7 +13,7 @@ use Rattle.np_syntax.specs.declared.expression.ExprForm as expr
 use Rattle.np_syntax.specs.declared.expression.ExprForm.TheVariants.{outs-Val, outs-Var, outs-Tuple, outs-Bin, outs-Pack, outs-With}
 use Rattle.np_types.specs.declared.fault.Rule.{Rule}
 use Rattle.np_types.specs.declared.fault.Rule.TheVariants as rule
-use Rattle.np_types.specs.Sub.{TyLayer, sub, is_int, is_places, is_agent, writes}
+use Rattle.np_subtyping.specs.Sub.{TyLayer, sub, is_int, is_places, is_agent, writes}
 use Rattle.np_syntax.specs.Parts.{as_channel}
 use Rattle.np_types.specs.Widths.{narrow}
 use Rattle.np_syntax.specs.Results.{◌>>=◌, ◌>>◌, all_ok}

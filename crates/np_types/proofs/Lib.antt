@@ -1,11 +1,9 @@
 pub mod Below
-pub mod Comparisons
 pub mod Counts
 pub mod Covers
-pub mod Implies
 pub mod Leasts
 pub mod Passed
 pub mod Slots
-pub mod Subs
 pub mod Tellings
 pub mod ValueTypes
+pub use Rattle.np_subtyping.proofs.Subs

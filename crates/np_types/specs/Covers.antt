@@ -5,7 +5,7 @@ use Rattle.np_syntax.specs.declared.types.Ty.{Ty, out-Ty}
 use Rattle.np_syntax.specs.declared.pattern.Pat.{Pat, fold-Pat}
 use Rattle.np_syntax.specs.declared.pattern.PatForm.{PatForm, PatForm-F, fold-PatForm}
 use Rattle.np_types.specs.declared.fault.Rule.TheVariants as rule
-use Rattle.np_types.specs.Sub.{as_tuple}
+use Rattle.np_subtyping.specs.Sub.{as_tuple}
 use Rattle.np_syntax.specs.Results.{◌>>=◌, ◌>>◌}
 use Rattle.np_types.specs.Checks.{Check, ensure, want}
 use Rattle.np_types.specs.Least.{Types}

@@ -3,7 +3,7 @@ use Rattle.std.specs.Prelude.{◌≡◌, true}
 use Rattle.np_syntax.specs.declared.types.Cap.{Cap}
 use Rattle.np_syntax.specs.declared.types.Ty.{Ty, out-Ty}
 use Rattle.np_syntax.specs.declared.types.Ty as ty
-use Rattle.np_types.specs.Sub.{sub, sub_at, chans_at}
+use Rattle.np_subtyping.specs.Sub.{sub, sub_at, chans_at}
 use Rattle.np_types.specs.Widths.{nodes, printable}
 
 -- the forms of two types decide as the table says, and channel types by its lines

@@ -11,7 +11,7 @@ use Rattle.np_syntax.specs.declared.expression.Expr.{Expr, fold-Expr}
 use Rattle.np_syntax.specs.declared.expression.ExprForm.{ExprForm, ExprForm-F, fold-ExprForm}
 use Rattle.np_types.specs.declared.fault.Rule.{Rule}
 use Rattle.np_types.specs.declared.fault.Rule.TheVariants as rule
-use Rattle.np_types.specs.Sub.{reads, writes, sub, is_int, is_bool, is_str, is_site, is_agent, is_places, TyLayer}
+use Rattle.np_subtyping.specs.Sub.{reads, writes, sub, is_int, is_bool, is_str, is_site, is_agent, is_places, TyLayer}
 use Rattle.np_syntax.specs.Parts.{as_channel}
 use Rattle.np_types.specs.Widths.{narrow}
 use Rattle.np_syntax.specs.Results.{◌>>=◌, ◌>>◌, all_ok}

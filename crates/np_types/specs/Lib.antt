@@ -3,9 +3,8 @@ pub mod Covers
 pub mod Laws
 pub mod Least
 pub mod Operands
-pub mod Ordered
-pub mod Sub
 pub mod Told
 pub mod Trails
 pub mod Widths
 pub mod Worlds
+pub use Rattle.np_subtyping.specs.Sub

@@ -6,7 +6,7 @@ use Rattle.np_syntax.specs.declared.expression.Op.{Op}
 use Rattle.np_syntax.specs.declared.expression.Op.TheVariants as op
 use Rattle.np_types.specs.declared.fault.Rule.{Rule}
 use Rattle.np_types.specs.declared.fault.Rule.TheVariants as rule
-use Rattle.np_types.specs.Sub.{TyLayer, is_int, reads, writes}
+use Rattle.np_subtyping.specs.Sub.{TyLayer, is_int, reads, writes}
 use Rattle.np_syntax.specs.Parts.{as_channel}
 use Rattle.np_syntax.specs.Results.{◌>>=◌, ◌>>◌}
 use Rattle.np_types.specs.Checks.{Check, ensure, want}

@@ -7,7 +7,7 @@ use Rattle.np_syntax.specs.declared.types.Cap.TheVariants as cap
 use Rattle.np_syntax.specs.declared.types.Ty.{Ty, out-Ty}
 use Rattle.np_syntax.specs.declared.types.Ty as ty
 use Rattle.np_syntax.specs.Options.{◌>>=◌, ◌>>◌, need, all_some}
-use Rattle.np_types.specs.Sub.{writes, sub, is_site}
+use Rattle.np_subtyping.specs.Sub.{writes, sub, is_site}
 
 -- what the types of values rest on: which numbers are sites, and the type of each channel
 pub record World : Type 0 where

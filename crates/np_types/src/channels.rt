@@ -6,7 +6,7 @@ use super::checks::{ensure, read_on, written_on};
 use super::env::Env;
 use super::expressions::least;
 use super::fault::{LeastFail, Rule};
-use super::subtyping::sub;
+use np_subtyping::sub;
 use np_syntax::{Expr, Ty};
 use std::alloc::Global;
 

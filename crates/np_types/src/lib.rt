@@ -1,4 +1,4 @@
-//! Subtyping, the least types of expressions, and the types of binders.
+//! The least types of expressions, and the types of binders.
 #![tactic(auto)]
 
 mod channels;
@@ -10,7 +10,6 @@ mod forms;
 mod laws;
 mod operands;
 mod patterns;
-mod subtyping;
 mod values;
 mod widths;
 
@@ -19,8 +18,7 @@ pub use checks::ensure;
 pub use env::{Env, Trail};
 pub use expressions::least;
 pub use fault::{LeastFail, Rule, TypeFault};
-pub use forms::{is_agent, is_bool, is_int, is_letter, is_places, is_site};
 pub use laws::law_subtyping;
+pub use np_subtyping::{is_agent, is_bool, is_int, is_letter, is_places, is_site, sub};
 pub use patterns::cover;
-pub use subtyping::sub;
 pub use widths::{is_narrow, is_printable};

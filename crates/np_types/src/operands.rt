@@ -5,13 +5,13 @@ ghost use Rattle.np_types.specs.declared.fault.Rule.TheVariants as rule;
 ghost use Rattle.np_types.specs.Checks.{checked, ensure};
 ghost use Rattle.np_types.specs.Least.{is_lock_type};
 ghost use Rattle.np_types.specs.Operands.{takes_first, first_rule, takes_second, second_rule, type_of};
-ghost use Rattle.np_types.specs.Sub.{is_agent, is_places, sub};
+ghost use Rattle.np_subtyping.specs.Sub.{is_agent, is_places, sub};
 ghost use Rattle.np_types.specs.Told.{Told};
 
 use super::checks::{ensure, fault};
 use super::fault::{LeastFail, Rule};
-use super::forms::{is_agent, is_basic, is_int, is_lock, is_places, same_basic};
-use super::subtyping::sub;
+use super::forms::{is_basic, is_lock, same_basic};
+use np_subtyping::{is_agent, is_int, is_places, sub};
 use np_syntax::{Op, Ty};
 
 /// The type of an operation's first operand, or its fault.

@@ -1,7 +1,7 @@
 ghost use Rattle.std.specs.Prelude.{◌≡◌};
 ghost use Rattle.run_save.specs.Travels.{departure, sending};
 
-use np_agents::way;
+use np_conditions::way;
 use np_configuration::Cfg;
 use np_syntax::{Event, Name};
 

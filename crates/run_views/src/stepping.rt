@@ -9,8 +9,8 @@ ghost use Rattle.np_views.specs.Tests.{tests};
 ghost use Rattle.run_views.specs.Stepped.{Advances, IsStepped, arrivals};
 
 use super::turning::{agent_at, turn};
-use np_agents::way;
 use np_check::Checked;
+use np_conditions::way;
 use np_configuration::{Cfg, start_high};
 use np_syntax::{Event, Kind, List, Made, Memory, Name, Role, Tag};
 use std::alloc::Global;

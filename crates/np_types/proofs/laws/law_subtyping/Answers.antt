@@ -1,4 +1,4 @@
-use Rattle.np_types.proofs.Subs.{sub-out, sub-chans, sub-itself, sub-trans, sub-exact}
+use Rattle.np_subtyping.proofs.Subs.{sub-out, sub-chans, sub-itself, sub-trans, sub-exact}
 use Rattle.np_types.proofs.Below.{as_many, printable_below}
 use Rattle.np_types.proofs.laws.law_subtyping.Goals as goal
 

@@ -3,13 +3,13 @@ use Rattle.std.proofs.Common.{◌≡◌, Bool, true, false, ◌&&◌, refl, map,
 use Rattle.np_syntax.specs.declared.types.Cap.{Cap}
 use Rattle.np_syntax.specs.declared.types.Ty.{Ty, Ty-F, out-Ty, roll-Ty, roll-out-Ty, map-Ty, fold_out-Ty}
 use Rattle.np_syntax.specs.declared.types.Cap.TheVariants as cap
-use Rattle.np_types.specs.Sub.{chans_at, ◌⇒◌, reads, writes, TyLayer, Order, order, order_step, sub, sup, sub_at, sub_all, all_below, all_above, below, above}
+use Rattle.np_subtyping.specs.Sub.{chans_at, ◌⇒◌, reads, writes, TyLayer, Order, order, order_step, sub, sup, sub_at, sub_all, all_below, all_above, below, above}
 use Rattle.np_syntax.specs.declared.types.Ty as ty
 use Rattle.np_syntax.specs.declared.types.Ty.TheVariants.{outs-Chan}
 use Rattle.std.proofs.Common.{Some}
 use Rattle.np_syntax.specs.Parts.{as_channel}
 use Rattle.np_syntax.proofs.Bools.{and-in, and-out, and-true, and-false}
-use Rattle.np_types.proofs.Implies.{imp-in, imp-out}
+use Rattle.np_subtyping.proofs.Implies.{imp-in, imp-out}
 use Rattle.np_syntax.proofs.Trees.{With, TyHyps, ty_of, ty_ind}
 
 pub order-out : (t : Ty) → order t ≡ order_step (map-Ty Ty Order order (out-Ty t))

@@ -6,10 +6,23 @@ use Rattle.np_syntax.specs.declared.types.Ty.{Ty, Ty-F, out-Ty, roll-Ty, roll-ou
 use Rattle.np_syntax.specs.declared.types.Ty as ty
 use Rattle.np_syntax.specs.declared.types.Ty.TheVariants.{outs-Chan, outs-Tuple, rolls-Chan, rolls-Tuple}
 use Rattle.np_syntax.proofs.Bools.{and-in, and-false}
-use Rattle.np_types.specs.Ordered.{Ordered, OrderedAll}
-use Rattle.np_types.specs.Sub.{◌⇒◌, reads, writes, TyLayer, sub, sub_at, sub_all, chans_at}
-use Rattle.np_types.proofs.Subs.{sub-out, sub-chans, sub-exact, sub-itself}
-use Rattle.np_types.proofs.Below.{plain, plain_turned}
+use Rattle.np_subtyping.specs.Ordered.{Ordered, OrderedAll}
+use Rattle.np_subtyping.specs.Sub.{◌⇒◌, reads, writes, TyLayer, sub, sub_at, sub_all, chans_at}
+use Rattle.np_subtyping.proofs.Subs.{sub-out, sub-chans, sub-exact, sub-itself}
+
+-- the forms that have no type in them
+abbrev pub plain : TyLayer → Bool
+plain (Ty-F.Chan c t) = false
+plain (Ty-F.Tuple ts) = false
+plain _ = true
+
+-- what is below such a form is of this form
+pub plain_turned : (b y : TyLayer) → plain b ≡ true → sub_at y b ≡ sub_at b y
+plain_turned (Ty-F.Chan c t) y h = absurd cc
+plain_turned (Ty-F.Tuple ts) y h = absurd cc
+plain_turned _ (Ty-F.Chan c t) h = refl
+plain_turned _ (Ty-F.Tuple ts) h = refl
+plain_turned _ _ h = refl
 
 sub-chan : (c : Cap) (s t : Ty) → sub (ty.Chan c s) t ≡ sub_at (Ty-F.Chan c s) (out-Ty t)
 sub-chan c s t = rw (sub-out (ty.Chan c s) t, outs-Chan c s) refl

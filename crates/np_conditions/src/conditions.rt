@@ -2,6 +2,7 @@ ghost use Rattle.std.specs.Prelude.{◌≡◌, nat_eq, not};
 ghost use Rattle.np_syntax.specs.Options.{need};
 ghost use Rattle.np_tables.specs.Names.{same_name};
 ghost use Rattle.np_calculus.specs.Reductions.{none_made, one_made, two_made, no_other, way, same_tag};
+ghost use Rattle.np_calculus.specs.Sight.{at_site};
 
 use np_calculus::Place;
 use np_syntax::{Made, Name, Tag};
@@ -51,6 +52,16 @@ pub fn two_names(first: Name, second: Name) -> Option<()>
     ensures { result ≡ need (not (same_name first second)) }
 {
     if first == second { None } else { Some(()) }
+}
+
+/// Whether an agent of this place is at a site.
+pub fn at_site(place: Option<Place>, site: u32) -> bool
+    ensures { result ≡ at_site place site }
+{
+    match place {
+        Some(Place::At(at)) => at == site,
+        _ => false,
+    }
 }
 
 /// The site to which an agent of this place is under way.

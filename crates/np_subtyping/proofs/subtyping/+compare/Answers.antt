@@ -1,9 +1,9 @@
 use Rattle.std.proofs.Common.{true, false, not, refl, sym, ◌∙◌}
 use Rattle.np_syntax.specs.declared.types.Ty.{Ty-F}
 use Rattle.np_syntax.specs.declared.types.Ty.TheVariants.{outs-Int, outs-Bool, outs-Str, outs-Site, outs-Agent, outs-Letter, outs-Places}
-use Rattle.np_types.specs.Ordered.{OrderedAll}
-use Rattle.np_types.proofs.Comparisons.{plainly, channels, carried, inputs, outputs, input_output, output_input, no_channel, tuples, no_tuple, ordered-both}
-use Rattle.np_types.proofs.subtyping.+compare.Goals as goal
+use Rattle.np_subtyping.specs.Ordered.{OrderedAll}
+use Rattle.np_subtyping.proofs.Comparisons.{plainly, channels, carried, inputs, outputs, input_output, output_input, no_channel, tuples, no_tuple, ordered-both}
+use Rattle.np_subtyping.proofs.subtyping.+compare.Goals as goal
 
 pub compare-returns-in-Int : goal.compare-returns-in-Int
 compare-returns-in-Int t c = plainly Ty-F.Int refl c.args.up _ _ c.args.b.now c.in-Int.is outs-Int c.is_int.ensures

@@ -1,6 +1,6 @@
 -- Implications of truth values.
 use Rattle.std.proofs.Common.{◌≡◌, Bool, true, false, refl}
-use Rattle.np_types.specs.Sub.{◌⇒◌}
+use Rattle.np_subtyping.specs.Sub.{◌⇒◌}
 
 pub imp-in : (a b : Bool) → (a ≡ true → b ≡ true) → (a ⇒ b) ≡ true
 imp-in true b h = h refl

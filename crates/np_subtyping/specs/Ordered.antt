@@ -1,7 +1,7 @@
 -- A type below another, or above it (docs/LANGUAGE.md, "Types").
 use Rattle.std.specs.Prelude.{Bool, true, false, List}
 use Rattle.np_syntax.specs.declared.types.Ty.{Ty}
-use Rattle.np_types.specs.Sub.{sub, sub_all}
+use Rattle.np_subtyping.specs.Sub.{sub, sub_all}
 
 abbrev pub Ordered : Bool → Ty → Ty → Bool
 Ordered true a b = sub a b

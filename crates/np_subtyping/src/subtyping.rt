@@ -1,6 +1,6 @@
 ghost use Rattle.std.specs.Prelude.{◌≡◌};
-ghost use Rattle.np_types.specs.Sub.{sub};
-ghost use Rattle.np_types.specs.Ordered.{Ordered, OrderedAll};
+ghost use Rattle.np_subtyping.specs.Sub.{sub};
+ghost use Rattle.np_subtyping.specs.Ordered.{Ordered, OrderedAll};
 
 use super::forms::{is_agent, is_bool, is_int, is_letter, is_places, is_site, is_str};
 use np_syntax::{Cap, Ty};

@@ -1,0 +1,3 @@
+pub mod Comparisons
+pub mod Implies
+pub mod Subs
