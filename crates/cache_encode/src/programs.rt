@@ -5,8 +5,9 @@ ghost use Rattle.cache_encode.specs.Encoded.{encoded_cached, main_of};
 
 use super::translator::translate;
 use daemon_encode::{Translator, behind};
+use daemon_texts::cached_daemon;
 use infrastructure_texts::cached_creations::main_text;
-use infrastructure_texts::{MAIN, Writer, cached_daemon};
+use infrastructure_texts::{MAIN, Writer};
 use np_check::Checked;
 use np_syntax::{Boxed, LowProgram, Memory, Proc, Program, copy_texts};
 use std::alloc::Global;

@@ -8,8 +8,8 @@ ghost use Rattle.infrastructure_texts.specs.CacheTexts as text;
 
 use daemon_encode::{Translated, Translator, behind};
 use infrastructure_texts::cached_creations::agent_text;
-use infrastructure_texts::cached_posts::post_text;
 use infrastructure_texts::variable;
+use migration_texts::cached_post_text;
 use np_syntax::{Boxed, Expr, Memory, Proc, ProcForm, Tag};
 
 /// The low process of a process of this agent, whose new binders are numbered from the next on.
@@ -119,7 +119,7 @@ fn post(
     ensures { IfOk result (λ t. t ≡ spec.posting forms.sites tag.node to.now chan.now value.now from.now next) }
 {
     let behind = behind(next, 4)?;
-    let proc = post_text(forms.writer(tag), from, to, chan, value, next)?;
+    let proc = cached_post_text(forms.writer(tag), from, to, chan, value, next)?;
     Ok(Translated { proc, next: behind })
 }
 

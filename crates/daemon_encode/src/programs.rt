@@ -6,7 +6,8 @@ ghost use Rattle.daemon_encode.specs.Encoded.{encoded, main_of};
 ghost use Rattle.daemon_encode.specs.LowSound.{IsLowSound};
 
 use super::translator::{Translator, behind};
-use infrastructure_texts::{MAIN, Writer, daemon};
+use daemon_texts::daemon;
+use infrastructure_texts::{MAIN, Writer};
 use np_check::Checked;
 use np_syntax::{LowProgram, Memory, Proc, Program, copy_texts};
 use std::alloc::Global;

@@ -9,6 +9,7 @@ ghost use Rattle.np_syntax.specs.declared.process.ProcForm.{ProcForm as Form};
 
 use super::translated::Translated;
 use infrastructure_texts::{Made, Writer, variable};
+use migration_texts::migrate_text;
 use np_syntax::{Boxed, Expr, Memory, Pat, Proc, ProcForm, Tag, Ty, process_forms};
 use std::alloc::Global;
 
@@ -284,7 +285,7 @@ impl Translator {
         ensures { IfOk result (λ t. t ≡ spec.becomes (text.migrate_text self.sites tag.node agent.now to.now body.proc) body.next) }
     {
         let next = body.next;
-        let proc = self.writer(tag).migrate_text(agent, to, body.proc)?;
+        let proc = migrate_text(self.writer(tag), agent, to, body.proc)?;
         Ok(Translated { proc, next })
     }
 

@@ -1,20 +1,16 @@
-//! The processes that the infrastructures write out: what becomes of the forms that are translated in a way of their own, main's
-//! bracket, and the daemon; with caches and without.
+//! The processes that the infrastructures write out, piece by piece: what a post, a creation and main's bracket become; with caches
+//! and without. What travels is written out in migration_texts, and the daemon in daemon_texts.
 #![tactic(auto)]
 
 pub mod cached_creations;
-pub mod cached_posts;
-mod cached_servers;
-mod caches;
-mod own_names;
-mod pieces;
-mod servers;
+pub mod caches;
+pub mod own_names;
+pub mod pieces;
+mod places;
 mod texts;
 mod writer;
 
-pub use cached_servers::cached_daemon;
 pub use own_names::MAIN;
 pub use pieces::variable;
-pub use servers::daemon;
 pub use texts::Made;
-pub use writer::Writer;
+pub use writer::{Writer, Written};

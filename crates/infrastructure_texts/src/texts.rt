@@ -1,4 +1,4 @@
-//! The three forms that are translated, and main's bracket.
+//! A post, a creation and main's bracket, and what the texts of agents have in common.
 
 ghost use Rattle.std.specs.Prelude.{◌≡◌, IfOk};
 ghost use Rattle.np_syntax.specs.declared.process.Proc.{Proc};
@@ -8,9 +8,7 @@ ghost use Rattle.infrastructure_texts.specs.Pieces as piece;
 ghost use Rattle.infrastructure_texts.specs.Pieces.{Writes};
 ghost use Rattle.infrastructure_texts.specs.Texts as spec;
 
-use super::own_names::{
-    ACK, CURRENTLOC, DACK, DAEMON, DELIVER, MAIN, MESSAGE, MIGRATED, MIGRATING, REGISTER,
-};
+use super::own_names::{ACK, CURRENTLOC, DACK, DAEMON, DELIVER, MAIN, MESSAGE, REGISTER};
 use super::pieces::{expression, name, nothing, pair, site, two_names, unit, variable};
 use super::writer::{Writer, Written};
 use np_syntax::{Boxed, Expr, ExprForm, Memory, Proc, ProcForm};
@@ -42,39 +40,6 @@ impl Writer {
     {
         let place = self.gives(self.channel(CURRENTLOC), at);
         self.takes(self.channel(ACK), nothing(), self.beside(body, place))
-    }
-
-    /// An agent tells its new site.
-    fn reports(self, agent: &Expr, at: &Expr) -> Written
-        ensures { Writes result (piece.tells self.sites self.node (piece.migrated self.sites) (piece.pair agent.now at.now)) }
-    {
-        let report = pair(self.alloc, agent.copy(self.alloc), at.copy(self.alloc));
-        self.tells(self.channel(MIGRATED), report)
-    }
-
-    /// The migration itself, and the report of the new site.
-    fn move_text(self, agent: &Expr, to: &Expr, body: Written) -> Written
-        ensures { (p : Proc) → Writes body p → Writes result (spec.move_text self.sites self.node agent.now to.now p) }
-    {
-        let settled = self.settles(to.copy(self.alloc)?, body);
-        let arrived = self.beside(settled, self.reports(agent, to));
-        self.plain(ProcForm::Migrate(to.copy(self.alloc)?, arrived?))
-    }
-
-    /// A migration of an agent, and what it does at the site.
-    pub fn migrate_text(
-        self,
-        agent: &Expr,
-        to: &Expr,
-        body: Boxed<Proc>,
-    ) -> Result<Boxed<Proc>, Memory>
-        ensures { IfOk result (λ p. p ≡ spec.migrate_text self.sites self.node agent.now to.now body) }
-    {
-        let moves = self.move_text(agent, to, Ok(body));
-        let granted = self.takes(self.channel(ACK), nothing(), moves);
-        let asks = self.tells(self.channel(MIGRATING), agent.copy(self.alloc));
-        let both = self.beside(granted, asks);
-        self.takes(self.channel(CURRENTLOC), nothing(), both)
     }
 
     /// What takes the letters of an agent.

@@ -7,11 +7,13 @@ ghost use Rattle.np_syntax.specs.declared.process.Role.TheVariants as role;
 ghost use Rattle.np_syntax.specs.declared.expression.Expr.{Expr};
 ghost use Rattle.np_syntax.specs.declared.pattern.Pat.{Pat};
 ghost use Rattle.np_syntax.specs.declared.process.Proc.{Proc};
+ghost use Rattle.np_syntax.specs.declared.process.ProcForm as form;
 ghost use Rattle.infrastructure_texts.specs.Pieces as spec;
 ghost use Rattle.infrastructure_texts.specs.Pieces.{Writes};
 
 use super::own_names::DAEMON;
 use super::pieces::{expression, site, variable};
+use np_syntax::process_forms::iflocal;
 use np_syntax::{Boxed, Expr, ExprForm, Memory, Name, Pat, Proc, ProcForm, Role, Tag, Value};
 use std::alloc::Global;
 
@@ -135,5 +137,29 @@ impl Writer {
         let stop = self.infra(ProcForm::Stop);
         let (agent, places) = (variable(agent), variable(places));
         self.infra(ProcForm::Lookup(agent, places, lock, body?, stop?))
+    }
+
+    /// `iflocal <b>c!e then 0 else P`
+    pub fn meets(self, agent: &Expr, chan: &Expr, value: &Expr, unmet: Written) -> Written
+        ensures { (p : Proc) → Writes unmet p → Writes result (spec.infra self.node (form.IfLocal agent.now chan.now value.now (spec.stop self.node) p)) }
+    {
+        let stop = self.infra(ProcForm::Stop);
+        let tried = iflocal(self.alloc, agent, chan, value, stop?, unmet?)?;
+        self.infra(tried)
+    }
+
+    /// `migrate to e -> P`
+    pub fn goes(self, to: Result<Expr, Memory>, body: Written) -> Written
+        ensures { (e : Expr) (p : Proc) → Writes to e → Writes body p → Writes result (spec.process self.node role.Plain (form.Migrate e p)) }
+    {
+        self.plain(ProcForm::Migrate(to?, body?))
+    }
+
+    /// `agent c = P in 0`, a messenger for a post
+    pub fn hires(self, messenger: u32, body: Written) -> Written
+        ensures { (p : Proc) → Writes body p → Writes result (spec.process self.node role.Post (form.Agent messenger p (spec.stop self.node))) }
+    {
+        let stop = self.infra(ProcForm::Stop);
+        self.boxed(Role::Post, ProcForm::Agent(messenger, body?, stop?))
     }
 }

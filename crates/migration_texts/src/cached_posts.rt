@@ -2,18 +2,16 @@
 
 ghost use Rattle.std.specs.Prelude.{◌≡◌, ◌+◌, ◌≤◌, IfOk};
 ghost use Rattle.np_syntax.specs.declared.process.Proc.{Proc};
-ghost use Rattle.np_syntax.specs.declared.process.ProcForm as shape;
 ghost use Rattle.infrastructure_texts.specs.Pieces as piece;
 ghost use Rattle.infrastructure_texts.specs.Pieces.{Writes};
 ghost use Rattle.infrastructure_texts.specs.Texts as central;
 ghost use Rattle.infrastructure_texts.specs.CacheTexts as spec;
 
-use super::caches::{keeps, looks};
-use super::own_names::{CACHE, MESSAGE, WHERE};
-use super::pieces::{name, pair, variable};
-use super::writer::{Writer, Written};
-use np_syntax::process_forms::iflocal;
-use np_syntax::{Boxed, Expr, Memory, Proc, ProcForm, Role};
+use infrastructure_texts::caches::{keeps, looks};
+use infrastructure_texts::own_names::{CACHE, MESSAGE, WHERE};
+use infrastructure_texts::pieces::{name, pair, variable};
+use infrastructure_texts::{Writer, Written};
+use np_syntax::{Boxed, Expr, Memory, Proc, ProcForm};
 
 /// The daemon is asked where an agent is.
 fn asks(writer: Writer, from: &Expr, to: &Expr) -> Written
@@ -43,15 +41,6 @@ fn hands_back(writer: Writer, from: &Expr, to: &Expr, chan: &Expr, value: &Expr)
     writer.beside(message, asks(writer, from, to))
 }
 
-/// A messenger looks for the agent at its site.
-fn meets(writer: Writer, to: &Expr, chan: &Expr, value: &Expr, unmet: Written) -> Written
-    ensures { (p : Proc) → Writes unmet p → Writes result (piece.infra writer.node (shape.IfLocal to.now chan.now value.now (piece.stop writer.node) p)) }
-{
-    let stop = writer.infra(ProcForm::Stop);
-    let tried = iflocal(writer.alloc, to, chan, value, stop?, unmet?)?;
-    writer.infra(tried)
-}
-
 /// What a messenger does, whose hint is a site.
 fn messenger_text(
     writer: Writer,
@@ -64,7 +53,7 @@ fn messenger_text(
     ensures { Writes result (spec.messenger_text writer.sites writer.node from.now to.now chan.now value.now at) }
 {
     let unmet = hands_back(writer, from, to, chan, value);
-    let tries = meets(writer, to, chan, value, unmet);
+    let tries = writer.meets(to, chan, value, unmet);
     writer.infra(ProcForm::Migrate(variable(at), tries?))
 }
 
@@ -81,8 +70,7 @@ fn makes_messenger(
     ensures { Writes result (spec.makes_messenger writer.sites writer.node from.now to.now chan.now value.now at messenger) }
 {
     let body = messenger_text(writer, from, to, chan, value, at);
-    let stop = writer.infra(ProcForm::Stop);
-    writer.boxed(Role::Post, ProcForm::Agent(messenger, body?, stop?))
+    writer.hires(messenger, body)
 }
 
 /// A process takes the site of a hint, and another has the cache.

@@ -4,10 +4,10 @@ ghost use Rattle.std.specs.Prelude.{◌≡◌, ◌+◌, ◌≤◌, IfOk};
 ghost use Rattle.infrastructure_texts.specs.Pieces.{Writes};
 ghost use Rattle.infrastructure_texts.specs.CacheDaemon as spec;
 
-use super::own_names::{FOUND, WHERE};
-use super::pieces::{name, pair, two_names, variable};
-use super::servers::daemon;
-use super::writer::{Writer, Written};
+use super::servers::{daemon_text, frees, notes};
+use infrastructure_texts::own_names::{FOUND, WHERE};
+use infrastructure_texts::pieces::{name, pair, two_names, variable};
+use infrastructure_texts::{Writer, Written};
 use np_syntax::{Boxed, Memory, Proc};
 use std::alloc::Global;
 
@@ -29,7 +29,7 @@ pub fn cached_daemon(
         sites,
         node: 0,
     };
-    let central = Boxed::of(alloc, daemon(alloc, sites, at, first_binder)?);
+    let central = daemon_text(writer, at, first_binder);
     writer.beside(central, where_server(writer, first_binder + 21))
 }
 
@@ -63,9 +63,9 @@ fn where_server(writer: Writer, first: u32) -> Written
     requires numbers { first + 6 ≤ u32.MAX }
     ensures { Writes result (spec.where_server writer.sites first (first + 1) (first + 2) (first + 3) (first + 4) (first + 5) (first + 6)) }
 {
-    let both = writer.beside(reads_locks(writer, first), writer.frees(first + 2));
+    let both = writer.beside(reads_locks(writer, first), frees(writer, first + 2));
     let known = writer.finds(first, first + 2, first + 4, both);
     let found = writer.finds(first + 1, first + 2, first + 3, known);
     let names = two_names(writer.alloc, first, first + 1);
-    writer.notes(WHERE, names, first + 2, found)
+    notes(writer, WHERE, names, first + 2, found)
 }
