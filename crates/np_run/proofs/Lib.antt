@@ -1,5 +1,2 @@
 mod Answered
 mod Headlines
-pub mod Outcomes
-pub mod Sources
-pub mod Histories

@@ -1,4 +1,4 @@
-ghost use Rattle.np_run.specs.Laws.{Completes, CountsLong, CountsLongHistories, RefusesHistories, RefusesHistoriesOnce, RefusesLong, RefusesLongHistories, RefusesOnce, RefusesSources, RefusesWords};
+ghost use Rattle.np_outcomes.specs.Laws.{Completes, CountsLong, CountsLongHistories, RefusesHistories, RefusesHistoriesOnce, RefusesLong, RefusesLongHistories, RefusesOnce, RefusesSources, RefusesWords};
 
 /// Where no read or write failed, and each text that is read is accepted, the status is 0 or 1, or 6 if memory ran out.
 pub fn law_completes()

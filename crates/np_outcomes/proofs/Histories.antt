@@ -27,9 +27,9 @@ use Rattle.np_sources.specs.Laws as source_laws
 use Rattle.np_modes.specs.Readings.{IsUnread}
 use Rattle.np_modes.specs.Causes.{Does, HasMade, IsFit, IsLowered, IsUnfit, OfResume, RefusesHistory, RefusesRun, RefusesSaved, RefusesPlan, Stands}
 use Rattle.np_run.specs.Answers.{Call}
-use Rattle.np_run.specs.Laws.{FaultyHistory, Follows, IsTold, Purpose, ReadsHistory}
-use Rattle.np_run.proofs.Outcomes.{one, refused_plan, told, same_text}
-use Rattle.np_run.proofs.Sources.{source_says, says_faulty, unfit_status}
+use Rattle.np_outcomes.specs.Laws.{FaultyHistory, Follows, IsTold, Purpose, ReadsHistory}
+use Rattle.np_outcomes.proofs.Outcomes.{one, refused_plan, told, same_text}
+use Rattle.np_outcomes.proofs.Sources.{source_says, says_faulty, unfit_status}
 
 -- ---- one refusal, or none
 

@@ -9,7 +9,7 @@ use Rattle.np_verdict.specs.declared.refusal.Refusal.TheVariants.{Usage, ReadFau
 use Rattle.np_modes.specs.Readings.{IsText}
 use Rattle.np_modes.specs.Causes.{HasMade, RefusesPlan, Stands}
 use Rattle.np_run.specs.Answers.{Call, HasCauses, IsRefused}
-use Rattle.np_run.specs.Laws.{IsTold}
+use Rattle.np_outcomes.specs.Laws.{IsTold}
 use Rattle.np_run.specs.declared.answer.Answer.{Answer}
 
 -- ---- plans and texts

@@ -17,9 +17,9 @@ use Rattle.np_sources.specs.Laws as source_laws
 use Rattle.np_histories.specs.Laws as history_laws
 use Rattle.np_run.specs.Answers.{Call}
 use Rattle.np_run.specs.declared.answer.Answer.{Answer}
-use Rattle.np_run.proofs.Outcomes.{Outcome, outcome}
-use Rattle.np_run.proofs.Sources.{unfit_status}
-use Rattle.np_run.proofs.laws.law_refuses_words.Goals as goal
+use Rattle.np_outcomes.proofs.Outcomes.{Outcome, outcome}
+use Rattle.np_outcomes.proofs.Sources.{unfit_status}
+use Rattle.np_outcomes.proofs.laws.law_refuses_words.Goals as goal
 
 module _ (sources : source_laws.HaveOneAnswer) (histories : history_laws.HaveOneAnswer) where
   -- where the words ask for nothing that the program does, usage alone stands

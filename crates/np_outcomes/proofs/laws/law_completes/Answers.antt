@@ -13,11 +13,11 @@ use Rattle.np_modes.specs.Causes.{RefusesPlan, Stands}
 use Rattle.np_sources.specs.Laws as source_laws
 use Rattle.np_histories.specs.Laws as history_laws
 use Rattle.np_run.specs.Answers.{Call}
-use Rattle.np_run.specs.Laws.{Accepts, FailsWith, Purpose}
-use Rattle.np_run.proofs.Outcomes.{refused_plan}
-use Rattle.np_run.proofs.Sources.{source_says}
-use Rattle.np_run.proofs.Histories as history
-use Rattle.np_run.proofs.laws.law_completes.Goals as goal
+use Rattle.np_outcomes.specs.Laws.{Accepts, FailsWith, Purpose}
+use Rattle.np_outcomes.proofs.Outcomes.{refused_plan}
+use Rattle.np_outcomes.proofs.Sources.{source_says}
+use Rattle.np_outcomes.proofs.Histories as history
+use Rattle.np_outcomes.proofs.laws.law_completes.Goals as goal
 
 module _ (sources : source_laws.HaveOneAnswer) (histories : history_laws.HaveOneAnswer) where
   -- no refusal says anything of an accepted source

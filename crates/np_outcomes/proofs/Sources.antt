@@ -19,8 +19,8 @@ use Rattle.np_on_sites.specs.declared.record.Record.{Record}
 use Rattle.np_modes.specs.Readings.{IsUnread}
 use Rattle.np_modes.specs.Causes.{Does, HasMade, IsFaultySource, IsUnfit, RefusesSource, RefusesRun, RefusesSaved, RefusesPlan, Stands}
 use Rattle.np_run.specs.Answers.{Call}
-use Rattle.np_run.specs.Laws.{FailsWith, HasSource, IsTold, Reads, ReadsBoth, Replays}
-use Rattle.np_run.proofs.Outcomes.{one, refused_plan, told, same_text}
+use Rattle.np_outcomes.specs.Laws.{FailsWith, HasSource, IsTold, Reads, ReadsBoth, Replays}
+use Rattle.np_outcomes.proofs.Outcomes.{one, refused_plan, told, same_text}
 
 -- ---- what a refusal says
 

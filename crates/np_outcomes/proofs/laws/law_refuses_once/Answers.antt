@@ -9,11 +9,11 @@ use Rattle.np_modes.specs.Causes.{Stands}
 use Rattle.np_sources.specs.Laws as source_laws
 use Rattle.np_histories.specs.Laws as history_laws
 use Rattle.np_run.specs.Answers.{Call, IsRefused}
-use Rattle.np_run.specs.Laws.{FailsWith, Reads, RefusesAlone}
+use Rattle.np_outcomes.specs.Laws.{FailsWith, Reads, RefusesAlone}
 use Rattle.np_run.specs.declared.answer.Answer.{Answer}
-use Rattle.np_run.proofs.Outcomes.{Outcome, outcome}
-use Rattle.np_run.proofs.Sources.{Cause, stands_cause, made_accepts}
-use Rattle.np_run.proofs.laws.law_refuses_once.Goals as goal
+use Rattle.np_outcomes.proofs.Outcomes.{Outcome, outcome}
+use Rattle.np_outcomes.proofs.Sources.{Cause, stands_cause, made_accepts}
+use Rattle.np_outcomes.proofs.laws.law_refuses_once.Goals as goal
 
 module _ (sources : source_laws.HaveOneAnswer) (histories : history_laws.HaveOneAnswer) where
   module _ (call : Call) (asked : Plan) (reach : Reach) (bytes : List ℕ) (r : Reads call asked reach bytes) where

@@ -7,11 +7,11 @@ use Rattle.np_verdict.specs.declared.refusal.Refusal.TheVariants.{TooLong}
 use Rattle.np_sources.specs.Laws as source_laws
 use Rattle.np_histories.specs.Laws as history_laws
 use Rattle.np_run.specs.Answers.{Call, IsRefused}
-use Rattle.np_run.specs.Laws.{Reads}
+use Rattle.np_outcomes.specs.Laws.{Reads}
 use Rattle.np_run.specs.declared.answer.Answer.{Answer}
-use Rattle.np_run.proofs.Outcomes.{Outcome, outcome}
-use Rattle.np_run.proofs.Sources.{Cause, IsOfHistory, stands_cause, made_accepts}
-use Rattle.np_run.proofs.laws.law_refuses_long.Goals as goal
+use Rattle.np_outcomes.proofs.Outcomes.{Outcome, outcome}
+use Rattle.np_outcomes.proofs.Sources.{Cause, IsOfHistory, stands_cause, made_accepts}
+use Rattle.np_outcomes.proofs.laws.law_refuses_long.Goals as goal
 
 module _ (sources : source_laws.HaveOneAnswer) (histories : history_laws.HaveOneAnswer) where
   -- of a source that is too long no other refusal says anything

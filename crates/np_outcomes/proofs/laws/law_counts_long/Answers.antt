@@ -12,8 +12,8 @@ use Rattle.np_modes.specs.Causes.{Does, IsFaultySource}
 use Rattle.np_sources.specs.Laws as source_laws
 use Rattle.np_run.specs.Answers.{Call, IsRefused}
 use Rattle.np_run.specs.declared.answer.Answer.{Answer}
-use Rattle.np_run.proofs.Outcomes.{Outcome, outcome, one, refused_plan}
-use Rattle.np_run.proofs.laws.law_counts_long.Goals as goal
+use Rattle.np_outcomes.proofs.Outcomes.{Outcome, outcome, one, refused_plan}
+use Rattle.np_outcomes.proofs.laws.law_counts_long.Goals as goal
 
 module _ (sources : source_laws.HaveOneAnswer) where
   -- what is refused as too long has more than a source may have

@@ -9,8 +9,8 @@ use Rattle.np_modes.specs.Readings.{Reading}
 use Rattle.np_modes.specs.Causes.{Does, RefusesHistory}
 use Rattle.np_run.specs.Answers.{Call, IsRefused}
 use Rattle.np_run.specs.declared.answer.Answer.{Answer}
-use Rattle.np_run.proofs.Outcomes.{Outcome, outcome, one, refused_plan}
-use Rattle.np_run.proofs.laws.law_counts_long_histories.Goals as goal
+use Rattle.np_outcomes.proofs.Outcomes.{Outcome, outcome, one, refused_plan}
+use Rattle.np_outcomes.proofs.laws.law_counts_long_histories.Goals as goal
 
 -- what is refused as too long has more than a history may have
 counted : (texts : Reading) (history : List ℕ) → RefusesHistory texts history HistoryTooLong → LONGEST_HISTORY < texts.taken

@@ -6,11 +6,11 @@ use Rattle.np_sources.specs.Reaches.{Reach, FaultyTo}
 use Rattle.np_sources.specs.Laws as source_laws
 use Rattle.np_histories.specs.Laws as history_laws
 use Rattle.np_run.specs.Answers.{Call, IsRefused}
-use Rattle.np_run.specs.Laws.{Reads, Replays}
+use Rattle.np_outcomes.specs.Laws.{Reads, Replays}
 use Rattle.np_run.specs.declared.answer.Answer.{Answer}
-use Rattle.np_run.proofs.Outcomes.{Outcome, outcome}
-use Rattle.np_run.proofs.Sources.{Cause, stands_cause, says_faulty, made_accepts}
-use Rattle.np_run.proofs.laws.law_refuses_sources.Goals as goal
+use Rattle.np_outcomes.proofs.Outcomes.{Outcome, outcome}
+use Rattle.np_outcomes.proofs.Sources.{Cause, stands_cause, says_faulty, made_accepts}
+use Rattle.np_outcomes.proofs.laws.law_refuses_sources.Goals as goal
 
 module _ (sources : source_laws.HaveOneAnswer) (histories : history_laws.HaveOneAnswer) where
   -- a refusal is the one of the source, or the source is accepted
