@@ -1,5 +1,5 @@
 -- What an agent goes on as by the row of each kind, where the parts of its acting atom's form and their values are known.
-use Rattle.std.proofs.Common.{◌≡◌, ℕ, Bool, true, false, cond, length, Option, None, Some, IsSome, refl, ap, subst, ◌∙◌}
+use Rattle.std.proofs.Common.{◌≡◌, ℕ, Bool, true, false, List, [], ◌∷◌, cond, length, Option, None, Some, IsSome, refl, ap, subst, ◌∙◌}
 use Rattle.std.specs.FinMap as map
 use Rattle.np_syntax.specs.declared.types.Ty.{Ty}
 use Rattle.np_syntax.specs.declared.value.Value as value
@@ -10,6 +10,7 @@ use Rattle.np_syntax.proofs.Options.{done}
 use Rattle.np_calculus.proofs.Common.{Name, Value, Expr, Pat, Kind, ◌>>=◌, ◌>>◌, need, same_name, Env, Change}
 use Rattle.np_calculus.proofs.Common.{chan_of, agent_of, truth_of, letter_of, places_of, eval, bind, no_other, sends, act, here_row, away_row}
 use Rattle.np_calculus.specs.declared.config.Atom.{Atom}
+use Rattle.np_calculus.specs.Changes.{put, cut, still}
 use Rattle.np_calculus.specs.Reductions.{site_in, offered_in}
 use Rattle.np_code.specs.declared.node.Node.{Node}
 use Rattle.np_code.specs.declared.node.NodeForm.{NodeForm}
@@ -147,15 +148,15 @@ module _ {code : ProgramTable} {p : Pool} {r : Ready} {n : Node} {env : Env} (ac
 
 -- an input of the agent that takes an output of the agent
 module _ (code : ProgramTable) (p : Pool) (env : Env) (c : Expr) (pat : Pat) where
-  abbrev pub taking : Option Name → (Name → Env → Option Change) → Option Change
+  abbrev taking : Option Name → (Name → Env → Option Change) → Option Change
   taking other goal =
       chan_of c env >>=
       λ n. other >>= λ o. offered_in (map.get (atoms_of code.processes p)) o p.name n >>= λ v. bind pat v env >>= λ bound. goal o bound
 
-  pub taker-meets : (other : Option Name) (goal : Name → Env → Option Change) → IsSome (taking other goal) → None ≡ other → ⊥
+  taker-meets : (other : Option Name) (goal : Name → Env → Option Change) → IsSome (taking other goal) → None ≡ other → ⊥
   taker-meets other goal some none = some-then (chan_of c env) _ some λ n on some. first-there other _ some none
 
-  pub output-there : (other : Option Name) (o : Name) → other ≡ Some o → (goal : Name → Env → Option Change) → IsSome (taking other goal) → None
+  output-there : (other : Option Name) (o : Name) → other ≡ Some o → (goal : Name → Env → Option Change) → IsSome (taking other goal) → None
       ≡ value_of (map.get p.atoms o) → ⊥
   output-there other o is goal some none = some-then (chan_of c env) _ some λ n on some.
       first-there (offered_in (map.get (atoms_of code.processes p)) o p.name n) (λ v. bind pat v env >>= goal o) (rw is at some)
@@ -189,8 +190,44 @@ module _ (code : ProgramTable) (p : Pool) (env : Env) (c : Expr) (pat : Pat) whe
         some-then (chan_of c env) _ some λ n on some. goes n on
         (given n (same_name p.name a.agent) (sends a) (goal o) (rw (is, atom-there code p o h gets) at some))
 
-    pub output-fits : None ≡ taken_in a pat env → ⊥
+    output-fits : None ≡ taken_in a pat env → ⊥
     output-fits none = fitting λ n on g. absurd (let x = none ∙ g.takes in cc)
 
-    pub taking-is : (bound : Env) → Some bound ≡ taken_in a pat env → (to : Name → Env → Option Change) → taking other to ≡ to o bound
+    taking-is : (bound : Env) → Some bound ≡ taken_in a pat env → (to : Name → Env → Option Change) → taking other to ≡ to o bound
     taking-is bound takes to = fitting λ n on g. rw (on, is, atom-there code p o h gets) (g.goes (to o) ∙ ap (to o) (done (takes ∙ g.takes)))
+
+-- a met row of an acting input, by which it takes an output of the agent
+pub record Takes (code : ProgramTable) (p : Pool) (r : Ready) (k : Kind) (env : Env) (c : Expr) (pat : Pat) (goal : Name → Env → Change) : Type 0 where
+  pub row : (site : ℕ) → change_in k (own_sight code p false) (event_of site r made.Nothing) ≡ taking code p env c pat r.other (λ o bound. Some (goal o bound))
+  pub met : IsSome (taking code p env c pat r.other (λ o bound. Some (goal o bound)))
+
+module _ {code : ProgramTable} {p : Pool} {r : Ready} {n : Node} {env : Env} (acts : ActsAs code p r n env) {c : Expr} {pat : Pat} {b : ℕ} where
+  pub comm-takes : n.form ≡ node.Inp c pat b → IsMet kind.Comm code p r made.Nothing
+      → Takes code p r kind.Comm env c pat (λ o bound. record still { atoms = put r.actor (atom_of code.processes p.name (held.Node b bound)) ∷ cut o ∷ [] })
+  unfolding act
+  comm-takes is met = record { row = row-is acts kind.Comm false made.Nothing _ is met; met = row-met acts kind.Comm false made.Nothing _ is met }
+
+  pub rep-takes : n.form ≡ node.Rep c pat b → IsMet kind.Rep code p r made.Nothing
+      → Takes code p r kind.Rep env c pat (λ o bound. record still { atoms = put o (atom_of code.processes p.name (held.Node b bound)) ∷ [] })
+  unfolding act
+  rep-takes is met = record { row = row-is acts kind.Rep false made.Nothing _ is met; met = row-met acts kind.Rep false made.Nothing _ is met }
+
+-- what such a row says of the output, which the agent's index has
+module _ {code : ProgramTable} {p : Pool} {r : Ready} {k : Kind} {env : Env} {c : Expr} {pat : Pat} {goal : Name → Env → Change} (t : Takes code p r k env c pat goal) where
+  pub names-output : None ≡ r.other → ⊥
+  names-output = taker-meets code p env c pat r.other _ t.met
+
+  module _ {o : Name} (is : r.other ≡ Some o) {q : Pool} (same : q ≡ p) where
+    pub has-output : None ≡ value_of (map.get q.atoms o) → ⊥
+    has-output none = output-there code p env c pat r.other o is _ t.met (subst (λ (x : Pool). None ≡ value_of (map.get x.atoms o)) same none)
+
+    module _ {h : Held} (gets : Some h ≡ value_of (map.get q.atoms o)) where
+      there : Some h ≡ value_of (map.get p.atoms o)
+      there = subst (λ (x : Pool). Some h ≡ value_of (map.get x.atoms o)) same gets
+
+      pub fits-output : None ≡ taken_in (atom_of code.processes p.name h) pat env → ⊥
+      fits-output = output-fits code p env c pat r.other o is h there _ t.met
+
+      pub takes-output : {bound : Env} → Some bound ≡ taken_in (atom_of code.processes p.name h) pat env → (site : ℕ)
+          → change_in k (own_sight code p false) (event_of site r made.Nothing) ≡ Some (goal o bound)
+      takes-output takes site = t.row site ∙ taking-is code p env c pat r.other o is h there _ t.met _ takes (λ o bound. Some (goal o bound))
