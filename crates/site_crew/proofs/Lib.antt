@@ -6,9 +6,11 @@ pub mod Doing
 pub mod Enabled
 pub mod Goings
 pub mod Pairs
+pub mod Placed
 pub mod Possible
 pub mod Redoing
 pub mod Replacing
+pub mod Reseated
 pub mod Running
 pub mod Spending
 pub mod Standing

@@ -1,3 +1,4 @@
+use Rattle.std.proofs.lemmas.Grind.{common_steps}
 use Rattle.std.proofs.Common.{◌≡◌, List, length, arith, refl, subst}
 use Rattle.np_syntax.specs.declared.event.Event.{Event}
 use Rattle.site_crew.specs.Following.{HaveDone}
@@ -40,3 +41,12 @@ returns-clause-clocks g c =
     let is : c.loop-k.k ≡ length c.args.events.now = omega arith in
     let done = subst (λ (l : List Event). HaveDone g.P.Port c.args.code.now c.args.budget l c.loop-k.seats) (take-all c.args.events.now c.loop-k.k is) c.loop-k.invariant.done in
     λ yes. all_at (done_late done c.catch_all.ensures.stand c.catch_all.ensures.rest) c.catch_all.ensures.late
+
+pub returns-clause-why : goal.returns-clause-why
+returns-clause-why g c = grind (arith, common_steps)
+
+pub returns-then-not-branch-clause-clocks : goal.returns-then-not-branch-clause-clocks
+returns-then-not-branch-clause-clocks g c = grind (arith, common_steps)
+
+pub returns-then-not-branch-clause-done : goal.returns-then-not-branch-clause-done
+returns-then-not-branch-clause-done g c = grind (arith, common_steps)

@@ -1,3 +1,4 @@
+use Rattle.std.proofs.lemmas.Grind.{common_steps}
 use Rattle.std.proofs.Common.{◌≡◌, ◌+◌, ◌-◌, ◌≤◌, Some, get_or, take, length, arith}
 use Rattle.std.specs.Prelude.{slice_get}
 use Rattle.std.proofs.lemmas.Option.{slice_get-get_or}
@@ -44,3 +45,9 @@ returns-else-comes-clause-why g c =
     let at : slice_get es k ≡ Some e = slice_get-get_or es k no_event c.requires.at in
     let own = is_own e.kind c.comes.result c.comes.ensures c.if-comes.false in
     on_no c.redo_at.result (λ none. record { event = e; at = at; missed = HaveMissed.own own none }) c.redo_at.ensures.why
+
+pub returns-then-event-seats-clause-ok : goal.returns-then-event-seats-clause-ok
+returns-then-event-seats-clause-ok g c = grind (arith, common_steps)
+
+pub returns-then-event-seats-clause-grow : goal.returns-then-event-seats-clause-grow
+returns-then-event-seats-clause-grow g c = grind (arith, common_steps)

@@ -1,4 +1,5 @@
-use Rattle.std.proofs.Common.{◌<◌, ◌-◌, ◌∙◌, subst, sym}
+use Rattle.std.proofs.lemmas.Grind.{common_steps}
+use Rattle.std.proofs.Common.{◌<◌, ◌-◌, ◌∙◌, subst, sym, arith}
 use Rattle.site_crew.proofs.Doing.{added_after, added_before}
 use Rattle.site_crew.proofs.Redoing.{not_added_between, rest_of_settled}
 use Rattle.site_crew.proofs.Replacing.{all_rest_later, all_rest_trans, but_none, grows_rest, stand_settled}
@@ -38,3 +39,6 @@ pub returns-clause-no : goal.returns-clause-no
 returns-clause-no g c = λ none.
     let before = all_rest_trans c.catch_at.ensures.rest (all_rest_later (c.args.stamp - 1) c.put_for.ensures.rest) in
     not_added_between before (c.take_at-took.ensures.no none) (rest_of_settled c.settle_to.ensures)
+
+pub catch_at-requires-clause-early : goal.catch_at-requires-clause-early
+catch_at-requires-clause-early g c = grind (arith, common_steps)

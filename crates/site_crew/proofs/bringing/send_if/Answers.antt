@@ -1,4 +1,5 @@
-use Rattle.std.proofs.Common.{refl, ap, ◌∙◌, ◌++◌, append-nil}
+use Rattle.std.proofs.lemmas.Grind.{common_steps}
+use Rattle.std.proofs.Common.{refl, ap, ◌∙◌, ◌++◌, append-nil, arith}
 use Rattle.site_links.proofs.Kept.{Keeps-refl}
 use Rattle.site_links.proofs.Rows.{only_at-other}
 use Rattle.site_turn.proofs.Steps.{address, back_place, back_within, turned_back, turned_sent, turned_stays}
@@ -42,3 +43,15 @@ returns-in-Err-clause-moves g c = λ i. record {
 
 pub returns-in-None-clause-moves : goal.returns-in-None-clause-moves
 returns-in-None-clause-moves g c = λ i. moves_alone (turned_stays c.in-None.ensures.same.same refl refl refl (λ h. h)) refl refl
+
+pub returns-in-Ok-clause-rests : goal.returns-in-Ok-clause-rests
+returns-in-Ok-clause-rests g c = grind (arith, common_steps)
+
+pub returns-in-None-clause-rests : goal.returns-in-None-clause-rests
+returns-in-None-clause-rests g c = grind (arith, common_steps)
+
+pub returns-in-Err-clause-rests : goal.returns-in-Err-clause-rests
+returns-in-Err-clause-rests g c = grind (arith, common_steps)
+
+pub returns-then-not-brings-clause-rests : goal.returns-then-not-brings-clause-rests
+returns-then-not-brings-clause-rests g c = grind (arith, common_steps)

@@ -1,4 +1,5 @@
-use Rattle.std.proofs.Common.{◌++◌, refl, ap, sym, ◌∙◌}
+use Rattle.std.proofs.lemmas.Grind.{common_steps}
+use Rattle.std.proofs.Common.{◌++◌, refl, ap, sym, ◌∙◌, arith}
 use Rattle.site_state.specs.Lines.{queue_at}
 use Rattle.site_turn.proofs.Steps.{turned_received, turned_refl, turned_still}
 use Rattle.site_crew.proofs.Redoing.{has_accepted, moves_alone, port_admitted}
@@ -36,3 +37,12 @@ returns-in-None-clause-moves g c =
       got = λ apart k. absurd (apart refl);
       waits = λ apart. refl;
     }
+
+pub returns-in-None-clause-yes : goal.returns-in-None-clause-yes
+returns-in-None-clause-yes g c = grind (arith, common_steps)
+
+pub returns-in-Some-clause-no : goal.returns-in-Some-clause-no
+returns-in-Some-clause-no g c = grind (arith, common_steps)
+
+pub admit-requires-clause-room : goal.admit-requires-clause-room
+admit-requires-clause-room g c = grind (arith, common_steps)

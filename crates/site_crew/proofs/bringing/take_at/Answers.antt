@@ -1,13 +1,10 @@
-use Rattle.std.proofs.Common.{◌≡◌, Some, get_or, subst}
+use Rattle.std.proofs.lemmas.Grind.{common_steps}
+use Rattle.std.proofs.Common.{arith}
 use borrow.Author.Rules.{scaled_Fits}
-use Rattle.std.specs.Prelude.{slice_get}
-use Rattle.std.proofs.lemmas.List.{get_or-set_same}
 use Rattle.std.proofs.lemmas.Option.{slice_get-get_or}
-use Rattle.stamp_history.specs.Histories.{IsHistory}
-use Rattle.site_turn.specs.declared.seat.Seat.{Seat}
-use Rattle.site_crew.proofs.Goings.{seat_seated}
-use Rattle.site_crew.proofs.Redoing.{added_one, not_added_at}
-use Rattle.site_crew.proofs.Replacing.{grows_moved, stand_moved}
+use Rattle.site_crew.proofs.Placed.{added_placed, grow_placed, history_placed, seated_placed}
+use Rattle.site_crew.proofs.Redoing.{not_added_at}
+use Rattle.site_crew.proofs.Replacing.{stand_moved}
 use Rattle.site_crew.proofs.bringing.take_at.Goals as goal
 
 pub offset_bounds-seats-at : goal.offset_bounds-seats-at
@@ -17,33 +14,23 @@ pub offset_bounds-seats-at-2 : goal.offset_bounds-seats-at-2
 offset_bounds-seats-at-2 g c = scaled_Fits _ _ _ c.requires.at (search (c.well_formed))
 
 pub take_for-took-requires-after_bounds : goal.take_for-took-requires-after_bounds
-take_for-took-requires-after_bounds g c κs within =
-    let xs = c.args.seats.now in let i = c.args.event.site in let x = c.index-seats-at.result in
-    seat_seated (c.requires.stand.seats.each i (get_or xs i x) (slice_get-get_or xs i x c.requires.at))
+take_for-took-requires-after_bounds g c κs within = seated_placed _ c.requires.at c.requires.stand.seats c.index-seats-at.result
 
 pub returns-clause-stand : goal.returns-clause-stand
 returns-clause-stand g c =
-    let xs = c.args.seats.now in let i = c.args.event.site in let a = get_or xs i c.index-seats-at.result in
-    let at : slice_get xs i ≡ Some a = slice_get-get_or xs i c.index-seats-at.result c.requires.at in
-    let new = c.take_for-took.new.seat in
-    let history : IsHistory new.site.history =
-    subst (λ (s : Seat _). IsHistory s.site.history) (get_or-set_same xs i new c.index-seats-at-2.result c.requires.at) c.count.ensures.history in
-    stand_moved c.requires.stand at (c.take_for-took.ensures.moves i) history
+    stand_moved c.requires.stand (slice_get-get_or c.args.seats.now c.args.event.site c.index-seats-at.result c.requires.at) (c.take_for-took.ensures.moves c.args.event.site)
+    (history_placed _ c.requires.at c.take_for-took.new.seat c.index-seats-at-2.result c.count.ensures.history)
 
 pub returns-clause-grow : goal.returns-clause-grow
-returns-clause-grow g c =
-    let xs = c.args.seats.now in let i = c.args.event.site in let a = get_or xs i c.index-seats-at.result in
-    let at : slice_get xs i ≡ Some a = slice_get-get_or xs i c.index-seats-at.result c.requires.at in
-    grows_moved xs i a c.take_for-took.new.seat at (c.take_for-took.ensures.moves i).turned
+returns-clause-grow g c = grow_placed _ c.requires.at c.index-seats-at.result (c.take_for-took.ensures.moves c.args.event.site).turned
 
 pub returns-clause-yes : goal.returns-clause-yes
-returns-clause-yes g c = λ e.
-    let xs = c.args.seats.now in let i = c.args.event.site in let a = get_or xs i c.index-seats-at.result in
-    let at : slice_get xs i ≡ Some a = slice_get-get_or xs i c.index-seats-at.result c.requires.at in
-    added_one c.args.event c.args.stamp xs a c.take_for-took.new.seat at (c.take_for-took.ensures.yes e)
+returns-clause-yes g c = λ e. added_placed c.args.event c.args.stamp _ c.requires.at c.index-seats-at.result c.take_for-took.new.seat (c.take_for-took.ensures.yes e)
 
 pub returns-clause-no : goal.returns-clause-no
 returns-clause-no g c = λ e.
-    let xs = c.args.seats.now in let i = c.args.event.site in let a = get_or xs i c.index-seats-at.result in
-    let at : slice_get xs i ≡ Some a = slice_get-get_or xs i c.index-seats-at.result c.requires.at in
-    not_added_at c.args.event c.args.stamp xs a c.take_for-took.new.seat at (c.take_for-took.ensures.no e)
+    not_added_at c.args.event c.args.stamp c.args.seats.now _ c.take_for-took.new.seat (slice_get-get_or c.args.seats.now c.args.event.site c.index-seats-at.result c.requires.at)
+    (c.take_for-took.ensures.no e)
+
+pub bounds-seats-at-2 : goal.bounds-seats-at-2
+bounds-seats-at-2 g c = grind (arith, common_steps)

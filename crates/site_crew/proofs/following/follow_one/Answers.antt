@@ -1,3 +1,4 @@
+use Rattle.std.proofs.lemmas.Grind.{common_steps}
 use Rattle.std.proofs.Common.{◌≡◌, ◌+◌, ◌-◌, ◌≤◌, Some, get_or, take, length, arith}
 use Rattle.std.specs.Prelude.{slice_get}
 use Rattle.std.proofs.lemmas.Option.{slice_get-get_or}
@@ -43,3 +44,6 @@ returns-else-eq-clause-ok g c =
     let at : slice_get es k ≡ Some e = slice_get-get_or es k no_event c.requires.at in
     let low : 0 ≤ k = omega arith in
     on_ok c.force_at.result (followed_one g.P.Port c.args.code.now es k e 0 c.requires.done at c.force_at.ensures.stand low) c.force_at.ensures.ok
+
+pub returns-then-eq-clause-grow : goal.returns-then-eq-clause-grow
+returns-then-eq-clause-grow g c = grind (arith, common_steps)

@@ -1,13 +1,9 @@
-use Rattle.std.proofs.Common.{◌≡◌, Some, get_or, subst}
+use Rattle.std.proofs.lemmas.Grind.{common_steps}
+use Rattle.std.proofs.Common.{arith}
 use borrow.Author.Rules.{scaled_Fits}
-use Rattle.std.specs.Prelude.{slice_get}
-use Rattle.std.proofs.lemmas.List.{get_or-set_same}
 use Rattle.std.proofs.lemmas.Option.{slice_get-get_or}
-use Rattle.stamp_history.specs.Histories.{IsHistory}
-use Rattle.site_turn.specs.declared.seat.Seat.{Seat}
-use Rattle.site_crew.proofs.Goings.{seat_seated}
-use Rattle.site_crew.proofs.Redoing.{added_one, on_ok, stand_alone}
-use Rattle.site_crew.proofs.Replacing.{grows_moved}
+use Rattle.site_crew.proofs.Placed.{added_placed, grow_placed, seated_placed, stand_placed}
+use Rattle.site_crew.proofs.Redoing.{on_ok}
 use Rattle.site_crew.proofs.forcing.force_at.Goals as goal
 
 pub offset_bounds-seats-at : goal.offset_bounds-seats-at
@@ -17,32 +13,19 @@ pub offset_bounds-seats-at-2 : goal.offset_bounds-seats-at-2
 offset_bounds-seats-at-2 g c = scaled_Fits _ _ _ c.requires.at (search (c.well_formed))
 
 pub force-done-requires-clause-seated : goal.force-done-requires-clause-seated
-force-done-requires-clause-seated g c κs within =
-    let xs = c.args.seats.now in let i = c.args.event.site in let x = c.index-seats-at.result in
-    seat_seated (c.requires.stand.seats.each i (get_or xs i x) (slice_get-get_or xs i x c.requires.at))
+force-done-requires-clause-seated g c κs within = seated_placed _ c.requires.at c.requires.stand.seats c.index-seats-at.result
 
 pub force-done-requires-clause-can : goal.force-done-requires-clause-can
-force-done-requires-clause-can g c κs within =
-    let xs = c.args.seats.now in let i = c.args.event.site in let x = c.index-seats-at.result in
-    c.requires.can (get_or xs i x) (slice_get-get_or xs i x c.requires.at)
+force-done-requires-clause-can g c κs within = c.requires.can _ (slice_get-get_or c.args.seats.now c.args.event.site c.index-seats-at.result c.requires.at)
 
 pub returns-clause-stand : goal.returns-clause-stand
-returns-clause-stand g c =
-    let xs = c.args.seats.now in let i = c.args.event.site in let a = get_or xs i c.index-seats-at.result in
-    let at : slice_get xs i ≡ Some a = slice_get-get_or xs i c.index-seats-at.result c.requires.at in
-    let new = c.force-done.new.seat in
-    let history : IsHistory new.site.history =
-    subst (λ (s : Seat _). IsHistory s.site.history) (get_or-set_same xs i new c.index-seats-at-2.result c.requires.at) c.count.ensures.history in
-    stand_alone i c.requires.stand at c.force-done.ensures.turned c.force-done.ensures.port.0 c.force-done.ensures.port.1 history
+returns-clause-stand g c = stand_placed _ c.requires.at c.index-seats-at.result c.force-done.ensures.turned c.requires.stand c.force-done.ensures.port c.index-seats-at-2.result c.count.ensures.history
 
 pub returns-clause-grow : goal.returns-clause-grow
-returns-clause-grow g c =
-    let xs = c.args.seats.now in let i = c.args.event.site in let a = get_or xs i c.index-seats-at.result in
-    let at : slice_get xs i ≡ Some a = slice_get-get_or xs i c.index-seats-at.result c.requires.at in
-    grows_moved xs i a c.force-done.new.seat at c.force-done.ensures.turned
+returns-clause-grow g c = grow_placed _ c.requires.at c.index-seats-at.result c.force-done.ensures.turned
 
 pub returns-clause-ok : goal.returns-clause-ok
-returns-clause-ok g c =
-    let xs = c.args.seats.now in let i = c.args.event.site in let a = get_or xs i c.index-seats-at.result in
-    let at : slice_get xs i ≡ Some a = slice_get-get_or xs i c.index-seats-at.result c.requires.at in
-    on_ok c.force-done.result (added_one c.args.event c.args.stamp xs a c.force-done.new.seat at) c.force-done.ensures.ok
+returns-clause-ok g c = on_ok c.force-done.result (added_placed c.args.event c.args.stamp _ c.requires.at c.index-seats-at.result c.force-done.new.seat) c.force-done.ensures.ok
+
+pub bounds-seats-at-2 : goal.bounds-seats-at-2
+bounds-seats-at-2 g c = grind (arith, common_steps)

@@ -1,3 +1,4 @@
+use Rattle.std.proofs.lemmas.Grind.{common_steps}
 use Rattle.std.proofs.Common.{◌<◌, ◌≤◌, length, arith, subst, sym}
 use Rattle.site_turn.specs.declared.seat.Seat.{Seat}
 use Rattle.site_turn.specs.Turns.{Seated}
@@ -19,3 +20,9 @@ loop-i-preserved g c =
       done = serial_done c.args.seats.now c.loop-i.seats c.loop-i.i c.index-seats-i.result c.turn.new.seat h c.loop-i.invariant.done c.loop-i.invariant.rest c.turn.ensures.turned;
       rest = serial_rest c.args.seats.now c.loop-i.seats c.loop-i.i c.turn.new.seat c.loop-i.invariant.rest;
     }
+
+pub loop-i-init : goal.loop-i-init
+loop-i-init g c = grind (arith, common_steps)
+
+pub offset_bounds-seats-i : goal.offset_bounds-seats-i
+offset_bounds-seats-i g c = grind (arith, common_steps)

@@ -1,4 +1,5 @@
-use Rattle.std.proofs.Common.{subst, sym}
+use Rattle.std.proofs.lemmas.Grind.{common_steps}
+use Rattle.std.proofs.Common.{subst, sym, arith}
 use mathlib.Core.List.{[], ◌∷◌}
 use mir.Syntax.{static}
 use base.Fml.{Lft}
@@ -40,3 +41,6 @@ for_each_mut-requires-clause-accepts g c κs within = λ i p less is. (
     search (sendable, c.type_bounds.sync-G),
   ),
 )
+
+pub returns : goal.returns
+returns g c = grind (arith, common_steps)

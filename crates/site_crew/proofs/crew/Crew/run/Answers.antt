@@ -1,4 +1,5 @@
-use Rattle.std.proofs.Common.{ap, refl, ◌∙◌}
+use Rattle.std.proofs.lemmas.Grind.{common_steps}
+use Rattle.std.proofs.Common.{ap, refl, ◌∙◌, arith}
 use Rattle.site_crew.specs.Crews.{CrewState}
 use Rattle.site_crew.proofs.Crewing.{later_refl}
 use Rattle.site_crew.proofs.Running.{all_later_trans, ended_rest, ended_spent, on_refl, on_trans, went_less}
@@ -41,3 +42,9 @@ returns-in-Rest-clause-on g c = on_trans c.loop.invariant.on c.one_round.ensures
 
 pub returns-in-Spent-clause-on : goal.returns-in-Spent-clause-on
 returns-in-Spent-clause-on g c = on_trans c.loop.invariant.on c.one_round.ensures.on
+
+pub returns-in-Spent-clause-failed : goal.returns-in-Spent-clause-failed
+returns-in-Spent-clause-failed g c = grind (arith, common_steps)
+
+pub returns-in-Rest-clause-failed : goal.returns-in-Rest-clause-failed
+returns-in-Rest-clause-failed g c = grind (arith, common_steps)
