@@ -1,4 +1,5 @@
 pub mod Forms
+pub mod Given
 pub mod KeptForms
 pub mod Answered
 pub mod DaemonTyped

@@ -11,4 +11,5 @@ pub mod SoundBinds
 pub mod ProgramsTyped
 pub mod LowSounds
 pub mod LowAgents
+pub mod Encodes
 pub mod ExampleTexts

@@ -1,3 +1,4 @@
+use Rattle.daemon_encode.proofs.Encodes.{given_as}
 use Rattle.daemon_encode.proofs.ProgramsTyped.{faultless_as, sound_as}
 use Rattle.daemon_encode.proofs.programs.encode.Goals as goal
 
@@ -6,3 +7,6 @@ returns-clause-faultless c = faultless_as c.args.p.now c.program.result.now c.lo
 
 pub returns-clause-sound : goal.returns-clause-sound
 returns-clause-sound c = sound_as c.args.p.now c.program.result.now c.low_program.result c.program.ensures.accepted c.program.ensures.value c.low_program.ensures
+
+pub returns-clause-gives : goal.returns-clause-gives
+returns-clause-gives c = given_as c.args.p.now c.program.result.now c.low_program.result c.program.ensures.value c.low_program.ensures
