@@ -1,3 +1,4 @@
+use Rattle.std.proofs.lemmas.Grind.{common_steps}
 use Rattle.std.proofs.Common.{◌++◌, ◌∷◌, [], sym, ◌∙◌, arith}
 use Rattle.std.proofs.lemmas.List.{length_push}
 use Rattle.crew_ends.proofs.First.{seated_push, seated_whole, whole_end, whole_length, whole_more}
@@ -19,3 +20,9 @@ returns g c =
     let i = c.loop-port.invariant in
     let e = whole_end c.loop-port.yielded c.loop-port.port-iterator.rest.items i.whole (sym c.loop-port.port-iterator.rest.ok.0 ∙ c.in-None.ensures.steps.0) in
     seated_whole i.seated e
+
+pub loop-port-init : goal.loop-port-init
+loop-port-init g c = grind (arith, common_steps)
+
+pub first_seat-requires-clause-number : goal.first_seat-requires-clause-number
+first_seat-requires-clause-number g c = grind (arith, common_steps)
