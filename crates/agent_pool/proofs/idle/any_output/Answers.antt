@@ -1,3 +1,4 @@
+use Rattle.std.proofs.lemmas.Grind.{common_steps}
 use Rattle.std.proofs.Common.{◌≡◌, false, ap, refl, arith}
 use Rattle.std.specs.FinMap as map
 use Rattle.agent_pool.proofs.Walking.{met-all}
@@ -13,3 +14,6 @@ returns c = (
   }),
   (λ n. refl),
 )
+
+pub loop-at-preserved : goal.loop-at-preserved
+loop-at-preserved c = grind (arith, common_steps)

@@ -1,3 +1,4 @@
+use Rattle.std.proofs.lemmas.Grind.{common_steps}
 use Rattle.std.proofs.Common.{◌≡◌, None, arith}
 use Rattle.np_syntax.specs.declared.value.Name.{Name}
 use Rattle.np_tables.specs.Mapped.{mapped}
@@ -14,3 +15,6 @@ returns-clause-none c = λ agent.
           (λ q h. taker-nowhere f c.args.atoms.now.items q h)
           (λ k d l. c.loop-at.invariant agent k d (omega (arith, l, c.loop-at-test.false, c.len-at-end.ensures.len)));
     }
+
+pub loop-at-preserved : goal.loop-at-preserved
+loop-at-preserved c = grind (arith, common_steps)

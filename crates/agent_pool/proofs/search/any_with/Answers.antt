@@ -1,3 +1,4 @@
+use Rattle.std.proofs.lemmas.Grind.{common_steps}
 use Rattle.std.proofs.Common.{◌≡◌, None, sym, ◌∙◌, arith}
 use Rattle.np_tables.specs.Mapped.{mapped}
 use Rattle.agent_pool.specs.Pools.{seen_as}
@@ -20,3 +21,6 @@ returns-clause-none c = λ agent.
     met-all (λ q. pair_in (mapped f c.args.atoms.now.items) c.args.mark q ≡ None) c.args.atoms.now.items c.args.atoms.now.keys c.len-at-end.ensures.covers
     (λ q h. giver-nowhere f c.args.atoms.now.items c.args.mark q h)
     (λ k d l. c.loop-at.invariant agent k d (omega (arith, l, c.loop-at-test.false, c.len-at-end.ensures.len)))
+
+pub loop-at-preserved : goal.loop-at-preserved
+loop-at-preserved c = grind (arith, common_steps)

@@ -1,3 +1,5 @@
+use Rattle.std.proofs.lemmas.Grind.{common_steps}
+use Rattle.std.proofs.Common.{arith}
 use Rattle.crew_resumes.proofs.Later.{have_later, in_place}
 use Rattle.crew_resumes.proofs.going_on.resumed.Goals as goal
 
@@ -8,3 +10,12 @@ returns-in-Ok-clause-resumed g c =
     let followed = c.in_ok-follow.ensures.ok in
     c.law_resumes.ensures c.args.events.now before.histories after.histories (in_place _ _ before.histories c.follow.ensures.run.1.sites)
     (in_place _ _ after.histories c.run.ensures.run.1.sites) followed.of (have_later _ before after followed.clocks c.run.ensures.later)
+
+pub returns-in-Ok-clause-code : goal.returns-in-Ok-clause-code
+returns-in-Ok-clause-code g c = grind (arith, common_steps)
+
+pub returns-in-Ok-clause-followed : goal.returns-in-Ok-clause-followed
+returns-in-Ok-clause-followed g c = grind (arith, common_steps)
+
+pub returns-in-Err-clause-code : goal.returns-in-Err-clause-code
+returns-in-Err-clause-code g c = grind (arith, common_steps)

@@ -1,8 +1,9 @@
+use Rattle.std.proofs.lemmas.Grind.{common_steps}
 use Rattle.std.proofs.Common.{◌≡◌, ◌+◌, ◌∙◌, length, ap, arith}
 use Rattle.std.proofs.lemmas.List.{length_push}
 use Rattle.std.specs.Option.{option_copied}
-use Rattle.np_code.proofs.Growth.{planted, below-planted}
-use Rattle.np_code.proofs.NodeCounts.{nodes-parts}
+use Rattle.np_code.proofs.Growth.{planted, below-planted, growth}
+use Rattle.np_code.proofs.NodeCounts.{nodes-parts, counts}
 use Rattle.np_code.proofs.flattening.+laying.Goals as goal
 
 pub lay-put-requires : goal.lay-put-requires
@@ -25,3 +26,18 @@ lay-returns-clause-size t c =
     let first = c.in_ok-first.ensures.size in
     let second = c.in_ok-second.ensures.size in
     rw (nodes-parts c.args.p.now, ← c.parts.ensures.first, ← c.parts.ensures.second) (omega arith)
+
+pub lay-returns-clause-within : goal.lay-returns-clause-within
+lay-returns-clause-within t c = grind (arith, common_steps, counts, growth)
+
+pub lay-lay_part-requires : goal.lay-lay_part-requires
+lay-lay_part-requires t c = grind (arith, common_steps, counts, growth)
+
+pub lay-len-id-requires : goal.lay-len-id-requires
+lay-len-id-requires t c = grind (arith, common_steps, counts, growth)
+
+pub lay-lay_part-requires-2 : goal.lay-lay_part-requires-2
+lay-lay_part-requires-2 t c = grind (arith, common_steps, counts, growth)
+
+pub lay-returns-clause-grows : goal.lay-returns-clause-grows
+lay-returns-clause-grows t c = grind (arith, common_steps, counts, growth)

@@ -1,4 +1,5 @@
-use Rattle.std.proofs.Common.{◌≡◌, Some, sym, ap, ◌∙◌}
+use Rattle.std.proofs.lemmas.Grind.{common_steps}
+use Rattle.std.proofs.Common.{◌≡◌, Some, sym, ap, ◌∙◌, arith}
 use Rattle.std.specs.FinMap as map
 use Rattle.std.specs.Option.{option_copied}
 use Rattle.np_tables.specs.declared.errand.Errand.TheVariants as errand
@@ -15,3 +16,6 @@ returns c =
           c.eq.ensures ∙ ap (λ e. same_errand e (errand.Gives c.args.meeting)) (c.errand_of.ensures ∙ gives-is c.args.atoms.now.items c.args.mark c.args.meeting c.in-Some.atom.now there g)
           ∙ same_errand-itself (errand.Gives c.args.meeting),
     )
+
+pub returns-in_default : goal.returns-in_default
+returns-in_default c = grind (arith, common_steps)

@@ -1,4 +1,5 @@
-use Rattle.std.proofs.Common.{◌≡◌, Some, refl, sym, ap, ◌∙◌}
+use Rattle.std.proofs.lemmas.Grind.{common_steps}
+use Rattle.std.proofs.Common.{◌≡◌, Some, refl, sym, ap, ◌∙◌, arith}
 use Rattle.std.specs.FinMap as map
 use Rattle.std.specs.Option.{option_copied}
 use Rattle.np_configuration.proofs.Goings.{acts-goes, takes-goes, goes-takes}
@@ -20,3 +21,12 @@ returns-in-Takes c =
       λ t. takes-goes c.args.atoms.now.items c.args.mark c.args.places.now.items c.in-Some.atom.now there (rw placed refl) c.in-Takes.meeting takes (c.any_gives.ensures.0 t),
       λ g. c.any_gives.ensures.1 (goes-takes c.args.atoms.now.items c.args.mark c.args.places.now.items c.in-Some.atom.now there c.in-Takes.meeting takes g),
     )
+
+pub returns-in_default-errand_of : goal.returns-in_default-errand_of
+returns-in_default-errand_of c = grind (arith, common_steps)
+
+pub returns-in_default-get : goal.returns-in_default-get
+returns-in_default-get c = grind (arith, common_steps)
+
+pub returns-in_default : goal.returns-in_default
+returns-in_default c = grind (arith, common_steps)

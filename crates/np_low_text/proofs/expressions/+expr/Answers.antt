@@ -1,4 +1,5 @@
-use Rattle.std.proofs.Common.{◌≡◌, ap, ◌∙◌}
+use Rattle.std.proofs.lemmas.Grind.{common_steps}
+use Rattle.std.proofs.Common.{◌≡◌, ap, ◌∙◌, arith}
 use Rattle.np_low_text.specs.LowText.{expr_form_text}
 use Rattle.np_low_text.proofs.Equations.{text-tuple}
 use Rattle.np_show.proofs.Joining.{on_same}
@@ -31,3 +32,27 @@ put_expr-returns-in_ok-put_operand-in-With-3 t c =
     (with_steps c.args.sites.now c.args.text.now c.args.level c.in-With.places c.in-With.agent c.in-With.lock c.in-With.is c.in_ok-put_words-in-With.ensures c.in_ok-put_operand-in-With.ensures
     c.in_ok-put_words-in-With-2.ensures c.in_ok-put_operand-in-With-2.ensures c.in_ok-put_words-in-With-3.ensures c.in_ok-put_operand-in-With-3.ensures)
     c.put_words-in-With-4.ensures
+
+pub put_exprs-loop-other-preserved : goal.put_exprs-loop-other-preserved
+put_exprs-loop-other-preserved t c = grind (arith, common_steps)
+
+pub put_exprs-returns : goal.put_exprs-returns
+put_exprs-returns t c = grind (arith, common_steps)
+
+pub put_expr-returns-in_err-put_operand-in-With-3 : goal.put_expr-returns-in_err-put_operand-in-With-3
+put_expr-returns-in_err-put_operand-in-With-3 t c = grind (arith, common_steps)
+
+pub put_expr-put_operand-requires-in-With-3 : goal.put_expr-put_operand-requires-in-With-3
+put_expr-put_operand-requires-in-With-3 t c = grind (arith, common_steps)
+
+pub put_expr-put_operand-requires : goal.put_expr-put_operand-requires
+put_expr-put_operand-requires t c = grind (arith, common_steps)
+
+pub put_expr-put_operand-requires-in-Pack-2 : goal.put_expr-put_operand-requires-in-Pack-2
+put_expr-put_operand-requires-in-Pack-2 t c = grind (arith, common_steps)
+
+pub put_expr-put_operand-requires-in-With-2 : goal.put_expr-put_operand-requires-in-With-2
+put_expr-put_operand-requires-in-With-2 t c = grind (arith, common_steps)
+
+pub put_expr-put_operand-requires-in-Bin : goal.put_expr-put_operand-requires-in-Bin
+put_expr-put_operand-requires-in-Bin t c = grind (arith, common_steps)

@@ -1,3 +1,5 @@
+use Rattle.std.proofs.lemmas.Grind.{common_steps}
+use Rattle.std.proofs.Common.{arith}
 use Rattle.np_show.proofs.Joining.{on_same}
 use Rattle.np_low_text.proofs.Pieces.{par_steps, new_steps, inp_steps, rep_steps, agent_steps, migrate_steps, iflocal_steps, if_steps, let_steps, lookup_steps}
 use Rattle.np_low_text.proofs.processes.+process.Goals as goal
@@ -58,3 +60,48 @@ put_proc-returns-in_ok-put_left-in-Lookup t c =
     on_same c.put_part-in-Lookup.result c.put_part-in-Lookup.new.text
     (lookup_steps c.args.sites.now c.args.text.now c.args.bracket is.who is.places is.found is.p is.q is.is c.in_ok-put_lookup-in-Lookup.ensures c.in_ok-put_left-in-Lookup.ensures)
     c.put_part-in-Lookup.ensures
+
+pub put_let-returns : goal.put_let-returns
+put_let-returns t c = grind (arith, common_steps)
+
+pub put_new-returns : goal.put_new-returns
+put_new-returns t c = grind (arith, common_steps)
+
+pub put_proc-returns-in-Post : goal.put_proc-returns-in-Post
+put_proc-returns-in-Post t c = grind (arith, common_steps)
+
+pub put_migrate-returns : goal.put_migrate-returns
+put_migrate-returns t c = grind (arith, common_steps)
+
+pub put_proc-returns-in-Send : goal.put_proc-returns-in-Send
+put_proc-returns-in-Send t c = grind (arith, common_steps)
+
+pub put_proc-put_left-requires-in-Agent : goal.put_proc-put_left-requires-in-Agent
+put_proc-put_left-requires-in-Agent t c = grind (arith, common_steps)
+
+pub put_proc-put_part-requires-in-Agent : goal.put_proc-put_part-requires-in-Agent
+put_proc-put_part-requires-in-Agent t c = grind (arith, common_steps)
+
+pub put_proc-put_part-requires-in-IfLocal : goal.put_proc-put_part-requires-in-IfLocal
+put_proc-put_part-requires-in-IfLocal t c = grind (arith, common_steps)
+
+pub put_proc-put_left-requires : goal.put_proc-put_left-requires
+put_proc-put_left-requires t c = grind (arith, common_steps)
+
+pub put_proc-put_part-requires-in-Lookup : goal.put_proc-put_part-requires-in-Lookup
+put_proc-put_part-requires-in-Lookup t c = grind (arith, common_steps)
+
+pub put_proc-put_left-requires-in-If : goal.put_proc-put_left-requires-in-If
+put_proc-put_left-requires-in-If t c = grind (arith, common_steps)
+
+pub put_proc-put_part-requires-in-If : goal.put_proc-put_part-requires-in-If
+put_proc-put_part-requires-in-If t c = grind (arith, common_steps)
+
+pub put_proc-put_part-requires : goal.put_proc-put_part-requires
+put_proc-put_part-requires t c = grind (arith, common_steps)
+
+pub put_proc-put_left-requires-in-Lookup : goal.put_proc-put_left-requires-in-Lookup
+put_proc-put_left-requires-in-Lookup t c = grind (arith, common_steps)
+
+pub put_proc-put_left-requires-in-IfLocal : goal.put_proc-put_left-requires-in-IfLocal
+put_proc-put_left-requires-in-IfLocal t c = grind (arith, common_steps)

@@ -1,4 +1,5 @@
-use Rattle.std.proofs.Common.{◌≡◌, ap, ◌∙◌}
+use Rattle.std.proofs.lemmas.Grind.{common_steps}
+use Rattle.std.proofs.Common.{◌≡◌, ap, ◌∙◌, arith}
 use Rattle.np_show.specs.Shown.{expr_form_text}
 use Rattle.np_show.proofs.Equations.{text-tuple}
 use Rattle.np_syntax.proofs.Joining.{on_same}
@@ -17,3 +18,9 @@ put_expr-returns-in_ok-put_operand-in-Bin-2 t c =
     (bin_steps c.args.level c.args.text.now c.in-Bin.x c.in-Bin.y c.in-Bin.is c.strength.ensures c.left.ensures c.right.ensures c.in_ok-open_round-in-Bin.ensures c.in_ok-put_operand-in-Bin.ensures
     c.in_ok-put_op-in-Bin.ensures c.in_ok-put_operand-in-Bin-2.ensures)
     c.close_round.ensures
+
+pub put_exprs-returns : goal.put_exprs-returns
+put_exprs-returns t c = grind (arith, common_steps)
+
+pub put_exprs-loop-other-preserved : goal.put_exprs-loop-other-preserved
+put_exprs-loop-other-preserved t c = grind (arith, common_steps)

@@ -1,3 +1,5 @@
+use Rattle.std.proofs.lemmas.Grind.{common_steps}
+use Rattle.std.proofs.Common.{arith}
 use Rattle.np_syntax.proofs.Joining.{on_same}
 use Rattle.np_show.proofs.Pieces.{par_steps, new_steps, inp_steps, rep_steps, agent_steps, migrate_steps, iflocal_steps, if_steps, let_steps}
 use Rattle.np_show.proofs.processes.+process.Goals as goal
@@ -49,3 +51,18 @@ pub put_proc-returns-in-Let : goal.put_proc-returns-in-Let
 put_proc-returns-in-Let t c =
     let is = c.in-Let in
     on_same c.put_let.result c.put_let.new.text (let_steps c.args.text.now c.args.bracket is.pat is.x is.p is.is) c.put_let.ensures
+
+pub put_proc-returns-in-Send : goal.put_proc-returns-in-Send
+put_proc-returns-in-Send t c = grind (arith, common_steps)
+
+pub put_migrate-returns : goal.put_migrate-returns
+put_migrate-returns t c = grind (arith, common_steps)
+
+pub put_proc-returns-in-Post : goal.put_proc-returns-in-Post
+put_proc-returns-in-Post t c = grind (arith, common_steps)
+
+pub put_new-returns : goal.put_new-returns
+put_new-returns t c = grind (arith, common_steps)
+
+pub put_let-returns : goal.put_let-returns
+put_let-returns t c = grind (arith, common_steps)

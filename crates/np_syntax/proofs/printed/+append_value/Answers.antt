@@ -21,3 +21,6 @@ append_parts-returns t c =
     let all : take c.loop-part.part-index c.in-Some.others.now ≡ c.in-Some.others.now = grind (arith, common_steps) in
     rw (c.in-Some.ensures.cases.0, ← spaced-parts c.args.sites.now c.args.text.now c.in-Some.first.now c.in-Some.others.now)
     (c.loop-part.invariant ∙ rw (all, c.in_ok-append_value.ensures) refl)
+
+pub append_parts-loop-part-preserved : goal.append_parts-loop-part-preserved
+append_parts-loop-part-preserved t c = grind (arith, common_steps)

@@ -1,3 +1,5 @@
+use Rattle.std.proofs.lemmas.Grind.{common_steps}
+use Rattle.std.proofs.Common.{arith}
 use Rattle.np_syntax.proofs.Tells.{told_same, told_other}
 use Rattle.np_syntax.proofs.types.+ty_same.Goals as goal
 
@@ -48,3 +50,18 @@ Ty::same-returns-in_default-other t c = told_other c.in-Chan.is (c.in_default-ot
 
 pub Ty::same-returns-in_default-other-2 : goal.Ty::same-returns-in_default-other-2
 Ty::same-returns-in_default-other-2 t c = told_other c.in-Tuple.is (c.in_default-other-2.not-Tuple c.in-Tuple.mine)
+
+pub same_types-returns-then-mine-theirs : goal.same_types-returns-then-mine-theirs
+same_types-returns-then-mine-theirs t c = grind (arith, common_steps)
+
+pub same_types-loop-at-preserved : goal.same_types-loop-at-preserved
+same_types-loop-at-preserved t c = grind (arith, common_steps)
+
+pub same_types-returns-then-not-same : goal.same_types-returns-then-not-same
+same_types-returns-then-not-same t c = grind (arith, common_steps)
+
+pub same_types-returns : goal.same_types-returns
+same_types-returns t c = grind (arith, common_steps)
+
+pub Ty::same-returns-else-eq : goal.Ty::same-returns-else-eq
+Ty::same-returns-else-eq t c = grind (arith, common_steps)

@@ -1,6 +1,8 @@
+use Rattle.std.proofs.lemmas.Grind.{common_steps}
+use Rattle.std.proofs.Common.{arith}
 use Rattle.np_types.specs.Worlds.{bare}
 use Rattle.np_types.proofs.Tellings.{handed_on}
-use Rattle.np_types.proofs.Leasts.{tuple-1, tuple-2, bin-1, bin-2, bin-3, bin-4, pack-1, pack-2, pack-3, pack-4, with-1, with-2, with-3, with-4, with-5, with-6}
+use Rattle.np_types.proofs.Leasts.{tuple-1, tuple-2, bin-1, bin-2, bin-3, bin-4, pack-1, pack-2, pack-3, pack-4, with-1, with-2, with-3, with-4, with-5, with-6, least_types}
 use Rattle.np_types.proofs.expressions.+least.Goals as goal
 
 pub least_form-returns-in_err-leasts-in-Tuple : goal.least_form-returns-in_err-leasts-in-Tuple
@@ -82,3 +84,9 @@ pub least_form-returns-in_ok-least-in-With-3 : goal.least_form-returns-in_ok-lea
 least_form-returns-in_ok-least-in-With-3 t c =
     rw (c.in-With.is, ← c.get-places.ensures, ← c.get-agent.ensures, ← c.get-lock.ensures)
     (with-6 bare _ _ _ _ _ _ _ _ _ c.in_ok-least-in-With.ensures c.in_ok-ensure_places-in-With.ensures c.in_ok-least-in-With-2.ensures c.in_ok-ensure_agent-in-With.ensures c.in_ok-least-in-With-3.ensures c.with_lock.ensures)
+
+pub leasts-loop-part-preserved : goal.leasts-loop-part-preserved
+leasts-loop-part-preserved t c = grind (arith, common_steps, least_types)
+
+pub leasts-returns-in_err-least : goal.leasts-returns-in_err-least
+leasts-returns-in_err-least t c = grind (arith, common_steps, least_types)

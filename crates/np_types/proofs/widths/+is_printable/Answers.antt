@@ -1,4 +1,6 @@
-use Rattle.np_types.proofs.Counts.{printed, hidden}
+use Rattle.std.proofs.lemmas.Grind.{common_steps}
+use Rattle.std.proofs.Common.{arith}
+use Rattle.np_types.proofs.Counts.{printed, hidden, prints}
 use Rattle.np_types.proofs.widths.+is_printable.Goals as goal
 
 pub is_printable-returns-in-Int : goal.is_printable-returns-in-Int
@@ -24,3 +26,6 @@ is_printable-returns-in-Agent-3 t c = hidden c.args.ty.now c.in-Agent.is
 
 pub is_printable-returns-in-Agent-4 : goal.is_printable-returns-in-Agent-4
 is_printable-returns-in-Agent-4 t c = hidden c.args.ty.now c.in-Agent.is
+
+pub are_printable-loop-ty-preserved : goal.are_printable-loop-ty-preserved
+are_printable-loop-ty-preserved t c = grind (arith, common_steps, prints)

@@ -1,4 +1,5 @@
-use Rattle.std.proofs.Common.{◌≡◌, ◌++◌, ◌∙◌, true, false, ap, refl, sym, inl, inr}
+use Rattle.std.proofs.lemmas.Grind.{common_steps}
+use Rattle.std.proofs.Common.{◌≡◌, ◌++◌, ◌∙◌, true, false, ap, refl, sym, inl, inr, arith}
 use Rattle.std.specs.Prelude.{is_some}
 use Rattle.site_state.specs.Lines.{queue_at}
 use Rattle.site_turn.proofs.Events.{received, received_aside}
@@ -40,3 +41,9 @@ returns-in-None-clause-turned g c =
 
 pub returns-in-None-clause-no : goal.returns-in-None-clause-no
 returns-in-None-clause-no g c = λ e. let h = c.in-None.ensures in inl (record { site = refl; aside = refl; failed = refl; got = λ k. (h.taken k).0; none = λ free room k. (h.taken k).1 })
+
+pub admit-requires-clause-room : goal.admit-requires-clause-room
+admit-requires-clause-room g c = grind (arith, common_steps)
+
+pub returns-in-None-clause-yes : goal.returns-in-None-clause-yes
+returns-in-None-clause-yes g c = grind (arith, common_steps)

@@ -1,4 +1,5 @@
-use Rattle.std.proofs.Common.{refl, inl, inr}
+use Rattle.std.proofs.lemmas.Grind.{common_steps}
+use Rattle.std.proofs.Common.{refl, inl, inr, arith}
 use Rattle.site_turn.proofs.Events.{lines_back, none_back, none_for_all, none_out, same_refl, sends_refl}
 use Rattle.site_turn.proofs.Steps.{address, back_place, back_within, turned_back, turned_refl, turned_sent, turned_stays}
 use Rattle.site_turn.proofs.sending.send_one.Goals as goal
@@ -53,3 +54,15 @@ returns-then-has_none_for-clause-only g c = sends_refl _
 
 pub returns-then-has_none_for-clause-no : goal.returns-then-has_none_for-clause-no
 returns-then-has_none_for-clause-no g c = λ e. record { why = inl (c.if-has_none_for.ensures.0 refl); site = same_refl _; sent = λ k. refl; room = λ k. refl }
+
+pub returns-in-None-clause-yes : goal.returns-in-None-clause-yes
+returns-in-None-clause-yes g c = grind (arith, common_steps)
+
+pub returns-in-Ok-clause-no : goal.returns-in-Ok-clause-no
+returns-in-Ok-clause-no g c = grind (arith, common_steps)
+
+pub returns-then-has_none_for-clause-yes : goal.returns-then-has_none_for-clause-yes
+returns-then-has_none_for-clause-yes g c = grind (arith, common_steps)
+
+pub returns-in-Err-clause-yes : goal.returns-in-Err-clause-yes
+returns-in-Err-clause-yes g c = grind (arith, common_steps)

@@ -1,4 +1,5 @@
-use Rattle.std.proofs.Common.{◌≡◌, ◌∙◌, true, false, ap, sym}
+use Rattle.std.proofs.lemmas.Grind.{common_steps}
+use Rattle.std.proofs.Common.{◌≡◌, ◌∙◌, true, false, ap, sym, arith}
 use Rattle.std.specs.Prelude.{is_some}
 use Rattle.site_turn.proofs.Events.{had_failed, had_quiet, had_spent, none_stays, none_trans, not_some, one_after, one_did, polled_none, polled_one, polled_same}
 use Rattle.site_turn.proofs.Steps.{seated_after, turned_trans}
@@ -60,3 +61,18 @@ pub returns-in-Spent-clause-idle : goal.returns-in-Spent-clause-idle
 returns-in-Spent-clause-idle g c = λ e.
     let none = polled_none g.P.Port c.args.code.now c.args.seat.now c.poll.new.seat c.args.polls c.poll.result c.poll.ensures.polled c.if-poll.false in
     had_spent c.args.seat.now c.poll.new.seat c.step.new.seat c.args.effort.walks none c.in-Spent.ensures.stepped.1
+
+pub returns-in-Did-clause-no : goal.returns-in-Did-clause-no
+returns-in-Did-clause-no g c = grind (arith, common_steps)
+
+pub returns-then-poll-clause-no : goal.returns-then-poll-clause-no
+returns-then-poll-clause-no g c = grind (arith, common_steps)
+
+pub returns-in-Spent-clause-yes : goal.returns-in-Spent-clause-yes
+returns-in-Spent-clause-yes g c = grind (arith, common_steps)
+
+pub returns-in-Did-clause-idle : goal.returns-in-Did-clause-idle
+returns-in-Did-clause-idle g c = grind (arith, common_steps)
+
+pub returns-then-poll-clause-idle : goal.returns-then-poll-clause-idle
+returns-then-poll-clause-idle g c = grind (arith, common_steps)

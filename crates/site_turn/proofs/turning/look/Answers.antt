@@ -1,4 +1,5 @@
-use Rattle.std.proofs.Common.{refl, inl, inr}
+use Rattle.std.proofs.lemmas.Grind.{common_steps}
+use Rattle.std.proofs.Common.{refl, inl, inr, arith}
 use Rattle.site_turn.proofs.Events.{looked, looked_none, none_received, none_refl, none_trans, not_some, one_after, one_received}
 use Rattle.site_turn.proofs.Steps.{seated_after, turned_refl, turned_trans}
 use Rattle.site_turn.proofs.turning.look.Goals as goal
@@ -40,3 +41,12 @@ returns-clause-no g c = λ e. none_trans c.loop.invariant.none (none_received _ 
 
 pub returns-clause-waits : goal.returns-clause-waits
 returns-clause-waits g c = λ e. looked_none _ _ _ c.loop.invariant.known (c.receive-2.ensures.no e)
+
+pub returns-then-receive-clause-waits : goal.returns-then-receive-clause-waits
+returns-then-receive-clause-waits g c = grind (arith, common_steps)
+
+pub returns-then-seat-clause-yes : goal.returns-then-seat-clause-yes
+returns-then-seat-clause-yes g c = grind (arith, common_steps)
+
+pub returns-then-receive-clause-no : goal.returns-then-receive-clause-no
+returns-then-receive-clause-no g c = grind (arith, common_steps)

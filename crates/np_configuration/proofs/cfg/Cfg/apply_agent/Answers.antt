@@ -1,4 +1,5 @@
-use Rattle.std.proofs.Common.{◌≡◌, Some, refl, sym, ap, ◌∙◌}
+use Rattle.std.proofs.lemmas.Grind.{common_steps}
+use Rattle.std.proofs.Common.{◌≡◌, Some, refl, sym, ap, ◌∙◌, arith}
 use Rattle.std.specs.FinMap as map
 use Rattle.std.specs.FinSet as set
 use Rattle.np_configuration.proofs.Common.{NameMap, NameSet, the_view, Atom, Place, Config, goes_under}
@@ -65,3 +66,6 @@ returns c =
     (atoms c ∙ ap (λ (d : Config). both c d.atoms) c.self.view_is)
     (members c ∙ ap (λ (d : Config). set.insert (set.insert d.born c.in_ok-made.made.agent) c.in_ok-made.made.mark) c.self.view_is)
     c.self.view_is)))
+
+pub invariant_of-self-in_err-file_two : goal.invariant_of-self-in_err-file_two
+invariant_of-self-in_err-file_two c = grind (arith, common_steps)

@@ -1,4 +1,5 @@
-use Rattle.std.proofs.Common.{◌≡◌, true, Some, sym, ap, ◌∙◌}
+use Rattle.std.proofs.lemmas.Grind.{common_steps}
+use Rattle.std.proofs.Common.{◌≡◌, true, Some, sym, ap, ◌∙◌, arith}
 use Rattle.std.specs.FinMap as map
 use Rattle.np_configuration.proofs.Common.{NameMap, the_view, Place, Config, goes}
 use Rattle.np_calculus.specs.declared.config.Place.TheVariants as place
@@ -29,3 +30,6 @@ returns c =
     ∙ ap (λ (x : NameMap Place). map.insert x c.in_ok-leaves.leaves.agent (place.Way c.in_ok-leaves.leaves.to)) (c.in_ok-reserve.ensures.items ∙ ap (λ (d : Config). d.places) c.self.view_is))
     (atoms c ∙ ap (λ (d : Config). map.insert d.atoms c.args.e.now.actor (goes s.atom s.next)) c.self.view_is)
     (ap (λ (d : Config). d.born) c.self.view_is) c.self.view_is))
+
+pub invariant_of-self-in_err-file : goal.invariant_of-self-in_err-file
+invariant_of-self-in_err-file c = grind (arith, common_steps)

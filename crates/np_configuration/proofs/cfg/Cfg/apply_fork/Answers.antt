@@ -1,4 +1,5 @@
-use Rattle.std.proofs.Common.{◌≡◌, Some, refl, sym, ap, ◌∙◌}
+use Rattle.std.proofs.lemmas.Grind.{common_steps}
+use Rattle.std.proofs.Common.{◌≡◌, Some, refl, sym, ap, ◌∙◌, arith}
 use Rattle.std.specs.FinMap as map
 use Rattle.std.specs.FinSet as set
 use Rattle.np_configuration.proofs.Common.{NameMap, NameSet, the_view, Atom, Config, Env, goes, goes_under}
@@ -49,3 +50,6 @@ returns c =
     (remade {c = the_view c.self.inside} (atoms c ∙ ap (λ (d : Config). both c d.atoms) c.self.view_is)
     (members c ∙ ap (λ (d : Config). set.insert d.born c.in_ok-fork.fork.mark) c.self.view_is)
     c.self.view_is)))
+
+pub invariant_of-self : goal.invariant_of-self
+invariant_of-self c = grind (arith, common_steps)

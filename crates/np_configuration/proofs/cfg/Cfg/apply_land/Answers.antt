@@ -1,4 +1,5 @@
-use Rattle.std.proofs.Common.{◌≡◌, Some, rules}
+use Rattle.std.proofs.lemmas.Grind.{common_steps}
+use Rattle.std.proofs.Common.{◌≡◌, Some, rules, arith}
 use Rattle.std.specs.FinMap as map
 use Rattle.np_configuration.proofs.Keeping.{kept-flight, kept-landed}
 use Rattle.np_configuration.proofs.NewOutputs.{kept-output}
@@ -13,3 +14,12 @@ invariant_of-self-2 c =
     rw (c.in_ok-file.ensures.ok, c.put.ensures.items, c.in_ok-file.ensures.atoms, c.take.ensures.items, c.output_in-made.ensures)
     (kept-output (kept-landed c.self.invariant c.args.e.now.actor) c.args.e.now.actor c.in_ok-packet.packet.now.agent c.in_ok-packet.packet.now.chan
     c.in-Some.packet.value c.args.e.now.tag (kept-flight c.self.invariant c.args.e.now.actor c.in_ok-packet.packet.now flies))
+
+pub put-requires : goal.put-requires
+put-requires c = grind (arith, common_steps)
+
+pub unreachable-requires : goal.unreachable-requires
+unreachable-requires c = grind (arith, common_steps)
+
+pub invariant_of-self-in_err-file : goal.invariant_of-self-in_err-file
+invariant_of-self-in_err-file c = grind (arith, common_steps)

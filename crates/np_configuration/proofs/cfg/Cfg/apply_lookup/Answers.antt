@@ -1,4 +1,5 @@
-use Rattle.std.proofs.Common.{◌≡◌, Some, refl, sym, ap, ◌∙◌}
+use Rattle.std.proofs.lemmas.Grind.{common_steps}
+use Rattle.std.proofs.Common.{◌≡◌, Some, refl, sym, ap, ◌∙◌, arith}
 use Rattle.std.specs.FinMap as map
 use Rattle.np_configuration.proofs.Common.{NameMap, the_view, Atom, Config, goes_under}
 use Rattle.np_configuration.proofs.Keeping.{kept-on, kept-as}
@@ -39,3 +40,6 @@ returns c =
     ∙ ap Some (sym
     (ap (λ (x : NameMap Atom). record (the_view c.self.inside) { atoms = x }) (atoms c)
     ∙ ap (λ (d : Config). record d { atoms = map.insert d.atoms c.args.e.now.actor (next c) }) c.self.view_is))
+
+pub invariant_of-self : goal.invariant_of-self
+invariant_of-self c = grind (arith, common_steps)

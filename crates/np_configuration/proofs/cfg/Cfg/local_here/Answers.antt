@@ -1,4 +1,5 @@
-use Rattle.std.proofs.Common.{◌≡◌, Some, rules, refl, sym, ap, ◌∙◌}
+use Rattle.std.proofs.lemmas.Grind.{common_steps}
+use Rattle.std.proofs.Common.{◌≡◌, Some, rules, refl, sym, ap, ◌∙◌, arith}
 use Rattle.std.specs.FinMap as map
 use Rattle.std.specs.FinSet as set
 use Rattle.np_configuration.proofs.Common.{NameMap, NameSet, the_view, Atom, Config, goes, output_in}
@@ -69,3 +70,6 @@ returns c =
       atoms = map.insert (map.insert d.atoms c.in_ok-mark.mark (output c)) c.args.e.now.actor (goes s.atom s.next);
       born = set.insert d.born c.in_ok-mark.mark;
     }) c.self.view_is)))
+
+pub invariant_of-self : goal.invariant_of-self
+invariant_of-self c = grind (arith, common_steps)

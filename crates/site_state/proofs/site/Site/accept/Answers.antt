@@ -1,4 +1,5 @@
-use Rattle.std.proofs.Common.{◌+◌, max, None, refl, sym, ap, subst, ◌∙◌}
+use Rattle.std.proofs.lemmas.Grind.{common_steps}
+use Rattle.std.proofs.Common.{◌+◌, max, None, refl, sym, ap, subst, ◌∙◌, arith}
 use Rattle.site_state.specs.Coming.{HasCome, event_for}
 use Rattle.site_state.specs.Parts.{IsNoted}
 use Rattle.site_state.specs.Standings.{Standing}
@@ -28,3 +29,6 @@ returns-in-Err-clause-err c = rw (← c.self.view_is) record {
   same = record { site = refl; agents = c.room_for.ensures.same; next = refl; clock = refl; history = refl; outgoing = lines_same _ };
   quiet = λ code q. same_quiet code _ _ refl refl (c.room_for.ensures.keeps.quiet code (same_quiet code _ _ refl refl q));
 }
+
+pub invariant_of-self : goal.invariant_of-self
+invariant_of-self c = grind (arith, common_steps)

@@ -1,4 +1,5 @@
-use Rattle.std.proofs.Common.{◌+◌, refl}
+use Rattle.std.proofs.lemmas.Grind.{common_steps}
+use Rattle.std.proofs.Common.{◌+◌, refl, arith}
 use Rattle.np_syntax.specs.declared.event.Kind.TheVariants as kind
 use Rattle.np_syntax.specs.declared.event.Made.TheVariants as made
 use Rattle.np_holdings.specs.Holdings.{name_of}
@@ -30,3 +31,6 @@ returns-clause-ok c =
     (rw (← c.self.view_is) (has_born c.law_own_events.ensures.makes code _ mid c.note.new.self c.args.name c.args.r child mark c.in_ok-child_in.ensures.ok
     (record { site = refl; next = refl; clock = refl; history = refl }) refl
     (λ q. same_quiet code _ _ refl refl (c.child_in.ensures.keeps.quiet code (same_quiet code _ _ refl refl q))) c.requires.kind refl refl c.note.ensures.noted))
+
+pub invariant_of-self-2 : goal.invariant_of-self-2
+invariant_of-self-2 c = grind (arith, common_steps)

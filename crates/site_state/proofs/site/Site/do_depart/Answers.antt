@@ -1,3 +1,4 @@
+use Rattle.std.proofs.lemmas.Grind.{common_steps}
 use Rattle.std.proofs.Common.{◌<◌, None, length, refl, sym, ap, subst, ◌∙◌, arith}
 use Rattle.np_syntax.specs.declared.event.Kind.TheVariants as kind
 use Rattle.np_syntax.specs.declared.event.Made.TheVariants as made
@@ -56,3 +57,12 @@ returns-clause-ok c =
           (departs_within c.args.code.now gone.before c.in_ok-to.agent c.args.r c.in_ok-to.to gone.goes);
     })
     c.law_leaving.ensures.agent c.args.name c.in_ok-to.agent c.requires.kind c.pack_agent-item.ensures.load gone))
+
+pub tick-stamp-requires : goal.tick-stamp-requires
+tick-stamp-requires c = grind (arith, common_steps)
+
+pub push-requires-clause-kind : goal.push-requires-clause-kind
+push-requires-clause-kind g c = grind (arith, common_steps)
+
+pub invariant_of-self-in_err-to : goal.invariant_of-self-in_err-to
+invariant_of-self-in_err-to c = grind (arith, common_steps)

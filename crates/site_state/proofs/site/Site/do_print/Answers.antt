@@ -1,3 +1,4 @@
+use Rattle.std.proofs.lemmas.Grind.{common_steps}
 use Rattle.std.proofs.Common.{Some, refl, sym, ap, subst, ◌∙◌, arith}
 use Rattle.np_syntax.specs.declared.event.Kind.TheVariants as kind
 use Rattle.np_syntax.specs.declared.event.Made.TheVariants as made
@@ -66,3 +67,9 @@ returns-clause-ok c =
       outgoing = refl;
     })
     (λ e. print_not_local (sym c.requires.kind ∙ e)) (λ e. print_not_post (sym c.requires.kind ∙ e)) tt))
+
+pub invariant_of-self-in_err-value : goal.invariant_of-self-in_err-value
+invariant_of-self-in_err-value c = grind (arith, common_steps)
+
+pub tick-stamp-requires : goal.tick-stamp-requires
+tick-stamp-requires c = grind (arith, common_steps)

@@ -1,3 +1,4 @@
+use Rattle.std.proofs.lemmas.Grind.{common_steps}
 use Rattle.std.proofs.Common.{◌<◌, None, length, refl, sym, ap, subst, ◌∙◌, arith}
 use Rattle.np_syntax.specs.declared.event.Kind.TheVariants as kind
 use Rattle.np_syntax.specs.declared.event.Made.TheVariants as made
@@ -56,3 +57,12 @@ returns-clause-ok c =
           (sends_within c.args.code.now gone.before gone.after c.args.r c.in_ok-packet.packet gone.goes);
     })
     c.law_leaving.ensures.packet c.args.name c.in_ok-packet.packet c.requires.kind c.pack_packet-item.ensures.load gone))
+
+pub push-requires-clause-kind : goal.push-requires-clause-kind
+push-requires-clause-kind g c = grind (arith, common_steps)
+
+pub tick-stamp-requires : goal.tick-stamp-requires
+tick-stamp-requires c = grind (arith, common_steps)
+
+pub invariant_of-self-in_err-packet : goal.invariant_of-self-in_err-packet
+invariant_of-self-in_err-packet c = grind (arith, common_steps)

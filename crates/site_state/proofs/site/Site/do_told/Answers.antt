@@ -1,4 +1,5 @@
-use Rattle.std.proofs.Common.{◌≡◌, ◌+◌, true, is_some, refl, sym, subst}
+use Rattle.std.proofs.lemmas.Grind.{common_steps}
+use Rattle.std.proofs.Common.{◌≡◌, ◌+◌, true, is_some, refl, sym, subst, arith}
 use Rattle.std.specs.FinMap as map
 use Rattle.np_syntax.specs.declared.event.Kind.TheVariants as kind
 use Rattle.np_syntax.specs.declared.event.Made.TheVariants as made
@@ -75,3 +76,9 @@ returns-clause-ok c =
     (λ q. same_quiet code _ _ refl refl (c.give.ensures.keeps.quiet code (c.tell_in.ensures.keeps.quiet code (c.make_room.ensures.keeps.quiet code (same_quiet code _ _ refl refl q)))))
     c.requires.kind refl was.was was.stood (same_atoms code told.before was.was was.same)
     c.note.ensures.noted))
+
+pub invariant_of-self-2 : goal.invariant_of-self-2
+invariant_of-self-2 c = grind (arith, common_steps)
+
+pub invariant_of-self-in_err-packet : goal.invariant_of-self-in_err-packet
+invariant_of-self-in_err-packet c = grind (arith, common_steps)

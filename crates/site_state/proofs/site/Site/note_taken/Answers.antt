@@ -1,3 +1,4 @@
+use Rattle.std.proofs.lemmas.Grind.{common_steps}
 use Rattle.std.proofs.Common.{◌+◌, None, refl, ap, ◌∙◌, arith}
 use Rattle.stamp_history.specs.Histories.{Recorded}
 use Rattle.site_state.proofs.Noted.{above_more, noted_stands, few_names}
@@ -17,3 +18,6 @@ invariant_of-self c =
       noted_stands _ _ _ None c.names_in.result h (omega arith) (omega arith) refl h.named refl c.meet-stamp.ensures.clock c.push.ensures.history,
       ap (λ (x : Recorded). x.budget) c.push.ensures.history ∙ c.self.invariant.1,
     )
+
+pub returns : goal.returns
+returns c = grind (arith, common_steps)

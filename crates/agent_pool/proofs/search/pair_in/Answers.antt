@@ -1,0 +1,7 @@
+use Rattle.std.proofs.Common.{arith}
+use Rattle.std.proofs.lemmas.Grind.{common_steps}
+use Rattle.agent_pool.proofs.Maps.{maps}
+use Rattle.agent_pool.proofs.search.pair_in.Goals as goal
+
+pub returns : goal.returns
+returns c = grind (arith, common_steps, maps)

@@ -1,0 +1,7 @@
+use Rattle.std.proofs.Common.{arith}
+use Rattle.std.proofs.lemmas.Grind.{common_steps}
+use Rattle.np_code.proofs.Growth.{growth}
+use Rattle.np_code.proofs.flattening.tabled.Goals as goal
+
+pub invariant_of-result : goal.invariant_of-result
+invariant_of-result c = grind (arith, common_steps, growth)

@@ -1,0 +1,21 @@
+use Rattle.std.proofs.Common.{arith}
+use Rattle.std.proofs.lemmas.Grind.{common_steps}
+use Rattle.np_configuration.proofs.cfg.Cfg.find_local.Goals as goal
+
+pub returns-in_default-2 : goal.returns-in_default-2
+returns-in_default-2 c = grind (arith, common_steps)
+
+pub returns-in_default-as_iflocal : goal.returns-in_default-as_iflocal
+returns-in_default-as_iflocal c = grind (arith, common_steps)
+
+pub returns-in_default-chan_of : goal.returns-in_default-chan_of
+returns-in_default-chan_of c = grind (arith, common_steps)
+
+pub returns-in_default-3 : goal.returns-in_default-3
+returns-in_default-3 c = grind (arith, common_steps)
+
+pub returns-in_default-no_other : goal.returns-in_default-no_other
+returns-in_default-no_other c = grind (arith, common_steps)
+
+pub returns : goal.returns
+returns c = grind (arith, common_steps)

@@ -1,0 +1,18 @@
+use Rattle.std.proofs.Common.{arith}
+use Rattle.std.proofs.lemmas.Grind.{common_steps}
+use Rattle.np_configuration.proofs.cfg.Cfg.find_lookup.Goals as goal
+
+pub returns-in_default-3 : goal.returns-in_default-3
+returns-in_default-3 c = grind (arith, common_steps)
+
+pub returns-in_default-as_lookup : goal.returns-in_default-as_lookup
+returns-in_default-as_lookup c = grind (arith, common_steps)
+
+pub returns-then-not-is_alone : goal.returns-then-not-is_alone
+returns-then-not-is_alone c = grind (arith, common_steps)
+
+pub returns-in_default-2 : goal.returns-in_default-2
+returns-in_default-2 c = grind (arith, common_steps)
+
+pub returns : goal.returns
+returns c = grind (arith, common_steps)

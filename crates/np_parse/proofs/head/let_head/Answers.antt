@@ -1,0 +1,8 @@
+use Rattle.std.proofs.Common.{arith}
+use Rattle.std.proofs.lemmas.Grind.{common_steps}
+use Rattle.np_parse.specs.Read.Heads.{let_head}
+use Rattle.np_parse.proofs.head.let_head.Goals as goal
+
+pub returns : goal.returns
+unfolding let_head
+returns c = grind (arith, common_steps)

@@ -1,0 +1,21 @@
+use Rattle.std.proofs.Common.{arith}
+use Rattle.std.proofs.lemmas.Grind.{common_steps}
+use Rattle.site_links.proofs.tray_ends.TrayEndsEnds.settle.Goals as goal
+
+pub invariant_of-self : goal.invariant_of-self
+invariant_of-self g c = grind (arith, common_steps)
+
+pub returns-clause-settled : goal.returns-clause-settled
+returns-clause-settled g c = grind (arith, common_steps)
+
+pub returns-clause-from : goal.returns-clause-from
+returns-clause-from g c = grind (arith, common_steps)
+
+pub returns-clause-stays : goal.returns-clause-stays
+returns-clause-stays g c = grind (arith, common_steps)
+
+pub invariant_of-to : goal.invariant_of-to
+invariant_of-to g c = grind (arith, common_steps)
+
+pub returns-clause-to : goal.returns-clause-to
+returns-clause-to g c = grind (arith, common_steps)
