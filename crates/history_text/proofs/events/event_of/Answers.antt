@@ -3,10 +3,6 @@ use Rattle.std.proofs.lemmas.Grind.{common_steps}
 use Rattle.history_text.specs.Reading.{event_of}
 use Rattle.history_text.proofs.events.event_of.Goals as goal
 
-pub returns-in_err-behind-3 : goal.returns-in_err-behind-3
-unfolding event_of
-returns-in_err-behind-3 c = grind (arith, common_steps)
-
 pub returns-in_err-behind-4 : goal.returns-in_err-behind-4
 unfolding event_of
 returns-in_err-behind-4 c = grind (arith, common_steps)
@@ -23,10 +19,6 @@ pub returns-in_err-behind-5 : goal.returns-in_err-behind-5
 unfolding event_of
 returns-in_err-behind-5 c = grind (arith, common_steps)
 
-pub returns-in_err-actor : goal.returns-in_err-actor
-unfolding event_of
-returns-in_err-actor c = grind (arith, common_steps)
-
 pub returns-in_err-tag : goal.returns-in_err-tag
 unfolding event_of
 returns-in_err-tag c = grind (arith, common_steps)
@@ -34,7 +26,3 @@ returns-in_err-tag c = grind (arith, common_steps)
 pub returns : goal.returns
 unfolding event_of
 returns c = grind (arith, common_steps)
-
-pub returns-in_err-other : goal.returns-in_err-other
-unfolding event_of
-returns-in_err-other c = grind (arith, common_steps)

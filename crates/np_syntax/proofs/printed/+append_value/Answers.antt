@@ -1,7 +1,7 @@
 use Rattle.std.proofs.Common.{◌≡◌, take, ap, ◌∙◌, arith, refl}
 use Rattle.std.proofs.lemmas.Grind.{common_steps}
 use Rattle.np_syntax.specs.Printed.{value_text}
-use Rattle.np_syntax.proofs.Texts.{nothing-added, text-agent, text-chan, text-letter, text-places, spaced-parts}
+use Rattle.np_syntax.proofs.Texts.{nothing-added, text-agent, text-chan, text-letter, text-places, spaced-parts, texts}
 use Rattle.np_syntax.proofs.printed.+append_value.Goals as goal
 
 pub append_value-returns-in-Agent : goal.append_value-returns-in-Agent
@@ -24,3 +24,6 @@ append_parts-returns t c =
 
 pub append_parts-loop-part-preserved : goal.append_parts-loop-part-preserved
 append_parts-loop-part-preserved t c = grind (arith, common_steps)
+
+pub append_value-returns-in-Int : goal.append_value-returns-in-Int
+append_value-returns-in-Int t c = grind (arith, common_steps, texts)
