@@ -41,18 +41,3 @@ put_exprs-returns t c = grind (arith, common_steps)
 
 pub put_expr-returns-in_err-put_operand-in-With-3 : goal.put_expr-returns-in_err-put_operand-in-With-3
 put_expr-returns-in_err-put_operand-in-With-3 t c = grind (arith, common_steps)
-
-pub put_expr-put_operand-requires-in-With-3 : goal.put_expr-put_operand-requires-in-With-3
-put_expr-put_operand-requires-in-With-3 t c = grind (arith, common_steps)
-
-pub put_expr-put_operand-requires : goal.put_expr-put_operand-requires
-put_expr-put_operand-requires t c = grind (arith, common_steps)
-
-pub put_expr-put_operand-requires-in-Pack-2 : goal.put_expr-put_operand-requires-in-Pack-2
-put_expr-put_operand-requires-in-Pack-2 t c = grind (arith, common_steps)
-
-pub put_expr-put_operand-requires-in-With-2 : goal.put_expr-put_operand-requires-in-With-2
-put_expr-put_operand-requires-in-With-2 t c = grind (arith, common_steps)
-
-pub put_expr-put_operand-requires-in-Bin : goal.put_expr-put_operand-requires-in-Bin
-put_expr-put_operand-requires-in-Bin t c = grind (arith, common_steps)

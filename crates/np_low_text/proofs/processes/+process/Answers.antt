@@ -75,33 +75,3 @@ put_migrate-returns t c = grind (arith, common_steps)
 
 pub put_proc-returns-in-Send : goal.put_proc-returns-in-Send
 put_proc-returns-in-Send t c = grind (arith, common_steps)
-
-pub put_proc-put_left-requires-in-Agent : goal.put_proc-put_left-requires-in-Agent
-put_proc-put_left-requires-in-Agent t c = grind (arith, common_steps)
-
-pub put_proc-put_part-requires-in-Agent : goal.put_proc-put_part-requires-in-Agent
-put_proc-put_part-requires-in-Agent t c = grind (arith, common_steps)
-
-pub put_proc-put_part-requires-in-IfLocal : goal.put_proc-put_part-requires-in-IfLocal
-put_proc-put_part-requires-in-IfLocal t c = grind (arith, common_steps)
-
-pub put_proc-put_left-requires : goal.put_proc-put_left-requires
-put_proc-put_left-requires t c = grind (arith, common_steps)
-
-pub put_proc-put_part-requires-in-Lookup : goal.put_proc-put_part-requires-in-Lookup
-put_proc-put_part-requires-in-Lookup t c = grind (arith, common_steps)
-
-pub put_proc-put_left-requires-in-If : goal.put_proc-put_left-requires-in-If
-put_proc-put_left-requires-in-If t c = grind (arith, common_steps)
-
-pub put_proc-put_part-requires-in-If : goal.put_proc-put_part-requires-in-If
-put_proc-put_part-requires-in-If t c = grind (arith, common_steps)
-
-pub put_proc-put_part-requires : goal.put_proc-put_part-requires
-put_proc-put_part-requires t c = grind (arith, common_steps)
-
-pub put_proc-put_left-requires-in-Lookup : goal.put_proc-put_left-requires-in-Lookup
-put_proc-put_left-requires-in-Lookup t c = grind (arith, common_steps)
-
-pub put_proc-put_left-requires-in-IfLocal : goal.put_proc-put_left-requires-in-IfLocal
-put_proc-put_left-requires-in-IfLocal t c = grind (arith, common_steps)
