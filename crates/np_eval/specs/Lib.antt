@@ -5,4 +5,5 @@ pub mod Fitting
 pub mod FormParts
 pub mod Forms
 pub mod Levels
+pub mod Made
 pub mod Pairs

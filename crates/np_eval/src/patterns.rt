@@ -41,13 +41,7 @@ fn put_form(alloc: Global, form: &PatForm, v: &Value, env: &mut Frame) -> Result
             Ok(true)
         }
         PatForm::Tuple(parts) => match v {
-            Value::Tuple(values) => {
-                if put_all(alloc, parts.as_slice(), values.as_slice(), env)? {
-                    Ok(true)
-                } else {
-                    Ok(false)
-                }
-            }
+            Value::Tuple(values) => put_all(alloc, parts.as_slice(), values.as_slice(), env),
             _ => Ok(false),
         },
     }

@@ -1,9 +1,12 @@
-ghost use Rattle.std.specs.Prelude.{◌≡◌, IfOk, ◌+ℤ◌, ◌-ℤ◌, ◌*ℤ◌};
+ghost use Rattle.std.specs.Prelude.{◌≡◌, IfOk, OnOk, Option, List as Items, ◌++◌, ◌+ℤ◌, ◌-ℤ◌, ◌*ℤ◌};
+ghost use Rattle.std.specs.Option.{option_copied};
 ghost use Rattle.std.specs.Int.{int_wrap, w64};
 ghost use Rattle.np_syntax.specs.declared.expression.Op.TheVariants as op;
 ghost use Rattle.np_syntax.specs.declared.value.Value as value;
-ghost use Rattle.np_eval.specs.Eval.{eval, operate, pack, with_place, put_place};
+ghost use Rattle.np_syntax.specs.declared.value.Value.{Value as Datum, out-Value};
+ghost use Rattle.np_eval.specs.Eval.{eval, equal_at, operate, pack, with_place, put_place};
 ghost use Rattle.np_eval.specs.Levels.{eval_form, eval_all};
+ghost use Rattle.np_eval.specs.Made.{Gives, both, tupled, operated, packed, placed};
 
 use super::frame::Frame;
 use np_syntax::{Boxed, Expr, ExprForm, List, Memory, Name, Op, Value};
@@ -24,44 +27,23 @@ fn eval_form(alloc: Global, form: &ExprForm, env: &Frame) -> Result<Option<Value
     ensures { IfOk result (λ v. v ≡ eval_form form.now env.now) }
 {
     match form {
-        ExprForm::Val(v) => Ok(Some(v.copy(alloc)?)),
-        ExprForm::Var(x) => match env.get(*x) {
-            Some(v) => Ok(Some(v.copy(alloc)?)),
-            None => Ok(None),
-        },
-        ExprForm::Tuple(parts) => match eval_all(alloc, parts.as_slice(), env)? {
-            Some(values) => Ok(Some(Value::Tuple(values))),
-            None => Ok(None),
-        },
+        ExprForm::Val(v) => copied(alloc, Some(v)),
+        ExprForm::Var(x) => copied(alloc, env.get(*x)),
+        ExprForm::Tuple(parts) => tupled(eval_all(alloc, parts.as_slice(), env)),
         ExprForm::Bin(op, a, b) => {
-            let Some(x) = eval(alloc, a.get(), env)? else {
-                return Ok(None);
-            };
-            let Some(y) = eval(alloc, b.get(), env)? else {
-                return Ok(None);
-            };
-            Ok(operate(*op, &x, &y))
+            let operands = both(eval(alloc, a.get(), env), eval(alloc, b.get(), env));
+            operated(*op, operands)
         }
         ExprForm::Pack(chan, e) => {
-            let Some(chan) = eval(alloc, chan.get(), env)? else {
-                return Ok(None);
-            };
-            let Some(v) = eval(alloc, e.get(), env)? else {
-                return Ok(None);
-            };
-            pack(alloc, &chan, v)
+            let parts = both(eval(alloc, chan.get(), env), eval(alloc, e.get(), env));
+            packed(alloc, parts)
         }
         ExprForm::With(places, agent, lock) => {
-            let Some(places) = eval(alloc, places.get(), env)? else {
-                return Ok(None);
-            };
-            let Some(agent) = eval(alloc, agent.get(), env)? else {
-                return Ok(None);
-            };
-            let Some(lock) = eval(alloc, lock.get(), env)? else {
-                return Ok(None);
-            };
-            with_place(alloc, &places, &agent, &lock)
+            let parts = both(
+                eval(alloc, places.get(), env),
+                eval(alloc, agent.get(), env),
+            );
+            placed(alloc, parts, eval(alloc, lock.get(), env))
         }
     }
 }
@@ -79,6 +61,88 @@ fn eval_all(alloc: Global, parts: &[Expr], env: &Frame) -> Result<Option<List<Va
         values.add(v)?;
     }
     Ok(Some(values))
+}
+
+fn copied(alloc: Global, v: Option<&Value>) -> Result<Option<Value>, Memory>
+    ensures { IfOk result (λ made. made ≡ option_copied v.entry) }
+{
+    let Some(v) = v else {
+        return Ok(None);
+    };
+    match v.copy(alloc) {
+        Ok(v) => Ok(Some(v)),
+        Err(memory) => Err(memory),
+    }
+}
+
+/// The tuple of the values.
+fn tupled(values: Result<Option<List<Value>>, Memory>) -> Result<Option<Value>, Memory>
+    ensures { (vs : Option (Items Datum)) → Gives values vs → Gives result (tupled vs) }
+{
+    match values {
+        Ok(Some(values)) => Ok(Some(Value::Tuple(values))),
+        Ok(None) => Ok(None),
+        Err(memory) => Err(memory),
+    }
+}
+
+/// Two values, where both are there.
+fn both(
+    x: Result<Option<Value>, Memory>,
+    y: Result<Option<Value>, Memory>,
+) -> Result<Option<(Value, Value)>, Memory>
+    ensures { (a b : Option Datum) → Gives x a → Gives y b → Gives result (both a b) }
+{
+    match (x, y) {
+        (Ok(Some(x)), Ok(Some(y))) => Ok(Some((x, y))),
+        (Ok(Some(_)), Err(_)) => Err(Memory),
+        (Err(_), _) => Err(Memory),
+        _ => Ok(None),
+    }
+}
+
+/// What an operation makes of the values of its operands.
+fn operated(
+    op: Op,
+    operands: Result<Option<(Value, Value)>, Memory>,
+) -> Result<Option<Value>, Memory>
+    ensures { (p : Option (Datum × Datum)) → Gives operands p → Gives result (operated op p) }
+{
+    match operands {
+        Ok(Some((x, y))) => Ok(operate(op, &x, &y)),
+        Ok(None) => Ok(None),
+        Err(memory) => Err(memory),
+    }
+}
+
+/// The letter of a channel and a value, where both are there.
+fn packed(
+    alloc: Global,
+    parts: Result<Option<(Value, Value)>, Memory>,
+) -> Result<Option<Value>, Memory>
+    ensures { (p : Option (Datum × Datum)) → Gives parts p → Gives result (packed p) }
+{
+    match parts {
+        Ok(Some((chan, v))) => pack(alloc, &chan, v),
+        Ok(None) => Ok(None),
+        Err(memory) => Err(memory),
+    }
+}
+
+/// The map of places with an agent's channel, where all three are there.
+fn placed(
+    alloc: Global,
+    parts: Result<Option<(Value, Value)>, Memory>,
+    lock: Result<Option<Value>, Memory>,
+) -> Result<Option<Value>, Memory>
+    ensures { (p : Option (Datum × Datum)) (l : Option Datum) → Gives parts p → Gives lock l → Gives result (placed p l) }
+{
+    match (parts, lock) {
+        (Ok(Some((places, agent))), Ok(Some(lock))) => with_place(alloc, &places, &agent, &lock),
+        (Ok(Some(_)), Err(_)) => Err(Memory),
+        (Err(_), _) => Err(Memory),
+        _ => Ok(None),
+    }
 }
 
 /// The letter of a channel and a value.
@@ -122,23 +186,38 @@ fn put_place(
     ensures { IfOk result (λ put. put ≡ put_place pairs.now agent lock) }
 {
     let mut put = List::new(alloc);
+    match add_places(&mut put, pairs, (agent, lock)) {
+        Ok(()) => Ok(put),
+        Err(memory) => Err(memory),
+    }
+}
+
+/// Adds the places with the pair in the place of the agent's, or at the end.
+fn add_places(
+    put: &mut List<(Name, Name)>,
+    pairs: &[(Name, Name)],
+    place: (Name, Name),
+) -> Result<(), Memory>
+    ensures { OnOk result (put.new ≡ put.old ++ put_place pairs.now place.0 place.1) }
+{
     for (at, pair) in pairs.iter().enumerate() {
-        if pair.0 == agent {
-            put.add((agent, lock))?;
-            put.append(&pairs[at + 1..])?;
-            return Ok(put);
+        if pair.0 == place.0 {
+            put.add(place)?;
+            return put.append(&pairs[at + 1..]);
         }
         put.add(*pair)?;
     }
-    put.add((agent, lock))?;
-    Ok(put)
+    put.add(place)
 }
 
 fn operate(op: Op, x: &Value, y: &Value) -> Option<Value>
     ensures { result ≡ operate op x.now y.now }
 {
     match op {
-        Op::Equal => equal(x, y),
+        Op::Equal => match equal(x, y) {
+            Some(same) => Some(Value::Truth(same)),
+            None => None,
+        },
         _ => match x {
             Value::Int(a) => match y {
                 Value::Int(b) => number(op, *a, *b),
@@ -162,30 +241,15 @@ fn number(o: Op, a: i64, b: i64) -> Option<Value>
     }
 }
 
-fn equal(x: &Value, y: &Value) -> Option<Value>
-    ensures { result ≡ operate op.Equal x.now y.now }
+fn equal(x: &Value, y: &Value) -> Option<bool>
+    ensures { result ≡ equal_at (out-Value x.now) (out-Value y.now) }
 {
-    match x {
-        Value::Int(a) => match y {
-            Value::Int(b) => Some(Value::Truth(*a == *b)),
-            _ => None,
-        },
-        Value::Truth(a) => match y {
-            Value::Truth(b) => Some(Value::Truth(*a == *b)),
-            _ => None,
-        },
-        Value::Str(a) => match y {
-            Value::Str(b) => Some(Value::Truth(a.as_slice() == b.as_slice())),
-            _ => None,
-        },
-        Value::Site(a) => match y {
-            Value::Site(b) => Some(Value::Truth(*a == *b)),
-            _ => None,
-        },
-        Value::Agent(a) => match y {
-            Value::Agent(b) => Some(Value::Truth(*a == *b)),
-            _ => None,
-        },
+    match (x, y) {
+        (Value::Int(a), Value::Int(b)) => Some(*a == *b),
+        (Value::Truth(a), Value::Truth(b)) => Some(*a == *b),
+        (Value::Str(a), Value::Str(b)) => Some(a.as_slice() == b.as_slice()),
+        (Value::Site(a), Value::Site(b)) => Some(*a == *b),
+        (Value::Agent(a), Value::Agent(b)) => Some(*a == *b),
         _ => None,
     }
 }
