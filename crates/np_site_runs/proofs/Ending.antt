@@ -1,11 +1,11 @@
 -- Where the merged history of sites leads, and when the whole rests.
-use Rattle.std.proofs.Common.{◌≡◌, ◌==◌, ℕ, inl, inr, ⊎_elim, List, [], ◌∷◌, map, Option, None, Some, IfSome, option_to_list, flat_map, refl, sym, ap, ap₂, subst, ◌∙◌}
+use Rattle.std.proofs.Common.{◌≡◌, ◌==◌, ℕ, inl, inr, List, [], ◌∷◌, map, Option, None, Some, IfSome, option_to_list, flat_map, refl, sym, ap, ap₂, subst, ◌∙◌}
 use Rattle.std.specs.FinMap as table
 use Rattle.std.specs.List.{AllByRecursion}
 use Rattle.np_syntax.specs.declared.value.Name.{Name}
 use Rattle.np_calculus.specs.declared.config.Atom.{Atom}
 use Rattle.np_calculus.specs.Config.{Config}
-use Rattle.np_calculus.specs.Idle.{Can, HasMeeting, HasWork}
+use Rattle.np_calculus.specs.Idle.{Can}
 use Rattle.np_calculus.specs.Starts.{start_low}
 use Rattle.stamp_history.specs.Histories.{Recorded}
 use Rattle.run_merge.proofs.InOrder.{all_filter, all_flat_map, all_weaker}
@@ -13,6 +13,7 @@ use Rattle.np_stamped_run.specs.Deeds.{Deed, StampedItem, taken_from}
 use Rattle.np_stamped_run.specs.Elements.{Occurs}
 use Rattle.np_stamped_run.specs.Laws.{AreRecorded, IsSaid}
 use Rattle.np_stamped_run.specs.Resting.{Brings}
+use Rattle.np_stamped_run.proofs.Acting.{acts_along}
 use Rattle.np_stamped_run.proofs.Linking.{all_second}
 use Rattle.np_stamped_run.proofs.Resting.{idle_in_parts}
 use Rattle.np_stamped_run.proofs.Running.{merged_is_run}
@@ -59,35 +60,13 @@ module _ (h : Holding) (c d : Config) (one : IsPart h c) (other : IsPart h d) wh
   atom-too : (m : Name) (a : Atom) → table.get d.atoms m ≡ Some a → table.get c.atoms m ≡ Some a
   atom-too m a is = one.has m a (other.only m a is)
 
-  works-too : (agent : Name) → HasWork d agent → HasWork c agent
-  works-too agent w = record { mark = w.mark; atom = w.atom; there = atom-too w.mark w.atom w.there; of = w.of; acts = w.acts }
-
-  meets-too : (agent : Name) → HasMeeting d agent → HasMeeting c agent
-  meets-too agent w = record {
-    output = w.output;
-    giver = w.giver;
-    gives = atom-too w.output w.giver w.gives;
-    giver_of = w.giver_of;
-    input = w.input;
-    taker = w.taker;
-    takes = atom-too w.input w.taker w.takes;
-    taker_of = w.taker_of;
-    from = w.from;
-    output_form = w.output_form;
-    to = w.to;
-    input_form = w.input_form;
-    chan = w.chan;
-    given = w.given;
-    taken = w.taken;
-  }
-
   can-too : (site : ℕ) → Can d site → Can c site
   can-too site (inl p) = let none : None ≡ Some p.packet = sym (other.packets p.mark) ∙ p.flies in absurd cc
   can-too site (inr (inl a)) = inr (inl (record { agent = a.agent; comes = one.places a.agent ∙ sym (other.places a.agent) ∙ a.comes }))
   can-too site (inr (inr a)) = inr (inr (record {
     agent = a.agent;
     stands = one.places a.agent ∙ sym (other.places a.agent) ∙ a.stands;
-    works = ⊎_elim (λ w. inl (works-too a.agent w)) (λ w. inr (meets-too a.agent w)) a.works;
+    works = acts_along d c a.agent (λ m b there of. atom-too m b there) a.works;
   }))
 
 pub still_by_one : StillByOne

@@ -1,3 +1,4 @@
+pub mod Acting
 pub mod Counting
 pub mod Elements
 pub mod Flowing

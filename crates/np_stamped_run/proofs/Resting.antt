@@ -18,6 +18,7 @@ use Rattle.np_merged_run.proofs.Joined.{every-append}
 use Rattle.np_merged_run.proofs.Steps.{together-lodged}
 use Rattle.np_stamped_run.specs.Elements.{Occurs}
 use Rattle.np_stamped_run.specs.Resting.{Brings, CanInParts, IdleInParts, IsAwaited}
+use Rattle.np_stamped_run.proofs.Acting.{acts_along}
 use Rattle.np_stamped_run.proofs.Elements.{last-or_before, mapped-occurs, occurs-either, occurs-first, occurs-map, occurs-mapped, occurs-not, occurs-over, occurs-second, over-occurs}
 
 module _ (P : Contents → Type 0) (here : ℕ → Config) where
@@ -139,32 +140,7 @@ module _ (n : ℕ) (g : Spread) (c : Config) (s : ℕ) (i : IsSpread n g c) wher
       (agent-in (sites n g.here ++ g.air) a.agent (place.At s) i.joined.apart lodged (ap (λ (x : Contents). x.place a.agent) is-parts ∙ a.stands)))
     where
       works : (u : ℕ) → HasWhole (together (sites n g.here ++ g.air)) a.agent (place.At s) (inside (g.here u)) → HasWork (g.here u) a.agent ⊎ HasMeeting (g.here u) a.agent
-      works u has = ⊎_elim
-          (λ w. inl (record {
-            mark = w.mark;
-            atom = w.atom;
-            there = has.atoms w.mark w.atom (ap (λ (x : Contents). x.atom w.mark) is-parts ∙ w.there) w.of;
-            of = w.of;
-            acts = w.acts;
-          }))
-          (λ w. inr (record {
-            output = w.output;
-            giver = w.giver;
-            gives = has.atoms w.output w.giver (ap (λ (x : Contents). x.atom w.output) is-parts ∙ w.gives) w.giver_of;
-            giver_of = w.giver_of;
-            input = w.input;
-            taker = w.taker;
-            takes = has.atoms w.input w.taker (ap (λ (x : Contents). x.atom w.input) is-parts ∙ w.takes) w.taker_of;
-            taker_of = w.taker_of;
-            from = w.from;
-            output_form = w.output_form;
-            to = w.to;
-            input_form = w.input_form;
-            chan = w.chan;
-            given = w.given;
-            taken = w.taken;
-          }))
-          a.works
+      works u has = acts_along c (g.here u) a.agent (λ m b there of. has.atoms m b (ap (λ (x : Contents). x.atom m) is-parts ∙ there) of) a.works
 
   pub from-whole : Can c s → InParts
   from-whole (inl p) = from-packet p
@@ -192,26 +168,7 @@ module _ (n : ℕ) (g : Spread) (c : Config) (s : ℕ) (i : IsSpread n g c) wher
     to-whole (inr (inr a)) = inr (inr (record {
       agent = a.agent;
       stands = whole-place a.agent (place.At s) (of-site (λ x. x.place a.agent ≡ Some (place.At s)) a.stands);
-      works = ⊎_elim
-          (λ w. inl (record { mark = w.mark; atom = w.atom; there = whole-atom w.mark w.atom w.there; of = w.of; acts = w.acts }))
-          (λ w. inr (record {
-            output = w.output;
-            giver = w.giver;
-            gives = whole-atom w.output w.giver w.gives;
-            giver_of = w.giver_of;
-            input = w.input;
-            taker = w.taker;
-            takes = whole-atom w.input w.taker w.takes;
-            taker_of = w.taker_of;
-            from = w.from;
-            output_form = w.output_form;
-            to = w.to;
-            input_form = w.input_form;
-            chan = w.chan;
-            given = w.given;
-            taken = w.taken;
-          }))
-          a.works;
+      works = acts_along (g.here u) c a.agent (λ m b there of. whole-atom m b there) a.works;
     }))
 
   -- an item that brings something, and what it brings
