@@ -1,5 +1,6 @@
-ghost use Rattle.std.specs.Prelude.{◌≡◌, IfOk};
-ghost use Rattle.np_types.specs.Worlds.{bare, kind, kinds};
+ghost use Rattle.std.specs.Prelude.{◌≡◌, IfOk, Option, List as Items};
+ghost use Rattle.np_syntax.specs.declared.types.Ty.{Ty as Kind};
+ghost use Rattle.np_types.specs.Worlds.{bare, kind, kinds, tupled};
 
 use np_syntax::{List, Memory, Ty, Value};
 use std::alloc::Global;
@@ -17,10 +18,7 @@ pub fn kind(alloc: Global, value: &Value) -> Result<Option<Ty>, Memory>
         Value::Site(_) => Ok(Some(Ty::Site)),
         Value::Agent(_) => Ok(Some(Ty::Agent)),
         Value::Chan(_) => Ok(None),
-        Value::Tuple(parts) => match kinds(alloc, parts.as_slice())? {
-            Some(types) => Ok(Some(Ty::Tuple(types))),
-            None => Ok(None),
-        },
+        Value::Tuple(parts) => tupled(kinds(alloc, parts.as_slice())),
         Value::Letter(_, _) => Ok(None),
         Value::Places(places) => {
             if places.len() == 0 {
@@ -39,10 +37,22 @@ fn kinds(alloc: Global, values: &[Value]) -> Result<Option<List<Ty>>, Memory>
 {
     let mut types = List::new(alloc);
     for value in values {
-        let Some(ty) = kind(alloc, value)? else {
-            return Ok(None);
-        };
-        types.add(ty)?;
+        match kind(alloc, value) {
+            Ok(Some(ty)) => types.add(ty)?,
+            Ok(None) => return Ok(None),
+            Err(memory) => return Err(memory),
+        }
     }
     Ok(Some(types))
+}
+
+/// The type of a tuple of values with these types.
+fn tupled(types: Result<Option<List<Ty>>, Memory>) -> Result<Option<Ty>, Memory>
+    ensures { (ts : Option (Items Kind)) → IfOk types (λ types. types ≡ ts) → IfOk result (λ ty. ty ≡ tupled ts) }
+{
+    match types {
+        Ok(Some(types)) => Ok(Some(Ty::Tuple(types))),
+        Ok(None) => Ok(None),
+        Err(memory) => Err(memory),
+    }
 }
