@@ -50,7 +50,9 @@ fn pat_form<'a>(
             Ok((Pat { at, form }, next + 1))
         }
         RawPatForm::Tuple(parts) => {
-            let (parts, after) = pats(alloc, scope, next, parts.as_slice())?;
+            let Ok((parts, after)) = pats(alloc, scope, next, parts.as_slice()) else {
+                return Err(Memory);
+            };
             let form = PatForm::Tuple(parts);
             Ok((Pat { at, form }, after))
         }
@@ -72,7 +74,9 @@ fn pats<'a>(
     let mut resolved = List::new(alloc);
     let mut number = next;
     for part in parts {
-        let (part, after) = pat(alloc, scope, number, part)?;
+        let Ok((part, after)) = pat(alloc, scope, number, part) else {
+            return Err(Memory);
+        };
         resolved.add(part)?;
         number = after;
     }

@@ -31,8 +31,10 @@ impl Resolver {
         ensures scope { OnOk result (scope.new ≡ scope.old) }
         ensures behind { IfOk result (λ placed. IsBehindProc next p.now placed.next) }
     {
-        let (form, after) = self.proc_form(scope, next, &p.form)?;
-        Ok(next.place(self.alloc, p.at, form, after)?)
+        match self.proc_form(scope, next, &p.form) {
+            Ok((form, after)) => next.place(self.alloc, p.at, form, after),
+            Err(e) => Err(e),
+        }
     }
 
     /// The form of the process with the next number, and the numbers behind it.
@@ -51,28 +53,24 @@ impl Resolver {
     {
         match form {
             RawProcForm::Stop => Ok((ProcForm::Stop, next.next_node())),
-            RawProcForm::Par(left, right) => self.parallel(scope, next, left.get(), right.get()),
-            RawProcForm::New(name, ty, body) => self.channel(scope, next, name, ty, body.get()),
+            RawProcForm::Par(left, right) => self.parallel(scope, next, left, right),
+            RawProcForm::New(name, ty, body) => self.channel(scope, next, name, ty, body),
             RawProcForm::Out(chan, value) => self.output(scope, next, chan, value),
-            RawProcForm::Inp(chan, names, body) => self.input(scope, next, chan, names, body.get()),
+            RawProcForm::Inp(chan, names, body) => self.input(scope, next, chan, names, body),
             RawProcForm::Rep(chan, names, body) => {
-                self.replicated(scope, next, chan, names, body.get())
+                self.replicated(scope, next, chan, names, body)
             }
-            RawProcForm::Agent(agent, body, rest) => {
-                self.agent(scope, next, agent, body.get(), rest.get())
-            }
-            RawProcForm::Migrate(site, body) => self.migrate(scope, next, site, body.get()),
+            RawProcForm::Agent(agent, body, rest) => { self.agent(scope, next, agent, body, rest) }
+            RawProcForm::Migrate(site, body) => self.migrate(scope, next, site, body),
             RawProcForm::IfLocal(agent, chan, value, met, unmet) => {
-                self.iflocal(scope, next, agent, chan, value, met.get(), unmet.get())
+                self.iflocal(scope, next, agent, chan, value, met, unmet)
             }
             RawProcForm::Send(agent, site, chan, value) => {
                 self.send(scope, next, agent, site, chan, value)
             }
             RawProcForm::Post(agent, chan, value) => self.post(scope, next, agent, chan, value),
-            RawProcForm::If(e, met, unmet) => self.test(scope, next, e, met.get(), unmet.get()),
-            RawProcForm::Let(names, value, body) => {
-                self.bind(scope, next, names, value, body.get())
-            }
+            RawProcForm::If(e, met, unmet) => self.test(scope, next, e, met, unmet),
+            RawProcForm::Let(names, value, body) => { self.bind(scope, next, names, value, body) }
             RawProcForm::Print(value) => self.print(scope, next, value),
         }
     }
@@ -84,17 +82,19 @@ impl Resolver {
         self,
         scope: &mut Scope<'a>,
         next: Numbers,
-        first: &'a RawProc,
-        second: &'a RawProc,
+        first: &'a Boxed<RawProc>,
+        second: &'a Boxed<RawProc>,
     ) -> Result<(Boxed<Proc>, Boxed<Proc>, Numbers), ScopeFail>
         requires { TwoFit next first.now second.now }
         ensures gives { Gives (spec.two (spec.proc_of self.sites first.now) (spec.proc_of self.sites second.now) scope.old next) result }
         ensures scope { OnOk result (scope.new ≡ scope.old) }
         ensures behind { IfOk result (λ r. IsBehindTwo next first.now second.now r.2) }
     {
-        let first = self.proc(scope, next, first)?;
-        let second = self.proc(scope, first.next, second)?;
-        Ok((first.proc, second.proc, second.next))
+        let first = self.proc(scope, next, first.get())?;
+        match self.proc(scope, first.next, second.get()) {
+            Ok(second) => Ok((first.proc, second.proc, second.next)),
+            Err(e) => Err(e),
+        }
     }
 
     /// A body in the scope of a pattern's names, behind the pattern, and the numbers behind it.
@@ -105,7 +105,7 @@ impl Resolver {
         scope: &mut Scope<'a>,
         next: Numbers,
         names: &'a RawPat,
-        body: &'a RawProc,
+        body: &'a Boxed<RawProc>,
     ) -> Result<(Pat, Boxed<Proc>, Numbers), ScopeFail>
         requires { BodyFits next names.now body.now }
         ensures gives { Gives (spec.under names.now (spec.proc_of self.sites body.now) scope.old next) result }
@@ -118,7 +118,7 @@ impl Resolver {
             node: next.node,
             binder,
         };
-        let body = self.proc(scope, inner, body)?;
+        let body = self.proc(scope, inner, body.get())?;
         scope.leave_to(depth);
         Ok((names, body.proc, body.next))
     }
@@ -130,16 +130,18 @@ impl Resolver {
         self,
         scope: &mut Scope<'a>,
         next: Numbers,
-        left: &'a RawProc,
-        right: &'a RawProc,
+        left: &'a Boxed<RawProc>,
+        right: &'a Boxed<RawProc>,
     ) -> Result<(ProcForm, Numbers), ScopeFail>
         requires { FormFits next (raw.Par left.now right.now) }
         ensures gives { Gives (spec.par_form (spec.proc_of self.sites left.now) (spec.proc_of self.sites right.now) scope.old next) result }
         ensures scope { OnOk result (scope.new ≡ scope.old) }
         ensures behind { IfOk result (λ r. IsBehindForm next (raw.Par left.now right.now) r.1) }
     {
-        let (left, right, after) = self.two(scope, next.next_node(), left, right)?;
-        Ok((ProcForm::Par(left, right), after))
+        match self.two(scope, next.next_node(), left, right) {
+            Ok((left, right, after)) => Ok((ProcForm::Par(left, right), after)),
+            Err(e) => Err(e),
+        }
     }
 
     /// A new channel, whose name is in scope in the body.
@@ -151,7 +153,7 @@ impl Resolver {
         next: Numbers,
         name: &'a Ident,
         ty: &Ty,
-        body: &'a RawProc,
+        body: &'a Boxed<RawProc>,
     ) -> Result<(ProcForm, Numbers), ScopeFail>
         requires { FormFits next (raw.New name.now ty.now body.now) }
         ensures gives { Gives (spec.new_form name.now ty.now (spec.proc_of self.sites body.now) scope.old next) result }
@@ -160,9 +162,13 @@ impl Resolver {
     {
         let ty = ty.copy(self.alloc)?;
         scope.enter(name.text.as_slice(), Meaning::Binder(next.binder))?;
-        let body = self.proc(scope, next.next_both(), body)?;
-        scope.leave();
-        Ok((ProcForm::New(next.binder, ty, body.proc), body.next))
+        match self.proc(scope, next.next_both(), body.get()) {
+            Ok(body) => {
+                scope.leave();
+                Ok((ProcForm::New(next.binder, ty, body.proc), body.next))
+            }
+            Err(e) => Err(e),
+        }
     }
 
     /// An input, whose body is in the scope of the pattern's names.
@@ -174,7 +180,7 @@ impl Resolver {
         next: Numbers,
         chan: &Ident,
         names: &'a RawPat,
-        body: &'a RawProc,
+        body: &'a Boxed<RawProc>,
     ) -> Result<(ProcForm, Numbers), ScopeFail>
         requires { FormFits next (raw.Inp chan.now names.now body.now) }
         ensures gives { Gives (spec.inp_form chan.now names.now (spec.proc_of self.sites body.now) scope.old next) result }
@@ -182,8 +188,10 @@ impl Resolver {
         ensures behind { IfOk result (λ r. IsBehindForm next (raw.Inp chan.now names.now body.now) r.1) }
     {
         let chan = use_of(scope, chan)?;
-        let (names, body, after) = self.under(scope, next.next_node(), names, body)?;
-        Ok((ProcForm::Inp(chan, names, body), after))
+        match self.under(scope, next.next_node(), names, body) {
+            Ok((names, body, after)) => Ok((ProcForm::Inp(chan, names, body), after)),
+            Err(e) => Err(e),
+        }
     }
 
     /// A replicated input.
@@ -195,7 +203,7 @@ impl Resolver {
         next: Numbers,
         chan: &Ident,
         names: &'a RawPat,
-        body: &'a RawProc,
+        body: &'a Boxed<RawProc>,
     ) -> Result<(ProcForm, Numbers), ScopeFail>
         requires { FormFits next (raw.Rep chan.now names.now body.now) }
         ensures gives { Gives (spec.rep_form chan.now names.now (spec.proc_of self.sites body.now) scope.old next) result }
@@ -203,8 +211,10 @@ impl Resolver {
         ensures behind { IfOk result (λ r. IsBehindForm next (raw.Rep chan.now names.now body.now) r.1) }
     {
         let chan = use_of(scope, chan)?;
-        let (names, body, after) = self.under(scope, next.next_node(), names, body)?;
-        Ok((ProcForm::Rep(chan, names, body), after))
+        match self.under(scope, next.next_node(), names, body) {
+            Ok((names, body, after)) => Ok((ProcForm::Rep(chan, names, body), after)),
+            Err(e) => Err(e),
+        }
     }
 
     /// A new agent, whose name is in scope in its body and in the rest.
@@ -215,8 +225,8 @@ impl Resolver {
         scope: &mut Scope<'a>,
         next: Numbers,
         agent: &'a Ident,
-        body: &'a RawProc,
-        rest: &'a RawProc,
+        body: &'a Boxed<RawProc>,
+        rest: &'a Boxed<RawProc>,
     ) -> Result<(ProcForm, Numbers), ScopeFail>
         requires { FormFits next (raw.Agent agent.now body.now rest.now) }
         ensures gives { Gives (spec.agent_form agent.now (spec.proc_of self.sites body.now) (spec.proc_of self.sites rest.now) scope.old next) result }
@@ -224,9 +234,13 @@ impl Resolver {
         ensures behind { IfOk result (λ r. IsBehindForm next (raw.Agent agent.now body.now rest.now) r.1) }
     {
         scope.enter(agent.text.as_slice(), Meaning::Binder(next.binder))?;
-        let (body, rest, after) = self.two(scope, next.next_both(), body, rest)?;
-        scope.leave();
-        Ok((ProcForm::Agent(next.binder, body, rest), after))
+        match self.two(scope, next.next_both(), body, rest) {
+            Ok((body, rest, after)) => {
+                scope.leave();
+                Ok((ProcForm::Agent(next.binder, body, rest), after))
+            }
+            Err(e) => Err(e),
+        }
     }
 
     /// A migration, and what the agent does at the site.
@@ -237,7 +251,7 @@ impl Resolver {
         scope: &mut Scope<'a>,
         next: Numbers,
         site: &RawExpr,
-        body: &'a RawProc,
+        body: &'a Boxed<RawProc>,
     ) -> Result<(ProcForm, Numbers), ScopeFail>
         requires { FormFits next (raw.Migrate site.now body.now) }
         ensures gives { Gives (spec.migrate_form self.sites site.now (spec.proc_of self.sites body.now) scope.old next) result }
@@ -245,8 +259,10 @@ impl Resolver {
         ensures behind { IfOk result (λ r. IsBehindForm next (raw.Migrate site.now body.now) r.1) }
     {
         let site = self.expr(scope, site)?;
-        let body = self.proc(scope, next.next_node(), body)?;
-        Ok((ProcForm::Migrate(site, body.proc), body.next))
+        match self.proc(scope, next.next_node(), body.get()) {
+            Ok(body) => Ok((ProcForm::Migrate(site, body.proc), body.next)),
+            Err(e) => Err(e),
+        }
     }
 
     /// A message to an agent, if it is here, and what follows in either case.
@@ -259,8 +275,8 @@ impl Resolver {
         agent: &RawExpr,
         chan: &Ident,
         value: &RawExpr,
-        met: &'a RawProc,
-        unmet: &'a RawProc,
+        met: &'a Boxed<RawProc>,
+        unmet: &'a Boxed<RawProc>,
     ) -> Result<(ProcForm, Numbers), ScopeFail>
         requires { FormFits next (raw.IfLocal agent.now chan.now value.now met.now unmet.now) }
         ensures gives { Gives (spec.iflocal_form self.sites agent.now chan.now value.now (spec.proc_of self.sites met.now) (spec.proc_of self.sites unmet.now) scope.old next) result }
@@ -268,8 +284,13 @@ impl Resolver {
         ensures behind { IfOk result (λ r. IsBehindForm next (raw.IfLocal agent.now chan.now value.now met.now unmet.now) r.1) }
     {
         let (agent, chan, value) = self.addressed(scope, agent, chan, value)?;
-        let (met, unmet, after) = self.two(scope, next.next_node(), met, unmet)?;
-        Ok((ProcForm::IfLocal(agent, chan, value, met, unmet), after))
+        match self.two(scope, next.next_node(), met, unmet) {
+            Ok((met, unmet, after)) => Ok((
+                ProcForm::IfLocal(agent, chan, value, met, unmet),
+                after,
+            )),
+            Err(e) => Err(e),
+        }
     }
 
     /// A test, and what follows in either case.
@@ -280,8 +301,8 @@ impl Resolver {
         scope: &mut Scope<'a>,
         next: Numbers,
         test: &RawExpr,
-        met: &'a RawProc,
-        unmet: &'a RawProc,
+        met: &'a Boxed<RawProc>,
+        unmet: &'a Boxed<RawProc>,
     ) -> Result<(ProcForm, Numbers), ScopeFail>
         requires { FormFits next (raw.If test.now met.now unmet.now) }
         ensures gives { Gives (spec.if_form self.sites test.now (spec.proc_of self.sites met.now) (spec.proc_of self.sites unmet.now) scope.old next) result }
@@ -289,8 +310,10 @@ impl Resolver {
         ensures behind { IfOk result (λ r. IsBehindForm next (raw.If test.now met.now unmet.now) r.1) }
     {
         let test = self.expr(scope, test)?;
-        let (met, unmet, after) = self.two(scope, next.next_node(), met, unmet)?;
-        Ok((ProcForm::If(test, met, unmet), after))
+        match self.two(scope, next.next_node(), met, unmet) {
+            Ok((met, unmet, after)) => Ok((ProcForm::If(test, met, unmet), after)),
+            Err(e) => Err(e),
+        }
     }
 
     /// A `let`, whose body is in the scope of the pattern's names, and whose expression is not.
@@ -302,7 +325,7 @@ impl Resolver {
         next: Numbers,
         names: &'a RawPat,
         value: &RawExpr,
-        body: &'a RawProc,
+        body: &'a Boxed<RawProc>,
     ) -> Result<(ProcForm, Numbers), ScopeFail>
         requires { FormFits next (raw.Let names.now value.now body.now) }
         ensures gives { Gives (spec.let_form self.sites names.now value.now (spec.proc_of self.sites body.now) scope.old next) result }
@@ -310,7 +333,9 @@ impl Resolver {
         ensures behind { IfOk result (λ r. IsBehindForm next (raw.Let names.now value.now body.now) r.1) }
     {
         let given = self.expr(scope, value)?;
-        let (names, body, after) = self.under(scope, next.next_node(), names, body)?;
-        Ok((ProcForm::Let(names, given, body), after))
+        match self.under(scope, next.next_node(), names, body) {
+            Ok((names, body, after)) => Ok((ProcForm::Let(names, given, body), after)),
+            Err(e) => Err(e),
+        }
     }
 }
