@@ -6,7 +6,7 @@ ghost use Rattle.agent_pool.specs.Pools.{Unchanged, IsFiled};
 ghost use Rattle.agent_pool.specs.Rows.{Reduces, IsMet, GoesOnAs, IsFork, IsPrinted};
 
 use super::agent::Agent;
-use super::held::Held;
+use super::held::{Held, both, extended, over, under};
 use super::ready::Ready;
 use np_code::{Code, NodeForm};
 use np_eval::{bind, eval, truth_of};
@@ -59,9 +59,7 @@ impl Agent {
         let NodeForm::Par(left, right) = &node.form else {
             unreachable!();
         };
-        let own = frame.copy(alloc)?;
-        let other = frame.copy(alloc)?;
-        Ok((Held::Node(*left, own), Held::Node(*right, other)))
+        both(alloc, *left, *right, frame.copy(alloc))
     }
 
     /// A `new` binds a new channel.
@@ -93,9 +91,7 @@ impl Agent {
         let NodeForm::New(binder, _, body) = &node.form else {
             unreachable!();
         };
-        let mut env = frame.copy(alloc)?;
-        env.set(*binder, Value::Chan(chan))?;
-        Ok(Held::Node(*body, env))
+        over(*body, extended(alloc, frame, *binder, Value::Chan(chan)))
     }
 
     /// A `let` binds its pattern.
@@ -157,7 +153,7 @@ impl Agent {
             unreachable!();
         };
         let next = if truth { *met } else { *unmet };
-        Ok(Held::Node(next, frame.copy(alloc)?))
+        under(alloc, next, frame)
     }
 
     /// A `print` says its value, which is answered.
