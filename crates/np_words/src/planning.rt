@@ -215,13 +215,23 @@ fn run_of(given: &Given<'_>) -> Option<Task>
     ensures is { result ≡ spec.run_of (seen given.now) }
     ensures limits { IfSome result spec.HasBudget }
 {
+    let budget = budget_of(given.budget)?;
+    let Some(high) = high_text(given.high, given.one) else {
+        return None;
+    };
+    let Some(links) = kind_of(given.links) else {
+        return None;
+    };
+    let Some(infrastructure) = infrastructure_given(given.infrastructure) else {
+        return None;
+    };
     Some(Task::Run {
-        budget: budget_of(given.budget)?,
+        budget,
         history: given.history,
-        high: high_text(given.high, given.one)?,
+        high,
         serial: given.serial,
-        links: kind_of(given.links)?,
-        infrastructure: infrastructure_given(given.infrastructure)?,
+        links,
+        infrastructure,
     })
 }
 
@@ -267,15 +277,24 @@ fn on_history(
     ensures plans { spec.Plans (spec.on_history file.now (seen given.now) view) result }
     ensures limits { IfOk result spec.IsWithinLimits }
 {
-    let second = given.second.ok_or(PlanFail::Usage)?;
-    let infrastructure = infrastructure_given(given.infrastructure).ok_or(PlanFail::Usage)?;
-    let view = view.ok_or(PlanFail::Usage)?;
-    Ok(Plan::Replay {
-        source: Word::new(alloc, file)?,
-        history: Word::new(alloc, second)?,
-        infrastructure,
-        view,
-    })
+    let Some(second) = given.second else {
+        return Err(PlanFail::Usage);
+    };
+    let Some(infrastructure) = infrastructure_given(given.infrastructure) else {
+        return Err(PlanFail::Usage);
+    };
+    let Some(view) = view else {
+        return Err(PlanFail::Usage);
+    };
+    match (Word::new(alloc, file), Word::new(alloc, second)) {
+        (Ok(source), Ok(history)) => Ok(Plan::Replay {
+            source,
+            history,
+            infrastructure,
+            view,
+        }),
+        _ => Err(PlanFail::Memory),
+    }
 }
 
 /// The plan where FILE is a source and SECOND a saved history, from which on it is run.
@@ -283,20 +302,31 @@ fn resume_of(alloc: Global, file: &str, given: &Given<'_>) -> Result<Plan, PlanF
     ensures plans { spec.Plans (spec.resume_of file.now (seen given.now)) result }
     ensures limits { IfOk result spec.IsWithinLimits }
 {
-    let saved = given.second.ok_or(PlanFail::Usage)?;
-    let budget = budget_of(given.budget).ok_or(PlanFail::Usage)?;
-    let links = kind_of(given.links).ok_or(PlanFail::Usage)?;
-    let infrastructure = infrastructure_given(given.infrastructure).ok_or(PlanFail::Usage)?;
-    Ok(Plan::Resume {
-        source: Word::new(alloc, file)?,
-        saved: Word::new(alloc, saved)?,
-        budget,
-        history: given.history,
-        high: given.high,
-        serial: given.serial,
-        links,
-        infrastructure,
-    })
+    let Some(saved) = given.second else {
+        return Err(PlanFail::Usage);
+    };
+    let Some(budget) = budget_of(given.budget) else {
+        return Err(PlanFail::Usage);
+    };
+    let Some(links) = kind_of(given.links) else {
+        return Err(PlanFail::Usage);
+    };
+    let Some(infrastructure) = infrastructure_given(given.infrastructure) else {
+        return Err(PlanFail::Usage);
+    };
+    match (Word::new(alloc, file), Word::new(alloc, saved)) {
+        (Ok(source), Ok(saved)) => Ok(Plan::Resume {
+            source,
+            saved,
+            budget,
+            history: given.history,
+            high: given.high,
+            serial: given.serial,
+            links,
+            infrastructure,
+        }),
+        _ => Err(PlanFail::Memory),
+    }
 }
 
 /// The past of the line that the words say.
@@ -334,9 +364,15 @@ fn load_of(file: &str, given: &Given<'_>) -> Result<Plan, PlanFail>
     ensures plans { spec.Plans (spec.load_of file.now (seen given.now)) result }
     ensures limits { IfOk result spec.IsWithinLimits }
 {
-    let agents = number_of(MOST_DIGITS, MOST_AGENTS, file).ok_or(PlanFail::Usage)?;
-    let links = kind_of(given.links).ok_or(PlanFail::Usage)?;
-    let infrastructure = infrastructure_given(given.infrastructure).ok_or(PlanFail::Usage)?;
+    let Some(agents) = number_of(MOST_DIGITS, MOST_AGENTS, file) else {
+        return Err(PlanFail::Usage);
+    };
+    let Some(links) = kind_of(given.links) else {
+        return Err(PlanFail::Usage);
+    };
+    let Some(infrastructure) = infrastructure_given(given.infrastructure) else {
+        return Err(PlanFail::Usage);
+    };
     Ok(Plan::Load {
         agents,
         serial: given.serial,
