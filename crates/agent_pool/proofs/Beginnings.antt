@@ -15,13 +15,11 @@ use Rattle.np_calculus.specs.Reductions.{role_index, site_in}
 use Rattle.np_calculus.proofs.Rows.{parts}
 use Rattle.np_calculus.proofs.Steps.{same_site}
 use Rattle.np_code.specs.Programs.{ProgramTable}
+use Rattle.np_calculus.proofs.Enabled.{tag-itself}
 use Rattle.agent_pool.specs.declared.ready.Ready.{Ready}
 use Rattle.agent_pool.specs.Deciding.{posts, post_in}
 use Rattle.agent_pool.specs.Readies.{sight_of, IsReady, NothingReady, made_of, begins, alone_in, taken_by, offers_in, offers, meets, pair_in, NoneAlone, NoneMeet}
 use Rattle.agent_pool.specs.Rows.{event_of, change_in}
-
-tag-itself : (t : Tag) → same_tag t t ≡ true
-tag-itself t = rw (same_site t.node, same_site (role_index t.role)) refl
 
 is-there : {A : Type 0} (o : Option A) {R : Type 0} → is_some o ≡ true → ((a : A) → o ≡ Some a → R) → R
 is-there None h f = absurd cc

@@ -1,12 +1,9 @@
 -- The list of two parts, and what stands for what after them.
-use Rattle.std.proofs.Common.{◌≡◌, Option, None, Some, List, [], ◌∷◌, ◌++◌, refl, ap, ◌∙◌}
+use Rattle.std.proofs.Common.{[], ◌∷◌, refl, ap, ◌∙◌}
 use Rattle.np_lift.specs.Posts.{prepended}
+use Rattle.np_lift.proofs.Posts.{prepended-append}
 use Rattle.cache_lift.specs.Lift.{lifted, lift_from, standing_after}
 use Rattle.cache_lift.specs.Laws.{LiftOfParts, StandingOfParts}
-
-prepended-append : {A : Type 0} (o : Option A) (xs ys : List A) → prepended o (xs ++ ys) ≡ prepended o xs ++ ys
-prepended-append None xs ys = refl
-prepended-append (Some x) xs ys = refl
 
 pub lift-of-parts : LiftOfParts
 lift-of-parts s [] k = refl

@@ -17,7 +17,7 @@ use Rattle.np_calculus.specs.Well.{Has, Ready}
 use Rattle.np_calculus.proofs.OwnNames.{not_true}
 use Rattle.np_calculus.proofs.Steps.{same_site, same-offer, step-acting}
 
-tag-itself : (t : Tag) → same_tag t t ≡ true
+pub tag-itself : (t : Tag) → same_tag t t ≡ true
 tag-itself t = rw (same_site t.node, same_site (role_index t.role)) refl
 
 -- an agent under way arrives

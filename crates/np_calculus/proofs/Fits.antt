@@ -21,7 +21,7 @@ some o x h = rw h refl
 pub makes-one : (x : Made) (m : Name) → one_made x ≡ Some m → IsMade x m
 makes-one x m h = rw (is-one x m h) refl
 
-makes-two : (x : Made) (m : Name × Name) → two_made x ≡ Some m → IsMade x m.0 × IsMade x m.1
+pub makes-two : (x : Made) (m : Name × Name) → two_made x ≡ Some m → IsMade x m.0 × IsMade x m.1
 makes-two x m h = rw (is-two x m h) (inl refl, inr refl)
 
 -- an agent that is at a site has a place

@@ -13,24 +13,15 @@ use Rattle.stamp_history.specs.declared.stamped.Stamped.{Stamped}
 use Rattle.stamp_history.specs.Histories.{IsHistory, Recorded, without_events}
 use Rattle.run_merge.specs.declared.rank.Ranked.{Ranked}
 use Rattle.run_merge.specs.InOrder.{in_order}
-use Rattle.run_merge.specs.Laws.{AreHistories, HaveOwnSites, IsInOrder, IsNoLater, of_site}
+use Rattle.run_merge.specs.Laws.{AreHistories, IsInOrder, IsNoLater, of_site}
 use Rattle.run_merge.specs.Merged.{comes_before, events_of, items, merged, ranked}
 use Rattle.run_merge.proofs.InOrder.{all_append, all_weaker}
 use Rattle.run_merge.proofs.Ranks.{ascending, keeps_events, keeps_histories, no_others, only}
 use Rattle.np_stamped_run.proofs.Moving.{below_or_not}
+use Rattle.np_site_runs.proofs.Accounts.{own-sites}
 use Rattle.np_following.specs.Following.{AreInPlace, AreNumbered, AreOf, HaveOneMore, NoneFollow, OneMoreFollows, RoomIsLeft, events_at}
 
 -- ---- histories in their places
-
-own-sites : (i : ℕ) (hs : List Recorded) → ((k : ℕ) (d : Recorded) → k < length hs → (get_or hs k d).site ≡ i + k) → HaveOwnSites hs
-own-sites i [] at = tt
-own-sites i (h ∷ hs) at = (
-  recursion_from_All (λ other. other.site ≢ h.site) hs (λ k d less same.
-      let first : h.site ≡ i + 0 = at 0 d (omega arith) in
-      let later : (get_or hs k d).site ≡ i + suc k = at (suc k) d (omega arith) in
-      omega arith),
-  own-sites (i + 1) hs (λ k d less. let later : (get_or hs k d).site ≡ i + suc k = at (suc k) d (omega arith) in omega arith),
-)
 
 module _ (hs : List Recorded) (are : AreInPlace hs) where
   at : (k : ℕ) (d : Recorded) → k < length hs → ((get_or hs k d).site ≡ k) × IsHistory (get_or hs k d)

@@ -1,5 +1,5 @@
 -- An event that is enabled in the whole, and that an atom makes, is enabled in what its site holds.
-use Rattle.std.proofs.Common.{◌≡◌, ◌<◌, ◌≤◌, ◌+◌, ◌⊎◌, inl, inr, ⊎_elim, ℕ, zero, suc, Bool, true, false, not, cond, ◌&&◌, nat_eq, nat_lt, List, [], ◌∷◌, ◌++◌, map, Option, None, Some, refl, sym, ap, ap₂, subst, ◌∙◌, arith}
+use Rattle.std.proofs.Common.{◌≡◌, ◌<◌, ◌≤◌, ◌+◌, inl, inr, ⊎_elim, ℕ, zero, suc, Bool, true, false, not, cond, ◌&&◌, nat_eq, nat_lt, List, [], ◌∷◌, ◌++◌, map, Some, refl, sym, ap, ap₂, subst, ◌∙◌, arith}
 use Rattle.std.proofs.lemmas.Bool.{eqb-true}
 use Rattle.std.proofs.lemmas.Bool.Decides.{eqb_tells, nat_tests}
 use Rattle.std.specs.FinSet as set
@@ -7,11 +7,10 @@ use Rattle.np_calculus.proofs.Common.{Name, Event, Kind, Made, same_name, same_n
 use Rattle.np_syntax.specs.declared.event.Kind.TheVariants as kind
 use Rattle.np_syntax.specs.declared.event.Made.TheVariants as made
 use Rattle.np_calculus.specs.declared.config.Atom.{Atom}
-use Rattle.np_calculus.specs.declared.config.Place.{Place}
 use Rattle.np_calculus.specs.declared.config.Place.TheVariants as place
 use Rattle.np_calculus.specs.FrameRule.{Comes, Every}
 use Rattle.np_calculus.specs.NotEnabled.{by_atom}
-use Rattle.np_calculus.specs.Parts.{IsAway, IsLodged, IsWhole, either}
+use Rattle.np_calculus.specs.Parts.{IsAway, IsLodged, IsWhole}
 use Rattle.np_calculus.proofs.FrameRule.{frame_back}
 use Rattle.np_calculus.proofs.OwnNames.{not_true}
 use Rattle.np_calculus.proofs.Steps.{Acts, acting-step, row-step}
@@ -25,6 +24,7 @@ use Rattle.np_stamped_run.specs.Elements.{Occurs}
 use Rattle.np_stamped_run.proofs.Elements.{occurs-either, occurs-not}
 use Rattle.np_holdings.specs.Holdings.{Holding, IsPart, name_of}
 use Rattle.np_holdings.specs.Making.{AreNext}
+use Rattle.np_stamped_run.proofs.Resting.{place-in}
 use Rattle.np_following.specs.Parts.{EnabledInPart, EventIsOfSite}
 
 -- ---- the sites but one
@@ -62,14 +62,6 @@ others-every s here P h (suc n) = one (nat_eq n s) refl (others-every s here P h
     one false e more = (h n (not_eq n s e), more)
 
 -- ---- what is in one of the parts
-
-either-is : {X : Type 0} (o b : Option X) (x : X) → either o b ≡ Some x → (o ≡ Some x) ⊎ (b ≡ Some x)
-either-is (Some y) b x h = inl h
-either-is None b x h = inr h
-
-place-in : (ps : List Contents) (a : Name) (p : Place) → (together ps).place a ≡ Some p → Occurs (λ x. x.place a ≡ Some p) ps
-place-in [] a p h = absurd cc
-place-in (x ∷ ps) a p h = ⊎_elim (λ i. inl i) (λ i. inr (place-in ps a p i)) (either-is (x.place a) ((together ps).place a) p h)
 
 of-sites : (P : Contents → Type 0) (here : ℕ → Config) (n : ℕ) → Occurs P (sites n here) → (u : ℕ) × (u < n) × P (inside (here u))
 of-sites P here zero h = absurd h

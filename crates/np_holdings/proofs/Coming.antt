@@ -3,10 +3,9 @@ use Rattle.std.proofs.Common.{◌≡◌, Bool, true, false, cond, nat_eq, inl, i
 use mathlib.Core.Path.{fun_ext}
 use Rattle.std.specs.FinMap as table
 use Rattle.std.specs.FinMap.{find, get-entries, get-from_entries}
-use Rattle.np_syntax.specs.declared.process.Tag.{Tag}
 use Rattle.np_tables.specs.Names.{name_cmp}
 use Rattle.np_tables.proofs.Tables.{get-cut, get-put, put_here, total}
-use Rattle.np_calculus.proofs.Common.{Config, Contents, Event, Name, NameMap, apply, arrive_row, at_site, effect, inside, land_row, same_name, same_name-is, same_name-itself, same_tag}
+use Rattle.np_calculus.proofs.Common.{Config, Contents, Event, Name, NameMap, apply, arrive_row, at_site, effect, inside, land_row, same_name, same_name-is, same_name-itself}
 use Rattle.np_calculus.specs.declared.config.Atom.{Atom}
 use Rattle.np_calculus.specs.declared.config.Packet.{Packet}
 use Rattle.np_calculus.specs.declared.config.Place.TheVariants as place
@@ -14,7 +13,6 @@ use Rattle.np_calculus.specs.Begins.{arrival, landing}
 use Rattle.np_calculus.specs.Changes.{cut, put, still}
 use Rattle.np_calculus.specs.FrameRule.{Every}
 use Rattle.np_calculus.specs.Parts.{IsOfSite, either}
-use Rattle.np_calculus.specs.Reductions.{role_index}
 use Rattle.np_calculus.proofs.FrameRule.{none-some, none_of}
 use Rattle.np_calculus.proofs.Steps.{same_site}
 use Rattle.np_calculus.proofs.Writes.{either-none}
@@ -23,6 +21,7 @@ use Rattle.np_merged_run.specs.Steps.{IsItem, IsStep}
 use Rattle.np_merged_run.proofs.Items.{item_comes}
 use Rattle.stamp_history.specs.declared.stamped.Stamped.{Stamped}
 use Rattle.np_stamped_run.specs.Deeds.{StampedItem}
+use Rattle.np_calculus.proofs.Enabled.{tag-itself}
 use Rattle.np_holdings.specs.Holdings.{Holding, IsPart}
 use Rattle.np_holdings.specs.Coming.{Arrives, IsLost, Lands}
 use Rattle.np_holdings.specs.Loads.{agent_load, output_of, packet_load}
@@ -134,9 +133,6 @@ arrives h x item agent atoms is load = (
 )
 
 -- ---- a packet lands
-
-tag-itself : (t : Tag) → same_tag t t ≡ true
-tag-itself t = rw (same_site t.node, same_site (role_index t.role)) refl
 
 module _ (h : Holding) (mark : Name) (packet : Packet) (to : packet.to ≡ h.site) (c : Config) (part : IsPart h c) where
   module _ (item : IsItem (packet_load mark packet)) (apart : AreApart (inside c ∷ packet_load mark packet ∷ [])) where

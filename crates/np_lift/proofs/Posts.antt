@@ -17,7 +17,7 @@ use Rattle.np_lift.specs.Posts.{Deed, AllHanded, Alternate, and_on, deed_by, dee
 use Rattle.np_lift.specs.Laws.{DeedsOfParts, HandedIsPaired, PostsAreLifted, PrefixIsPaired, is_sent, is_post}
 use Rattle.np_lift.proofs.Lifted.{filter-append}
 
-prepended-append : {A : Type 0} (o : Option A) (xs ys : List A) → prepended o (xs ++ ys) ≡ prepended o xs ++ ys
+pub prepended-append : {A : Type 0} (o : Option A) (xs ys : List A) → prepended o (xs ++ ys) ≡ prepended o xs ++ ys
 prepended-append None xs ys = refl
 prepended-append (Some x) xs ys = refl
 

@@ -174,7 +174,7 @@ settled_are_runs n start r are = (
 
 -- ---- histories at their places
 
-own-sites : (i : ℕ) (hs : List Recorded) → ((k : ℕ) (d : Recorded) → k < length hs → (get_or hs k d).site ≡ i + k) → HaveOwnSites hs
+pub own-sites : (i : ℕ) (hs : List Recorded) → ((k : ℕ) (d : Recorded) → k < length hs → (get_or hs k d).site ≡ i + k) → HaveOwnSites hs
 own-sites i [] at = tt
 own-sites i (h ∷ hs) at = (
   recursion_from_All (λ other. other.site ≢ h.site) hs (λ k d less same.

@@ -33,7 +33,7 @@ module _ (P : Contents → Type 0) (here : ℕ → Config) where
 
 -- ---- what is in one of the parts
 
-either-is : {X : Type 0} (o b : Option X) (x : X) → either o b ≡ Some x → (o ≡ Some x) ⊎ (b ≡ Some x)
+pub either-is : {X : Type 0} (o b : Option X) (x : X) → either o b ≡ Some x → (o ≡ Some x) ⊎ (b ≡ Some x)
 either-is (Some y) b x h = inl h
 either-is None b x h = inr h
 
@@ -41,7 +41,7 @@ packet-in : (ps : List Contents) (m : Name) (p : Packet) → (together ps).packe
 packet-in [] m p h = absurd cc
 packet-in (x ∷ ps) m p h = ⊎_elim (λ i. inl i) (λ i. inr (packet-in ps m p i)) (either-is (x.packet m) ((together ps).packet m) p h)
 
-place-in : (ps : List Contents) (a : Name) (p : Place) → (together ps).place a ≡ Some p → Occurs (λ x. x.place a ≡ Some p) ps
+pub place-in : (ps : List Contents) (a : Name) (p : Place) → (together ps).place a ≡ Some p → Occurs (λ x. x.place a ≡ Some p) ps
 place-in [] a p h = absurd cc
 place-in (x ∷ ps) a p h = ⊎_elim (λ i. inl i) (λ i. inr (place-in ps a p i)) (either-is (x.place a) ((together ps).place a) p h)
 

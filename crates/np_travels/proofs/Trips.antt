@@ -1,5 +1,5 @@
 -- What a site's deed puts on its way or takes is what its event does in a run.
-use Rattle.std.proofs.Common.{◌≡◌, ◌⊎◌, inl, inr, ⊎_elim, ℕ, List, [], ◌∷◌, Option, None, Some, IsSome, refl, sym, ap, subst, ◌∙◌}
+use Rattle.std.proofs.Common.{◌≡◌, inl, inr, ⊎_elim, ℕ, List, [], ◌∷◌, Option, None, Some, IsSome, refl, sym, ap, subst, ◌∙◌}
 use Rattle.std.specs.FinMap as table
 use Rattle.np_syntax.specs.declared.event.Kind.TheVariants as kind
 use Rattle.np_calculus.proofs.Common.{Config, Contents, Event, Kind, Name, inside}
@@ -17,7 +17,7 @@ use Rattle.np_merged_run.specs.Steps.{IsStep}
 use Rattle.np_stamped_run.specs.Deeds.{StampedItem}
 use Rattle.np_stamped_run.specs.Elements.{Occurs}
 use Rattle.np_stamped_run.proofs.Elements.{occurs-map, there-is}
-use Rattle.np_stamped_run.proofs.Resting.{atom-out, packet-out, place-out}
+use Rattle.np_stamped_run.proofs.Resting.{atom-out, packet-out, place-out, either-is}
 use Rattle.np_holdings.specs.Holdings.{Holding, IsPart}
 use Rattle.np_holdings.proofs.Acting.{not-way}
 use Rattle.np_site_runs.specs.Acting.{LeadsTo}
@@ -44,10 +44,6 @@ part-within ps x apart h = record {
   atom = λ q p is. atom-out ps q p apart (occurs-map (λ z. z ≡ x) (λ z. z.atom q ≡ Some p) (λ z same. ap (λ (z : Contents). z.atom q) same ∙ is) ps h);
   packet = λ q p is. packet-out ps q p apart (occurs-map (λ z. z ≡ x) (λ z. z.packet q ≡ Some p) (λ z same. ap (λ (z : Contents). z.packet q) same ∙ is) ps h);
 }
-
-either-is : {X : Type 0} (o b : Option X) (x : X) → either o b ≡ Some x → (o ≡ Some x) ⊎ (b ≡ Some x)
-either-is (Some y) b x h = inl h
-either-is None b x h = inr h
 
 pub together-within : (ps : List Contents) (y : Contents) → ((x : Contents) → Occurs (λ z. z ≡ x) ps → Within x y) → Within (together ps) y
 together-within [] y f = record { place = λ q p h. absurd cc; atom = λ q p h. absurd cc; packet = λ q p h. absurd cc }

@@ -21,6 +21,7 @@ use Rattle.np_views.specs.Past.{IsCause, IsLast, Thing, Trace, agent_of_atom, is
 use Rattle.np_views.specs.Past.{later_names, made_agent, made_names, names_of, trace, trace_at, writes}
 use Rattle.np_views.proofs.Among.{Same, agrees-on, among-cases, among-either, among-first}
 use Rattle.np_calculus.proofs.BornKept.{born-kept}
+use Rattle.np_syntax.proofs.Bools.{and-out}
 use Rattle.np_views.proofs.Traced.{Traced, land-alone, traced}
 
 pub false-true : {R : Type 0} (b : Bool) → b ≡ true → b ≡ false → R
@@ -32,10 +33,6 @@ false-true false h k = absurd cc
 none_of : {X : Type 0} (o : Option X) → (IsSome o → ⊥) → o ≡ None
 none_of None h = refl
 none_of (Some x) h = absurd (h refl)
-
-pub and-out : (a b : Bool) → (a && b) ≡ true → (a ≡ true) × (b ≡ true)
-and-out true b h = (refl, h)
-and-out false b h = absurd cc
 
 insert-below : (a b : NameSet) (m : Name) → ((q : Name) → set.contains a q ≡ true → set.contains b q ≡ true) → (q : Name)
     → set.contains (set.insert a m) q ≡ true → set.contains (set.insert b m) q ≡ true

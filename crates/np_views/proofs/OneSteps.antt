@@ -1,5 +1,5 @@
 -- The one-step list of a run of a source without location tests is a run of the one-step calculus.
-use Rattle.std.proofs.Common.{◌≡◌, ℕ, Bool, true, false, cond, ◌&&◌, ⊎_elim, Option, None, Some, List, [], ◌∷◌, ◌++◌, length, nat_eq, refl, ap, sym, subst, ◌∙◌}
+use Rattle.std.proofs.Common.{◌≡◌, ℕ, Bool, true, false, cond, ⊎_elim, Option, None, Some, List, [], ◌∷◌, ◌++◌, length, nat_eq, refl, ap, sym, subst, ◌∙◌}
 use Rattle.std.proofs.lemmas.Bool.{eqb-true}
 use Rattle.std.specs.FinMap as map
 use Rattle.np_calculus.proofs.Common.{Name, ProcForm-F, Event, Kind, ◌>>=◌, then, when, done, NameMap, same_name, same_name-is, same_name-itself, chan_of, Layer, layer}
@@ -25,6 +25,7 @@ unfoldable use Rattle.np_calculus.specs.Starts.{start_high}
 use Rattle.np_calculus.proofs.Fits.{actor-seen}
 use Rattle.np_calculus.proofs.Rows.{by, parts, step}
 use Rattle.np_calculus.proofs.Steps.{RowStep, acting-step, is-none, offer-seen, row-step, same_site}
+use Rattle.np_syntax.proofs.Bools.{and-out}
 use Rattle.np_views.specs.OneStep.{DepartsArrive, HasArrived, IsOneStepRun, OneArrival, OneStepIsRun, arrival_after, arrived, in_place_of, one_step}
 use Rattle.np_views.specs.Past.{each_of, is_among}
 use Rattle.np_views.specs.Tests.{tests}
@@ -132,10 +133,6 @@ role-is : (r : Role) → nat_eq (role_index r) 0 ≡ true → r ≡ role.Plain
 role-is role.Plain h = refl
 role-is role.Post h = absurd cc
 role-is role.Infra h = absurd cc
-
-and-out : (a b : Bool) → (a && b) ≡ true → (a ≡ true) × (b ≡ true)
-and-out true b h = (refl, h)
-and-out false b h = absurd cc
 
 tag-is : (t : Tag) → same_tag t (record { node = 0; role = role.Plain }) ≡ true → t ≡ record { node = 0; role = role.Plain }
 tag-is t h =

@@ -14,7 +14,8 @@ use Rattle.np_views.specs.Laws.{HasSingleMarks, LowPastIsRun, PastIsRun, PrintSa
 use Rattle.np_views.specs.Past.{HasCauses, IsCause, IsPast, Thing, Trace, each_of, is_among, is_in, is_print, is_touched, made_names}
 use Rattle.np_views.specs.Past.{picked, trace, trace_at, traces, writes}
 use Rattle.np_views.proofs.Among.{Same, among-cases}
-use Rattle.np_views.proofs.Following.{Agreed, and-in, and-out, false-true, follows, goes_on, passes}
+use Rattle.np_syntax.proofs.Bools.{and-out}
+use Rattle.np_views.proofs.Following.{Agreed, and-in, false-true, follows, goes_on, passes}
 use Rattle.np_views.proofs.Gone.{gone-along, printed-gone, single-kept}
 use Rattle.np_views.proofs.StartBorn.{low-born, low-silent, low-single}
 use Rattle.np_views.proofs.Traced.{PrintCuts, print-cuts, traced}

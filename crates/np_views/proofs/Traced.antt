@@ -15,7 +15,7 @@ use Rattle.np_calculus.specs.Footprints.{listed, touches}
 use Rattle.np_calculus.specs.FrameRule.{Every, IsMade, Writes, changed}
 use Rattle.np_calculus.specs.Parts.{IsMark}
 use Rattle.np_calculus.specs.Reductions.{site_in}
-use Rattle.np_calculus.proofs.Fits.{actor-seen, makes-one, seen-at, some}
+use Rattle.np_calculus.proofs.Fits.{actor-seen, makes-one, seen-at, some, makes-two}
 use Rattle.np_calculus.proofs.Rows.{parts, so}
 use Rattle.np_calculus.proofs.Steps.{is-one, is-two}
 use Rattle.np_calculus.proofs.Writes.{every-map, left-by}
@@ -61,9 +61,6 @@ takes : {R : Type 0} (w : Sight) (e : Event) (a : Atom) (c : Expr) (p : Pat) (f 
 takes w e a c p f h r =
     then (chan_of c a.env) _ h λ n on h. then e.other _ h λ o other h. then (offered_in w.atom o a.agent n) _ h λ v offer h.
     then (bind p v a.env) _ h λ env binds h. then (none_made e.made) _ h λ u made h. r n o v env other offer h
-
-makes-two : (x : Made) (m : Name × Name) → two_made x ≡ Some m → IsMade x m.0 × IsMade x m.1
-makes-two x m h = rw (is-two x m h) (inl refl, inr refl)
 
 module _ (e : Event) where
   other-later : (o : Name) → e.other ≡ Some o → is_among o (later_names e) ≡ true
