@@ -2,6 +2,7 @@
 use Rattle.std.proofs.Common.{◌≡◌, ◌≢◌, ℕ, ◌*◌, ◌≤◌, ◌<◌, inr, refl, List, length, Result, Ok, Err, IfOk, IfErr, sym, subst, ◌∙◌, arith}
 use Rattle.np_syntax.specs.declared.program.LowProgram.{LowProgram}
 use Rattle.np_syntax.specs.declared.program.Program.{Program}
+use Rattle.np_syntax.specs.declared.limits.TheConstants.{MOST_EVENTS}
 use Rattle.np_calculus.specs.Runs.{RunsWell}
 use Rattle.np_calculus.specs.Starts.{start_low}
 use Rattle.np_check.specs.Faults.{IsAccepted}
@@ -14,7 +15,6 @@ use Rattle.np_verdict.specs.declared.refusal.Refusal.TheVariants.{Memory, TooMan
 use Rattle.np_words.specs.declared.modes.Infrastructure.{Infrastructure}
 use Rattle.np_on_sites.specs.ByInfrastructure.{low_by}
 use Rattle.np_sources.specs.declared.lowering.Lowered.{Lowered}
-use Rattle.np_sources.specs.declared.limits.TheConstants.{MOST_EVENTS}
 use Rattle.np_sources.specs.Reaches.{Reach, CannotRun, FaultyTo, HasManyNodes, IsCompiled, IsLowOf}
 
 -- what is kept of the low program of a program is its low program

@@ -3,6 +3,7 @@ use Rattle.std.proofs.Common.{◌≡◌, ℕ, zero, suc, ◌+◌, ◌*◌, ◌�
 use Rattle.np_syntax.specs.declared.event.Event.{Event}
 use Rattle.np_syntax.specs.declared.program.LowProgram.{LowProgram}
 use Rattle.np_syntax.specs.declared.program.Program.{Program}
+use Rattle.np_syntax.specs.declared.limits.TheConstants.{MOST_EVENTS}
 use Rattle.np_calculus.specs.Config.{Config}
 use Rattle.np_calculus.specs.Starts.{start_low}
 use Rattle.np_code.specs.Sizes.{capped, program_nodes}
@@ -18,7 +19,6 @@ use Rattle.run_save.specs.Ours.{PrefixIsOurs, StopsBeingOurs}
 use Rattle.site_crew.specs.Lists.{AreWithin, IsFirstPast}
 use Rattle.np_on_sites.specs.ByInfrastructure.{low_by}
 use Rattle.np_sources.specs.Reaches.{Reach, CanGoOn, CannotGoOn, HasFewEvents, HasManyEvents, HasNoLow, IsBarred, IsFree, IsLowOf, IsTooLarge, TakenTo, FaultyTo, barred}
-use Rattle.np_sources.specs.declared.limits.TheConstants.{MOST_EVENTS}
 
 -- a source has one low program of each infrastructure
 pub same_low : (infrastructure : Infrastructure) (bytes : List ℕ) (low other : LowProgram) → IsLowOf infrastructure bytes low → IsLowOf infrastructure bytes other → low ≡ other

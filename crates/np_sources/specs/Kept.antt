@@ -6,6 +6,7 @@ use Rattle.np_syntax.specs.declared.event.Event.{Event}
 use Rattle.np_syntax.specs.declared.program.LowProgram.{LowProgram}
 use Rattle.np_syntax.specs.declared.program.Program.{Program}
 use Rattle.np_syntax.specs.declared.value.Value.{Value}
+use Rattle.np_syntax.specs.declared.limits.TheConstants.{MOST_EVENTS}
 use Rattle.np_calculus.specs.Config.{Config}
 use Rattle.np_calculus.specs.Idle.{Idle}
 use Rattle.np_calculus.specs.Reductions.{run}
@@ -23,7 +24,6 @@ use Rattle.np_report.specs.Report.{load_text, report_text}
 use Rattle.np_on_sites.specs.ByInfrastructure.{IsAllHandedBy, IsPairedBy, lift_by}
 use Rattle.np_on_sites.specs.SitesRuns.{IsSitesRun, events_of}
 use Rattle.np_on_sites.specs.declared.record.Record.{Record}
-use Rattle.np_sources.specs.declared.limits.TheConstants.{MOST_EVENTS}
 use Rattle.np_sources.specs.Reaches.{IsLowOf}
 
 -- all events of the sites, in the order of their stamps, and where these are equal of the sites

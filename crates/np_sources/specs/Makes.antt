@@ -3,6 +3,7 @@ use Rattle.std.specs.Prelude.{◌≡◌, ℕ, ◌*◌, ◌≤◌, Bool, true, fa
 use Rattle.np_syntax.specs.declared.event.Event.{Event}
 use Rattle.np_syntax.specs.declared.program.LowProgram.{LowProgram}
 use Rattle.np_syntax.specs.declared.program.Program.{Program}
+use Rattle.np_syntax.specs.declared.limits.TheConstants.{MOST_EVENTS}
 use Rattle.np_tree.specs.declared.tree.Tree.{Tree}
 use Rattle.np_show.specs.Shown.{shown as canonical}
 use Rattle.np_low_text.specs.LowText.{low_text}
@@ -23,7 +24,7 @@ use Rattle.np_following.specs.Following.{IsResumed}
 use Rattle.np_on_sites.specs.ByInfrastructure.{lift_by}
 use Rattle.np_on_sites.specs.SitesRuns.{IsSitesRun}
 use Rattle.np_on_sites.specs.declared.record.Record.{Record}
-use Rattle.np_sources.specs.declared.limits.TheConstants.{LOAD_BUDGET, MOST_EVENTS}
+use Rattle.np_sources.specs.declared.limits.TheConstants.{LOAD_BUDGET}
 use Rattle.np_sources.specs.declared.sites.Shown.{Shown}
 use Rattle.np_sources.specs.declared.sites.Shown.TheVariants as shown
 use Rattle.np_sources.specs.Kept.{IsShownSo, KeepsPromises, high_part, load_report, merged, run_report}

@@ -4,6 +4,7 @@ use Rattle.std.specs.Prelude.{◌≡◌, ℕ, ◌*◌, ◌<◌, ◌≤◌, ◌�
 use Rattle.np_syntax.specs.declared.event.Event.{Event}
 use Rattle.np_syntax.specs.declared.program.LowProgram.{LowProgram}
 use Rattle.np_syntax.specs.declared.program.Program.{Program}
+use Rattle.np_syntax.specs.declared.limits.TheConstants.{MOST_EVENTS}
 use Rattle.np_calculus.specs.Starts.{start_low}
 use Rattle.np_code.specs.Sizes.{capped, program_nodes}
 use Rattle.np_code.specs.declared.limits.TheConstants.{MOST_CODE_NODES}
@@ -20,7 +21,6 @@ use Rattle.np_words.specs.declared.modes.HighText.TheVariants.{OneStep}
 use Rattle.np_words.specs.declared.planning.Task.{Task}
 use Rattle.np_words.specs.declared.planning.Task.TheVariants as task
 use Rattle.np_on_sites.specs.ByInfrastructure.{low_by}
-use Rattle.np_sources.specs.declared.limits.TheConstants.{MOST_EVENTS}
 
 -- to its tree, to its program, to a low program that has a code, to a run of that on its sites within a budget, or so far that a high text can be shown of it
 pub data Reach : Type 0 where

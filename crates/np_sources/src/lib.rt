@@ -14,7 +14,7 @@ mod sources;
 
 pub use job::{Job, text_alone};
 pub use laws::law_one_answer;
-pub use limits::{LOAD_BUDGET, MOST_EVENTS};
+pub use limits::LOAD_BUDGET;
 pub use loads::load_of;
 pub use lowering::{Compiled, compiled_of, low_of};
 pub use np_on_sites::Record;

@@ -1,13 +1,12 @@
 //! Runs of the low program of a source on its sites, with their reports.
 
 ghost use Rattle.std.specs.Prelude.{◌≡◌, ◌≢◌, ◌<◌, ◌*◌, ◌≤◌, ◌++◌, nat_lt, length, None, Some, IsSome, IfOk, IfErr};
-ghost use Rattle.np_syntax.specs.declared.limits.TheConstants.{LARGEST_BUDGET, MOST_SITES};
+ghost use Rattle.np_syntax.specs.declared.limits.TheConstants.{LARGEST_BUDGET, MOST_EVENTS, MOST_SITES};
 ghost use Rattle.np_calculus.specs.Reductions.{run};
 ghost use Rattle.np_calculus.specs.Starts.{start_high};
 ghost use Rattle.np_code.specs.Programs.{program};
 ghost use Rattle.np_verdict.specs.Faults.{IsWellTyped};
 ghost use Rattle.np_report.specs.Report.{load_text};
-ghost use Rattle.np_sources.specs.declared.limits.TheConstants.{MOST_EVENTS};
 ghost use Rattle.np_on_sites.specs.ByInfrastructure.{lift_by, low_by};
 ghost use Rattle.np_sources.specs.Reaches.{Reach, CannotRun, FaultyTo, IsCompiled, barred};
 ghost use Rattle.np_sources.specs.Kept.{IsShownSo, high_part, history_part, merged, run_report, said};
@@ -15,14 +14,13 @@ ghost use Rattle.np_sources.specs.Makes.{KeepsRun, KeepsSites, RunsOnSites, high
 
 use super::high::{checked_for, high_part};
 use super::job::Job;
-use super::limits::MOST_EVENTS;
 use super::lowering::{Lowered, low_with_code};
 use cache_lift::lift_cached;
 use history_text::write_in;
 use np_check::Checked;
 use np_on_sites::{Gate, Record, law_source_runs, run_on_sites};
 use np_report::{load_report, report};
-use np_syntax::{Event, LARGEST_BUDGET, LONGEST_SOURCE, List, Memory, Text};
+use np_syntax::{Event, LARGEST_BUDGET, LONGEST_SOURCE, List, MOST_EVENTS, Memory, Text};
 use np_verdict::Refusal;
 use np_words::{HighText, Infrastructure, Links, format_for};
 use run_merge::{lift, merge, said};

@@ -39,6 +39,12 @@ pub const USUAL_BUDGET: u32 = 10_000;
 /// The largest number of events that the words may say.
 pub const LARGEST_BUDGET: u32 = 200_000;
 
+/// How many events all sites of a run together may make: the number of sites times the budget is at most this.
+pub const MOST_EVENTS: u32 = 6_400_000;
+
+/// From this number on no stamp of an item is accepted.
+pub const STAMPS_END: u64 = 1_099_511_627_776;
+
 /// The largest integer.
 pub const LARGEST_INTEGER: u64 = 9_223_372_036_854_775_807;
 

@@ -5,14 +5,16 @@ ghost use Rattle.std.specs.Char.{is_ascii_digit};
 ghost use Rattle.std.specs.List.{list_all};
 ghost use Rattle.np_words.specs.Modes as spec;
 
+use np_syntax::MOST_EVENTS;
+
 /// How many digits a budget and a number of agents may have.
 pub const MOST_DIGITS: usize = 6;
 
 /// How many digits the number of a line may have.
 pub const LINE_DIGITS: usize = 7;
 
-/// The greatest number of a line of what a run printed: a run has at most so many events.
-pub const LAST_LINE: u32 = 6_400_000;
+/// The greatest number of a line of what a run printed: each line has an event.
+pub const LAST_LINE: u32 = MOST_EVENTS;
 
 /// The line that is meant where the words do not say it.
 pub const FIRST_LINE: u32 = 1;

@@ -1,5 +1,6 @@
 //! The seats of a crew do the events of a list again, as far as they can.
 ghost use Rattle.std.specs.Prelude.{◌≡◌, ◌<◌, ◌≤◌, ◌+◌, ◌^◌, true, false, length, take, Some, slice_get, IfOk};
+ghost use Rattle.np_syntax.specs.declared.limits.TheConstants.{STAMPS_END};
 ghost use Rattle.site_crew.specs.Crews.{NoneFailed};
 ghost use Rattle.site_crew.specs.Following.{Adds, AreAt, HasNotRedone, HaveAdded, HaveDone, HaveMissedAt, HaveNotRedone, StopsAt};
 ghost use Rattle.site_crew.specs.Seats.{AllGrow, Stand, event_count, histories};
@@ -27,7 +28,7 @@ fn redo<R, P: Port<R, Item>>(
 ) -> Result<bool, Memory>
     requires seated { Seated P.Port code.now seat.old }
     requires above { seat.old.site.clock < stamp }
-    requires stamp { stamp ≤ 2 ^ 40 }
+    requires stamp { stamp ≤ STAMPS_END }
     ensures turned { Turned P.Port code.now seat.old seat.new }
     ensures port { (seat.new.port ≡ seat.old.port) × (seat.new.waits ≡ seat.old.waits) }
     ensures ok { IfOk result (λ is. is ≡ true → Adds event stamp seat.old seat.new) }
@@ -55,7 +56,7 @@ fn redo_at<R, P: Port<R, Item>>(
     requires stand { Stand P.Port code.now _budget seats.old }
     requires at { event.site < length seats.old }
     requires above { (s : OneSeat P) → slice_get seats.old event.site ≡ Some s → s.site.clock < stamp }
-    requires stamp { stamp ≤ 2 ^ 40 }
+    requires stamp { stamp ≤ STAMPS_END }
     ensures stand { Stand P.Port code.now _budget seats.new }
     ensures grow { AllGrow (histories seats.old) (histories seats.new) }
     ensures ok { IfOk result (λ is. is ≡ true → HaveAdded event stamp 0 seats.old seats.new) }

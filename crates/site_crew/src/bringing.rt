@@ -1,5 +1,6 @@
 //! An item that comes to a site again: it goes from the line of its sender over the link, and is accepted.
-ghost use Rattle.std.specs.Prelude.{◌≡◌, ◌<◌, ◌≤◌, ◌-◌, ◌^◌, ℕ, true, false, length, slice_get, Some, OnErr, OnOk};
+ghost use Rattle.std.specs.Prelude.{◌≡◌, ◌<◌, ◌≤◌, ◌-◌, ℕ, true, false, length, slice_get, Some, OnErr, OnOk};
+ghost use Rattle.np_syntax.specs.declared.limits.TheConstants.{STAMPS_END};
 ghost use Rattle.site_crew.specs.Following.{Adds, AllRest, HasAccepted, HasNotAdded, HaveAdded, IsLast, IsNotEarly, Moves, Rests, StandBut};
 ghost use Rattle.site_crew.specs.Seats.{AllGrow, Stand, histories};
 ghost use Rattle.site_turn.specs.declared.seat.Seat.{Seat as OneSeat};
@@ -172,7 +173,7 @@ pub fn catch_at<R, P: Port<R, Item>>(
 )
     requires stand { Stand P.Port _code.now _budget seats.old }
     requires at { at < length seats.old }
-    requires stamp { stamp ≤ 2 ^ 40 }
+    requires stamp { stamp ≤ STAMPS_END }
     requires early { IsNotEarly stamp seats.old }
     ensures stand { Stand P.Port _code.now _budget seats.new }
     ensures rest { AllRest stamp seats.old seats.new }
@@ -193,7 +194,7 @@ pub fn bring<R, P: Port<R, Item>>(
 ) -> bool
     requires stand { Stand P.Port code.now budget seats.old }
     requires at { event.site < length seats.old }
-    requires stamp { (1 ≤ stamp) × (stamp ≤ 2 ^ 40) }
+    requires stamp { (1 ≤ stamp) × (stamp ≤ STAMPS_END) }
     requires early { IsNotEarly (stamp - 1) seats.old }
     ensures stand { Stand P.Port code.now budget seats.new }
     ensures grow { AllGrow (histories seats.old) (histories seats.new) }
@@ -219,7 +220,7 @@ pub fn bring_at<R, P: Port<R, Item>>(
 ) -> Result<(), Memory>
     requires stand { Stand P.Port code.now budget seats.old }
     requires at { event.site < length seats.old }
-    requires stamp { (1 ≤ stamp) × (stamp ≤ 2 ^ 40) }
+    requires stamp { (1 ≤ stamp) × (stamp ≤ STAMPS_END) }
     requires early { IsNotEarly (stamp - 1) seats.old }
     ensures stand { Stand P.Port code.now budget seats.new }
     ensures grow { AllGrow (histories seats.old) (histories seats.new) }

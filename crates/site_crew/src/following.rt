@@ -1,5 +1,6 @@
 //! The seats of a crew do the events of a list again.
-ghost use Rattle.std.specs.Prelude.{◌≡◌, ◌<◌, ◌≤◌, ◌+◌, ◌^◌, not, length, take, OnOk};
+ghost use Rattle.std.specs.Prelude.{◌≡◌, ◌<◌, ◌≤◌, ◌+◌, not, length, take, OnOk};
+ghost use Rattle.np_syntax.specs.declared.limits.TheConstants.{STAMPS_END};
 ghost use Rattle.np_calculus.specs.NotEnabled.{by_atom};
 ghost use Rattle.np_code.specs.Programs.{program};
 ghost use Rattle.site_crew.specs.Crews.{NoneFailed};
@@ -65,7 +66,7 @@ pub fn catch_all<R, P: Port<R, Item>>(
     stamp: u64,
 )
     requires stand { Stand P.Port code.now budget seats.old }
-    requires stamp { stamp ≤ 2 ^ 40 }
+    requires stamp { stamp ≤ STAMPS_END }
     requires early { IsNotEarly stamp seats.old }
     ensures stand { Stand P.Port code.now budget seats.new }
     ensures rest { AllRest stamp seats.old seats.new }

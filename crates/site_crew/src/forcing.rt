@@ -1,5 +1,6 @@
 //! An event that a site does of its own, done again.
-ghost use Rattle.std.specs.Prelude.{◌≡◌, ◌<◌, ◌≤◌, ◌+◌, ◌^◌, length, Some, slice_get, OnOk};
+ghost use Rattle.std.specs.Prelude.{◌≡◌, ◌<◌, ◌≤◌, ◌+◌, length, Some, slice_get, OnOk};
+ghost use Rattle.np_syntax.specs.declared.limits.TheConstants.{STAMPS_END};
 ghost use Rattle.site_crew.specs.Following.{Adds, CanForce, HaveAdded};
 ghost use Rattle.site_crew.specs.Seats.{AllGrow, Stand, histories};
 ghost use Rattle.site_turn.specs.declared.seat.Seat.{Seat as OneSeat};
@@ -24,7 +25,7 @@ fn force<R, P: Port<R, Item>>(
 ) -> Result<(), Memory>
     requires seated { Seated P.Port code.now seat.old }
     requires can { CanForce code.now event stamp seat.old }
-    requires stamp { stamp ≤ 2 ^ 40 }
+    requires stamp { stamp ≤ STAMPS_END }
     ensures turned { Turned P.Port code.now seat.old seat.new }
     ensures port { (seat.new.port ≡ seat.old.port) × (seat.new.waits ≡ seat.old.waits) }
     ensures ok { OnOk result (Adds event stamp seat.old seat.new) }
@@ -45,7 +46,7 @@ pub fn force_at<R, P: Port<R, Item>>(
     requires stand { Stand P.Port code.now _budget seats.old }
     requires at { event.site < length seats.old }
     requires can { (s : OneSeat P) → slice_get seats.old event.site ≡ Some s → CanForce code.now event stamp s }
-    requires stamp { stamp ≤ 2 ^ 40 }
+    requires stamp { stamp ≤ STAMPS_END }
     ensures stand { Stand P.Port code.now _budget seats.new }
     ensures grow { AllGrow (histories seats.old) (histories seats.new) }
     ensures ok { OnOk result (HaveAdded event stamp 0 seats.old seats.new) }

@@ -1,5 +1,6 @@
 -- Events that are given to a site.
-use Rattle.std.proofs.Common.{◌≡◌, ◌<◌, ◌≤◌, ◌+◌, ◌-◌, ◌^◌, ℕ, max, length, refl, sym, ap, subst, ◌∙◌, arith}
+use Rattle.std.proofs.Common.{◌≡◌, ◌<◌, ◌≤◌, ◌+◌, ◌-◌, ℕ, max, length, refl, sym, ap, subst, ◌∙◌, arith}
+use Rattle.np_syntax.specs.declared.limits.TheConstants.{STAMPS_END}
 use Rattle.np_syntax.specs.declared.value.Name.{Name}
 use Rattle.stamp_history.specs.Histories.{IsAboveLast}
 use Rattle.np_code.specs.Programs.{ProgramTable}
@@ -9,10 +10,10 @@ use Rattle.site_state.specs.Standings.{IsStanding, Standing, Stays, with_clock}
 use Rattle.site_state.proofs.Noted.{above_more}
 
 -- a site whose clock is at another stamp
-pub stands_at : (s : Standing) (stamp : ℕ) → IsStanding s → stamp ≤ 2 ^ 40 + length s.history.events → IsAboveLast s.history.events (stamp + 1) → IsStanding (with_clock s stamp)
+pub stands_at : (s : Standing) (stamp : ℕ) → IsStanding s → stamp ≤ STAMPS_END + length s.history.events → IsAboveLast s.history.events (stamp + 1) → IsStanding (with_clock s stamp)
 stands_at s stamp h few last = record { site = h.site; budget = h.budget; named = h.named; names = h.names; clock = few; last = last }
 
-pub stands_later : (s : Standing) (stamp : ℕ) → IsStanding s → s.clock ≤ stamp → stamp ≤ 2 ^ 40 + length s.history.events → IsStanding (with_clock s stamp)
+pub stands_later : (s : Standing) (stamp : ℕ) → IsStanding s → s.clock ≤ stamp → stamp ≤ STAMPS_END + length s.history.events → IsStanding (with_clock s stamp)
 stands_later s stamp h later few = stands_at s stamp h few (above_more s.history.events (s.clock + 1) (stamp + 1) (omega arith) h.last)
 
 -- a clock that is raised to just below a stamp that is above it

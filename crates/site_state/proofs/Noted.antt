@@ -1,6 +1,7 @@
 -- What a site keeps to when an event is recorded.
-use Rattle.std.proofs.Common.{◌≡◌, ◌<◌, ◌≤◌, ◌+◌, ◌^◌, ℕ, List, [], ◌∷◌, ◌++◌, length, Option, None, Some, refl, sym, ap, subst, ◌∙◌, arith}
+use Rattle.std.proofs.Common.{◌≡◌, ◌<◌, ◌≤◌, ◌+◌, ℕ, List, [], ◌∷◌, ◌++◌, length, Option, None, Some, refl, sym, ap, subst, ◌∙◌, arith}
 use Rattle.std.proofs.lemmas.Grind.{common_steps}
+use Rattle.np_syntax.specs.declared.limits.TheConstants.{STAMPS_END}
 use Rattle.np_syntax.specs.declared.event.Made.{Made}
 use Rattle.np_syntax.specs.declared.event.Made.TheVariants as made
 use Rattle.np_syntax.specs.declared.value.Value.{Value}
@@ -42,7 +43,7 @@ one_longer : (es : List Stamped) (e : Stamped) → length (es ++ e ∷ []) ≡ l
 one_longer es e = grind (arith, common_steps)
 
 -- a site with one more event
-pub noted_stands : (s t : Standing) (e : Stamped) (value : Option Value) (n : ℕ) → IsStanding s → e.stamp ≤ 2 ^ 40 + length s.history.events + 1 → n ≤ 2 → t.site ≡ s.site
+pub noted_stands : (s t : Standing) (e : Stamped) (value : Option Value) (n : ℕ) → IsStanding s → e.stamp ≤ STAMPS_END + length s.history.events + 1 → n ≤ 2 → t.site ≡ s.site
     → AreNamed t.agents → t.next ≡ s.next + n → t.clock ≡ e.stamp → t.history ≡ recorded s.history e value → IsStanding t
 noted_stands s t e value n h stamp few site named next clock history =
     let events : t.history.events ≡ s.history.events ++ e ∷ [] = ap (λ (x : Recorded). x.events) history ∙ events_of s.history e value in
@@ -58,6 +59,6 @@ noted_stands s t e value n h stamp few site named next clock history =
     }
 
 -- and no more names
-pub noted_no_names : (s t : Standing) (e : Stamped) (value : Option Value) → IsStanding s → e.stamp ≤ 2 ^ 40 + length s.history.events + 1 → t.site ≡ s.site
+pub noted_no_names : (s t : Standing) (e : Stamped) (value : Option Value) → IsStanding s → e.stamp ≤ STAMPS_END + length s.history.events + 1 → t.site ≡ s.site
     → AreNamed t.agents → t.next ≡ s.next → t.clock ≡ e.stamp → t.history ≡ recorded s.history e value → IsStanding t
 noted_no_names s t e value h stamp site named next clock history = noted_stands s t e value 0 h stamp (omega arith) site named (omega arith) clock history

@@ -1,8 +1,8 @@
 -- What contracts see of a site, and what the calculus sees of it (docs/LANGUAGE.md, "History text").
-use Rattle.std.specs.Prelude.{◌≡◌, ◌≤◌, ◌+◌, ◌*◌, ◌^◌, ℕ, Bool, List, [], length, option_map, refl}
+use Rattle.std.specs.Prelude.{◌≡◌, ◌≤◌, ◌+◌, ◌*◌, ℕ, Bool, List, [], length, option_map, refl}
 use Rattle.std.specs.Coded.{Coded, code_by, coded×, coded_ℕ, coded_bool, coded_list}
 use Rattle.std.specs.FinMap as map
-use Rattle.np_syntax.specs.declared.limits.TheConstants.{LARGEST_BUDGET}
+use Rattle.np_syntax.specs.declared.limits.TheConstants.{LARGEST_BUDGET, STAMPS_END}
 use Rattle.np_syntax.specs.declared.value.Name.{Name}
 use Rattle.np_syntax.specs.contracts.value.Name as name
 use Rattle.np_tables.specs.Names.{NameMap}
@@ -42,7 +42,7 @@ pub record IsStanding (s : Standing) : Type 0 where
   pub budget : s.history.budget ≤ LARGEST_BUDGET
   pub named : AreNamed s.agents
   pub names : s.next ≤ 2 * length s.history.events
-  pub clock : s.clock ≤ 2 ^ 40 + length s.history.events
+  pub clock : s.clock ≤ STAMPS_END + length s.history.events
   pub last : IsAboveLast s.history.events (s.clock + 1)
 
 -- what the calculus sees of it

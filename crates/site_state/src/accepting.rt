@@ -1,4 +1,5 @@
-ghost use Rattle.std.specs.Prelude.{◌≡◌, ◌<◌, ◌^◌, IfErr, OnOk, OnErr};
+ghost use Rattle.std.specs.Prelude.{◌≡◌, ◌<◌, IfErr, OnOk, OnErr};
+ghost use Rattle.np_syntax.specs.declared.limits.TheConstants.{STAMPS_END};
 ghost use Rattle.site_state.specs.Doing.{HasRoom, HasTaken};
 ghost use Rattle.site_state.specs.Standings.{StaysForAll};
 
@@ -13,7 +14,7 @@ impl Site {
     pub fn accept(&mut self, item: Item) -> Result<(), (Item, Memory)>
         requires room { HasRoom self.old }
         requires to { item.to ≡ self.old.site }
-        requires stamp { item.stamp < 2 ^ 40 }
+        requires stamp { item.stamp < STAMPS_END }
         ensures ok { OnOk result (HasTaken self.old self.new item) }
         ensures err { OnErr result (StaysForAll self.old self.new) }
         ensures returned { IfErr result (λ refused. refused.0 ≡ item) }

@@ -1,6 +1,7 @@
 //! Events that are given: what a site does again, and when.
 
-ghost use Rattle.std.specs.Prelude.{◌≡◌, ◌<◌, ◌≤◌, ◌+◌, ◌-◌, ◌^◌, length, max, IfOk, OnOk, OnErr};
+ghost use Rattle.std.specs.Prelude.{◌≡◌, ◌<◌, ◌≤◌, ◌+◌, ◌-◌, length, max, IfOk, OnOk, OnErr};
+ghost use Rattle.np_syntax.specs.declared.limits.TheConstants.{STAMPS_END};
 ghost use Rattle.stamp_history.specs.Histories.{IsAboveLast};
 ghost use Rattle.site_state.specs.Doing.{HasDoneEvent, HasRoom, IsPossible, IsRedone, event_at, ready_of};
 ghost use Rattle.site_agents.specs.Standings.{CanDo};
@@ -28,7 +29,7 @@ fn ready_of(event: Event) -> Ready
 impl Site {
     /// The clock is at no less than this stamp then. It takes no memory.
     pub fn catch_up(&mut self, stamp: u64)
-        requires { stamp ≤ 2 ^ 40 }
+        requires { stamp ≤ STAMPS_END }
         ensures { self.new ≡ with_clock self.old (max self.old.clock stamp) }
     {
         self.clock.raise(stamp);
@@ -47,7 +48,7 @@ impl Site {
         requires room { HasRoom self.old }
         requires possible { IsPossible code.now self.old event }
         requires above { self.old.clock < stamp }
-        requires stamp { stamp ≤ 2 ^ 40 }
+        requires stamp { stamp ≤ STAMPS_END }
         ensures ok { OnOk result (HasDoneEvent code.now (with_clock self.old (stamp - 1)) self.new event) }
         ensures clock { OnOk result (self.new.clock ≡ stamp) }
         ensures err { OnErr result (Stays code.now self.old self.new) }
@@ -68,7 +69,7 @@ impl Site {
         requires sites { length code.now.sites ≡ length self.old.outgoing }
         requires room { HasRoom self.old }
         requires above { self.old.clock < stamp }
-        requires stamp { stamp ≤ 2 ^ 40 }
+        requires stamp { stamp ≤ STAMPS_END }
         ensures ok { IfOk result (IsRedone code.now (ready_of event) stamp self.old self.new) }
         ensures err { OnErr result (Stays code.now self.old self.new) }
     {
@@ -91,7 +92,7 @@ impl Site {
         requires room { HasRoom self.old }
         requires can { CanDo code.now self.old.agents name r }
         requires above { self.old.clock < stamp }
-        requires stamp { stamp ≤ 2 ^ 40 }
+        requires stamp { stamp ≤ STAMPS_END }
         ensures ok { IfOk result (IsRedone code.now r stamp self.old self.new) }
         ensures err { OnErr result (Stays code.now self.old self.new) }
     {
@@ -114,7 +115,7 @@ impl Site {
         requires room { HasRoom self.old }
         requires can { CanDo code.now self.old.agents name r }
         requires above { self.old.clock < stamp }
-        requires stamp { stamp ≤ 2 ^ 40 }
+        requires stamp { stamp ≤ STAMPS_END }
         ensures ok { OnOk result (HasDoneEvent code.now (with_clock self.old (stamp - 1)) self.new (event_at code.now self.old name r)) }
         ensures clock { OnOk result (self.new.clock ≡ stamp) }
         ensures err { OnErr result (Stays code.now self.old self.new) }

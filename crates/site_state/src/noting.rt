@@ -1,4 +1,5 @@
-ghost use Rattle.std.specs.Prelude.{◌≡◌, ◌≢◌, ◌<◌, ◌+◌, ◌^◌, max, None, Some};
+ghost use Rattle.std.specs.Prelude.{◌≡◌, ◌≢◌, ◌<◌, ◌+◌, max, None, Some};
+ghost use Rattle.np_syntax.specs.declared.limits.TheConstants.{STAMPS_END};
 ghost use Rattle.np_syntax.specs.declared.event.Kind.TheVariants as kind;
 ghost use Rattle.agent_pool.specs.Rows.{event_of};
 ghost use Rattle.site_state.specs.Doing.{HasRoom};
@@ -63,7 +64,7 @@ impl Site {
     pub(super) fn note_taken(&mut self, stamp: u64, event: Event)
         requires room { HasRoom self.old }
         requires kind { event.kind ≢ kind.Print }
-        requires stamp { stamp < 2 ^ 40 }
+        requires stamp { stamp < STAMPS_END }
         ensures { IsNoted self.old (max self.old.clock stamp + 1) event None self.new }
     {
         let stamp = self.clock.meet(stamp);

@@ -1,6 +1,7 @@
 -- What a turn leaves of a site and its port (docs/LANGUAGE.md, "History text").
-use Rattle.std.specs.Prelude.{◌≡◌, ◌<◌, ◌≤◌, ◌+◌, ◌^◌, ◌⊎◌, min, ℕ, Bool, true, false, List, [], ◌∷◌, ◌++◌, length, map, Option, None, Some, IfSome, option_map, option_to_list}
+use Rattle.std.specs.Prelude.{◌≡◌, ◌<◌, ◌≤◌, ◌+◌, ◌⊎◌, min, ℕ, Bool, true, false, List, [], ◌∷◌, ◌++◌, length, map, Option, None, Some, IfSome, option_map, option_to_list}
 use Rattle.std.specs.List.{AllByRecursion}
+use Rattle.np_syntax.specs.declared.limits.TheConstants.{STAMPS_END}
 use Rattle.np_syntax.specs.declared.event.Kind.{Kind}
 use Rattle.np_syntax.specs.declared.event.Kind.TheVariants as kind
 use Rattle.stamp_history.specs.declared.stamped.Stamped.{Stamped}
@@ -32,7 +33,7 @@ came_from code from o = map (λ x. record { from = from; item = x }) (option_to_
 
 -- a site with this number cannot accept the item
 abbrev pub IsStrange : ℕ → Item → Type 0
-IsStrange site x = x.to ≡ site → x.stamp < 2 ^ 40 → ⊥
+IsStrange site x = x.to ≡ site → x.stamp < STAMPS_END → ⊥
 
 -- a history at a later time
 pub record HistoryGrows (old new : Recorded) : Type 0 where

@@ -6,10 +6,8 @@ ghost use Rattle.site_turn.specs.Turns.{Accepts, Placed, Receives, ReceivesNone,
 use crate::seat::Seat;
 use agent_move::Item;
 use np_code::Code;
+use np_syntax::STAMPS_END;
 use site_links::{Addressed, Port};
-
-/// From this number on no stamp is accepted.
-const STAMPS_END: u64 = 1 << 40;
 
 /// Whether there is room for one more event.
 pub fn has_room<R, P: Port<R, Item>>(code: &Code, seat: &Seat<P>) -> bool
