@@ -58,10 +58,14 @@ pub fn new_head(alloc: Global, tokens: &mut Cursor<'_>, below: u32) -> Result<Si
     let at = tokens.take()?;
     let name = tokens.name(alloc)?;
     tokens.expect_sign(Sign::Colon)?;
-    let (ty, _) = chan(alloc, tokens, DEEPEST)?;
-    tokens.expect_word(Key::In)?;
-    let form = SingleForm::New(name, ty);
-    Ok(Single { at, form })
+    match chan(alloc, tokens, DEEPEST) {
+        Ok((ty, _)) => {
+            tokens.expect_word(Key::In)?;
+            let form = SingleForm::New(name, ty);
+            Ok(Single { at, form })
+        }
+        Err(e) => Err(e),
+    }
 }
 
 /// Behind the channel's name, from `?` to `->`.
@@ -78,11 +82,15 @@ pub fn input_head(
         return Err(tokens.too_deep());
     }
     tokens.take()?;
-    let (pattern, _) = pat(alloc, tokens, DEEPEST)?;
-    tokens.expect_sign(Sign::Arrow)?;
-    let at = channel.at;
-    let form = SingleForm::Inp(channel, pattern);
-    Ok(Single { at, form })
+    match pat(alloc, tokens, DEEPEST) {
+        Ok((pattern, _)) => {
+            tokens.expect_sign(Sign::Arrow)?;
+            let at = channel.at;
+            let form = SingleForm::Inp(channel, pattern);
+            Ok(Single { at, form })
+        }
+        Err(e) => Err(e),
+    }
 }
 
 /// From `*` to `->`.
@@ -100,10 +108,14 @@ pub fn replicated_head(
     let at = tokens.take()?;
     let channel = tokens.name(alloc)?;
     tokens.expect_sign(Sign::Query)?;
-    let (pattern, _) = pat(alloc, tokens, DEEPEST)?;
-    tokens.expect_sign(Sign::Arrow)?;
-    let form = SingleForm::Rep(channel, pattern);
-    Ok(Single { at, form })
+    match pat(alloc, tokens, DEEPEST) {
+        Ok((pattern, _)) => {
+            tokens.expect_sign(Sign::Arrow)?;
+            let form = SingleForm::Rep(channel, pattern);
+            Ok(Single { at, form })
+        }
+        Err(e) => Err(e),
+    }
 }
 
 /// From `migrate` to `->`.
@@ -116,10 +128,14 @@ pub fn migrate_head(alloc: Global, tokens: &mut Cursor<'_>, below: u32) -> Resul
     }
     let at = tokens.take()?;
     tokens.expect_word(Key::To)?;
-    let (site, _) = expr(alloc, tokens, DEEPEST)?;
-    tokens.expect_sign(Sign::Arrow)?;
-    let form = SingleForm::Migrate(site);
-    Ok(Single { at, form })
+    match expr(alloc, tokens, DEEPEST) {
+        Ok((site, _)) => {
+            tokens.expect_sign(Sign::Arrow)?;
+            let form = SingleForm::Migrate(site);
+            Ok(Single { at, form })
+        }
+        Err(e) => Err(e),
+    }
 }
 
 /// From `let` to `in`.
@@ -133,10 +149,14 @@ pub fn let_head(alloc: Global, tokens: &mut Cursor<'_>, below: u32) -> Result<Si
     let at = tokens.take()?;
     let (pattern, _) = pat(alloc, tokens, DEEPEST)?;
     tokens.expect_sign(Sign::Equals)?;
-    let (value, _) = expr(alloc, tokens, DEEPEST)?;
-    tokens.expect_word(Key::In)?;
-    let form = SingleForm::Let(pattern, value);
-    Ok(Single { at, form })
+    match expr(alloc, tokens, DEEPEST) {
+        Ok((value, _)) => {
+            tokens.expect_word(Key::In)?;
+            let form = SingleForm::Let(pattern, value);
+            Ok(Single { at, form })
+        }
+        Err(e) => Err(e),
+    }
 }
 
 /// From `agent` to `=`.

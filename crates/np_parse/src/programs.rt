@@ -59,13 +59,14 @@ fn program(alloc: Global, tokens: &mut Cursor<'_>) -> Result<Tree, ParseFail>
     ensures { Reads (spec.program DEEPEST tokens.old) result tokens.new }
 {
     let (sites, at) = program_head(alloc, tokens)?;
-    let (main, _) = proc(alloc, tokens, DEEPEST)?;
-    tokens.expect_end()?;
-    Ok(Tree {
-        sites,
-        at,
-        main: main.into_inner(),
-    })
+    match proc(alloc, tokens, DEEPEST) {
+        Ok((main, _)) => {
+            tokens.expect_end()?;
+            let main = main.into_inner();
+            Ok(Tree { sites, at, main })
+        }
+        Err(e) => Err(e),
+    }
 }
 
 /// The tree of the tokens.
