@@ -92,8 +92,10 @@ impl Cfg {
         ensures { Applied (new_row self.old e.now) self.old self.new result }
     {
         let entry = self.find_new(alloc, e)?;
-        self.enter(e.actor, e.made, entry)?;
-        Ok(())
+        match self.enter(e.actor, e.made, entry) {
+            Ok(()) => Ok(()),
+            Err(_) => Err(ApplyFail::Memory),
+        }
     }
 
     /// How an atom goes on that makes a channel, where the row is met.
@@ -118,8 +120,10 @@ impl Cfg {
         ensures { Applied (let_row self.old e.now) self.old self.new result }
     {
         let entry = self.find_let(alloc, e)?;
-        self.enter(e.actor, Made::Nothing, entry)?;
-        Ok(())
+        match self.enter(e.actor, Made::Nothing, entry) {
+            Ok(()) => Ok(()),
+            Err(_) => Err(ApplyFail::Memory),
+        }
     }
 
     /// How an atom goes on that gives names to a value, where the row is met.
@@ -146,8 +150,10 @@ impl Cfg {
         ensures { Applied (if_row self.old e.now) self.old self.new result }
     {
         let (truth, errand) = self.find_if(alloc, e)?;
-        self.go_on(e.actor, truth, errand)?;
-        Ok(())
+        match self.go_on(e.actor, truth, errand) {
+            Ok(()) => Ok(()),
+            Err(_) => Err(ApplyFail::Memory),
+        }
     }
 
     /// How a test goes on, where the row is met.
@@ -174,8 +180,10 @@ impl Cfg {
         ensures { Applied (print_row self.old e.now) self.old self.new result }
     {
         let value = self.find_print(alloc, e)?;
-        self.say(e.actor, e.site, value)?;
-        Ok(())
+        match self.say(e.actor, e.site, value) {
+            Ok(()) => Ok(()),
+            Err(_) => Err(ApplyFail::Memory),
+        }
     }
 
     /// The value that an atom prints, where the row is met.

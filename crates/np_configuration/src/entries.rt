@@ -3,7 +3,7 @@ ghost use Rattle.std.specs.FinMap as map;
 ghost use Rattle.np_configuration.specs.Found.{CanEnter, CanGo, HasEntered, HasGone, ended, flown, spoken, stood};
 
 use super::cfg::Cfg;
-use super::filing::{bear, file, file_atom};
+use super::filing::{bear, file, file_atom, file_born};
 use np_agents::{enter, go_on};
 use np_calculus::{Atom, Packet};
 use np_eval::Frame;
@@ -26,8 +26,13 @@ impl Cfg {
         ensures ok { OnOk result (HasEntered self.old self.new actor made entry.env entry.errand) }
         ensures err { OnErr result (self.new ≡ self.old) }
     {
-        self.born.reserve(2)?;
-        file(&mut self.atoms, &mut self.work, actor, entry.errand)?;
+        file_born(
+            &mut self.atoms,
+            &mut self.born,
+            &mut self.work,
+            actor,
+            entry.errand,
+        )?;
         enter(&mut self.atoms, actor, entry.env);
         bear(&mut self.born, made);
         Ok(())
@@ -51,9 +56,13 @@ impl Cfg {
         ensures ok { OnOk result (self.new ≡ stood self.old mark atom) }
         ensures err { OnErr result (self.new ≡ self.old) }
     {
-        file_atom(&mut self.work, mark, &atom)?;
-        self.atoms.replace(mark, atom);
-        Ok(())
+        match file_atom(&mut self.work, mark, &atom) {
+            Ok(()) => {
+                self.atoms.replace(mark, atom);
+                Ok(())
+            }
+            Err(memory) => Err(memory),
+        }
     }
 
     /// An atom ends.
@@ -70,10 +79,14 @@ impl Cfg {
         ensures ok { OnOk result (self.new ≡ flown self.old mark packet) }
         ensures err { OnErr result (self.new ≡ self.old) }
     {
-        self.packets.insert(mark, packet)?;
-        self.work.remove(mark);
-        self.atoms.remove(mark);
-        Ok(())
+        match self.packets.insert(mark, packet) {
+            Ok(()) => {
+                self.work.remove(mark);
+                self.atoms.remove(mark);
+                Ok(())
+            }
+            Err(memory) => Err(memory),
+        }
     }
 
     /// An atom ends, and a value is said at a site.
@@ -81,9 +94,13 @@ impl Cfg {
         ensures ok { OnOk result (self.new ≡ spoken self.old mark site value) }
         ensures err { OnErr result (self.new ≡ self.old) }
     {
-        self.said.add((site, value))?;
-        self.work.remove(mark);
-        self.atoms.remove(mark);
-        Ok(())
+        match self.said.add((site, value)) {
+            Ok(()) => {
+                self.work.remove(mark);
+                self.atoms.remove(mark);
+                Ok(())
+            }
+            Err(memory) => Err(memory),
+        }
     }
 }

@@ -27,8 +27,10 @@ impl Cfg {
         ensures { Applied (open_row self.old e.now) self.old self.new result }
     {
         let atom = self.find_open(alloc, e)?;
-        self.stand(e.actor, atom)?;
-        Ok(())
+        match self.stand(e.actor, atom) {
+            Ok(()) => Ok(()),
+            Err(_) => Err(ApplyFail::Memory),
+        }
     }
 
     /// The output that an atom's letter gives, where the row is met.

@@ -16,8 +16,10 @@ use std::alloc::Global;
 fn copied(alloc: Global, agent: Name, proc: &Proc, env: Frame) -> Result<Atom, Memory>
     ensures { IfOk result (λ atom. atom ≡ record { agent = agent; proc = proc.now; env = env }) }
 {
-    let proc = proc.copy(alloc)?;
-    Ok(Atom { agent, proc, env })
+    match proc.copy(alloc) {
+        Ok(proc) => Ok(Atom { agent, proc, env }),
+        Err(memory) => Err(memory),
+    }
 }
 
 // The rows of an input and an output that meet.
@@ -78,8 +80,10 @@ impl Cfg {
         ensures { Applied (rep_row self.old e.now) self.old self.new result }
     {
         let (mark, atom) = self.find_rep(alloc, e)?;
-        self.stand(mark, atom)?;
-        Ok(())
+        match self.stand(mark, atom) {
+            Ok(()) => Ok(()),
+            Err(_) => Err(ApplyFail::Memory),
+        }
     }
 
     /// The output that a replicated input takes, and the copy of its body that stands in its place, where the row is
@@ -105,6 +109,9 @@ impl Cfg {
         let Some(()) = none_made(e.made) else {
             return Err(NotEnabled);
         };
-        Ok((mark, copied(alloc, atom.agent, body, env)?))
+        match copied(alloc, atom.agent, body, env) {
+            Ok(copy) => Ok((mark, copy)),
+            Err(_) => Err(ApplyFail::Memory),
+        }
     }
 }
