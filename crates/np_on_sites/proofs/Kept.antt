@@ -23,14 +23,9 @@ ended_run low budget code c e is same most ended =
       spent = ended.spent;
     })
 
-pub kept_run : {E : Type 0} (low : LowProgram) (budget : ℕ) (hs : List Recorded) (e : End) (r : Result Record E) → IsSitesRun low budget hs e → IfOk r (λ k. past k.histories ≡ hs)
-    → IfOk r (λ k. k.end ≡ e) → IfOk r (λ k. IsSitesRun low budget (past k.histories) k.end)
-kept_run low budget hs e (Ok k) ran h s = rw (h, s) ran
-kept_run low budget hs e (Err m) ran h s = tt
-
-pub kept_again_run : {E : Type 0} (low : LowProgram) (budget : ℕ) (hs : List Recorded) (e : End) (r : Result (Option Record) E) → IsSitesRun low budget hs e
+pub kept_run : {E : Type 0} (low : LowProgram) (budget : ℕ) (hs : List Recorded) (e : End) (r : Result (Option Record) E) → IsSitesRun low budget hs e
     → IfOk r (λ made. IfSome made (λ k. past k.histories ≡ hs)) → IfOk r (λ made. IfSome made (λ k. k.end ≡ e))
     → IfOk r (λ made. IfSome made (λ k. IsSitesRun low budget (past k.histories) k.end))
-kept_again_run low budget hs e (Ok (Some k)) ran h s = rw (h, s) ran
-kept_again_run low budget hs e (Ok None) ran h s = tt
-kept_again_run low budget hs e (Err m) ran h s = tt
+kept_run low budget hs e (Ok (Some k)) ran h s = rw (h, s) ran
+kept_run low budget hs e (Ok None) ran h s = tt
+kept_run low budget hs e (Err m) ran h s = tt

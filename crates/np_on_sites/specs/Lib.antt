@@ -1,3 +1,4 @@
+pub mod Beginnings
 pub mod ByInfrastructure
 pub mod SitesRuns
 pub mod SourceRuns

@@ -2,6 +2,7 @@
 //! that they leave are a run of the low program and of its source.
 #![tactic(auto)]
 
+mod beginning;
 mod laws;
 mod record;
 mod running;

@@ -10,12 +10,13 @@ ghost use Rattle.np_following.specs.Following.{IsResumed};
 ghost use Rattle.run_save.specs.Ours.{IsOurs};
 ghost use Rattle.site_crew.specs.Lists.{AreWithin, IsRefused};
 ghost use Rattle.crew_resumes.specs.ToGoOn.{IsToGoOn};
+ghost use Rattle.np_on_sites.specs.Beginnings.{CanBegin, HasBegun, IsStopped};
 ghost use Rattle.np_on_sites.specs.SitesRuns.{IsSitesRun};
 
+use super::beginning::{Beginning, begin};
 use super::record::Record;
 use agent_move::Item;
 use crew_inboxes::Inboxes;
-use crew_resumes::{redone, resumed};
 use np_code::Code;
 use np_syntax::{End, Event, LowProgram, Memory};
 use np_words::Links;
@@ -45,36 +46,20 @@ pub fn run_on_sites<R: Threads + Wait + Sync, G: Gate>(
     requires within { budget ≤ LARGEST_BUDGET }
     ensures { IfOk result (λ kept. IsSitesRun low.now budget (past kept.histories) kept.end) }
 {
-    match links {
-        Links::Tray => run_over::<R, Tray<Item>, G>(alloc, rt, gate, low, code, budget, serial),
-        Links::Rings => {
-            run_over::<R, Rings<Item>, G>(alloc, rt, gate, low, code, budget, serial)
-        }
-        Links::Inbox => run_over::<R, Inboxes, G>(alloc, rt, gate, low, code, budget, serial),
-    }
-}
-
-/// The run over one kind of links.
-fn run_over<R: Threads + Sync, P: Port<R, Item>, G: Gate>(
-    alloc: Global,
-    rt: &R,
-    gate: &G,
-    low: &LowProgram,
-    code: Code,
-    budget: u32,
-    serial: bool,
-) -> Result<Record, Memory>
-    requires code { program code ≡ low.now }
-    requires sites { length low.now.sites ≤ MOST_SITES }
-    requires site { low.now.at < length low.now.sites }
-    requires some { 1 ≤ budget }
-    requires within { budget ≤ LARGEST_BUDGET }
-    ensures { IfOk result (λ kept. IsSitesRun low.now budget (past kept.histories) kept.end) }
-{
-    let mut crew: Crew<R, P> = Crew::new(alloc, low, code, budget)?;
-    match crew.run(rt, gate, serial) {
-        Ok(end) => kept(crew, end),
-        Err(memory) => Err(memory),
+    match on_links(
+        alloc,
+        rt,
+        gate,
+        low,
+        code,
+        Beginning::Anew,
+        &[],
+        budget,
+        serial,
+        links,
+    ) {
+        Ok(Some(kept)) => Ok(kept),
+        Ok(None) | Err(_) => Err(Memory),
     }
 }
 
@@ -101,55 +86,20 @@ pub fn redo_on_sites<R: Threads + Wait + Sync, G: Gate>(
     ensures resumed { IfOk result (λ made. IfSome made (λ kept. IsResumed events.now (past kept.histories))) }
     ensures followed { IfOk result (λ made. IfSome made (λ _. IsToGoOn low.now budget events.now)) }
 {
-    match links {
-        Links::Tray => redo_over::<R, Tray<Item>, G>(
-            alloc, rt, gate, low, code, events, budget, serial,
-        ),
-        Links::Rings => redo_over::<R, Rings<Item>, G>(
-            alloc, rt, gate, low, code, events, budget, serial,
-        ),
-        Links::Inbox => redo_over::<R, Inboxes, G>(
-            alloc, rt, gate, low, code, events, budget, serial,
-        ),
-    }
-}
-
-/// So over one kind of links.
-fn redo_over<R: Threads + Sync, P: Port<R, Item>, G: Gate>(
-    alloc: Global,
-    rt: &R,
-    gate: &G,
-    low: &LowProgram,
-    code: Code,
-    events: &[Event],
-    budget: u32,
-    serial: bool,
-) -> Result<Option<Record>, Memory>
-    requires code { program code ≡ low.now }
-    requires sites { length low.now.sites ≤ MOST_SITES }
-    requires site { low.now.at < length low.now.sites }
-    requires some { 1 ≤ budget }
-    requires within { budget ≤ LARGEST_BUDGET }
-    ensures run { IfOk result (λ made. IfSome made (λ kept. IsSitesRun low.now budget (past kept.histories) kept.end)) }
-    ensures resumed { IfOk result (λ made. IfSome made (λ kept. IsResumed events.now (past kept.histories))) }
-    ensures followed { IfOk result (λ made. IfSome made (λ _. IsToGoOn low.now budget events.now)) }
-{
-    let mut crew: Crew<R, P> = Crew::new(alloc, low, code, budget)?;
-    match redone(&mut crew, rt, gate, low, events, serial) {
-        Ok(Some(end)) => kept_again(crew, end),
-        Ok(None) => Ok(None),
-        Err(memory) => Err(memory),
-    }
-}
-
-/// The record of a crew that did events again, and whose run has ended.
-fn kept_again<R, P: Port<R, Item>>(crew: Crew<R, P>, end: End) -> Result<Option<Record>, Memory>
-    ensures histories { IfOk result (λ made. IfSome made (λ kept. past kept.histories ≡ crew.histories)) }
-    ensures end { IfOk result (λ made. IfSome made (λ kept. kept.end ≡ end)) }
-{
-    match kept(crew, end) {
-        Ok(record) => Ok(Some(record)),
-        Err(memory) => Err(memory),
+    match on_links(
+        alloc,
+        rt,
+        gate,
+        low,
+        code,
+        Beginning::Again,
+        events,
+        budget,
+        serial,
+        links,
+    ) {
+        Ok(made) => Ok(made),
+        Err(_) => Err(Memory),
     }
 }
 
@@ -177,65 +127,98 @@ pub fn resume_on_sites<R: Threads + Wait + Sync, G: Gate>(
     ensures followed { OnOk result (AreWithin (length low.now.sites) budget events.now × IsOurs low.now events.now) }
     ensures refused { IfErr result (IsRefused low.now budget events.now) }
 {
-    match links {
-        Links::Tray => resume_over::<R, Tray<Item>, G>(
-            alloc, rt, gate, low, code, events, budget, serial,
-        ),
-        Links::Rings => resume_over::<R, Rings<Item>, G>(
-            alloc, rt, gate, low, code, events, budget, serial,
-        ),
-        Links::Inbox => resume_over::<R, Inboxes, G>(
-            alloc, rt, gate, low, code, events, budget, serial,
-        ),
+    match on_links(
+        alloc,
+        rt,
+        gate,
+        low,
+        code,
+        Beginning::GoingOn,
+        events,
+        budget,
+        serial,
+        links,
+    ) {
+        Ok(Some(kept)) => Ok(kept),
+        Ok(None) => Err(FollowFail::Memory),
+        Err(fail) => Err(fail),
     }
 }
 
-/// So over one kind of links.
-fn resume_over<R: Threads + Sync, P: Port<R, Item>, G: Gate>(
+/// The run, over the kind of links that is asked for. None where the sites cannot do the events again.
+fn on_links<R: Threads + Wait + Sync, G: Gate>(
     alloc: Global,
     rt: &R,
     gate: &G,
     low: &LowProgram,
     code: Code,
+    beginning: Beginning,
     events: &[Event],
     budget: u32,
     serial: bool,
-) -> Result<Record, FollowFail>
+    links: Links,
+) -> Result<Option<Record>, FollowFail>
     requires code { program code ≡ low.now }
     requires sites { length low.now.sites ≤ MOST_SITES }
     requires site { low.now.at < length low.now.sites }
     requires some { 1 ≤ budget }
     requires within { budget ≤ LARGEST_BUDGET }
-    requires run { IsSome (run (start_low low.now) events.now) }
-    ensures run { IfOk result (λ kept. IsSitesRun low.now budget (past kept.histories) kept.end) }
-    ensures resumed { IfOk result (λ kept. IsResumed events.now (past kept.histories)) }
-    ensures followed { OnOk result (AreWithin (length low.now.sites) budget events.now × IsOurs low.now events.now) }
-    ensures refused { IfErr result (IsRefused low.now budget events.now) }
+    requires events { CanBegin beginning low.now events.now }
+    ensures run { IfOk result (λ made. IfSome made (λ kept. IsSitesRun low.now budget (past kept.histories) kept.end)) }
+    ensures begun { IfOk result (λ made. IfSome made (λ kept. HasBegun beginning low.now budget events.now (past kept.histories))) }
+    ensures stopped { IfErr result (IsStopped beginning low.now budget events.now) }
 {
-    let mut crew: Crew<R, P> = Crew::new(alloc, low, code, budget)?;
-    match resumed(&mut crew, rt, gate, low, events, serial) {
-        Ok(end) => kept_at(crew, end),
+    match links {
+        Links::Tray => over::<R, Tray<Item>, G>(
+            alloc, rt, gate, low, code, beginning, events, budget, serial,
+        ),
+        Links::Rings => over::<R, Rings<Item>, G>(
+            alloc, rt, gate, low, code, beginning, events, budget, serial,
+        ),
+        Links::Inbox => over::<R, Inboxes, G>(
+            alloc, rt, gate, low, code, beginning, events, budget, serial,
+        ),
+    }
+}
+
+/// So over one kind of links.
+fn over<R: Threads + Sync, P: Port<R, Item>, G: Gate>(
+    alloc: Global,
+    rt: &R,
+    gate: &G,
+    low: &LowProgram,
+    code: Code,
+    beginning: Beginning,
+    events: &[Event],
+    budget: u32,
+    serial: bool,
+) -> Result<Option<Record>, FollowFail>
+    requires code { program code ≡ low.now }
+    requires sites { length low.now.sites ≤ MOST_SITES }
+    requires site { low.now.at < length low.now.sites }
+    requires some { 1 ≤ budget }
+    requires within { budget ≤ LARGEST_BUDGET }
+    requires events { CanBegin beginning low.now events.now }
+    ensures run { IfOk result (λ made. IfSome made (λ kept. IsSitesRun low.now budget (past kept.histories) kept.end)) }
+    ensures begun { IfOk result (λ made. IfSome made (λ kept. HasBegun beginning low.now budget events.now (past kept.histories))) }
+    ensures stopped { IfErr result (IsStopped beginning low.now budget events.now) }
+{
+    let Ok(mut crew) = Crew::<R, P>::new(alloc, low, code, budget) else {
+        return Err(FollowFail::Memory);
+    };
+    match begin(&mut crew, rt, gate, low, beginning, events, serial) {
+        Ok(Some(end)) => kept(crew, end),
+        Ok(None) => Ok(None),
         Err(fail) => Err(fail),
     }
 }
 
-/// The record of a crew whose run has ended, where it did events again.
-fn kept_at<R, P: Port<R, Item>>(crew: Crew<R, P>, end: End) -> Result<Record, FollowFail>
-    ensures histories { IfOk result (λ kept. past kept.histories ≡ crew.histories) }
-    ensures end { IfOk result (λ kept. kept.end ≡ end) }
+/// The record of a crew whose run has ended.
+fn kept<R, P: Port<R, Item>>(crew: Crew<R, P>, end: End) -> Result<Option<Record>, FollowFail>
+    ensures histories { IfOk result (λ made. IfSome made (λ kept. past kept.histories ≡ crew.histories)) }
+    ensures end { IfOk result (λ made. IfSome made (λ kept. kept.end ≡ end)) }
     ensures refused { IfErr result (λ fail. fail ≡ FollowFail.Memory) }
 {
-    match kept(crew, end) {
-        Ok(record) => Ok(record),
-        Err(Memory) => Err(FollowFail::Memory),
-    }
-}
-
-/// The record of a crew whose run has ended.
-fn kept<R, P: Port<R, Item>>(crew: Crew<R, P>, end: End) -> Result<Record, Memory>
-    ensures histories { IfOk result (λ kept. past kept.histories ≡ crew.histories) }
-    ensures end { IfOk result (λ kept. kept.end ≡ end) }
-{
     let histories = crew.into_histories()?;
-    Ok(Record { histories, end })
+    Ok(Some(Record { histories, end }))
 }
