@@ -68,7 +68,10 @@ fn bar(tokens: &mut Cursor<'_>, below: u32, depth: u32) -> Result<Option<u32>, P
             Ok(None)
         }
         What::Sign(Sign::Bar) if depth > below => Err(tokens.too_deep()),
-        What::Sign(Sign::Bar) => Ok(Some(tokens.take()?)),
+        What::Sign(Sign::Bar) => match tokens.take() {
+            Ok(at) => Ok(Some(at)),
+            Err(e) => Err(e),
+        },
         _ => Err(tokens.syntax()),
     }
 }
