@@ -1,10 +1,11 @@
 //! Runs worked examples: calls of np over texts and sinks in memory, each with what must come of it. The words name the
-//! files of examples. It prints how many calls did as they should, and each one that did not. With the words `history` and the file of a
-//! source it prints the history of the run of the source's low program instead.
+//! files of examples. It prints how many calls did as they should, and of each one that did not what was wanted and what came.
+//! With the words `history` and the file of a source it prints the history of the run of the source's low program instead.
 #![tactic(auto)]
 
 mod counting;
 mod high_run;
+mod judging;
 mod low_run;
 mod pasts;
 mod replays;
@@ -14,18 +15,18 @@ mod tally;
 mod trial;
 mod verdict;
 
+use judging::{gives_said, judge};
 use low_run::{came_of_low, print_history};
 use np_example_files::{Example, ExampleFail, examples_of};
-use replays::{replays_itself, try_replays};
-use report::tell_failure;
+use replays::try_replays;
 use std::alloc::Global;
 use std::rt::Files;
 use std::sync::Wait;
 use std::thread::Threads;
 use std::{env, fs};
 use tally::Tally;
-use trial::{Call, Came, came_of};
-use verdict::{meets, same_lines};
+use trial::{Call, Came, Check, came_of};
+use verdict::{HIGH_WORDS, Wanted};
 
 fn main(rt: HostRuntime) -> Result<(), ExampleFail> {
     let alloc = rt.alloc();
@@ -79,88 +80,88 @@ fn try_file<R: Files + Alloc + Print + Threads + Wait + Sync>(
 }
 
 /// Tries each of these examples of a file.
-fn try_examples<R: Print + Threads + Wait + Sync>(
+fn try_examples<'a, R: Print + Threads + Wait + Sync>(
     rt: &R,
     alloc: Global,
-    file: &str,
-    examples: &[Example],
+    file: &'a str,
+    examples: &'a [Example],
 ) -> Result<Tally, ExampleFail> {
     let mut tally = Tally::new();
     for example in examples {
-        tally.add(try_example(rt, alloc, file, example)?);
+        let call = Call {
+            file,
+            example,
+            check: Check::Said,
+            words: "",
+            source: None,
+            history: None,
+        };
+        tally.add(try_example(rt, alloc, &call)?);
     }
     Ok(tally)
 }
 
-/// Tries each call of an example, the runs of its low programs, and their histories.
+/// Tries the example of a call with each of its sources, or with its text `a` where it has no sources.
 fn try_example<R: Print + Threads + Wait + Sync>(
     rt: &R,
     alloc: Global,
-    file: &str,
-    example: &Example,
+    call: &Call<'_>,
 ) -> Result<Tally, ExampleFail> {
     let mut tally = Tally::new();
-    if example.sources.is_empty() {
-        tally.add(try_source(rt, alloc, file, example, None)?);
+    if call.example.sources.is_empty() {
+        tally.add(try_source(rt, alloc, call)?);
     }
-    for source in example.sources.iter() {
-        tally.add(try_source(rt, alloc, file, example, Some(source.as_str()))?);
+    for source in call.example.sources.iter() {
+        let call = Call {
+            source: Some(source.as_str()),
+            ..*call
+        };
+        tally.add(try_source(rt, alloc, &call)?);
     }
     Ok(tally)
 }
 
-/// Tries an example with one of its sources, or with its text `a` where it has no sources.
+/// Tries each call of an example with the source of this one, the run of its low program, and the histories of that run.
 fn try_source<R: Print + Threads + Wait + Sync>(
     rt: &R,
     alloc: Global,
-    file: &str,
-    example: &Example,
-    source: Option<&str>,
+    call: &Call<'_>,
 ) -> Result<Tally, ExampleFail> {
-    let mut tally = try_calls(rt, alloc, file, example, source)?;
-    if example.runs_low {
-        tally.count(try_low_run(rt, alloc, file, example, source)?);
+    let mut tally = try_calls(rt, alloc, call)?;
+    if call.example.runs_low {
+        tally.count(try_low_run(rt, alloc, call)?);
     }
-    if !example.replays.is_empty() {
-        tally.add(try_replays(rt, alloc, file, example, source)?);
+    if !call.example.replays.is_empty() {
+        tally.add(try_replays(rt, alloc, call)?);
     }
     Ok(tally)
 }
 
-/// Tries each call of an example with a source.
+/// Tries each call of an example with the source of this one.
 fn try_calls<R: Print + Threads + Wait + Sync>(
     rt: &R,
     alloc: Global,
-    file: &str,
-    example: &Example,
-    source: Option<&str>,
+    call: &Call<'_>,
 ) -> Result<Tally, ExampleFail> {
     let mut tally = Tally::new();
-    for words in example.calls.iter() {
-        let call = call_of(words.as_str(), source);
-        tally.count(try_call(rt, alloc, file, example, &call)?);
+    for words in call.example.calls.iter() {
+        let call = Call {
+            words: words.as_str(),
+            ..*call
+        };
+        tally.count(gives_said(rt, alloc, &call)?);
     }
     Ok(tally)
 }
 
-fn call_of<'a>(words: &'a str, source: Option<&'a str>) -> Call<'a> {
-    Call {
-        words,
-        source,
-        history: None,
-    }
-}
-
-/// Whether a run of a low program does what the example wants.
+/// Whether the run of a low program does what the example wants.
 fn try_low_run<R: Print + Threads + Wait + Sync>(
     rt: &R,
     alloc: Global,
-    file: &str,
-    example: &Example,
-    source: Option<&str>,
+    call: &Call<'_>,
 ) -> Result<bool, ExampleFail> {
-    let came = came_of_low(alloc, example, source)?;
-    let passed = judge_low_run(rt, alloc, file, example, source, &came);
+    let came = came_of_low(alloc, call)?;
+    let passed = judge_low_run(rt, alloc, call, &came);
     drop(came);
     passed
 }
@@ -169,66 +170,36 @@ fn try_low_run<R: Print + Threads + Wait + Sync>(
 fn judge_low_run<R: Print + Threads + Wait + Sync>(
     rt: &R,
     alloc: Global,
-    file: &str,
-    example: &Example,
-    source: Option<&str>,
+    call: &Call<'_>,
     came: &Came,
 ) -> Result<bool, ExampleFail> {
-    let mut passed = meets(example, came);
-    if example.as_high {
-        passed = passed && prints_as_high(rt, alloc, example, source, came.out.bytes())?;
-    }
-    if !passed {
-        let call = call_of("low run", source);
-        tell_failure(rt, file, example, &call, came)?;
-    }
-    Ok(passed)
+    let low = Call {
+        words: "low run",
+        ..*call
+    };
+    Ok(
+        judge(rt, alloc, &low, &Wanted::Said, came)?
+            && (!call.example.as_high || prints_as_high(rt, alloc, call, came)?),
+    )
 }
 
 /// Whether the run at the high level prints the same lines, in any order.
-fn prints_as_high<R: Threads + Wait + Sync>(
+fn prints_as_high<R: Print + Threads + Wait + Sync>(
     rt: &R,
     alloc: Global,
-    example: &Example,
-    source: Option<&str>,
-    printed: &[u8],
-) -> Result<bool, ExampleFail> {
-    let call = call_of("high a --budget 200000", source);
-    let high = came_of(rt, alloc, example, &call)?;
-    let same = same_lines(alloc, printed, high.out.bytes());
-    drop(high);
-    Ok(same?)
-}
-
-/// Whether a call does what the example wants. Where it does not, what was wanted and what came is printed.
-fn try_call<R: Print + Threads + Wait + Sync>(
-    rt: &R,
-    alloc: Global,
-    file: &str,
-    example: &Example,
-    call: &Call<'_>,
-) -> Result<bool, ExampleFail> {
-    let came = came_of(rt, alloc, example, call)?;
-    let passed = judge_call(rt, alloc, file, example, call, &came);
-    drop(came);
-    passed
-}
-
-/// Whether it did, once something has come of it.
-fn judge_call<R: Print + Threads + Wait + Sync>(
-    rt: &R,
-    alloc: Global,
-    file: &str,
-    example: &Example,
     call: &Call<'_>,
     came: &Came,
 ) -> Result<bool, ExampleFail> {
-    let mut passed = meets(example, came);
-    if example.replays_itself {
-        passed = passed && replays_itself(rt, alloc, example, call, came)?;
-    }
-    if !passed {
-        tell_failure(rt, file, example, call, came)?;
-    }
-    Ok(passed)
+    let high = Call {
+        words: HIGH_WORDS,
+        ..*call
+    };
+    let high = came_of(rt, alloc, &high)?;
+    let low = Call {
+        words: "low run as high",
+        ..*call
+    };
+    let same = judge(rt, alloc, &low, &Wanted::Lines(high.out.bytes()), came);
+    drop(high);
+    same
 }

@@ -1,61 +1,48 @@
 //! Histories of low runs, replayed as they are and changed.
 
 use super::counting::count_of;
-use super::low_run::{LowEvents, events_of_low, first_line_of, option_of};
-use super::pasts::{has_past, replay_of};
-use super::report::tell_replay;
+use super::judging::{gives, judge};
+use super::low_run::{replay_call, run_of_low};
+use super::pasts::has_past;
 use super::resumes::is_resumed;
 use super::tally::Tally;
-use super::trial::{Call, Came, came_of};
+use super::trial::{Call, Came, Check, came_of};
+use super::verdict::Wanted;
 use history_text::write_history;
 use np_example_files::{
-    Change, Example, ExampleFail, between, early_place, exchanged, moved, next_unlike, without,
+    Change, ExampleFail, between, early_place, exchanged, moved, next_unlike, without,
 };
-use np_run::{BAD_HISTORY, DONE};
 use np_syntax::{Event, Kind};
-use std::alloc::{AllocError, Global};
+use std::alloc::Global;
 use std::sync::Wait;
 use std::thread::Threads;
 
-/// The run of the low program of a source.
+/// The refusal of events of which so many of the first are a run, and one more is none.
+const NOT_A_RUN: &str = "21 NotARun";
+
+/// The run of the low program of the source of a call.
 #[derive(Clone, Copy)]
 pub(crate) struct LowRun<'a> {
-    pub example: &'a Example,
-    pub source: Option<&'a str>,
+    pub call: Call<'a>,
     pub events: &'a [Event],
     /// The lines of the printed values, and more.
     pub report: &'a str,
 }
 
-/// What is answered of a history.
-#[derive(Clone, Copy, PartialEq, Eq)]
-enum Judgement {
-    /// So many events are a run.
-    IsRun(usize),
-    /// So many of the first events are a run, and one more is none.
-    Stops(usize),
-    /// Neither.
-    Neither,
-}
-
-/// Tries each change of the history of a source's low run.
+/// Tries each change of the history of the low run of a source.
 pub(crate) fn try_replays<R: Print + Threads + Wait + Sync>(
     rt: &R,
     alloc: Global,
-    file: &str,
-    example: &Example,
-    source: Option<&str>,
+    call: &Call<'_>,
 ) -> Result<Tally, ExampleFail> {
-    let LowEvents { events, report } = events_of_low(alloc, example, source)?;
+    let made = run_of_low(alloc, call)?;
     let run = LowRun {
-        example,
-        source,
-        events: events.as_slice(),
-        report: std::str::from_utf8(report.as_slice()).unwrap_or(""),
+        call: *call,
+        events: made.events.as_slice(),
+        report: std::str::from_utf8(made.out.as_slice()).unwrap_or(""),
     };
-    let tally = try_changes(rt, alloc, file, &run);
-    drop(events);
-    drop(report);
+    let tally = try_changes(rt, alloc, &run);
+    drop(made);
     tally
 }
 
@@ -63,223 +50,177 @@ pub(crate) fn try_replays<R: Print + Threads + Wait + Sync>(
 fn try_changes<R: Print + Threads + Wait + Sync>(
     rt: &R,
     alloc: Global,
-    file: &str,
     run: &LowRun<'_>,
 ) -> Result<Tally, ExampleFail> {
     let mut tally = Tally::new();
-    for change in run.example.replays.iter() {
-        let wrong = first_wrong(rt, alloc, run, *change)?;
-        tally.count(wrong.is_none());
-        if let Some(place) = wrong {
-            tell_replay(rt, file, run.example, *change, place)?;
-        }
+    for change in run.call.example.replays.iter() {
+        tally.count(is_answered(rt, alloc, run, *change)?);
     }
     Ok(tally)
 }
 
-/// Whether the history that a call wrote is replayed: the same lines are printed, and it is a run of as many events.
-pub(crate) fn replays_itself<R: Threads + Wait + Sync>(
-    rt: &R,
-    alloc: Global,
-    example: &Example,
-    call: &Call<'_>,
-    came: &Came,
-) -> Result<bool, ExampleFail> {
-    let option = option_of(example);
-    let words = format!(in alloc; "replay a h{option}")?;
-    let call = Call {
-        words: words.as_str(),
-        source: call.source,
-        history: Some(came.out.bytes()),
-    };
-    let again = came_of(rt, alloc, example, &call)?;
-    let is_replay = replays_the_same(alloc, example, came, &again);
-    drop(again);
-    Ok(is_replay?)
-}
-
-/// Whether what came again has the lines that came, and tells that it is a run of as many events.
-fn replays_the_same(
-    alloc: Global,
-    example: &Example,
-    came: &Came,
-    again: &Came,
-) -> Result<bool, AllocError> {
-    let count = came.events.unwrap_or(0);
-    let last = format!(in alloc; "a run of {count} events\n")?;
-    let written = std::str::from_utf8(came.out.bytes()).unwrap_or("");
-    let replayed = std::str::from_utf8(again.out.bytes()).unwrap_or("");
-    let first = first_line_of(example);
-    Ok(again.status == DONE && is_replay(written, replayed, first, last.as_str()))
-}
-
-/// Whether a report of a replay has the lines in front of the history, which begins with this line, and then the last line.
-fn is_replay(written: &str, replayed: &str, first: &str, last: &str) -> bool {
-    match replayed.strip_suffix(last) {
-        Some(printed) => match written.strip_prefix(printed) {
-            Some(rest) => rest.starts_with(first),
-            None => false,
-        },
-        None => false,
-    }
-}
-
-/// The first place at which the change is not answered as it has to be, if there is one.
-fn first_wrong<R: Threads + Wait + Sync>(
+/// Whether the change is answered as it has to be at each place.
+fn is_answered<R: Print + Threads + Wait + Sync>(
     rt: &R,
     alloc: Global,
     run: &LowRun<'_>,
     change: Change,
-) -> Result<Option<usize>, ExampleFail> {
+) -> Result<bool, ExampleFail> {
     let count = run.events.len();
     let first = if change == Change::Whole { count } else { 0 };
     for place in first..=count {
-        if !is_answered(rt, alloc, run, change, place)? {
-            return Ok(Some(place));
+        if !is_answered_at(rt, alloc, run, change, place)? {
+            return Ok(false);
         }
     }
-    Ok(None)
+    Ok(true)
 }
 
 /// Whether the change at this place is answered as it has to be.
-fn is_answered<R: Threads + Wait + Sync>(
+fn is_answered_at<R: Print + Threads + Wait + Sync>(
     rt: &R,
     alloc: Global,
     run: &LowRun<'_>,
     change: Change,
     place: usize,
 ) -> Result<bool, ExampleFail> {
+    let check = Check::Changed(change, place);
+    let call = Call { check, ..run.call };
+    let run = LowRun { call, ..*run };
     match change {
-        Change::Whole | Change::Cut => follows_cut(rt, alloc, run, place),
-        Change::Without => judges_without(rt, alloc, run, place),
-        Change::Swapped => stops_at_swap(rt, alloc, run, place),
-        Change::Early => stops_at_arrival(rt, alloc, run, place),
-        Change::Past => has_past(rt, alloc, run, place),
-        Change::Resumed => is_resumed(rt, alloc, run, place),
+        Change::Whole | Change::Cut => follows_cut(rt, alloc, &run, place),
+        Change::Without => judges_without(rt, alloc, &run, place),
+        Change::Swapped => stops_at_swap(rt, alloc, &run, place),
+        Change::Early => stops_at_arrival(rt, alloc, &run, place),
+        Change::Past => has_past(rt, alloc, &run, place),
+        Change::Resumed => is_resumed(rt, alloc, &run, place),
     }
 }
 
-/// What comes of replaying these events.
-fn replayed<R: Threads + Wait + Sync>(
+/// Whether replaying these events gives what is wanted.
+fn replays_to<R: Print + Threads + Wait + Sync>(
     rt: &R,
     alloc: Global,
     run: &LowRun<'_>,
     events: &[Event],
-) -> Result<Came, ExampleFail> {
+    wanted: &Wanted<'_>,
+) -> Result<bool, ExampleFail> {
     let history = write_history(alloc, events)?;
-    replay_of(rt, alloc, run, history.as_slice())
+    gives(
+        rt,
+        alloc,
+        &replay_call(&run.call, history.as_slice()),
+        wanted,
+    )
 }
 
 /// Whether the first events are a run, which prints the first lines.
-fn follows_cut<R: Threads + Wait + Sync>(
+fn follows_cut<R: Print + Threads + Wait + Sync>(
     rt: &R,
     alloc: Global,
     run: &LowRun<'_>,
     place: usize,
 ) -> Result<bool, ExampleFail> {
     let events = between(run.events, 0, place);
-    let came = replayed(rt, alloc, run, events)?;
-    let is_report = is_report_of(alloc, run.report, events, &came);
-    drop(came);
-    Ok(is_report?)
+    let lines = first_lines(run.report, count_of(events, Kind::Print));
+    replays_to(
+        rt,
+        alloc,
+        run,
+        events,
+        &Wanted::Run(Some(lines), place, None),
+    )
 }
 
-/// Whether what has come is the report of these events.
-fn is_report_of(
-    alloc: Global,
-    report: &str,
-    events: &[Event],
-    came: &Came,
-) -> Result<bool, AllocError> {
-    let wanted = text_of(alloc, report, events)?;
-    Ok(came.status == DONE && came.out.bytes() == wanted.as_bytes() && came.err.bytes().is_empty())
-}
-
-/// What is written of events that are a run: a line of the report for each Print, and how many they are.
-fn text_of(alloc: Global, report: &str, events: &[Event]) -> Result<String, AllocError> {
-    let prints = count_of(events, Kind::Print);
-    let mut text = String::new(alloc);
-    for line in report.lines().take(prints) {
-        text.push_str(line)?;
-        text.push('\n')?;
+/// So many of the first lines of a text, each with its line feed.
+fn first_lines(text: &str, count: usize) -> &str {
+    let mut rest = text;
+    for _ in 0..count {
+        rest = match rest.split_once('\n') {
+            Some((_, rest)) => rest,
+            None => "",
+        };
     }
-    let count = events.len();
-    text.push_str(format!(in alloc; "a run of {count} events\n")?.as_str())?;
-    Ok(text)
-}
-
-fn judgement_of<R: Threads + Wait + Sync>(
-    rt: &R,
-    alloc: Global,
-    run: &LowRun<'_>,
-    events: &[Event],
-) -> Result<Judgement, ExampleFail> {
-    let came = replayed(rt, alloc, run, events)?;
-    let judgement = judged(&came);
-    drop(came);
-    Ok(judgement)
-}
-
-fn judged(came: &Came) -> Judgement {
-    let out = std::str::from_utf8(came.out.bytes()).unwrap_or("");
-    let err = std::str::from_utf8(came.err.bytes()).unwrap_or("");
-    let found = if came.status == DONE && came.err.bytes().is_empty() {
-        run_of(out)
-    } else if came.status == BAD_HISTORY && came.out.bytes().is_empty() {
-        stop_of(err)
-    } else {
-        None
-    };
-    found.unwrap_or(Judgement::Neither)
-}
-
-fn run_of(out: &str) -> Option<Judgement> {
-    let count = out
-        .lines()
-        .last()?
-        .strip_prefix("a run of ")?
-        .strip_suffix(" events")?;
-    Some(Judgement::IsRun(count.parse::<usize>().ok()?))
-}
-
-fn stop_of(err: &str) -> Option<Judgement> {
-    let index = err.strip_prefix("np: 21 NotARun at ")?.strip_suffix("\n")?;
-    Some(Judgement::Stops(index.parse::<usize>().ok()?))
+    text.strip_suffix(rest).unwrap_or(text)
 }
 
 /// Whether the events but one are a run, or stop being one behind it, at the index that is answered.
-fn judges_without<R: Threads + Wait + Sync>(
+fn judges_without<R: Print + Threads + Wait + Sync>(
     rt: &R,
     alloc: Global,
     run: &LowRun<'_>,
     place: usize,
 ) -> Result<bool, ExampleFail> {
     let events = without(alloc, run.events, place)?;
-    match judgement_of(rt, alloc, run, events.as_slice())? {
-        Judgement::IsRun(count) => Ok(count == events.len()),
-        Judgement::Stops(index) => {
-            Ok(place <= index && stops_at(rt, alloc, run, events.as_slice(), index)?)
-        }
-        Judgement::Neither => Ok(false),
+    is_run_or_stops(rt, alloc, run, events.as_slice(), place)
+}
+
+/// Whether the events are a run, or stop being one at the index that is answered, which is this or more.
+fn is_run_or_stops<R: Print + Threads + Wait + Sync>(
+    rt: &R,
+    alloc: Global,
+    run: &LowRun<'_>,
+    events: &[Event],
+    least: usize,
+) -> Result<bool, ExampleFail> {
+    let history = write_history(alloc, events)?;
+    let call = replay_call(&run.call, history.as_slice());
+    let came = came_of(rt, alloc, &call)?;
+    let passed = judge_run_or_stop(rt, alloc, run, &call, events, least, &came);
+    drop(came);
+    passed
+}
+
+/// Whether they are, by what came of replaying them.
+fn judge_run_or_stop<R: Print + Threads + Wait + Sync>(
+    rt: &R,
+    alloc: Global,
+    run: &LowRun<'_>,
+    call: &Call<'_>,
+    events: &[Event],
+    least: usize,
+    came: &Came,
+) -> Result<bool, ExampleFail> {
+    match stop_of(came) {
+        Some(index) if least <= index => Ok(
+            judge(rt, alloc, call, &Wanted::Refused(NOT_A_RUN, index), came)?
+                && stops_at(rt, alloc, run, events, index)?,
+        ),
+        _ => judge(
+            rt,
+            alloc,
+            call,
+            &Wanted::Run(None, events.len(), Some(least)),
+            came,
+        ),
     }
 }
 
+/// The index at which it is answered that the events are no run.
+fn stop_of(came: &Came) -> Option<usize> {
+    let err = std::str::from_utf8(came.err.bytes()).unwrap_or("");
+    let index = err.strip_prefix("np: 21 NotARun at ")?.strip_suffix("\n")?;
+    index.parse::<usize>().ok()
+}
+
 /// Whether so many of the first events are a run, and one more is none.
-fn stops_at<R: Threads + Wait + Sync>(
+fn stops_at<R: Print + Threads + Wait + Sync>(
     rt: &R,
     alloc: Global,
     run: &LowRun<'_>,
     events: &[Event],
     index: usize,
 ) -> Result<bool, ExampleFail> {
-    let before = judgement_of(rt, alloc, run, between(events, 0, index))?;
+    let before = between(events, 0, index);
     let longer = between(events, 0, index.saturating_add(1));
-    let behind = judgement_of(rt, alloc, run, longer)?;
-    Ok(before == Judgement::IsRun(index) && behind == Judgement::Stops(index))
+    Ok(
+        replays_to(rt, alloc, run, before, &Wanted::Run(None, index, None))?
+            && replays_to(rt, alloc, run, longer, &Wanted::Refused(NOT_A_RUN, index))?,
+    )
 }
 
 /// Whether the event that was brought forward is the first that is not enabled: at its new place its actor does something else.
-fn stops_at_swap<R: Threads + Wait + Sync>(
+fn stops_at_swap<R: Print + Threads + Wait + Sync>(
     rt: &R,
     alloc: Global,
     run: &LowRun<'_>,
@@ -288,14 +229,20 @@ fn stops_at_swap<R: Threads + Wait + Sync>(
     match next_unlike(run.events, place) {
         Some(later) => {
             let events = exchanged(alloc, run.events, place, later)?;
-            Ok(judgement_of(rt, alloc, run, events.as_slice())? == Judgement::Stops(place))
+            replays_to(
+                rt,
+                alloc,
+                run,
+                events.as_slice(),
+                &Wanted::Refused(NOT_A_RUN, place),
+            )
         }
         None => Ok(true),
     }
 }
 
 /// Whether the Arrive that was brought forward is the first that is not enabled: at its new place its agent is not under way.
-fn stops_at_arrival<R: Threads + Wait + Sync>(
+fn stops_at_arrival<R: Print + Threads + Wait + Sync>(
     rt: &R,
     alloc: Global,
     run: &LowRun<'_>,
@@ -304,7 +251,13 @@ fn stops_at_arrival<R: Threads + Wait + Sync>(
     match early_place(run.events, place) {
         Some(earlier) => {
             let events = moved(alloc, run.events, earlier, place)?;
-            Ok(judgement_of(rt, alloc, run, events.as_slice())? == Judgement::Stops(earlier))
+            replays_to(
+                rt,
+                alloc,
+                run,
+                events.as_slice(),
+                &Wanted::Refused(NOT_A_RUN, earlier),
+            )
         }
         None => Ok(true),
     }

@@ -1,7 +1,7 @@
 //! A call of np over texts and sinks in memory.
 
 use super::high_run::{Reading, reading_of};
-use np_example_files::{Example, ExampleFail};
+use np_example_files::{Change, Example, ExampleFail};
 use np_io::{MemSink, MemTexts, Word};
 use np_run::{Record, Told, np};
 use np_syntax::{List, Memory};
@@ -12,9 +12,23 @@ use std::thread::Threads;
 /// How many bytes may be written to a sink.
 const ROOM: usize = 2_097_152;
 
-/// A call of np.
+/// Which check of an example a call belongs to.
+#[derive(Clone, Copy)]
+pub enum Check<'a> {
+    /// Of what the lines of the example say.
+    Said,
+    /// Of `replays itself`, after the call with these words.
+    Itself(&'a str),
+    /// Of a change at a place: of the line of that number where pasts are asked for, and with that budget where a run is resumed.
+    Changed(Change, usize),
+}
+
+/// A call of np for an example of a file.
 #[derive(Clone, Copy)]
 pub struct Call<'a> {
+    pub file: &'a str,
+    pub example: &'a Example,
+    pub check: Check<'a>,
     pub words: &'a str,
     /// The text `a`, where it is none of the example's texts.
     pub source: Option<&'a str>,
@@ -36,6 +50,13 @@ pub struct Came {
     pub err: MemSink,
 }
 
+impl Came {
+    /// What stands on out; nothing where it is no text.
+    pub(crate) fn out(&self) -> &str {
+        std::str::from_utf8(self.out.bytes()).unwrap_or("")
+    }
+}
+
 /// The words of a call: `""` is the empty one.
 fn words_of(alloc: Global, line: &str) -> Result<List<Word>, ExampleFail> {
     let mut words = List::new(alloc);
@@ -54,13 +75,8 @@ fn hold(alloc: Global, texts: &mut MemTexts, name: &str, bytes: &[u8]) -> Result
 }
 
 /// The texts of an example and of a call.
-fn hold_all(
-    alloc: Global,
-    texts: &mut MemTexts,
-    example: &Example,
-    call: &Call<'_>,
-) -> Result<(), Memory> {
-    for text in example.texts.iter() {
+fn hold_all(alloc: Global, texts: &mut MemTexts, call: &Call<'_>) -> Result<(), Memory> {
+    for text in call.example.texts.iter() {
         hold(alloc, texts, text.name.as_str(), text.bytes.as_slice())?;
     }
     if let Some(source) = call.source {
@@ -69,8 +85,8 @@ fn hold_all(
     if let Some(history) = call.history {
         hold(alloc, texts, "h", history)?;
     }
-    for call in example.devices.texts.iter() {
-        texts.fail(*call)?;
+    for failing in call.example.devices.texts.iter() {
+        texts.fail(*failing)?;
     }
     Ok(())
 }
@@ -90,10 +106,10 @@ pub(crate) fn sink_of(
 }
 
 /// The source that a call reads, if it is one of its texts.
-fn source_of<'a>(example: &'a Example, call: &Call<'a>) -> Option<&'a [u8]> {
+pub(crate) fn source_of<'a>(call: &Call<'a>) -> Option<&'a [u8]> {
     match call.source {
         Some(source) => Some(source.as_bytes()),
-        None => example.text("a"),
+        None => call.example.text("a"),
     }
 }
 
@@ -110,9 +126,9 @@ fn reading_in(
 }
 
 /// The texts of a call.
-fn texts_of(alloc: Global, example: &Example, call: &Call<'_>) -> Result<MemTexts, Memory> {
+fn texts_of(alloc: Global, call: &Call<'_>) -> Result<MemTexts, Memory> {
     let mut texts = MemTexts::new(alloc);
-    hold_all(alloc, &mut texts, example, call)?;
+    hold_all(alloc, &mut texts, call)?;
     Ok(texts)
 }
 
@@ -144,14 +160,13 @@ fn seen_of<R: Threads + Wait + Sync>(
 fn seen_into<R: Threads + Wait + Sync>(
     rt: &R,
     alloc: Global,
-    example: &Example,
     call: &Call<'_>,
     out: &mut MemSink,
     err: &mut MemSink,
 ) -> Result<(Told, Option<Reading>), ExampleFail> {
     let words = words_of(alloc, call.words)?;
-    let mut texts = texts_of(alloc, example, call)?;
-    let source = source_of(example, call);
+    let mut texts = texts_of(alloc, call)?;
+    let source = source_of(call);
     seen_of(rt, alloc, words.as_slice(), &mut texts, out, err, source)
 }
 
@@ -159,11 +174,10 @@ fn seen_into<R: Threads + Wait + Sync>(
 pub(crate) fn came_of<R: Threads + Wait + Sync>(
     rt: &R,
     alloc: Global,
-    example: &Example,
     call: &Call<'_>,
 ) -> Result<Came, ExampleFail> {
-    let (mut out, mut err) = sinks_of(alloc, example)?;
-    match seen_into(rt, alloc, example, call, &mut out, &mut err) {
+    let (mut out, mut err) = sinks_of(alloc, call.example)?;
+    match seen_into(rt, alloc, call, &mut out, &mut err) {
         Ok((told, reading)) => Ok(came_with(told, reading, out, err)),
         Err(fail) => {
             drop(out);
