@@ -1,5 +1,7 @@
 -- An answer has its cause, where what was made was written, or the line of a refusal.
-use Rattle.std.proofs.Common.{◌≡◌, ◌≢◌, ℕ, ◌+◌, ◌≤◌, ◌⊎◌, List, [], Option, None, Some, inl, inr, refl, sym, ◌∙◌, append-nil, arith}
+use Rattle.std.proofs.Common.{◌≡◌, ◌≢◌, ℕ, ◌+◌, ◌≤◌, ◌⊎◌, not, T, List, [], Option, None, Some, inl, inr, refl, sym, ◌∙◌, append-nil, arith}
+use Rattle.std.proofs.Math.Dec.{eqb}
+use Rattle.std.proofs.Math.Facts.{eqb_no}
 use Rattle.std.specs.Io.KnownBytes.{Appends, Keeps}
 use Rattle.np_syntax.specs.declared.event.End.{End}
 use Rattle.np_syntax.specs.declared.event.End.TheVariants.{Rest, Spent}
@@ -16,6 +18,10 @@ use Rattle.np_verdict.specs.declared.refusal.Refusal.TheVariants.{Memory, Usage,
 use Rattle.np_verdict.specs.declared.refusal.Refusal.TheVariants.{BadChar, BadString, BigNumber, Syntax, TooDeep}
 use Rattle.np_verdict.specs.declared.refusal.Refusal.TheVariants.{Unbound, SiteTwice, TooManySites, NotASite, TypeFault, LocationTest, TooManyNodes, TooManyEvents}
 
+-- a status is not two numbers that differ
+unlike : {X : Type 0} {s m n : ℕ} → s ≡ m → T (not (eqb m n)) → s ≡ n → X
+unlike is apart e = absurd (eqb_no apart (sym is ∙ e))
+
 abbrev refusing : ℕ → Answer
 refusing status = record { status = status; kept = None; high = None }
 
@@ -31,42 +37,42 @@ nothing_written (Some x) (Some y) p = p ∙ append-nil x
 
 wanting : (call : Call) (status : ℕ) → status ≡ 6 → IsWanting call (refusing status) → Begins call → HasCauses call (refusing status)
 wanting call status is w b = record {
-  done = λ e. absurd (omega (arith, is, e));
-  spent = λ e. absurd (omega (arith, is, e));
-  usage = λ e. absurd (omega (arith, is, e));
-  source = λ e. absurd (omega (arith, is, e));
-  read = λ e. absurd (omega (arith, is, e));
-  write = λ e. absurd (omega (arith, is, e));
+  done = λ e. unlike is tt e;
+  spent = λ e. unlike is tt e;
+  usage = λ e. unlike is tt e;
+  source = λ e. unlike is tt e;
+  read = λ e. unlike is tt e;
+  write = λ e. unlike is tt e;
   memory = λ e. w;
-  history = λ e. absurd (omega (arith, is, e));
+  history = λ e. unlike is tt e;
   status = inr (inr (inr (inr (inr (inr (inl is))))));
   begins = b;
 }
 
 usage : (call : Call) (status : ℕ) → status ≡ 2 → IsRefused call (refusing status) Usage → Begins call → HasCauses call (refusing status)
 usage call status is r b = record {
-  done = λ e. absurd (omega (arith, is, e));
-  spent = λ e. absurd (omega (arith, is, e));
+  done = λ e. unlike is tt e;
+  spent = λ e. unlike is tt e;
   usage = λ e. r;
-  source = λ e. absurd (omega (arith, is, e));
-  read = λ e. absurd (omega (arith, is, e));
-  write = λ e. absurd (omega (arith, is, e));
-  memory = λ e. absurd (omega (arith, is, e));
-  history = λ e. absurd (omega (arith, is, e));
+  source = λ e. unlike is tt e;
+  read = λ e. unlike is tt e;
+  write = λ e. unlike is tt e;
+  memory = λ e. unlike is tt e;
+  history = λ e. unlike is tt e;
   status = inr (inr (inl is));
   begins = b;
 }
 
 fault : (call : Call) (status : ℕ) → status ≡ 4 → IsRefused call (refusing status) ReadFault → Begins call → HasCauses call (refusing status)
 fault call status is r b = record {
-  done = λ e. absurd (omega (arith, is, e));
-  spent = λ e. absurd (omega (arith, is, e));
-  usage = λ e. absurd (omega (arith, is, e));
-  source = λ e. absurd (omega (arith, is, e));
+  done = λ e. unlike is tt e;
+  spent = λ e. unlike is tt e;
+  usage = λ e. unlike is tt e;
+  source = λ e. unlike is tt e;
   read = λ e. r;
-  write = λ e. absurd (omega (arith, is, e));
-  memory = λ e. absurd (omega (arith, is, e));
-  history = λ e. absurd (omega (arith, is, e));
+  write = λ e. unlike is tt e;
+  memory = λ e. unlike is tt e;
+  history = λ e. unlike is tt e;
   status = inr (inr (inr (inr (inl is))));
   begins = b;
 }
@@ -74,14 +80,14 @@ fault call status is r b = record {
 source : (call : Call) (status : ℕ) (refusal : Refusal) → status ≡ 3 → status_of refusal ≡ 3 → IsRefused call (refusing status) refusal
     → Begins call → HasCauses call (refusing status)
 source call status refusal is of r b = record {
-  done = λ e. absurd (omega (arith, is, e));
-  spent = λ e. absurd (omega (arith, is, e));
-  usage = λ e. absurd (omega (arith, is, e));
+  done = λ e. unlike is tt e;
+  spent = λ e. unlike is tt e;
+  usage = λ e. unlike is tt e;
   source = λ e. record { refusal = refusal; status = is ∙ sym of; refused = r };
-  read = λ e. absurd (omega (arith, is, e));
-  write = λ e. absurd (omega (arith, is, e));
-  memory = λ e. absurd (omega (arith, is, e));
-  history = λ e. absurd (omega (arith, is, e));
+  read = λ e. unlike is tt e;
+  write = λ e. unlike is tt e;
+  memory = λ e. unlike is tt e;
+  history = λ e. unlike is tt e;
   status = inr (inr (inr (inl is)));
   begins = b;
 }
@@ -89,13 +95,13 @@ source call status refusal is of r b = record {
 history : (call : Call) (status : ℕ) (refusal : Refusal) → status ≡ 7 → status_of refusal ≡ 7 → IsRefused call (refusing status) refusal
     → Begins call → HasCauses call (refusing status)
 history call status refusal is of r b = record {
-  done = λ e. absurd (omega (arith, is, e));
-  spent = λ e. absurd (omega (arith, is, e));
-  usage = λ e. absurd (omega (arith, is, e));
-  source = λ e. absurd (omega (arith, is, e));
-  read = λ e. absurd (omega (arith, is, e));
-  write = λ e. absurd (omega (arith, is, e));
-  memory = λ e. absurd (omega (arith, is, e));
+  done = λ e. unlike is tt e;
+  spent = λ e. unlike is tt e;
+  usage = λ e. unlike is tt e;
+  source = λ e. unlike is tt e;
+  read = λ e. unlike is tt e;
+  write = λ e. unlike is tt e;
+  memory = λ e. unlike is tt e;
   history = λ e. record { refusal = refusal; status = is ∙ sym of; refused = r };
   status = inr (inr (inr (inr (inr (inr (inr is))))));
   begins = b;
@@ -149,14 +155,14 @@ answered call status (BudgetPast site) is t = of_history call status (BudgetPast
 -- the line of the refusal could not be written whole
 pub unwritten : (call : Call) → ErrFailed call (refusing WRITE_FAILED) → Begins call → HasCauses call (refusing WRITE_FAILED)
 unwritten call f b = record {
-  done = λ e. absurd (omega (arith, e));
-  spent = λ e. absurd (omega (arith, e));
-  usage = λ e. absurd (omega (arith, e));
-  source = λ e. absurd (omega (arith, e));
-  read = λ e. absurd (omega (arith, e));
+  done = λ e. unlike refl tt e;
+  spent = λ e. unlike refl tt e;
+  usage = λ e. unlike refl tt e;
+  source = λ e. unlike refl tt e;
+  read = λ e. unlike refl tt e;
   write = λ e. inr f;
-  memory = λ e. absurd (omega (arith, e));
-  history = λ e. absurd (omega (arith, e));
+  memory = λ e. unlike refl tt e;
+  history = λ e. unlike refl tt e;
   status = inr (inr (inr (inr (inr (inl refl)))));
   begins = b;
 }
