@@ -123,16 +123,8 @@ impl<V> Index<V> {
 
     /// An input and an output on one channel that wait longest there. It is a hint too.
     pub fn first_pair(&self) -> Option<(Name, Name)> {
-        let Some(chan) = self.turns.busy() else {
-            return None;
-        };
-        let Some(waiters) = self.lanes.get(chan) else {
-            return None;
-        };
-        match (waiters.first_input(), waiters.first_output()) {
-            (Some(input), Some(output)) => Some((input, output)),
-            _ => None,
-        }
+        let waiters = self.lanes.get(self.turns.busy()?)?;
+        Some((waiters.first_input()?, waiters.first_output()?))
     }
 
     /// Makes room for so many more values, whatever they wait for.

@@ -1,7 +1,6 @@
 ghost use Rattle.std.specs.Prelude.{◌≡◌, ◌<◌, ◌≤◌, ◌+◌, ◌++◌, ◌∷◌, [], length, cond, All, OnOk, IsOk, IsSome, IfSome, IfNone, Some, None, true, false};
 ghost use Rattle.std.specs.Option.{option_copied};
 ghost use Rattle.std.specs.FinMap as map;
-ghost use Rattle.agent_index.specs.declared.wait.Wait.TheVariants as wait;
 ghost use Rattle.agent_index.specs.Lines.{in_line, without, is_bare, SetsLine, SameLines};
 ghost use Rattle.agent_index.specs.Lanes.{free, owes, AreGrown, IsFree, IsOpened, IsPaid, OwesMore, SameBut};
 
@@ -100,7 +99,7 @@ fn settle(table: &mut Table<Waiters>, stock: &mut List<Waiters>, chan: Name, wai
     if waiters.is_bare() {
         table.remove(chan);
         if waiters.room() >= MOST_OWED && stock.len() < MOST_STOCK {
-            let _ = stock.add(waiters);
+            let _ = stock.push(waiters);
         }
     } else {
         table.replace(chan, waiters);
@@ -254,31 +253,21 @@ impl Lanes {
         ensures spare { self.old.spare ≤ self.new.spare }
     {
         match wait {
-            Wait::Gives(chan) => self.leave_outputs(chan, mark),
-            Wait::Takes(chan) => self.leave_inputs(chan, mark),
+            Wait::Gives(chan) => {
+                let Some(mut waiters) = lift(self.alloc, &mut self.table, chan) else {
+                    return;
+                };
+                waiters.remove_output(mark);
+                settle(&mut self.table, &mut self.stock, chan, waiters);
+            }
+            Wait::Takes(chan) => {
+                let Some(mut waiters) = lift(self.alloc, &mut self.table, chan) else {
+                    return;
+                };
+                waiters.remove_input(mark);
+                settle(&mut self.table, &mut self.stock, chan, waiters);
+            }
             _ => {}
         }
-    }
-
-    fn leave_outputs(&mut self, chan: Name, mark: Name)
-        ensures lines { SetsLine self.old.lanes self.new.lanes (wait.Gives chan) (without (in_line self.old.lanes (wait.Gives chan)) mark) }
-        ensures spare { self.old.spare ≤ self.new.spare }
-    {
-        let Some(mut waiters) = lift(self.alloc, &mut self.table, chan) else {
-            return;
-        };
-        waiters.remove_output(mark);
-        settle(&mut self.table, &mut self.stock, chan, waiters);
-    }
-
-    fn leave_inputs(&mut self, chan: Name, mark: Name)
-        ensures lines { SetsLine self.old.lanes self.new.lanes (wait.Takes chan) (without (in_line self.old.lanes (wait.Takes chan)) mark) }
-        ensures spare { self.old.spare ≤ self.new.spare }
-    {
-        let Some(mut waiters) = lift(self.alloc, &mut self.table, chan) else {
-            return;
-        };
-        waiters.remove_input(mark);
-        settle(&mut self.table, &mut self.stock, chan, waiters);
     }
 }

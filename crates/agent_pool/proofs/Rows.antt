@@ -1,5 +1,5 @@
 -- What an agent goes on as by the row of each kind, where the parts of its acting atom's form and their values are known.
-use Rattle.std.proofs.Common.{◌≡◌, ℕ, Bool, true, false, [], ◌∷◌, cond, length, Option, None, Some, IsSome, Result, Ok, Err, IfOk, refl, sym, ap, subst, ◌∙◌}
+use Rattle.std.proofs.Common.{◌≡◌, ℕ, Bool, true, false, List, [], ◌∷◌, cond, length, Option, None, Some, IsSome, refl, ap, subst, ◌∙◌}
 use Rattle.std.specs.FinMap as map
 use Rattle.np_syntax.specs.declared.types.Ty.{Ty}
 use Rattle.np_syntax.specs.declared.value.Value as value
@@ -26,11 +26,6 @@ use Rattle.agent_pool.specs.Pools.{Pool, atoms_of}
 use Rattle.agent_pool.specs.Rows.{own_sight, event_of, change_in, taken_in, ActsAs, IsMet, GoesOnAs, IsFork, IsPrinted}
 use Rattle.agent_pool.specs.Moves.{IsDepart, IsSent, IsTold, IsAway, IsTarget, IsSplit}
 use Rattle.agent_pool.proofs.Acting.{no-atom, atom-there, acted, row-met, row-is}
-
--- what is made, if it could be made, is what was to be made
-pub made-as : {A E : Type 0} (P : A → Type 0) (r : Result A E) (a : A) → IfOk r (λ x. x ≡ a) → P a → IfOk r P
-made-as P (Ok x) a is holds = subst P (sym is) holds
-made-as P (Err e) a is holds = tt
 
 -- a chain that has an end has each of its steps
 pub first-there : {A B : Type 0} (o : Option A) (f : A → Option B) → IsSome (o >>= f) → None ≡ o → ⊥

@@ -47,10 +47,6 @@ pub record NothingReady (code : ProgramTable) (atoms : NameMap Atom) : Type 0 wh
 abbrev pub only : Bool → Kind → Option Kind
 only test k = need test >> Some k
 
--- the kind, where there is an operand
-abbrev pub after : {A : Type 0} → Option A → Option Kind → Option Kind
-after operand k = operand >> k
-
 -- the kind of event that an atom of each form makes alone, where its operands have the values that the row needs
 abbrev pub begins : ℕ → Env → Layer → Option Kind
 begins sites env ProcForm-F.Stop = Some kind.Stop

@@ -6,7 +6,7 @@ ghost use Rattle.agent_pool.specs.Pools.{Unchanged, IsFiled};
 ghost use Rattle.agent_pool.specs.Rows.{Reduces, IsMet, GoesOnAs, IsFork, IsPrinted};
 
 use super::agent::Agent;
-use super::held::{Held, both, extended, over, under};
+use super::held::Held;
 use super::ready::Ready;
 use np_code::{Code, NodeForm};
 use np_eval::{bind, eval, truth_of};
@@ -59,7 +59,9 @@ impl Agent {
         let NodeForm::Par(left, right) = &node.form else {
             unreachable!();
         };
-        both(alloc, *left, *right, frame.copy(alloc))
+        let own = frame.copy(alloc)?;
+        let other = frame.copy(alloc)?;
+        Ok((Held::Node(*left, own), Held::Node(*right, other)))
     }
 
     /// A `new` binds a new channel.
@@ -91,7 +93,9 @@ impl Agent {
         let NodeForm::New(binder, _, body) = &node.form else {
             unreachable!();
         };
-        over(*body, extended(alloc, frame, *binder, Value::Chan(chan)))
+        let mut env = frame.copy(alloc)?;
+        env.set(*binder, Value::Chan(chan))?;
+        Ok(Held::Node(*body, env))
     }
 
     /// A `let` binds its pattern.
@@ -153,7 +157,7 @@ impl Agent {
             unreachable!();
         };
         let next = if truth { *met } else { *unmet };
-        under(alloc, next, frame)
+        Ok(Held::Node(next, frame.copy(alloc)?))
     }
 
     /// A `print` says its value, which is answered.

@@ -4,7 +4,7 @@ ghost use Rattle.np_eval.specs.Eval.{Env};
 ghost use Rattle.np_syntax.specs.declared.process.Proc.{Proc};
 ghost use Rattle.np_code.specs.Trees.{layer_of};
 ghost use Rattle.agent_pool.specs.Held.{atom_of};
-ghost use Rattle.agent_pool.specs.Readies.{after, only, begins, taken_by, offers, alone_at, pair_at};
+ghost use Rattle.agent_pool.specs.Readies.{only, begins, taken_by, offers, alone_at, pair_at};
 
 use super::held::{Held, node_of};
 use super::operands::{agent_of, has_letter, has_places, has_truth, has_value, site_in};
@@ -20,26 +20,6 @@ pub fn only(test: bool, kind: Kind) -> Option<Kind>
     if test { Some(kind) } else { None }
 }
 
-/// The kind, where there is a name.
-fn after_name(name: Option<Name>, kind: Option<Kind>) -> Option<Kind>
-    ensures { result ≡ after name kind }
-{
-    match name {
-        Some(_) => kind,
-        None => None,
-    }
-}
-
-/// The kind, where there is a site.
-fn after_site(site: Option<u32>, kind: Option<Kind>) -> Option<Kind>
-    ensures { result ≡ after site kind }
-{
-    match site {
-        Some(_) => kind,
-        None => None,
-    }
-}
-
 /// The kind of event that a node makes alone under a frame, where its operands have the values that the row needs. It
 /// takes no memory.
 pub fn begins(code: &Code, node: &Node, frame: &Frame) -> Option<Kind>
@@ -51,28 +31,27 @@ pub fn begins(code: &Code, node: &Node, frame: &Frame) -> Option<Kind>
         NodeForm::New(_, _, _) => Some(Kind::New),
         NodeForm::Agent(_, _, _) => Some(Kind::Agent),
         NodeForm::Migrate(site, _) => {
-            after_site(site_in(code.sites(), site, frame), Some(Kind::Depart))
+            site_in(code.sites(), site, frame)?;
+            Some(Kind::Depart)
         }
         NodeForm::IfLocal(agent, chan, value, _, _) => {
-            let kind = only(has_value(value, frame), Kind::Local);
-            after_name(
-                agent_of(agent, frame),
-                after_name(chan_of(chan, frame), kind),
-            )
+            agent_of(agent, frame)?;
+            chan_of(chan, frame)?;
+            only(has_value(value, frame), Kind::Local)
         }
         NodeForm::Send(agent, site, chan, value) => {
-            let kind = only(has_value(value, frame), Kind::Send);
-            let kind = after_name(chan_of(chan, frame), kind);
-            let kind = after_site(site_in(code.sites(), site, frame), kind);
-            after_name(agent_of(agent, frame), kind)
+            agent_of(agent, frame)?;
+            site_in(code.sites(), site, frame)?;
+            chan_of(chan, frame)?;
+            only(has_value(value, frame), Kind::Send)
         }
         NodeForm::If(test, _, _) => only(has_truth(test, frame), Kind::If),
         NodeForm::Let(pat, value, _) => only(fits(pat, value, frame), Kind::Let),
         NodeForm::Print(value) => only(has_value(value, frame), Kind::Print),
         NodeForm::Open(letter) => only(has_letter(letter, frame), Kind::Open),
         NodeForm::Lookup(agent, among, _, _, _) => {
-            let kind = only(has_places(among, frame), Kind::Lookup);
-            after_name(agent_of(agent, frame), kind)
+            agent_of(agent, frame)?;
+            only(has_places(among, frame), Kind::Lookup)
         }
         _ => None,
     }
@@ -111,12 +90,8 @@ fn offers(code: &Code, held: &Held, chan: Name, pat: &Pat) -> bool
 pub fn alone(code: &Code, mark: Name, held: &Held) -> Option<Ready>
     ensures { (agent : Named) → result ≡ alone_at (length code.now.sites) mark (atom_of code.now.processes agent held.now) }
 {
-    let Some((node, frame)) = node_of(code, held) else {
-        return None;
-    };
-    let Some(kind) = begins(code, node, frame) else {
-        return None;
-    };
+    let (node, frame) = node_of(code, held)?;
+    let kind = begins(code, node, frame)?;
     Some(Ready {
         kind,
         actor: mark,
@@ -130,18 +105,10 @@ pub fn alone(code: &Code, mark: Name, held: &Held) -> Option<Ready>
 pub fn pair(code: &Code, mark: Name, taker: &Held, other: Name, giver: &Held) -> Option<Ready>
     ensures { (agent : Named) → result ≡ pair_at mark (atom_of code.now.processes agent taker.now) other (atom_of code.now.processes agent giver.now) }
 {
-    let Some((node, frame)) = node_of(code, taker) else {
-        return None;
-    };
-    let Some((kind, chan, pat)) = taken_by(node) else {
-        return None;
-    };
-    let Some(chan) = chan_of(chan, frame) else {
-        return None;
-    };
-    let Some(kind) = only(offers(code, giver, chan, pat), kind) else {
-        return None;
-    };
+    let (node, frame) = node_of(code, taker)?;
+    let (kind, chan, pat) = taken_by(node)?;
+    let chan = chan_of(chan, frame)?;
+    let kind = only(offers(code, giver, chan, pat), kind)?;
     Some(Ready {
         kind,
         actor: mark,

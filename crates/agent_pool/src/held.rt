@@ -1,15 +1,11 @@
-ghost use Rattle.std.specs.Prelude.{◌≡◌, IfOk, MatchOption};
-ghost use Rattle.std.specs.FinMap as map;
-ghost use Rattle.np_eval.specs.Eval.{Env};
+ghost use Rattle.std.specs.Prelude.{◌≡◌, MatchOption};
 ghost use Rattle.np_eval.specs.Forms.{layer};
-ghost use Rattle.agent_pool.specs.declared.held.Held.TheVariants as held;
 ghost use Rattle.agent_pool.specs.Held.{gives, takes, proc_of, wait_of, IsOutput, IsNode};
 
 use agent_index::Wait;
 use np_code::{Code, Node, NodeForm};
 use np_eval::{Frame, chan_of};
-use np_syntax::{Memory, Name, Tag, Value};
-use std::alloc::Global;
+use np_syntax::{Name, Tag, Value};
 
 /// An atom: a node of the code under a frame, or an output that came from outside.
 pub enum Held {
@@ -33,53 +29,6 @@ pub fn node_of<'a>(code: &'a Code, held: &'a Held) -> Option<(&'a Node, &'a Fram
     match held {
         Held::Node(id, frame) => Some((code.node(*id), frame)),
         Held::Given(_, _, _) => None,
-    }
-}
-
-/// A node under a copy of a frame.
-pub fn under(alloc: Global, id: u32, frame: &Frame) -> Result<Held, Memory>
-    ensures { IfOk result (λ made. made ≡ held.Node id frame.now) }
-{
-    match frame.copy(alloc) {
-        Ok(frame) => Ok(Held::Node(id, frame)),
-        Err(memory) => Err(memory),
-    }
-}
-
-/// A copy of a frame with a pair put over it.
-pub fn extended(alloc: Global, frame: &Frame, binder: u32, value: Value) -> Result<Frame, Memory>
-    ensures { IfOk result (λ env. env ≡ map.insert frame.now binder value) }
-{
-    let mut env = frame.copy(alloc)?;
-    match env.set(binder, value) {
-        Ok(()) => Ok(env),
-        Err(memory) => Err(memory),
-    }
-}
-
-/// A node under what a frame was made of, if it could be made.
-pub fn over(id: u32, frame: Result<Frame, Memory>) -> Result<Held, Memory>
-    ensures { (env : Env) → IfOk frame (λ frame. frame ≡ env) → IfOk result (λ made. made ≡ held.Node id env) }
-{
-    match frame {
-        Ok(frame) => Ok(Held::Node(id, frame)),
-        Err(memory) => Err(memory),
-    }
-}
-
-/// Two nodes under one frame, if it could be made.
-pub fn both(
-    alloc: Global,
-    first: u32,
-    second: u32,
-    frame: Result<Frame, Memory>,
-) -> Result<(Held, Held), Memory>
-    ensures { (env : Env) → IfOk frame (λ frame. frame ≡ env) → IfOk result (λ parts. parts ≡ (held.Node first env, held.Node second env)) }
-{
-    let frame = frame?;
-    match under(alloc, second, &frame) {
-        Ok(second) => Ok((Held::Node(first, frame), second)),
-        Err(memory) => Err(memory),
     }
 }
 

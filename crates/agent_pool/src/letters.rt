@@ -8,7 +8,7 @@ ghost use Rattle.agent_pool.specs.Pools.{Unchanged, IsFiled};
 ghost use Rattle.agent_pool.specs.Rows.{Reduces, IsMet, GoesOnAs};
 
 use super::agent::Agent;
-use super::held::{Held, extended, over, under};
+use super::held::Held;
 use super::operands::agent_of;
 use super::ready::Ready;
 use np_code::{Code, NodeForm};
@@ -100,9 +100,11 @@ impl Agent {
         let Some(found) = place_in(alloc, among, frame, agent)? else {
             unreachable!();
         };
+        let mut env = frame.copy(alloc)?;
         let Some(lock) = found else {
-            return under(alloc, *unmet, frame);
+            return Ok(Held::Node(*unmet, env));
         };
-        over(*met, extended(alloc, frame, *binder, Value::Chan(lock)))
+        env.set(*binder, Value::Chan(lock))?;
+        Ok(Held::Node(*met, env))
     }
 }

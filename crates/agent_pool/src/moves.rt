@@ -4,13 +4,12 @@ ghost use Rattle.np_syntax.specs.declared.event.Made.TheVariants as made;
 ghost use Rattle.np_eval.specs.Eval.{agent_of};
 ghost use Rattle.np_calculus.specs.declared.config.Place.TheVariants as place;
 ghost use Rattle.np_calculus.specs.Changes.{put, still};
-ghost use Rattle.agent_pool.specs.declared.held.Held.{Held as Atom};
 ghost use Rattle.agent_pool.specs.Pools.{Unchanged, IsFiled};
 ghost use Rattle.agent_pool.specs.Rows.{Reduces, IsMet, change_in, own_sight, event_of};
 ghost use Rattle.agent_pool.specs.Moves.{IsDepart, IsSent, IsTold, IsAway, IsTarget, LocalLeaves, IsSplit, Births};
 
 use super::agent::Agent;
-use super::held::{Held, both, extended, under, wait_of};
+use super::held::{Held, wait_of};
 use super::operands::{agent_of, site_in};
 use super::ready::Ready;
 use np_calculus::Packet;
@@ -18,16 +17,6 @@ use np_code::{Code, NodeForm};
 use np_eval::{chan_of, eval};
 use np_syntax::{Memory, Name, Value};
 use std::alloc::Global;
-
-/// What an atom goes on as, if it could be made, and a packet.
-fn with_packet(held: Result<Held, Memory>, packet: Packet) -> Result<(Held, Packet), Memory>
-    ensures { (h : Atom) → IfOk held (λ held. held ≡ h) → IfOk result (λ told. told ≡ (h, packet)) }
-{
-    match held {
-        Ok(held) => Ok((held, packet)),
-        Err(memory) => Err(memory),
-    }
-}
 
 // The rows of what leaves an agent: the agent itself, a new agent, a message.
 impl Agent {
@@ -194,6 +183,7 @@ impl Agent {
             unreachable!();
         };
         let tag = r.tag;
+        let held = Held::Node(*met, frame.copy(alloc)?);
         let packet = Packet {
             to: 0,
             agent,
@@ -201,7 +191,7 @@ impl Agent {
             value,
             tag,
         };
-        with_packet(under(alloc, *met, frame), packet)
+        Ok((held, packet))
     }
 
     /// A location test that does not find its agent.
@@ -231,7 +221,7 @@ impl Agent {
         let NodeForm::IfLocal(_, _, _, _, unmet) = &node.form else {
             unreachable!();
         };
-        under(alloc, *unmet, frame)
+        Ok(Held::Node(*unmet, frame.copy(alloc)?))
     }
 
     /// The making of an agent, which is answered.
@@ -276,7 +266,9 @@ impl Agent {
         let NodeForm::Agent(binder, body, rest) = &node.form else {
             unreachable!();
         };
-        let env = extended(alloc, frame, *binder, Value::Agent(agent));
-        both(alloc, *body, *rest, env)
+        let mut env = frame.copy(alloc)?;
+        env.set(*binder, Value::Agent(agent))?;
+        let own = env.copy(alloc)?;
+        Ok((Held::Node(*body, env), Held::Node(*rest, own)))
     }
 }

@@ -29,7 +29,7 @@ use Rattle.history_text.specs.declared.words.TheConstants.{KINDS, ROLES, FORMATS
 use Rattle.history_text.specs.Spelling.{name_text, optional_text, kind_word, role_word, first_made, second_made, event_line, first_line}
 use Rattle.history_text.specs.Histories.{NameFits, OptionalFits, Fits}
 use Rattle.history_text.specs.Reading.{in_field, kind_of, role_of, format_of, number_at, behind, name_at, optional_by, optional_at, kind_at, role_at}
-use Rattle.history_text.specs.Reading.{tag_at, made_of, made_at, ninth, ends_well, event_behind, event_of}
+use Rattle.history_text.specs.Reading.{tag_at, made_of, made_at, ninth, ends_well, event_of}
 use Rattle.history_text.proofs.Numbers.{Ends, Takes, front_take, front_drop, decimal_digits, number_again, number_takes}
 use Rattle.history_text.proofs.Written.{with_ninth}
 
@@ -266,7 +266,7 @@ ninth_ends formats.First kind role = tt
 ninth_ends formats.Second kind role = refl
 
 pub event_again : (format : Format) (e : Event) → Fits e → event_of format (event_line format e) ≡ Some e
-unfolding event_of event_behind
+unfolding event_of
 event_again format e fits =
     let last = ninth format e.kind e.tag.role in
     let ends : ends_well format e.kind e.tag.role last ≡ true = (bytes_eq-Decides last last).1 refl in
@@ -275,7 +275,7 @@ event_again format e fits =
     (next _ (made_again e.made last fits.first fits.second (ninth_ends format e.kind e.tag.role)) (ap (λ b. need b >> Some e) ends))))))
 
 pub event_takes : (format : Format) (line : List ℕ) (x : Event) → event_of format line ≡ Some x → (line ≡ event_line format x) × Fits x
-unfolding event_of event_behind
+unfolding event_of
 event_takes format line x e =
     then (number_at line) _ e (λ site h0 e. then (behind 32 site.1) _ e (λ r1 b1 e. then (kind_at r1) _ e (λ kind h1 e. then (behind 32 kind.1) _ e (λ r2 b2 e. then (name_at r2) _ e (λ actor h2 e.
     then (behind 32 actor.1) _ e (λ r3 b3 e. then (optional_at r3) _ e (λ other h3 e. then (behind 32 other.1) _ e (λ r4 b4 e. then (tag_at r4) _ e (λ tag h4 e. then (behind 32 tag.1) _ e (λ r5 b5 e.

@@ -133,18 +133,6 @@ ends_well format kind role rest = bytes_eq rest (ninth format kind role)
 
 -- ---- the event of a line
 
--- where its first three fields are read
-unfoldable pub event_behind : Format → ℕ → Kind → Name → List ℕ → Option Event
-event_behind format site kind actor rest = do
-  rest ← behind 32 rest
-  other ← optional_at rest
-  rest ← behind 32 other.1
-  tag ← tag_at rest
-  rest ← behind 32 tag.1
-  made ← made_at rest
-  need (ends_well format kind tag.0.role made.1)
-  Some (record { site = site; kind = kind; actor = actor; other = other.0; tag = tag.0; made = made.0 })
-
 unfoldable pub event_of : Format → List ℕ → Option Event
 event_of format line = do
   site ← number_at line
@@ -152,7 +140,14 @@ event_of format line = do
   kind ← kind_at rest
   rest ← behind 32 kind.1
   actor ← name_at rest
-  event_behind format site.0 kind.0 actor.0 actor.1
+  rest ← behind 32 actor.1
+  other ← optional_at rest
+  rest ← behind 32 other.1
+  tag ← tag_at rest
+  rest ← behind 32 tag.1
+  made ← made_at rest
+  need (ends_well format kind.0 tag.0.role made.1)
+  Some (record { site = site.0; kind = kind.0; actor = actor.0; other = other.0; tag = tag.0; made = made.0 })
 
 -- ---- the events of lines
 

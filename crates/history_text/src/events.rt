@@ -6,7 +6,7 @@ ghost use Rattle.history_text.specs.Reading as spec;
 use super::fields::{behind, kind_at, made_at, name_at, number_at, optional_at, tag_at};
 use super::format::Format;
 use super::words::high_word;
-use np_syntax::{Event, Kind, Name, Role};
+use np_syntax::{Event, Kind, Role};
 
 /// Whether the bytes are those that stand behind the eight fields of such an event.
 fn ends_well(format: Format, kind: Kind, role: Role, rest: &[u8]) -> bool
@@ -21,20 +21,17 @@ fn ends_well(format: Format, kind: Kind, role: Role, rest: &[u8]) -> bool
     }
 }
 
-/// The event of a line whose first three fields these are, and of the bytes behind them.
-#[tactic(auto, unfolding(crate::specs::Reading::event_behind))]
-fn event_behind(format: Format, site: u32, kind: Kind, actor: Name, rest: &[u8]) -> Option<Event>
-    ensures { result ≡ spec.event_behind format site kind actor rest.now }
+/// The event of a line.
+#[tactic(auto, unfolding(crate::specs::Reading::event_of))]
+pub fn event_of(format: Format, line: &[u8]) -> Option<Event>
+    ensures { result ≡ spec.event_of format line.now }
 {
-    let Some((other, rest)) = optional_at(behind(b' ', rest)?) else {
-        return None;
-    };
-    let Some((tag, rest)) = tag_at(behind(b' ', rest)?) else {
-        return None;
-    };
-    let Some((made, rest)) = made_at(behind(b' ', rest)?) else {
-        return None;
-    };
+    let (site, rest) = number_at(line)?;
+    let (kind, rest) = kind_at(behind(b' ', rest)?)?;
+    let (actor, rest) = name_at(behind(b' ', rest)?)?;
+    let (other, rest) = optional_at(behind(b' ', rest)?)?;
+    let (tag, rest) = tag_at(behind(b' ', rest)?)?;
+    let (made, rest) = made_at(behind(b' ', rest)?)?;
     if !ends_well(format, kind, tag.role, rest) {
         return None;
     }
@@ -46,21 +43,4 @@ fn event_behind(format: Format, site: u32, kind: Kind, actor: Name, rest: &[u8])
         tag,
         made,
     })
-}
-
-/// The event of a line.
-#[tactic(auto, unfolding(crate::specs::Reading::event_of))]
-pub fn event_of(format: Format, line: &[u8]) -> Option<Event>
-    ensures { result ≡ spec.event_of format line.now }
-{
-    let Some((site, rest)) = number_at(line) else {
-        return None;
-    };
-    let Some((kind, rest)) = kind_at(behind(b' ', rest)?) else {
-        return None;
-    };
-    let Some((actor, rest)) = name_at(behind(b' ', rest)?) else {
-        return None;
-    };
-    event_behind(format, site, kind, actor, rest)
 }

@@ -84,15 +84,9 @@ pub fn behind(sign: u8, bytes: &[u8]) -> Option<&[u8]>
 pub fn name_at(bytes: &[u8]) -> Option<(Name, &[u8])>
     ensures { Gives (λ x. (x.0, x.1.now)) result (spec.name_at bytes.now) }
 {
-    let Some((site, rest)) = number_at(bytes) else {
-        return None;
-    };
-    let Some(rest) = behind(b'.', rest) else {
-        return None;
-    };
-    let Some((n, rest)) = number_at(rest) else {
-        return None;
-    };
+    let (site, rest) = number_at(bytes)?;
+    let rest = behind(b'.', rest)?;
+    let (n, rest) = number_at(rest)?;
     Some((Name { site, n }, rest))
 }
 
@@ -104,9 +98,7 @@ pub fn optional_at(bytes: &[u8]) -> Option<(Option<Name>, &[u8])>
     if let Some(rest) = behind(b'-', bytes) {
         return Some((None, rest));
     }
-    let Some((name, rest)) = name_at(bytes) else {
-        return None;
-    };
+    let (name, rest) = name_at(bytes)?;
     Some((Some(name), rest))
 }
 
@@ -148,15 +140,9 @@ fn role_at(bytes: &[u8]) -> Option<(Role, &[u8])>
 pub fn tag_at(bytes: &[u8]) -> Option<(Tag, &[u8])>
     ensures { Gives (λ x. (x.0, x.1.now)) result (spec.tag_at bytes.now) }
 {
-    let Some((node, rest)) = number_at(bytes) else {
-        return None;
-    };
-    let Some(rest) = behind(b' ', rest) else {
-        return None;
-    };
-    let Some((role, rest)) = role_at(rest) else {
-        return None;
-    };
+    let (node, rest) = number_at(bytes)?;
+    let rest = behind(b' ', rest)?;
+    let (role, rest) = role_at(rest)?;
     Some((Tag { node, role }, rest))
 }
 
@@ -177,15 +163,9 @@ fn made_of(first: Option<Name>, second: Option<Name>) -> Option<Made>
 pub fn made_at(bytes: &[u8]) -> Option<(Made, &[u8])>
     ensures { Gives (λ x. (x.0, x.1.now)) result (spec.made_at bytes.now) }
 {
-    let Some((first, rest)) = optional_at(bytes) else {
-        return None;
-    };
-    let Some(rest) = behind(b' ', rest) else {
-        return None;
-    };
-    let Some((second, rest)) = optional_at(rest) else {
-        return None;
-    };
+    let (first, rest) = optional_at(bytes)?;
+    let rest = behind(b' ', rest)?;
+    let (second, rest) = optional_at(rest)?;
     let made = made_of(first, second)?;
     Some((made, rest))
 }

@@ -19,16 +19,18 @@ pub fn halves(atom: Atom, env: Frame) -> Option<(Atom, Atom)>
         proc,
         env: own,
     } = atom;
-    match proc.into_form().into_parts() {
-        Some((left, right)) => Some((atom_of(agent, left, own), atom_of(agent, right, env))),
-        None => None,
-    }
-}
-
-fn atom_of(agent: Name, proc: Proc, env: Frame) -> Atom
-    ensures { result ≡ record { agent = agent; proc = proc; env = env } }
-{
-    Atom { agent, proc, env }
+    let (left, right) = proc.into_form().into_parts()?;
+    let left = Atom {
+        agent,
+        proc: left,
+        env: own,
+    };
+    let right = Atom {
+        agent,
+        proc: right,
+        env,
+    };
+    Some((left, right))
 }
 
 /// Takes the form of an atom's process out of it.
@@ -139,10 +141,18 @@ fn agent_halves(atom: Atom, agent: Name, env: Frame, own: Frame) -> Option<(Atom
         proc,
         ..
     } = atom;
-    match proc.into_form().into_creation() {
-        Some((_, body, rest)) => Some((atom_of(agent, body, env), atom_of(at, rest, own))),
-        None => None,
-    }
+    let (_, body, rest) = proc.into_form().into_creation()?;
+    let body = Atom {
+        agent,
+        proc: body,
+        env,
+    };
+    let rest = Atom {
+        agent: at,
+        proc: rest,
+        env: own,
+    };
+    Some((body, rest))
 }
 
 /// Lets an atom that makes an agent go on, and puts the agent's process under a mark; each has one of two equal frames.

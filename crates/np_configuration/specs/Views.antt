@@ -1,7 +1,6 @@
 -- What an event says of its names, and the environments in which patterns are bound (docs/LANGUAGE.md, "Reductions").
-use Rattle.std.specs.Prelude.{ℕ, Bool, not, nat_lt, Option, Some, is_some}
+use Rattle.std.specs.Prelude.{Bool, not, Option, Some, is_some}
 use Rattle.np_syntax.specs.declared.value.Name.{Name}
-use Rattle.np_syntax.specs.declared.value.Value.{Value, out-Value}
 use Rattle.np_syntax.specs.declared.event.Event.{Event}
 use Rattle.np_syntax.specs.Options.{◌>>=◌, ◌>>◌, need}
 use Rattle.np_tables.specs.Names.{same_name}
@@ -11,25 +10,11 @@ use Rattle.np_calculus.specs.Seen.{fresh, offered}
 use Rattle.np_calculus.specs.declared.config.Atom.{Atom}
 use Rattle.np_syntax.specs.declared.expression.Expr.{Expr}
 use Rattle.np_syntax.specs.declared.pattern.Pat.{Pat}
-use Rattle.np_eval.specs.Eval.{Env, as_site, bind, eval}
-
--- the site of the program that a value is
-abbrev pub site_in : Config → Value → Option ℕ
-site_in c v = do
-  s ← as_site (out-Value v)
-  need (nat_lt s c.sites)
-  Some s
+use Rattle.np_eval.specs.Eval.{Env, bind, eval}
 
 -- it makes no name and takes no output
 abbrev pub is_alone : Event → Bool
 is_alone e = is_some (none_made e.made >> no_other e.other)
-
--- the one name that it makes, which is new
-abbrev pub one_fresh : Config → Event → Option Name
-one_fresh c e = do
-  m ← one_made e.made
-  fresh c m
-  Some m
 
 -- the one name that it makes, which is new, where it takes no output
 abbrev pub one_new : Config → Event → Option Name

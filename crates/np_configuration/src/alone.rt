@@ -92,10 +92,8 @@ impl Cfg {
         ensures { Applied (new_row self.old e.now) self.old self.new result }
     {
         let entry = self.find_new(alloc, e)?;
-        match self.enter(e.actor, e.made, entry) {
-            Ok(()) => Ok(()),
-            Err(_) => Err(ApplyFail::Memory),
-        }
+        self.enter(e.actor, e.made, entry)?;
+        Ok(())
     }
 
     /// How an atom goes on that makes a channel, where the row is met.
@@ -120,10 +118,8 @@ impl Cfg {
         ensures { Applied (let_row self.old e.now) self.old self.new result }
     {
         let entry = self.find_let(alloc, e)?;
-        match self.enter(e.actor, Made::Nothing, entry) {
-            Ok(()) => Ok(()),
-            Err(_) => Err(ApplyFail::Memory),
-        }
+        self.enter(e.actor, Made::Nothing, entry)?;
+        Ok(())
     }
 
     /// How an atom goes on that gives names to a value, where the row is met.
@@ -150,10 +146,8 @@ impl Cfg {
         ensures { Applied (if_row self.old e.now) self.old self.new result }
     {
         let (truth, errand) = self.find_if(alloc, e)?;
-        match self.go_on(e.actor, truth, errand) {
-            Ok(()) => Ok(()),
-            Err(_) => Err(ApplyFail::Memory),
-        }
+        self.go_on(e.actor, truth, errand)?;
+        Ok(())
     }
 
     /// How a test goes on, where the row is met.
@@ -180,10 +174,8 @@ impl Cfg {
         ensures { Applied (print_row self.old e.now) self.old self.new result }
     {
         let value = self.find_print(alloc, e)?;
-        match self.say(e.actor, e.site, value) {
-            Ok(()) => Ok(()),
-            Err(_) => Err(ApplyFail::Memory),
-        }
+        self.say(e.actor, e.site, value)?;
+        Ok(())
     }
 
     /// The value that an atom prints, where the row is met.

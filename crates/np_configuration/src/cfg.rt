@@ -4,7 +4,6 @@ ghost use Rattle.std.specs.FinMap as map;
 ghost use Rattle.np_calculus.specs.Idle.{Idle};
 ghost use Rattle.np_calculus.specs.Seen.{acting, fresh, is_at, offered, site_of};
 ghost use Rattle.np_configuration.specs.Next.{IsNext};
-ghost use Rattle.np_configuration.specs.Views.{site_in};
 
 use super::going::any_may_act;
 use super::step::Step;
@@ -136,16 +135,6 @@ impl Cfg {
         if self.born.has(name) { None } else { Some(()) }
     }
 
-    /// The site of the program that a value is.
-    fn site_in(&self, value: &Value) -> Option<u32>
-        ensures { result ≡ site_in self.now value.now }
-    {
-        match value {
-            Value::Site(site) if *site < self.sites => Some(*site),
-            _ => None,
-        }
-    }
-
     /// The site of the program that an expression names.
     pub(super) fn site_of(
         &self,
@@ -155,10 +144,9 @@ impl Cfg {
     ) -> Result<Option<u32>, Memory>
         ensures { IfOk result (λ site. site ≡ site_of self.now e.now env.now) }
     {
-        match eval(alloc, e, env) {
-            Ok(Some(value)) => Ok(self.site_in(&value)),
-            Ok(None) => Ok(None),
-            Err(memory) => Err(memory),
+        match &eval(alloc, e, env)? {
+            Some(Value::Site(site)) if *site < self.sites => Ok(Some(*site)),
+            _ => Ok(None),
         }
     }
 

@@ -3,7 +3,7 @@ ghost use Rattle.std.specs.FinMap as map;
 ghost use Rattle.np_configuration.specs.Found.{CanEnter, CanGo, HasEntered, HasGone, ended, flown, spoken, stood};
 
 use super::cfg::Cfg;
-use super::filing::{bear, file, file_atom, file_born};
+use super::filing::{bear, file, file_atom};
 use np_agents::{enter, go_on};
 use np_calculus::{Atom, Packet};
 use np_eval::Frame;
@@ -26,13 +26,8 @@ impl Cfg {
         ensures ok { OnOk result (HasEntered self.old self.new actor made entry.env entry.errand) }
         ensures err { OnErr result (self.new ≡ self.old) }
     {
-        file_born(
-            &mut self.atoms,
-            &mut self.born,
-            &mut self.work,
-            actor,
-            entry.errand,
-        )?;
+        self.born.reserve(2)?;
+        file(&mut self.atoms, &mut self.work, actor, entry.errand)?;
         enter(&mut self.atoms, actor, entry.env);
         bear(&mut self.born, made);
         Ok(())
@@ -56,13 +51,9 @@ impl Cfg {
         ensures ok { OnOk result (self.new ≡ stood self.old mark atom) }
         ensures err { OnErr result (self.new ≡ self.old) }
     {
-        match file_atom(&mut self.work, mark, &atom) {
-            Ok(()) => {
-                self.atoms.replace(mark, atom);
-                Ok(())
-            }
-            Err(memory) => Err(memory),
-        }
+        file_atom(&mut self.work, mark, &atom)?;
+        self.atoms.replace(mark, atom);
+        Ok(())
     }
 
     /// An atom ends.
@@ -79,14 +70,10 @@ impl Cfg {
         ensures ok { OnOk result (self.new ≡ flown self.old mark packet) }
         ensures err { OnErr result (self.new ≡ self.old) }
     {
-        match self.packets.insert(mark, packet) {
-            Ok(()) => {
-                self.work.remove(mark);
-                self.atoms.remove(mark);
-                Ok(())
-            }
-            Err(memory) => Err(memory),
-        }
+        self.packets.insert(mark, packet)?;
+        self.work.remove(mark);
+        self.atoms.remove(mark);
+        Ok(())
     }
 
     /// An atom ends, and a value is said at a site.
@@ -94,13 +81,9 @@ impl Cfg {
         ensures ok { OnOk result (self.new ≡ spoken self.old mark site value) }
         ensures err { OnErr result (self.new ≡ self.old) }
     {
-        match self.said.add((site, value)) {
-            Ok(()) => {
-                self.work.remove(mark);
-                self.atoms.remove(mark);
-                Ok(())
-            }
-            Err(memory) => Err(memory),
-        }
+        self.said.add((site, value))?;
+        self.work.remove(mark);
+        self.atoms.remove(mark);
+        Ok(())
     }
 }

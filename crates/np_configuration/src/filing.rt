@@ -3,7 +3,6 @@ ghost use Rattle.std.specs.FinMap as map;
 ghost use Rattle.np_calculus.specs.Changes.{with_made};
 ghost use Rattle.np_configuration.specs.Errands.{errand_of};
 
-use np_agents::Places;
 use np_calculus::Atom;
 use np_eval::errand_of;
 use np_syntax::{Made, Memory, Name};
@@ -46,14 +45,10 @@ pub fn put_filed(
     ensures ok { OnOk result (work.new ≡ map.insert work.old mark (errand_of atom)) }
     ensures err { OnErr result (work.new ≡ work.old) }
 {
-    let errand = errand_of(atom.agent, &atom.proc, &atom.env);
-    match file(atoms, work, mark, errand) {
-        Ok(()) => {
-            atoms.put(mark, atom);
-            Ok(())
-        }
-        Err(memory) => Err(memory),
-    }
+    atoms.reserve(1)?;
+    file_atom(work, mark, &atom)?;
+    atoms.put(mark, atom);
+    Ok(())
 }
 
 /// Files a new mark and one that was there, with room for both atoms and for two names that are born. Want of memory
@@ -76,51 +71,6 @@ pub fn file_two(
     atoms.reserve(2)?;
     born.reserve(2)?;
     work.file_two(comes.0, comes.1, stays.0, stays.1)
-}
-
-/// Files a new mark and one that was there, with room for both atoms, for one place more, and for two names that are
-/// born. Want of memory leaves the work lists as they were.
-pub fn file_agent(
-    places: &mut Places,
-    atoms: &mut Table<Atom>,
-    born: &mut Names,
-    work: &mut WorkLists,
-    comes: (Name, Errand),
-    stays: (Name, Errand),
-) -> Result<(), Memory>
-    requires { map.get work.old comes.0 ≡ None }
-    ensures places { places.new.items ≡ places.old.items }
-    ensures spare { OnOk result (1 ≤ places.new.spare) }
-    ensures gates { OnOk result (1 ≤ places.new.gates) }
-    ensures atoms { atoms.new.items ≡ atoms.old.items }
-    ensures born { born.new.members ≡ born.old.members }
-    ensures room { OnOk result (2 ≤ atoms.new.spare) }
-    ensures names { OnOk result (2 ≤ born.new.spare) }
-    ensures ok { OnOk result (work.new ≡ map.insert (map.insert work.old comes.0 comes.1) stays.0 stays.1) }
-    ensures err { OnErr result (work.new ≡ work.old) }
-{
-    places.reserve(1)?;
-    file_two(atoms, born, work, comes, stays)
-}
-
-/// Files a mark under an errand, with room for its atom and for two names that are born. Want of memory leaves the work
-/// lists as they were.
-pub fn file_born(
-    atoms: &mut Table<Atom>,
-    born: &mut Names,
-    work: &mut WorkLists,
-    mark: Name,
-    errand: Errand,
-) -> Result<(), Memory>
-    ensures atoms { atoms.new.items ≡ atoms.old.items }
-    ensures born { born.new.members ≡ born.old.members }
-    ensures room { OnOk result (1 ≤ atoms.new.spare) }
-    ensures names { OnOk result (2 ≤ born.new.spare) }
-    ensures ok { OnOk result (work.new ≡ map.insert work.old mark errand) }
-    ensures err { OnErr result (work.new ≡ work.old) }
-{
-    born.reserve(2)?;
-    file(atoms, work, mark, errand)
 }
 
 /// The names that an event makes are born. It takes no memory.

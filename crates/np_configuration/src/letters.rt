@@ -27,10 +27,8 @@ impl Cfg {
         ensures { Applied (open_row self.old e.now) self.old self.new result }
     {
         let atom = self.find_open(alloc, e)?;
-        match self.stand(e.actor, atom) {
-            Ok(()) => Ok(()),
-            Err(_) => Err(ApplyFail::Memory),
-        }
+        self.stand(e.actor, atom)?;
+        Ok(())
     }
 
     /// The output that an atom's letter gives, where the row is met.

@@ -16,10 +16,8 @@ use std::alloc::Global;
 fn copied(alloc: Global, agent: Name, proc: &Proc, env: Frame) -> Result<Atom, Memory>
     ensures { IfOk result (λ atom. atom ≡ record { agent = agent; proc = proc.now; env = env }) }
 {
-    match proc.copy(alloc) {
-        Ok(proc) => Ok(Atom { agent, proc, env }),
-        Err(memory) => Err(memory),
-    }
+    let proc = proc.copy(alloc)?;
+    Ok(Atom { agent, proc, env })
 }
 
 // The rows of an input and an output that meet.
@@ -80,10 +78,8 @@ impl Cfg {
         ensures { Applied (rep_row self.old e.now) self.old self.new result }
     {
         let (mark, atom) = self.find_rep(alloc, e)?;
-        match self.stand(mark, atom) {
-            Ok(()) => Ok(()),
-            Err(_) => Err(ApplyFail::Memory),
-        }
+        self.stand(mark, atom)?;
+        Ok(())
     }
 
     /// The output that a replicated input takes, and the copy of its body that stands in its place, where the row is
@@ -109,9 +105,6 @@ impl Cfg {
         let Some(()) = none_made(e.made) else {
             return Err(NotEnabled);
         };
-        match copied(alloc, atom.agent, body, env) {
-            Ok(copy) => Ok((mark, copy)),
-            Err(_) => Err(ApplyFail::Memory),
-        }
+        Ok((mark, copied(alloc, atom.agent, body, env)?))
     }
 }

@@ -1,9 +1,7 @@
-ghost use Rattle.std.specs.FinMap as map;
-ghost use Rattle.np_calculus.specs.declared.config.Packet.{Packet as Carried};
 ghost use Rattle.np_configuration.specs.Rows.{IsFound, IsLocal, local_found, local_row, post_found, post_row, send_found, send_row};
-ghost use Rattle.np_calculus.specs.Reductions.{output_in, row};
+ghost use Rattle.np_calculus.specs.Reductions.{row};
 ghost use Rattle.np_syntax.specs.declared.event.Kind.TheVariants as kind;
-ghost use Rattle.std.specs.Prelude.{◌≡◌, ◌≤◌, ◌+◌, IsSome, Some, true, false};
+ghost use Rattle.std.specs.Prelude.{true, false};
 ghost use Rattle.np_configuration.specs.Applied.{Applied, Finds};
 
 use super::cfg::Cfg;
@@ -12,10 +10,10 @@ use super::filing::{file, file_two};
 use super::views::is_alone;
 use np_agents::{chosen, go_on, output_in};
 use np_calculus::{Atom, Packet};
-use np_conditions::{no_other, none_made, one_site, one_tag};
+use np_conditions::{no_other, none_made, one_made, one_site, one_tag};
 use np_eval::{agent_of, as_iflocal, as_post, as_send, chan_of, errand_of, eval};
-use np_syntax::{Event, Name, Tag, Value};
-use np_tables::{Errand, Meeting, Table};
+use np_syntax::{Event, Name, Value};
+use np_tables::{Errand, Meeting};
 use std::alloc::Global;
 
 /// What a location test finds: its agent, channel and value, whether the agent is here, and what the process waits for
@@ -29,53 +27,14 @@ struct Local {
     errand: Errand,
 }
 
-/// Puts an output of a value under a mark, in this agent, on this channel and with this tag.
-#[tactic(auto, using(np_tables::proofs::Tables::puts))]
-fn put_output(
-    alloc: Global,
-    atoms: &mut Table<Atom>,
-    mark: Name,
-    under: (Name, Name, Tag),
-    value: Value,
-)
-    requires { 1 ≤ atoms.old.spare }
-    ensures items { atoms.new.items ≡ map.insert atoms.old.items mark (output_in under.0 under.1 value under.2) }
-    ensures spare { atoms.old.spare ≤ atoms.new.spare + 1 }
-{
-    let (agent, chan, tag) = under;
-    atoms.put(mark, output_in(alloc, agent, chan, value, tag));
-}
-
-/// Takes a packet, and puts an output of its value under its mark, in this agent, on this channel and with this tag.
-#[tactic(auto, using(np_tables::proofs::Tables::puts))]
-fn put_landed(
-    alloc: Global,
-    packets: &mut Table<Packet>,
-    atoms: &mut Table<Atom>,
-    mark: Name,
-    under: (Name, Name, Tag),
-)
-    requires room { 1 ≤ atoms.old.spare }
-    requires there { IsSome (map.get packets.old.items mark) }
-    ensures packets { packets.new.items ≡ map.remove packets.old.items mark }
-    ensures atoms { (p : Carried) → map.get packets.old.items mark ≡ Some p → atoms.new.items ≡ map.insert atoms.old.items mark (output_in under.0 under.1 p.value under.2) }
-{
-    let Some(packet) = packets.take(mark) else {
-        unreachable!();
-    };
-    put_output(alloc, atoms, mark, under, packet.value);
-}
-
 // The rows of what goes from one agent to another.
 impl Cfg {
     pub(super) fn apply_send(&mut self, alloc: Global, e: &Event) -> Result<(), ApplyFail>
         ensures { Applied (send_row self.old e.now) self.old self.new result }
     {
         let packet = self.find_send(alloc, e)?;
-        match self.fly(e.actor, packet) {
-            Ok(()) => Ok(()),
-            Err(_) => Err(ApplyFail::Memory),
-        }
+        self.fly(e.actor, packet)?;
+        Ok(())
     }
 
     /// The packet that an atom sends, where the row is met.
@@ -117,10 +76,8 @@ impl Cfg {
         ensures { Applied (post_row self.old e.now) self.old self.new result }
     {
         let atom = self.find_post(alloc, e)?;
-        match self.stand(e.actor, atom) {
-            Ok(()) => Ok(()),
-            Err(_) => Err(ApplyFail::Memory),
-        }
+        self.stand(e.actor, atom)?;
+        Ok(())
     }
 
     /// The output that an atom makes in its own or another agent, where the row is met.
@@ -153,21 +110,11 @@ impl Cfg {
     pub(super) fn apply_land(&mut self, alloc: Global, e: &Event) -> Result<(), ApplyFail>
         ensures { Applied (row kind.Land self.old e.now) self.old self.new result }
     {
-        let Some(packet) = self.packets.get(e.actor) else {
-            return Err(NotEnabled);
-        };
-        let Some(()) = one_site(packet.to, e.site) else {
-            return Err(NotEnabled);
-        };
-        let Some(()) = one_tag(packet.tag, e.tag) else {
-            return Err(NotEnabled);
-        };
-        let Some(()) = none_made(e.made) else {
-            return Err(NotEnabled);
-        };
-        let Some(()) = no_other(e.other) else {
-            return Err(NotEnabled);
-        };
+        let packet = self.packets.get(e.actor).ok_or(NotEnabled)?;
+        one_site(packet.to, e.site).ok_or(NotEnabled)?;
+        one_tag(packet.tag, e.tag).ok_or(NotEnabled)?;
+        none_made(e.made).ok_or(NotEnabled)?;
+        no_other(e.other).ok_or(NotEnabled)?;
         if !self.is_at(packet.agent, e.site) {
             self.packets.remove(e.actor);
             return Ok(());
@@ -176,13 +123,11 @@ impl Cfg {
         let chan = packet.chan;
         let comes = Errand::Gives(Meeting { agent, chan });
         file(&mut self.atoms, &mut self.work, e.actor, comes)?;
-        put_landed(
-            alloc,
-            &mut self.packets,
-            &mut self.atoms,
-            e.actor,
-            (agent, chan, e.tag),
-        );
+        let Some(packet) = self.packets.take(e.actor) else {
+            unreachable!();
+        };
+        let made = output_in(alloc, agent, chan, packet.value, e.tag);
+        self.atoms.put(e.actor, made);
         Ok(())
     }
 
@@ -236,9 +181,8 @@ impl Cfg {
         requires { IsLocal self.old e.now asked true }
         ensures { Applied (local_row self.old e.now) self.old self.new result }
     {
-        let Some(mark) = self.one_fresh(e) else {
-            return Err(NotEnabled);
-        };
+        let mark = one_made(e.made).ok_or(NotEnabled)?;
+        self.fresh(mark).ok_or(NotEnabled)?;
         let agent = asked.agent;
         let chan = asked.chan;
         let comes = Errand::Gives(Meeting { agent, chan });
@@ -249,13 +193,8 @@ impl Cfg {
             (mark, comes),
             (e.actor, asked.errand),
         )?;
-        put_output(
-            alloc,
-            &mut self.atoms,
-            mark,
-            (agent, chan, e.tag),
-            asked.value,
-        );
+        let made = output_in(alloc, agent, chan, asked.value, e.tag);
+        self.atoms.put(mark, made);
         go_on(&mut self.atoms, e.actor, true);
         self.born.put(mark);
         Ok(())
@@ -266,12 +205,8 @@ impl Cfg {
         requires { IsLocal self.old e.now asked.now false }
         ensures { Applied (local_row self.old e.now) self.old self.new result }
     {
-        let Some(()) = none_made(e.made) else {
-            return Err(NotEnabled);
-        };
-        match self.go_on(e.actor, false, asked.errand) {
-            Ok(()) => Ok(()),
-            Err(_) => Err(ApplyFail::Memory),
-        }
+        none_made(e.made).ok_or(NotEnabled)?;
+        self.go_on(e.actor, false, asked.errand)?;
+        Ok(())
     }
 }

@@ -1,7 +1,5 @@
-ghost use Rattle.std.specs.Prelude.{◌≡◌, ◌<◌, ◌^◌, true, length, map, IfOk, OnOk, OnErr};
-ghost use Rattle.std.specs.FinMap as table;
+ghost use Rattle.std.specs.Prelude.{◌≡◌, ◌<◌, ◌^◌, true, length, map, IfOk, OnOk};
 ghost use Rattle.std.specs.FinSet as set;
-ghost use Rattle.np_configuration.specs.Errands.{errand_of};
 ghost use Rattle.np_calculus.specs.Starts.{start_high, start_low, first_atom, main_agent, main_mark, names_alone, own, with_agent, with_all};
 
 use super::cfg::{Cfg, Near};
@@ -56,34 +54,9 @@ fn names_alone(alloc: Global, sites: u32) -> Result<Cfg, Memory>
 fn first_atom(alloc: Global, agent: Name, proc: &Proc) -> Result<Atom, Memory>
     ensures { IfOk result (λ atom. atom ≡ first_atom agent proc.now) }
 {
-    match proc.copy(alloc) {
-        Ok(proc) => Ok(Atom {
-            agent,
-            proc,
-            env: Frame::new(alloc),
-        }),
-        Err(memory) => Err(memory),
-    }
-}
-
-/// Puts the first atom of an agent under a mark, and files it.
-fn put_first(
-    alloc: Global,
-    atoms: &mut Table<Atom>,
-    work: &mut WorkLists,
-    mark: Name,
-    agent: Name,
-    proc: &Proc,
-) -> Result<(), Memory>
-    ensures items { OnOk result (atoms.new.items ≡ table.insert atoms.old.items mark (first_atom agent proc.now)) }
-    ensures same { OnErr result (atoms.new.items ≡ atoms.old.items) }
-    ensures ok { OnOk result (work.new ≡ table.insert work.old mark (errand_of (first_atom agent proc.now))) }
-    ensures err { OnErr result (work.new ≡ work.old) }
-{
-    match first_atom(alloc, agent, proc) {
-        Ok(atom) => put_filed(atoms, work, mark, atom),
-        Err(memory) => Err(memory),
-    }
+    let proc = proc.copy(alloc)?;
+    let env = Frame::new(alloc);
+    Ok(Atom { agent, proc, env })
 }
 
 impl Cfg {
@@ -100,7 +73,8 @@ impl Cfg {
         ensures { OnOk result (self.new ≡ with_agent self.old agent site mark proc.now) }
     {
         self.places.reserve(1)?;
-        put_first(alloc, &mut self.atoms, &mut self.work, mark, agent, proc)?;
+        let atom = first_atom(alloc, agent, proc)?;
+        put_filed(&mut self.atoms, &mut self.work, mark, atom)?;
         self.places.put(agent, Place::At(site));
         Ok(())
     }

@@ -5,7 +5,7 @@ ghost use Rattle.np_configuration.specs.Applied.{Applied, Finds};
 
 use super::cfg::Cfg;
 use super::fail::ApplyFail::{self, NotEnabled};
-use super::filing::{file, file_agent};
+use super::filing::{file, file_two};
 use super::frames::two_with_agent;
 use super::views::is_alone;
 use np_agents::{go_on, split_agent};
@@ -43,8 +43,8 @@ impl Cfg {
         ensures { Applied (agent_row self.old e.now) self.old self.new result }
     {
         let made = self.find_agent(alloc, e)?;
-        file_agent(
-            &mut self.places,
+        self.places.reserve(1)?;
+        file_two(
             &mut self.atoms,
             &mut self.born,
             &mut self.work,
@@ -128,28 +128,16 @@ impl Cfg {
     pub(super) fn apply_arrive(&mut self, e: &Event) -> Result<(), ApplyFail>
         ensures { Applied (row kind.Arrive self.old e.now) self.old self.new result }
     {
-        let Some(place) = self.place(e.actor) else {
-            return Err(NotEnabled);
-        };
-        let Some(site) = way(place) else {
-            return Err(NotEnabled);
-        };
+        let place = self.place(e.actor).ok_or(NotEnabled)?;
+        let site = way(place).ok_or(NotEnabled)?;
         let arrival = Tag {
             node: 0,
             role: Role::Plain,
         };
-        let Some(()) = one_site(site, e.site) else {
-            return Err(NotEnabled);
-        };
-        let Some(()) = one_tag(e.tag, arrival) else {
-            return Err(NotEnabled);
-        };
-        let Some(()) = none_made(e.made) else {
-            return Err(NotEnabled);
-        };
-        let Some(()) = no_other(e.other) else {
-            return Err(NotEnabled);
-        };
+        one_site(site, e.site).ok_or(NotEnabled)?;
+        one_tag(e.tag, arrival).ok_or(NotEnabled)?;
+        none_made(e.made).ok_or(NotEnabled)?;
+        no_other(e.other).ok_or(NotEnabled)?;
         self.places.reserve(1)?;
         self.places.put(e.actor, Place::At(site));
         Ok(())

@@ -8,7 +8,6 @@ use Rattle.np_syntax.specs.declared.expression.ExprForm as expr
 use Rattle.np_syntax.specs.declared.expression.ExprForm.TheVariants.{outs-Val, outs-Var, outs-Tuple, outs-Bin, outs-Pack, outs-With}
 use Rattle.np_syntax.specs.Options.{all_some}
 use Rattle.np_eval.specs.Eval.{operate, pack, with_place}
-use Rattle.np_eval.specs.Made.{both, operated, packed, placed}
 
 pub eval-form : (e : Expr) (env : Env) → eval e env ≡ eval_form e.form env
 unfolding eval eval_form
@@ -42,21 +41,6 @@ eval-pack c e env = eval-out (expr.Pack c e) env ∙ ap (stepped env) (outs-Pack
 
 pub eval-with : (m a l : Expr) (env : Env) → eval_form (expr.With m a l) env ≡ (eval m env >>= λ x. eval a env >>= λ y. eval l env >>= λ z. with_place x y z)
 eval-with m a l env = eval-out (expr.With m a l) env ∙ ap (stepped env) (outs-With m a l)
-
--- two values and what is made of them, as code makes it
-paired : (a b : Option Value) (f : Value → Value → Option Value) → (a >>= λ x. b >>= λ y. f x y) ≡ (both a b >>= λ p. f p.0 p.1)
-paired None b f = refl
-paired (Some x) None f = refl
-paired (Some x) (Some y) f = refl
-
-pub eval-operated : (o : Op) (a b : Expr) (env : Env) → eval_form (expr.Bin o a b) env ≡ operated o (both (eval a env) (eval b env))
-eval-operated o a b env = eval-bin o a b env ∙ paired (eval a env) (eval b env) (operate o)
-
-pub eval-packed : (c e : Expr) (env : Env) → eval_form (expr.Pack c e) env ≡ packed (both (eval c env) (eval e env))
-eval-packed c e env = eval-pack c e env ∙ paired (eval c env) (eval e env) pack
-
-pub eval-placed : (m a l : Expr) (env : Env) → eval_form (expr.With m a l) env ≡ placed (both (eval m env) (eval a env)) (eval l env)
-eval-placed m a l env = eval-with m a l env ∙ paired (eval m env) (eval a env) (λ x y. eval l env >>= λ z. with_place x y z)
 
 -- the values so far, and then those of the rest
 abbrev pub after_values : List Value → Option (List Value) → Option (List Value)

@@ -5,5 +5,4 @@ pub mod Fitting
 pub mod FormParts
 pub mod Forms
 pub mod Levels
-pub mod Made
 pub mod Pairs

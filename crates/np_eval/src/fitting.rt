@@ -3,8 +3,7 @@ ghost use Rattle.std.specs.Option.{option_map};
 ghost use Rattle.np_syntax.specs.declared.pattern.PatForm as pat;
 ghost use Rattle.np_eval.specs.Eval.{Env, eval, bind};
 ghost use Rattle.np_eval.specs.Levels.{eval_form, eval_all, bind_form, bind_all};
-ghost use Rattle.np_eval.specs.Fitting.{fits, fits_tuple, fits_all, shape_of, equal_shape};
-ghost use Rattle.np_eval.specs.Made.{operated_shape, packed_shape, placed_shape};
+ghost use Rattle.np_eval.specs.Fitting.{fits, fits_tuple, fits_all, shape_of, equal_shape, operate_shape, pack_shape, with_shape};
 
 use super::frame::Frame;
 use np_syntax::{Expr, ExprForm, Op, Pat, PatForm, Value};
@@ -147,15 +146,20 @@ fn eval_form_shape(form: &ExprForm, env: &Frame) -> Option<Shape>
             }
         }
         ExprForm::Bin(op, a, b) => {
-            operated_shape(*op, eval_shape(a.get(), env), eval_shape(b.get(), env))
+            let x = eval_shape(a.get(), env)?;
+            let y = eval_shape(b.get(), env)?;
+            operate_shape(*op, x, y)
         }
         ExprForm::Pack(chan, e) => {
-            packed_shape(eval_shape(chan.get(), env), eval_shape(e.get(), env))
+            let chan = eval_shape(chan.get(), env)?;
+            eval_shape(e.get(), env)?;
+            pack_shape(chan)
         }
         ExprForm::With(places, agent, lock) => {
-            let places = eval_shape(places.get(), env);
-            let agent = eval_shape(agent.get(), env);
-            placed_shape(places, agent, eval_shape(lock.get(), env))
+            let places = eval_shape(places.get(), env)?;
+            let agent = eval_shape(agent.get(), env)?;
+            let lock = eval_shape(lock.get(), env)?;
+            with_shape(places, agent, lock)
         }
     }
 }
@@ -189,13 +193,13 @@ fn shape_of(v: &Value) -> Shape
     }
 }
 
-fn operated_shape(op: Op, x: Option<Shape>, y: Option<Shape>) -> Option<Shape>
-    ensures { result ≡ operated_shape op x y }
+fn operate_shape(op: Op, x: Shape, y: Shape) -> Option<Shape>
+    ensures { result ≡ operate_shape op x y }
 {
     match (op, x, y) {
-        (Op::Equal, Some(x), Some(y)) => equal_shape(x, y),
-        (Op::Less, Some(Shape::Int), Some(Shape::Int)) => Some(Shape::Truth),
-        (_, Some(Shape::Int), Some(Shape::Int)) => Some(Shape::Int),
+        (Op::Equal, _, _) => equal_shape(x, y),
+        (Op::Less, Shape::Int, Shape::Int) => Some(Shape::Truth),
+        (_, Shape::Int, Shape::Int) => Some(Shape::Int),
         _ => None,
     }
 }
@@ -213,20 +217,20 @@ fn equal_shape(x: Shape, y: Shape) -> Option<Shape>
     }
 }
 
-fn packed_shape(chan: Option<Shape>, v: Option<Shape>) -> Option<Shape>
-    ensures { result ≡ packed_shape chan v }
+fn pack_shape(chan: Shape) -> Option<Shape>
+    ensures { result ≡ pack_shape chan }
 {
-    match (chan, v) {
-        (Some(Shape::Chan), Some(_)) => Some(Shape::Letter),
+    match chan {
+        Shape::Chan => Some(Shape::Letter),
         _ => None,
     }
 }
 
-fn placed_shape(places: Option<Shape>, agent: Option<Shape>, lock: Option<Shape>) -> Option<Shape>
-    ensures { result ≡ placed_shape places agent lock }
+fn with_shape(places: Shape, agent: Shape, lock: Shape) -> Option<Shape>
+    ensures { result ≡ with_shape places agent lock }
 {
     match (places, agent, lock) {
-        (Some(Shape::Places), Some(Shape::Agent), Some(Shape::Chan)) => Some(Shape::Places),
+        (Shape::Places, Shape::Agent, Shape::Chan) => Some(Shape::Places),
         _ => None,
     }
 }

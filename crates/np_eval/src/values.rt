@@ -1,12 +1,10 @@
-ghost use Rattle.std.specs.Prelude.{◌≡◌, IfOk, OnOk, Option, List as Items, ◌++◌, ◌+ℤ◌, ◌-ℤ◌, ◌*ℤ◌};
-ghost use Rattle.std.specs.Option.{option_copied};
+ghost use Rattle.std.specs.Prelude.{◌≡◌, IfOk, ◌+ℤ◌, ◌-ℤ◌, ◌*ℤ◌};
 ghost use Rattle.std.specs.Int.{int_wrap, w64};
 ghost use Rattle.np_syntax.specs.declared.expression.Op.TheVariants as op;
 ghost use Rattle.np_syntax.specs.declared.value.Value as value;
-ghost use Rattle.np_syntax.specs.declared.value.Value.{Value as Datum, out-Value};
+ghost use Rattle.np_syntax.specs.declared.value.Value.{out-Value};
 ghost use Rattle.np_eval.specs.Eval.{eval, equal_at, operate, pack, with_place, put_place};
 ghost use Rattle.np_eval.specs.Levels.{eval_form, eval_all};
-ghost use Rattle.np_eval.specs.Made.{Gives, both, tupled, operated, packed, placed};
 
 use super::frame::Frame;
 use np_syntax::{Boxed, Expr, ExprForm, List, Memory, Name, Op, Value};
@@ -27,23 +25,44 @@ fn eval_form(alloc: Global, form: &ExprForm, env: &Frame) -> Result<Option<Value
     ensures { IfOk result (λ v. v ≡ eval_form form.now env.now) }
 {
     match form {
-        ExprForm::Val(v) => copied(alloc, Some(v)),
-        ExprForm::Var(x) => copied(alloc, env.get(*x)),
-        ExprForm::Tuple(parts) => tupled(eval_all(alloc, parts.as_slice(), env)),
+        ExprForm::Val(v) => Ok(Some(v.copy(alloc)?)),
+        ExprForm::Var(x) => match env.get(*x) {
+            Some(v) => Ok(Some(v.copy(alloc)?)),
+            None => Ok(None),
+        },
+        ExprForm::Tuple(parts) => match eval_all(alloc, parts.as_slice(), env)? {
+            Some(values) => Ok(Some(Value::Tuple(values))),
+            None => Ok(None),
+        },
         ExprForm::Bin(op, a, b) => {
-            let operands = both(eval(alloc, a.get(), env), eval(alloc, b.get(), env));
-            operated(*op, operands)
+            let Some(x) = eval(alloc, a.get(), env)? else {
+                return Ok(None);
+            };
+            let Some(y) = eval(alloc, b.get(), env)? else {
+                return Ok(None);
+            };
+            Ok(operate(*op, &x, &y))
         }
         ExprForm::Pack(chan, e) => {
-            let parts = both(eval(alloc, chan.get(), env), eval(alloc, e.get(), env));
-            packed(alloc, parts)
+            let Some(chan) = eval(alloc, chan.get(), env)? else {
+                return Ok(None);
+            };
+            let Some(v) = eval(alloc, e.get(), env)? else {
+                return Ok(None);
+            };
+            pack(alloc, &chan, v)
         }
         ExprForm::With(places, agent, lock) => {
-            let parts = both(
-                eval(alloc, places.get(), env),
-                eval(alloc, agent.get(), env),
-            );
-            placed(alloc, parts, eval(alloc, lock.get(), env))
+            let Some(places) = eval(alloc, places.get(), env)? else {
+                return Ok(None);
+            };
+            let Some(agent) = eval(alloc, agent.get(), env)? else {
+                return Ok(None);
+            };
+            let Some(lock) = eval(alloc, lock.get(), env)? else {
+                return Ok(None);
+            };
+            with_place(alloc, &places, &agent, &lock)
         }
     }
 }
@@ -61,88 +80,6 @@ fn eval_all(alloc: Global, parts: &[Expr], env: &Frame) -> Result<Option<List<Va
         values.add(v)?;
     }
     Ok(Some(values))
-}
-
-fn copied(alloc: Global, v: Option<&Value>) -> Result<Option<Value>, Memory>
-    ensures { IfOk result (λ made. made ≡ option_copied v.entry) }
-{
-    let Some(v) = v else {
-        return Ok(None);
-    };
-    match v.copy(alloc) {
-        Ok(v) => Ok(Some(v)),
-        Err(memory) => Err(memory),
-    }
-}
-
-/// The tuple of the values.
-fn tupled(values: Result<Option<List<Value>>, Memory>) -> Result<Option<Value>, Memory>
-    ensures { (vs : Option (Items Datum)) → Gives values vs → Gives result (tupled vs) }
-{
-    match values {
-        Ok(Some(values)) => Ok(Some(Value::Tuple(values))),
-        Ok(None) => Ok(None),
-        Err(memory) => Err(memory),
-    }
-}
-
-/// Two values, where both are there.
-fn both(
-    x: Result<Option<Value>, Memory>,
-    y: Result<Option<Value>, Memory>,
-) -> Result<Option<(Value, Value)>, Memory>
-    ensures { (a b : Option Datum) → Gives x a → Gives y b → Gives result (both a b) }
-{
-    match (x, y) {
-        (Ok(Some(x)), Ok(Some(y))) => Ok(Some((x, y))),
-        (Ok(Some(_)), Err(_)) => Err(Memory),
-        (Err(_), _) => Err(Memory),
-        _ => Ok(None),
-    }
-}
-
-/// What an operation makes of the values of its operands.
-fn operated(
-    op: Op,
-    operands: Result<Option<(Value, Value)>, Memory>,
-) -> Result<Option<Value>, Memory>
-    ensures { (p : Option (Datum × Datum)) → Gives operands p → Gives result (operated op p) }
-{
-    match operands {
-        Ok(Some((x, y))) => Ok(operate(op, &x, &y)),
-        Ok(None) => Ok(None),
-        Err(memory) => Err(memory),
-    }
-}
-
-/// The letter of a channel and a value, where both are there.
-fn packed(
-    alloc: Global,
-    parts: Result<Option<(Value, Value)>, Memory>,
-) -> Result<Option<Value>, Memory>
-    ensures { (p : Option (Datum × Datum)) → Gives parts p → Gives result (packed p) }
-{
-    match parts {
-        Ok(Some((chan, v))) => pack(alloc, &chan, v),
-        Ok(None) => Ok(None),
-        Err(memory) => Err(memory),
-    }
-}
-
-/// The map of places with an agent's channel, where all three are there.
-fn placed(
-    alloc: Global,
-    parts: Result<Option<(Value, Value)>, Memory>,
-    lock: Result<Option<Value>, Memory>,
-) -> Result<Option<Value>, Memory>
-    ensures { (p : Option (Datum × Datum)) (l : Option Datum) → Gives parts p → Gives lock l → Gives result (placed p l) }
-{
-    match (parts, lock) {
-        (Ok(Some((places, agent))), Ok(Some(lock))) => with_place(alloc, &places, &agent, &lock),
-        (Ok(Some(_)), Err(_)) => Err(Memory),
-        (Err(_), _) => Err(Memory),
-        _ => Ok(None),
-    }
 }
 
 /// The letter of a channel and a value.
@@ -186,28 +123,16 @@ fn put_place(
     ensures { IfOk result (λ put. put ≡ put_place pairs.now agent lock) }
 {
     let mut put = List::new(alloc);
-    match add_places(&mut put, pairs, (agent, lock)) {
-        Ok(()) => Ok(put),
-        Err(memory) => Err(memory),
-    }
-}
-
-/// Adds the places with the pair in the place of the agent's, or at the end.
-fn add_places(
-    put: &mut List<(Name, Name)>,
-    pairs: &[(Name, Name)],
-    place: (Name, Name),
-) -> Result<(), Memory>
-    ensures { OnOk result (put.new ≡ put.old ++ put_place pairs.now place.0 place.1) }
-{
     for (at, pair) in pairs.iter().enumerate() {
-        if pair.0 == place.0 {
-            put.add(place)?;
-            return put.append(&pairs[at + 1..]);
+        if pair.0 == agent {
+            put.add((agent, lock))?;
+            put.append(&pairs[at + 1..])?;
+            return Ok(put);
         }
         put.add(*pair)?;
     }
-    put.add(place)
+    put.add((agent, lock))?;
+    Ok(put)
 }
 
 fn operate(op: Op, x: &Value, y: &Value) -> Option<Value>

@@ -1,15 +1,13 @@
 //! The texts of expressions.
 
-ghost use Rattle.std.specs.Prelude.{◌≡◌, ℕ, List as Items, [], ◌++◌, OnOk, map, codes, if◌then◌else◌};
+ghost use Rattle.std.specs.Prelude.{◌≡◌, ◌++◌, OnOk, map};
 ghost use Rattle.np_syntax.specs.Printed.{spaced};
-ghost use Rattle.np_lex.specs.Tokens.{sign_text};
-ghost use Rattle.np_show.specs.Shown as shown;
 ghost use Rattle.np_show.specs.Shown.{squared};
 ghost use Rattle.np_low_text.specs.LowText as spec;
 
 use super::names::{put_binder, put_value};
 use np_show::{close_round, left, open_round, put_op, right, strength};
-use np_syntax::{Boxed, Expr, ExprForm, List, Memory, Op, Text};
+use np_syntax::{Boxed, Expr, ExprForm, List, Memory, Text};
 use std::alloc::Global;
 
 fn put_words(text: &mut Text, words: &[u8]) -> Result<(), Memory>
@@ -35,73 +33,42 @@ pub fn put_expr(
         ExprForm::Tuple(parts) => put_tuple(alloc, text, sites, parts.as_slice()),
         ExprForm::Bin(op, x, y) => {
             let round = strength(*op) < level;
-            let begun = put_first(alloc, text, sites, round, *op, x);
-            put_second(alloc, begun, text, sites, round, *op, y)
+            open_round(text, round)?;
+            put_operand(alloc, text, sites, left(*op), x)?;
+            put_op(text, *op)?;
+            put_operand(alloc, text, sites, right(*op), y)?;
+            close_round(text, round)
         }
         ExprForm::Pack(chan, value) => {
-            let begun = put_words(text, b"pack(");
-            let begun = put_operand(alloc, begun, text, sites, chan, b", ");
-            put_operand(alloc, begun, text, sites, value, b")")
+            put_words(text, b"pack(")?;
+            put_operand(alloc, text, sites, 0, chan)?;
+            put_words(text, b", ")?;
+            put_operand(alloc, text, sites, 0, value)?;
+            put_words(text, b")")
         }
         ExprForm::With(places, agent, lock) => {
-            let begun = put_words(text, b"(");
-            let begun = put_operand(alloc, begun, text, sites, places, b" with ");
-            let begun = put_operand(alloc, begun, text, sites, agent, b" -> ");
-            put_operand(alloc, begun, text, sites, lock, b")")
+            put_words(text, b"(")?;
+            put_operand(alloc, text, sites, 0, places)?;
+            put_words(text, b" with ")?;
+            put_operand(alloc, text, sites, 0, agent)?;
+            put_words(text, b" -> ")?;
+            put_operand(alloc, text, sites, 0, lock)?;
+            put_words(text, b")")
         }
     }
 }
 
-/// An operand in a bracket and what stands behind it, where what stands before it is put.
 #[cycle(expr)]
 fn put_operand(
     alloc: Global,
-    begun: Result<(), Memory>,
     text: &mut Text,
     sites: &List<Text>,
-    x: &Boxed<Expr>,
-    behind: &[u8],
-) -> Result<(), Memory>
-    ensures { (front : Items ℕ) → OnOk begun (text.old ≡ front) → OnOk result (text.new ≡ front ++ spec.expr_text sites.now 0 x.now ++ behind.now) }
-{
-    begun?;
-    put_expr(alloc, text, sites, 0, x.get())?;
-    text.append(behind)
-}
-
-/// The left operand and the operation's sign, behind the round bracket where there is one.
-#[cycle(expr)]
-fn put_first(
-    alloc: Global,
-    text: &mut Text,
-    sites: &List<Text>,
-    round: bool,
-    op: Op,
+    level: u32,
     x: &Boxed<Expr>,
 ) -> Result<(), Memory>
-    ensures { OnOk result (text.new ≡ text.old ++ (if round then codes "(" else []) ++ spec.expr_text sites.now (shown.left op) x.now ++ codes " " ++ sign_text (shown.op_sign op) ++ codes " ") }
+    ensures { OnOk result (text.new ≡ text.old ++ spec.expr_text sites.now level x.now) }
 {
-    open_round(text, round)?;
-    put_expr(alloc, text, sites, left(op), x.get())?;
-    put_op(text, op)
-}
-
-/// The right operand and the round bracket where there is one, where what stands before is put.
-#[cycle(expr)]
-fn put_second(
-    alloc: Global,
-    begun: Result<(), Memory>,
-    text: &mut Text,
-    sites: &List<Text>,
-    round: bool,
-    op: Op,
-    y: &Boxed<Expr>,
-) -> Result<(), Memory>
-    ensures { (front : Items ℕ) → OnOk begun (text.old ≡ front) → OnOk result (text.new ≡ front ++ spec.expr_text sites.now (shown.right op) y.now ++ (if round then codes ")" else [])) }
-{
-    begun?;
-    put_expr(alloc, text, sites, right(op), y.get())?;
-    close_round(text, round)
+    put_expr(alloc, text, sites, level, x.get())
 }
 
 #[cycle(expr)]

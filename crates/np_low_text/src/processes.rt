@@ -1,6 +1,6 @@
 //! The texts of processes.
 
-ghost use Rattle.std.specs.Prelude.{◌≡◌, ℕ, List as Items, ◌++◌, OnOk, true, false, codes};
+ghost use Rattle.std.specs.Prelude.{◌≡◌, ◌++◌, OnOk, true, false, codes};
 ghost use Rattle.np_show.specs.Shown.{type_text};
 ghost use Rattle.np_low_text.specs.LowText.{binder_text, pat_text, expr_text, message_text, proc_text};
 
@@ -164,9 +164,9 @@ pub fn put_proc(
     match &p.form {
         Form::Stop => text.append(b"0"),
         Form::Par(p, q) => {
-            let begun = open_round(text, bracket);
-            let begun = put_left(alloc, begun, text, sites, false, p, b" | ");
-            put_part(alloc, begun, text, sites, q)?;
+            open_round(text, bracket)?;
+            put_left(alloc, text, sites, false, p, b" | ")?;
+            put_part(alloc, text, sites, q)?;
             close_round(text, bracket)
         }
         Form::New(c, ty, p) => put_new(alloc, text, sites, p, *c, ty),
@@ -174,30 +174,30 @@ pub fn put_proc(
         Form::Inp(c, pat, p) => put_input(alloc, text, sites, p, c, pat),
         Form::Rep(c, pat, p) => put_always(alloc, text, sites, p, c, pat),
         Form::Agent(b, p, q) => {
-            let begun = put_agent(text, *b);
-            let begun = put_left(alloc, begun, text, sites, true, p, b" in ");
-            put_part(alloc, begun, text, sites, q)
+            put_agent(text, *b)?;
+            put_left(alloc, text, sites, true, p, b" in ")?;
+            put_part(alloc, text, sites, q)
         }
         Form::Migrate(site, p) => put_migrate(alloc, text, sites, p, site),
         Form::IfLocal(b, c, x, p, q) => {
-            let begun = put_iflocal(alloc, text, sites, b, c, x);
-            let begun = put_left(alloc, begun, text, sites, true, p, b" else ");
-            put_part(alloc, begun, text, sites, q)
+            put_iflocal(alloc, text, sites, b, c, x)?;
+            put_left(alloc, text, sites, true, p, b" else ")?;
+            put_part(alloc, text, sites, q)
         }
         Form::Send(b, s, c, x) => put_send(alloc, text, sites, b, s, c, x),
         Form::Post(b, c, x) => put_post(alloc, text, sites, b, c, x),
         Form::If(test, p, q) => {
-            let begun = put_if(alloc, text, sites, test);
-            let begun = put_left(alloc, begun, text, sites, true, p, b" else ");
-            put_part(alloc, begun, text, sites, q)
+            put_if(alloc, text, sites, test)?;
+            put_left(alloc, text, sites, true, p, b" else ")?;
+            put_part(alloc, text, sites, q)
         }
         Form::Let(pat, x, p) => put_let(alloc, text, sites, p, pat, x),
         Form::Print(x) => put_print(alloc, text, sites, x),
         Form::Open(x) => put_open(alloc, text, sites, x),
         Form::Lookup(who, places, found, p, q) => {
-            let begun = put_lookup(alloc, text, sites, who, places, *found);
-            let begun = put_left(alloc, begun, text, sites, true, p, b" else ");
-            put_part(alloc, begun, text, sites, q)
+            put_lookup(alloc, text, sites, who, places, *found)?;
+            put_left(alloc, text, sites, true, p, b" else ")?;
+            put_part(alloc, text, sites, q)
         }
     }
 }
@@ -218,7 +218,8 @@ fn put_new(
     put_binder(text, c)?;
     text.append(b" : ")?;
     put_type(text, ty)?;
-    put_part(alloc, text.append(b" in "), text, sites, p)
+    text.append(b" in ")?;
+    put_part(alloc, text, sites, p)
 }
 
 /// `c?p -> P`
@@ -233,8 +234,8 @@ fn put_input(
 ) -> Result<(), Memory>
     ensures { OnOk result (text.new ≡ text.old ++ expr_text sites.now 3 c.now ++ codes "?" ++ pat_text pat.now ++ codes " -> " ++ proc_text sites.now true p.now) }
 {
-    let begun = put_taking(alloc, text, sites, c, pat);
-    put_part(alloc, begun, text, sites, p)
+    put_taking(alloc, text, sites, c, pat)?;
+    put_part(alloc, text, sites, p)
 }
 
 /// `*c?p -> P`
@@ -250,8 +251,8 @@ fn put_always(
     ensures { OnOk result (text.new ≡ text.old ++ codes "*" ++ expr_text sites.now 3 c.now ++ codes "?" ++ pat_text pat.now ++ codes " -> " ++ proc_text sites.now true p.now) }
 {
     text.append(b"*")?;
-    let begun = put_taking(alloc, text, sites, c, pat);
-    put_part(alloc, begun, text, sites, p)
+    put_taking(alloc, text, sites, c, pat)?;
+    put_part(alloc, text, sites, p)
 }
 
 /// `migrate to e -> P`
@@ -267,7 +268,8 @@ fn put_migrate(
 {
     text.append(b"migrate to ")?;
     put_expr(alloc, text, sites, 0, site)?;
-    put_part(alloc, text.append(b" -> "), text, sites, p)
+    text.append(b" -> ")?;
+    put_part(alloc, text, sites, p)
 }
 
 /// `let p = e in P`
@@ -286,38 +288,34 @@ fn put_let(
     put_pat(text, pat)?;
     text.append(b" = ")?;
     put_expr(alloc, text, sites, 0, x)?;
-    put_part(alloc, text.append(b" in "), text, sites, p)
+    text.append(b" in ")?;
+    put_part(alloc, text, sites, p)
 }
 
-/// A part, where what stands before it is put.
 #[cycle(process)]
 fn put_part(
     alloc: Global,
-    begun: Result<(), Memory>,
     text: &mut Text,
     sites: &List<Text>,
     p: &Boxed<Proc>,
 ) -> Result<(), Memory>
-    ensures { (front : Items ℕ) → OnOk begun (text.old ≡ front) → OnOk result (text.new ≡ front ++ proc_text sites.now true p.now) }
+    ensures { OnOk result (text.new ≡ text.old ++ proc_text sites.now true p.now) }
 {
-    begun?;
     put_proc(alloc, text, sites, true, p.get())
 }
 
-/// A part and what stands behind it, where what stands before it is put.
+/// A part, and what stands behind it.
 #[cycle(process)]
 fn put_left(
     alloc: Global,
-    begun: Result<(), Memory>,
     text: &mut Text,
     sites: &List<Text>,
     bracket: bool,
     p: &Boxed<Proc>,
     behind: &[u8],
 ) -> Result<(), Memory>
-    ensures { (front : Items ℕ) → OnOk begun (text.old ≡ front) → OnOk result (text.new ≡ front ++ proc_text sites.now bracket p.now ++ behind.now) }
+    ensures { OnOk result (text.new ≡ text.old ++ proc_text sites.now bracket p.now ++ behind.now) }
 {
-    begun?;
     put_proc(alloc, text, sites, bracket, p.get())?;
     text.append(behind)
 }

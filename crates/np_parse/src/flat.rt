@@ -109,14 +109,10 @@ pub fn directed(alloc: Global, tokens: &mut Cursor<'_>) -> Result<(RawProc, u32)
     ensures within { IfOk result (λ x. x.1 ≡ 1) }
 {
     let at = tokens.take()?;
-    match atom(alloc, tokens, DEEPEST) {
-        Ok((agent, _)) => {
-            tokens.expect_sign(Sign::At)?;
-            match tokens.peek()? {
-                What::Sign(Sign::Query) => post(alloc, tokens, at, agent),
-                _ => send(alloc, tokens, at, agent),
-            }
-        }
-        Err(e) => Err(e),
+    let (agent, _) = atom(alloc, tokens, DEEPEST)?;
+    tokens.expect_sign(Sign::At)?;
+    match tokens.peek()? {
+        What::Sign(Sign::Query) => post(alloc, tokens, at, agent),
+        _ => send(alloc, tokens, at, agent),
     }
 }

@@ -58,14 +58,10 @@ pub fn new_head(alloc: Global, tokens: &mut Cursor<'_>, below: u32) -> Result<Si
     let at = tokens.take()?;
     let name = tokens.name(alloc)?;
     tokens.expect_sign(Sign::Colon)?;
-    match chan(alloc, tokens, DEEPEST) {
-        Ok((ty, _)) => {
-            tokens.expect_word(Key::In)?;
-            let form = SingleForm::New(name, ty);
-            Ok(Single { at, form })
-        }
-        Err(e) => Err(e),
-    }
+    let (ty, _) = chan(alloc, tokens, DEEPEST)?;
+    tokens.expect_word(Key::In)?;
+    let form = SingleForm::New(name, ty);
+    Ok(Single { at, form })
 }
 
 /// Behind the channel's name, from `?` to `->`.
@@ -82,15 +78,11 @@ pub fn input_head(
         return Err(tokens.too_deep());
     }
     tokens.take()?;
-    match pat(alloc, tokens, DEEPEST) {
-        Ok((pattern, _)) => {
-            tokens.expect_sign(Sign::Arrow)?;
-            let at = channel.at;
-            let form = SingleForm::Inp(channel, pattern);
-            Ok(Single { at, form })
-        }
-        Err(e) => Err(e),
-    }
+    let (pattern, _) = pat(alloc, tokens, DEEPEST)?;
+    tokens.expect_sign(Sign::Arrow)?;
+    let at = channel.at;
+    let form = SingleForm::Inp(channel, pattern);
+    Ok(Single { at, form })
 }
 
 /// From `*` to `->`.
@@ -108,14 +100,10 @@ pub fn replicated_head(
     let at = tokens.take()?;
     let channel = tokens.name(alloc)?;
     tokens.expect_sign(Sign::Query)?;
-    match pat(alloc, tokens, DEEPEST) {
-        Ok((pattern, _)) => {
-            tokens.expect_sign(Sign::Arrow)?;
-            let form = SingleForm::Rep(channel, pattern);
-            Ok(Single { at, form })
-        }
-        Err(e) => Err(e),
-    }
+    let (pattern, _) = pat(alloc, tokens, DEEPEST)?;
+    tokens.expect_sign(Sign::Arrow)?;
+    let form = SingleForm::Rep(channel, pattern);
+    Ok(Single { at, form })
 }
 
 /// From `migrate` to `->`.
@@ -128,14 +116,10 @@ pub fn migrate_head(alloc: Global, tokens: &mut Cursor<'_>, below: u32) -> Resul
     }
     let at = tokens.take()?;
     tokens.expect_word(Key::To)?;
-    match expr(alloc, tokens, DEEPEST) {
-        Ok((site, _)) => {
-            tokens.expect_sign(Sign::Arrow)?;
-            let form = SingleForm::Migrate(site);
-            Ok(Single { at, form })
-        }
-        Err(e) => Err(e),
-    }
+    let (site, _) = expr(alloc, tokens, DEEPEST)?;
+    tokens.expect_sign(Sign::Arrow)?;
+    let form = SingleForm::Migrate(site);
+    Ok(Single { at, form })
 }
 
 /// From `let` to `in`.
@@ -149,14 +133,10 @@ pub fn let_head(alloc: Global, tokens: &mut Cursor<'_>, below: u32) -> Result<Si
     let at = tokens.take()?;
     let (pattern, _) = pat(alloc, tokens, DEEPEST)?;
     tokens.expect_sign(Sign::Equals)?;
-    match expr(alloc, tokens, DEEPEST) {
-        Ok((value, _)) => {
-            tokens.expect_word(Key::In)?;
-            let form = SingleForm::Let(pattern, value);
-            Ok(Single { at, form })
-        }
-        Err(e) => Err(e),
-    }
+    let (value, _) = expr(alloc, tokens, DEEPEST)?;
+    tokens.expect_word(Key::In)?;
+    let form = SingleForm::Let(pattern, value);
+    Ok(Single { at, form })
 }
 
 /// From `agent` to `=`.

@@ -1,9 +1,7 @@
 //! How processes are read.
 
 ghost use Rattle.std.specs.Prelude.{◌≡◌, ◌≢◌, ◌≤◌, ◌<◌, ◌+◌, suc, None, IfOk};
-ghost use Rattle.np_parse.specs.Input.{Outcome, Reads, and_then};
-ghost use Rattle.np_parse.specs.declared.head.Single.{Single as OneHead};
-ghost use Rattle.np_parse.specs.declared.head.Double.{Double as TwoHead};
+ghost use Rattle.np_parse.specs.Input.{Reads};
 ghost use Rattle.np_parse.specs.Read.Heads.{single_form, double_form, between};
 ghost use Rattle.np_parse.specs.Read.Processes as spec;
 
@@ -68,10 +66,7 @@ fn bar(tokens: &mut Cursor<'_>, below: u32, depth: u32) -> Result<Option<u32>, P
             Ok(None)
         }
         What::Sign(Sign::Bar) if depth > below => Err(tokens.too_deep()),
-        What::Sign(Sign::Bar) => match tokens.take() {
-            Ok(at) => Ok(Some(at)),
-            Err(e) => Err(e),
-        },
+        What::Sign(Sign::Bar) => Ok(Some(tokens.take()?)),
         _ => Err(tokens.syntax()),
     }
 }
@@ -104,27 +99,23 @@ fn longer(
     Ok(both(at, (left, deep), right))
 }
 
-/// A form with one process in it, behind what stands before it, if that was read.
+/// A form with one process in it, behind what stands before it.
 #[tactic(auto, unfolding(crate::specs::Read::Processes::single))]
 #[cycle(proc)]
 fn single(
     alloc: Global,
-    head: Result<Single, ParseFail>,
     tokens: &mut Cursor<'_>,
     below: u32,
+    head: Single,
 ) -> Result<(RawProc, u32), ParseFail>
     requires { below < DEEPEST }
-    ensures reads { (read : Outcome OneHead) → Reads read head tokens.old → Reads (and_then read (spec.single (spec.proc DEEPEST below))) result tokens.new }
+    ensures reads { Reads (spec.single (spec.proc DEEPEST below) head tokens.old) result tokens.new }
     ensures within { IfOk result (λ x. x.1 ≤ below + 1) }
 {
-    let Single { at, form } = head?;
-    match proc(alloc, tokens, below) {
-        Ok((inner, depth)) => {
-            let form = single_form(form, inner);
-            Ok((RawProc { at, form }, depth + 1))
-        }
-        Err(e) => Err(e),
-    }
+    let Single { at, form } = head;
+    let (inner, depth) = proc(alloc, tokens, below)?;
+    let form = single_form(form, inner);
+    Ok((RawProc { at, form }, depth + 1))
 }
 
 /// The two processes of a form, and the keyword between them.
@@ -143,33 +134,27 @@ fn two(
 {
     let first = proc(alloc, tokens, below)?;
     between(tokens, form)?;
-    match proc(alloc, tokens, below) {
-        Ok(second) => Ok((first, second)),
-        Err(e) => Err(e),
-    }
+    let second = proc(alloc, tokens, below)?;
+    Ok((first, second))
 }
 
-/// A form with two processes in it, behind what stands before the first, if that was read.
+/// A form with two processes in it, behind what stands before the first.
 #[tactic(auto, using(crate::proofs::Steps::double_two))]
 #[cycle(proc)]
 fn double(
     alloc: Global,
-    head: Result<Double, ParseFail>,
     tokens: &mut Cursor<'_>,
     below: u32,
+    head: Double,
 ) -> Result<(RawProc, u32), ParseFail>
     requires { below < DEEPEST }
-    ensures reads { (read : Outcome TwoHead) → Reads read head tokens.old → Reads (and_then read (spec.double (spec.proc DEEPEST below))) result tokens.new }
+    ensures reads { Reads (spec.double (spec.proc DEEPEST below) head tokens.old) result tokens.new }
     ensures within { IfOk result (λ x. x.1 ≤ below + 1) }
 {
-    let Double { at, form } = head?;
-    match two(alloc, tokens, below, &form) {
-        Ok(((first, deep), (second, depth))) => {
-            let form = double_form(form, first, second);
-            Ok((RawProc { at, form }, deep.max(depth) + 1))
-        }
-        Err(e) => Err(e),
-    }
+    let Double { at, form } = head;
+    let ((first, deep), (second, depth)) = two(alloc, tokens, below, &form)?;
+    let form = double_form(form, first, second);
+    Ok((RawProc { at, form }, deep.max(depth) + 1))
 }
 
 /// An output or an input, from the channel's name on.
@@ -188,8 +173,8 @@ fn on_channel(
     match tokens.peek()? {
         What::Sign(Sign::Bang) => output(alloc, tokens, channel),
         What::Sign(Sign::Query) => {
-            let head = input_head(alloc, tokens, below, channel);
-            single(alloc, head, tokens, below)
+            let head = input_head(alloc, tokens, below, channel)?;
+            single(alloc, tokens, below, head)
         }
         _ => Err(tokens.syntax()),
     }
@@ -226,10 +211,9 @@ fn others(
     ensures reads { Reads (spec.others (spec.proc DEEPEST below) below at first tokens.old) result tokens.new }
     ensures within { IfOk result (λ x. x.1 ≤ below + 1) }
 {
-    match proc(alloc, tokens, below) {
-        Ok(second) => more(alloc, tokens, below, at, both(at, first, second)),
-        Err(e) => Err(e),
-    }
+    let second = proc(alloc, tokens, below)?;
+    let left = both(at, first, second);
+    more(alloc, tokens, below, at, left)
 }
 
 /// The processes of a bracket from the third on, and the closing bracket.
@@ -270,34 +254,34 @@ fn proc_in(alloc: Global, tokens: &mut Cursor<'_>, below: u32) -> Result<(RawPro
         What::Number(number) => stop(tokens, *number),
         What::Ident(_) => on_channel(alloc, tokens, below),
         What::Word(Key::New) => {
-            let head = new_head(alloc, tokens, below);
-            single(alloc, head, tokens, below)
+            let head = new_head(alloc, tokens, below)?;
+            single(alloc, tokens, below, head)
         }
         What::Word(Key::AgentWord) => {
-            let head = agent_head(alloc, tokens, below);
-            double(alloc, head, tokens, below)
+            let head = agent_head(alloc, tokens, below)?;
+            double(alloc, tokens, below, head)
         }
         What::Word(Key::Migrate) => {
-            let head = migrate_head(alloc, tokens, below);
-            single(alloc, head, tokens, below)
+            let head = migrate_head(alloc, tokens, below)?;
+            single(alloc, tokens, below, head)
         }
         What::Word(Key::IfLocal) => {
-            let head = iflocal_head(alloc, tokens, below);
-            double(alloc, head, tokens, below)
+            let head = iflocal_head(alloc, tokens, below)?;
+            double(alloc, tokens, below, head)
         }
         What::Word(Key::If) => {
-            let head = if_head(alloc, tokens, below);
-            double(alloc, head, tokens, below)
+            let head = if_head(alloc, tokens, below)?;
+            double(alloc, tokens, below, head)
         }
         What::Word(Key::Let) => {
-            let head = let_head(alloc, tokens, below);
-            single(alloc, head, tokens, below)
+            let head = let_head(alloc, tokens, below)?;
+            single(alloc, tokens, below, head)
         }
         What::Word(Key::Print) => print(alloc, tokens),
         What::Sign(Sign::RoundOpen) => bracket(alloc, tokens, below),
         What::Sign(Sign::Star) => {
-            let head = replicated_head(alloc, tokens, below);
-            single(alloc, head, tokens, below)
+            let head = replicated_head(alloc, tokens, below)?;
+            single(alloc, tokens, below, head)
         }
         What::Sign(Sign::Less) => directed(alloc, tokens),
         _ => Err(tokens.syntax()),
@@ -319,12 +303,7 @@ pub fn proc(
     if levels == 0 {
         Err(tokens.too_deep())
     } else {
-        match proc_in(alloc, tokens, levels - 1) {
-            Ok((process, depth)) => match Boxed::of(alloc, process) {
-                Ok(process) => Ok((process, depth)),
-                Err(_) => Err(ParseFail::Memory),
-            },
-            Err(e) => Err(e),
-        }
+        let (process, depth) = proc_in(alloc, tokens, levels - 1)?;
+        Ok((Boxed::of(alloc, process)?, depth))
     }
 }

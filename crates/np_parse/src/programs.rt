@@ -22,34 +22,20 @@ fn ends(what: &What) -> bool
     matches!(what, What::Sign(Sign::Semi))
 }
 
-/// The sites behind these, and the sign behind them.
+/// The sites from the second on, and the sign behind them.
 #[tactic(auto, using(crate::proofs::Sites::sites_refused, crate::proofs::Sites::sites_ended, crate::proofs::Sites::sites_unended, crate::proofs::Sites::sites_stuck, crate::proofs::Sites::sites_step, crate::proofs::Sites::name_takes))]
-fn more_sites(
-    alloc: Global,
-    tokens: &mut Cursor<'_>,
-    found: &mut List<Ident>,
-) -> Result<(), ParseFail>
-    ensures { Reads (spec.sites found.old tokens.old) (spec.filled found.new result) tokens.new }
-{
-    'sites: loop {
-        if ends(tokens.peek()?) {
-            tokens.take()?;
-            return Ok(());
-        }
-        let site = tokens.name(alloc)?;
-        found.add(site)?;
-    }
-}
-
-/// The sites, of which this is the first, and the sign behind them.
 fn sites(alloc: Global, tokens: &mut Cursor<'_>, first: Ident) -> Result<List<Ident>, ParseFail>
     ensures { Reads (spec.sites (first ∷ []) tokens.old) result tokens.new }
 {
     let mut found = List::new(alloc);
     found.add(first)?;
-    match more_sites(alloc, tokens, &mut found) {
-        Ok(()) => Ok(found),
-        Err(e) => Err(e),
+    'sites: loop {
+        if ends(tokens.peek()?) {
+            tokens.take()?;
+            return Ok(found);
+        }
+        let site = tokens.name(alloc)?;
+        found.add(site)?;
     }
 }
 
@@ -73,14 +59,13 @@ fn program(alloc: Global, tokens: &mut Cursor<'_>) -> Result<Tree, ParseFail>
     ensures { Reads (spec.program DEEPEST tokens.old) result tokens.new }
 {
     let (sites, at) = program_head(alloc, tokens)?;
-    match proc(alloc, tokens, DEEPEST) {
-        Ok((main, _)) => {
-            tokens.expect_end()?;
-            let main = main.into_inner();
-            Ok(Tree { sites, at, main })
-        }
-        Err(e) => Err(e),
-    }
+    let (main, _) = proc(alloc, tokens, DEEPEST)?;
+    tokens.expect_end()?;
+    Ok(Tree {
+        sites,
+        at,
+        main: main.into_inner(),
+    })
 }
 
 /// The tree of the tokens.

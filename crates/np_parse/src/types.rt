@@ -80,13 +80,8 @@ fn carried(
         return Err(tokens.too_deep());
     }
     tokens.take()?;
-    match ty(alloc, tokens, below) {
-        Ok((inner, depth)) => match Boxed::of(alloc, inner) {
-            Ok(inner) => Ok((Ty::Chan(cap, inner), depth + 1)),
-            Err(_) => Err(ParseFail::Memory),
-        },
-        Err(e) => Err(e),
-    }
+    let (inner, depth) = ty(alloc, tokens, below)?;
+    Ok((Ty::Chan(cap, Boxed::of(alloc, inner)?), depth + 1))
 }
 
 /// The parts of a tuple type behind these, and the closing bracket: gives the depth of the deepest.

@@ -1,5 +1,5 @@
 -- The next numbers in order: where they lie, and that none is there twice.
-use Rattle.std.proofs.Common.{◌≤◌, ℕ, inl, inr, List, ◌++◌, arith}
+use Rattle.std.proofs.Common.{◌≤◌, ℕ, ◌+◌, inl, inr, List, ◌++◌, arith}
 use Rattle.np_scope.specs.Sound.{Among, AllBelow, NoneTwice, AreNext}
 
 pub next_then : {next mid after : ℕ} {xs ys : List ℕ} → AreNext next xs mid → AreNext mid ys after → AreNext next (xs ++ ys) after

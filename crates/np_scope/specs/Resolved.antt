@@ -6,7 +6,6 @@ use Rattle.np_syntax.specs.declared.value.Name.{Name}
 use Rattle.np_syntax.specs.declared.value.Value as value
 use Rattle.np_syntax.specs.declared.types.Ty.{Ty}
 use Rattle.np_syntax.specs.declared.expression.Expr.{Expr}
-use Rattle.np_syntax.specs.declared.expression.Op.{Op}
 use Rattle.np_syntax.specs.declared.expression.ExprForm.{ExprForm}
 use Rattle.np_syntax.specs.declared.expression.ExprForm as expr
 use Rattle.np_syntax.specs.declared.pattern.Pat.{Pat}
@@ -56,23 +55,6 @@ in_turn (e ∷ es) scope = do
   x ← e scope
   xs ← in_turn es scope
   Ok (x ∷ xs)
-
--- of a form, of a tuple's parts, and of an operation's right operand, with the first refusal in it
-
-abbrev pub form_at : ℕ → Outcome ExprForm → Outcome Expr
-form_at at form = do
-  f ← form
-  Ok (expression at f)
-
-abbrev pub tuple_at : ℕ → Outcome (List Expr) → Outcome Expr
-tuple_at at parts = do
-  xs ← parts
-  Ok (expression at (expr.Tuple xs))
-
-abbrev pub operation : Op → Expr → Outcome Expr → Outcome ExprForm
-operation o x right = do
-  y ← right
-  Ok (expr.Bin o x y)
 
 abbrev pub expr_step : ℕ → RawExprForm-F ExprAt ExprIn → ExprAt
 expr_step n (RawExprForm-F.Val v) at scope = Ok (expression at (expr.Val v))

@@ -1,6 +1,6 @@
 //! Expressions and their names.
 
-ghost use Rattle.std.specs.Prelude.{◌≡◌, Ok};
+ghost use Rattle.std.specs.Prelude.{◌≡◌, IfOk};
 ghost use Rattle.np_syntax.specs.declared.expression.ExprForm as expr;
 ghost use Rattle.np_scope.specs.Naming.{meant, use_of};
 ghost use Rattle.np_scope.specs.Outcomes.{Gives};
@@ -9,7 +9,7 @@ ghost use Rattle.np_scope.specs.Resolved as spec;
 use super::fail::ScopeFail;
 use super::resolver::Resolver;
 use super::scope::{Meaning, Scope};
-use np_syntax::{Boxed, Expr, ExprForm, List, Op, Value};
+use np_syntax::{Boxed, Expr, ExprForm, List, Memory, Op, Value};
 use np_tree::{Ident, RawExpr, RawExprForm};
 use std::alloc::Global;
 
@@ -32,55 +32,13 @@ pub fn use_of(scope: &Scope<'_>, name: &Ident) -> Result<Expr, ScopeFail>
     Ok(Expr { at: name.at, form })
 }
 
-/// A value at its offset.
-fn value_at(alloc: Global, at: u32, value: &Value) -> Result<Expr, ScopeFail>
-    ensures { Gives (Ok (spec.expression at (expr.Val value.now))) result }
+/// An operation on two expressions.
+fn operation(alloc: Global, op: Op, left: Expr, right: Expr) -> Result<ExprForm, Memory>
+    ensures { IfOk result (λ form. form ≡ expr.Bin op left right) }
 {
-    match value.copy(alloc) {
-        Ok(value) => Ok(Expr {
-            at,
-            form: ExprForm::Val(value),
-        }),
-        Err(_) => Err(ScopeFail::Memory),
-    }
-}
-
-/// A form at its offset, if it is one.
-fn form_at(at: u32, form: Result<ExprForm, ScopeFail>) -> Result<Expr, ScopeFail>
-    ensures { result ≡ spec.form_at at form }
-{
-    match form {
-        Ok(form) => Ok(Expr { at, form }),
-        Err(e) => Err(e),
-    }
-}
-
-/// A tuple at its offset, if there are parts.
-fn tuple_at(at: u32, parts: Result<List<Expr>, ScopeFail>) -> Result<Expr, ScopeFail>
-    ensures { result ≡ spec.tuple_at at parts }
-{
-    match parts {
-        Ok(parts) => Ok(Expr {
-            at,
-            form: ExprForm::Tuple(parts),
-        }),
-        Err(e) => Err(e),
-    }
-}
-
-/// An operation on two expressions, if there is a right one.
-fn operation(
-    alloc: Global,
-    op: Op,
-    left: Expr,
-    right: Result<Expr, ScopeFail>,
-) -> Result<ExprForm, ScopeFail>
-    ensures { Gives (spec.operation op left right) result }
-{
-    match (Boxed::of(alloc, left), Boxed::of(alloc, right?)) {
-        (Ok(left), Ok(right)) => Ok(ExprForm::Bin(op, left, right)),
-        _ => Err(ScopeFail::Memory),
-    }
+    let left = Boxed::of(alloc, left)?;
+    let right = Boxed::of(alloc, right)?;
+    Ok(ExprForm::Bin(op, left, right))
 }
 
 impl Resolver {
@@ -97,20 +55,18 @@ impl Resolver {
     fn expr_form(self, scope: &Scope<'_>, at: u32, form: &RawExprForm) -> Result<Expr, ScopeFail>
         ensures { Gives (spec.expr_form_of self.sites form.now at scope.now) result }
     {
-        match form {
-            RawExprForm::Val(value) => value_at(self.alloc, at, value),
-            RawExprForm::Main => Ok(Expr {
-                at,
-                form: ExprForm::Val(Value::Agent(self.main_name())),
-            }),
-            RawExprForm::Var(name) => form_at(at, meant(scope, name)),
-            RawExprForm::Tuple(parts) => tuple_at(at, self.exprs(scope, parts.as_slice())),
+        let form = match form {
+            RawExprForm::Val(value) => ExprForm::Val(value.copy(self.alloc)?),
+            RawExprForm::Main => ExprForm::Val(Value::Agent(self.main_name())),
+            RawExprForm::Var(name) => meant(scope, name)?,
+            RawExprForm::Tuple(parts) => ExprForm::Tuple(self.exprs(scope, parts.as_slice())?),
             RawExprForm::Bin(op, left, right) => {
                 let left = self.expr(scope, left.get())?;
-                let right = self.expr(scope, right.get());
-                form_at(at, operation(self.alloc, *op, left, right))
+                let right = self.expr(scope, right.get())?;
+                operation(self.alloc, *op, left, right)?
             }
-        }
+        };
+        Ok(Expr { at, form })
     }
 
     #[cycle(expr)]

@@ -25,10 +25,8 @@ impl Resolver {
         ensures { Gives (spec.message self.sites chan.now value.now scope.now) result }
     {
         let chan = use_of(scope, chan)?;
-        match self.expr(scope, value) {
-            Ok(value) => Ok((chan, value)),
-            Err(e) => Err(e),
-        }
+        let value = self.expr(scope, value)?;
+        Ok((chan, value))
     }
 
     /// An agent, and then the message for it.
@@ -43,10 +41,8 @@ impl Resolver {
         ensures { Gives (spec.addressed self.sites agent.now chan.now value.now scope.now) result }
     {
         let agent = self.expr(scope, agent)?;
-        match self.message(scope, chan, value) {
-            Ok((chan, value)) => Ok((agent, chan, value)),
-            Err(e) => Err(e),
-        }
+        let (chan, value) = self.message(scope, chan, value)?;
+        Ok((agent, chan, value))
     }
 
     /// An agent, and then the site where it is.
@@ -60,10 +56,8 @@ impl Resolver {
         ensures { Gives (spec.located self.sites agent.now site.now scope.now) result }
     {
         let agent = self.expr(scope, agent)?;
-        match self.expr(scope, site) {
-            Ok(site) => Ok((agent, site)),
-            Err(e) => Err(e),
-        }
+        let site = self.expr(scope, site)?;
+        Ok((agent, site))
     }
 
     /// An output: the channel, and then the value.
@@ -79,10 +73,8 @@ impl Resolver {
         ensures gives { Gives (spec.out_form self.sites chan.now value.now scope.now next) result }
         ensures behind { IfOk result (λ r. IsBehind next 1 0 r.1) }
     {
-        match self.message(scope, chan, value) {
-            Ok((chan, value)) => Ok((ProcForm::Out(chan, value), next.next_node())),
-            Err(e) => Err(e),
-        }
+        let (chan, value) = self.message(scope, chan, value)?;
+        Ok((ProcForm::Out(chan, value), next.next_node()))
     }
 
     /// A located message: the agent, the site, the channel, and then the value.
@@ -101,13 +93,8 @@ impl Resolver {
         ensures behind { IfOk result (λ r. IsBehind next 1 0 r.1) }
     {
         let (agent, site) = self.located(scope, agent, site)?;
-        match self.message(scope, chan, value) {
-            Ok((chan, value)) => {
-                let form = ProcForm::Send(agent, site, chan, value);
-                Ok((form, next.next_node()))
-            }
-            Err(e) => Err(e),
-        }
+        let (chan, value) = self.message(scope, chan, value)?;
+        Ok((ProcForm::Send(agent, site, chan, value), next.next_node()))
     }
 
     /// A post: the agent, the channel, and then the value.
@@ -124,13 +111,8 @@ impl Resolver {
         ensures gives { Gives (spec.post_form self.sites agent.now chan.now value.now scope.now next) result }
         ensures behind { IfOk result (λ r. IsBehind next 1 0 r.1) }
     {
-        match self.addressed(scope, agent, chan, value) {
-            Ok((agent, chan, value)) => {
-                let form = ProcForm::Post(agent, chan, value);
-                Ok((form, next.next_node()))
-            }
-            Err(e) => Err(e),
-        }
+        let (agent, chan, value) = self.addressed(scope, agent, chan, value)?;
+        Ok((ProcForm::Post(agent, chan, value), next.next_node()))
     }
 
     /// A value to be said.

@@ -1,12 +1,10 @@
 //! The numbers of process nodes and binders.
 
-ghost use Rattle.std.specs.Prelude.{◌≡◌, Ok};
+ghost use Rattle.std.specs.Prelude.{◌≡◌, IfOk};
 ghost use Rattle.np_scope.specs.Counting.{Fits};
-ghost use Rattle.np_scope.specs.Outcomes.{Gives};
 ghost use Rattle.np_scope.specs.Resolved.{next_node, next_both, placed};
 
-use super::fail::ScopeFail;
-use np_syntax::{Boxed, Proc, ProcForm, Role, Tag};
+use np_syntax::{Boxed, Memory, Proc, ProcForm, Role, Tag};
 use std::alloc::Global;
 
 /// The numbers of the next process node and of the next binder.
@@ -53,16 +51,14 @@ impl Numbers {
         at: u32,
         form: ProcForm,
         next: Numbers,
-    ) -> Result<Placed, ScopeFail>
-        ensures { Gives (Ok (placed self at form next)) result }
+    ) -> Result<Placed, Memory>
+        ensures { IfOk result (λ it. it ≡ placed self at form next) }
     {
         let tag = Tag {
             node: self.node,
             role: Role::Plain,
         };
-        match Boxed::of(alloc, Proc { tag, at, form }) {
-            Ok(proc) => Ok(Placed { proc, next }),
-            Err(_) => Err(ScopeFail::Memory),
-        }
+        let proc = Boxed::of(alloc, Proc { tag, at, form })?;
+        Ok(Placed { proc, next })
     }
 }

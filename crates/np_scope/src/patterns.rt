@@ -50,9 +50,7 @@ fn pat_form<'a>(
             Ok((Pat { at, form }, next + 1))
         }
         RawPatForm::Tuple(parts) => {
-            let Ok((parts, after)) = pats(alloc, scope, next, parts.as_slice()) else {
-                return Err(Memory);
-            };
+            let (parts, after) = pats(alloc, scope, next, parts.as_slice())?;
             let form = PatForm::Tuple(parts);
             Ok((Pat { at, form }, after))
         }
@@ -74,9 +72,7 @@ fn pats<'a>(
     let mut resolved = List::new(alloc);
     let mut number = next;
     for part in parts {
-        let Ok((part, after)) = pat(alloc, scope, number, part) else {
-            return Err(Memory);
-        };
+        let (part, after) = pat(alloc, scope, number, part)?;
         resolved.add(part)?;
         number = after;
     }

@@ -31,10 +31,8 @@ impl Resolver {
         ensures scope { OnOk result (scope.new ≡ scope.old) }
         ensures behind { IfOk result (λ placed. IsBehindProc next p.now placed.next) }
     {
-        match self.proc_form(scope, next, &p.form) {
-            Ok((form, after)) => next.place(self.alloc, p.at, form, after),
-            Err(e) => Err(e),
-        }
+        let (form, after) = self.proc_form(scope, next, &p.form)?;
+        Ok(next.place(self.alloc, p.at, form, after)?)
     }
 
     /// The form of the process with the next number, and the numbers behind it.
@@ -53,24 +51,28 @@ impl Resolver {
     {
         match form {
             RawProcForm::Stop => Ok((ProcForm::Stop, next.next_node())),
-            RawProcForm::Par(left, right) => self.parallel(scope, next, left, right),
-            RawProcForm::New(name, ty, body) => self.channel(scope, next, name, ty, body),
+            RawProcForm::Par(left, right) => self.parallel(scope, next, left.get(), right.get()),
+            RawProcForm::New(name, ty, body) => self.channel(scope, next, name, ty, body.get()),
             RawProcForm::Out(chan, value) => self.output(scope, next, chan, value),
-            RawProcForm::Inp(chan, names, body) => self.input(scope, next, chan, names, body),
+            RawProcForm::Inp(chan, names, body) => self.input(scope, next, chan, names, body.get()),
             RawProcForm::Rep(chan, names, body) => {
-                self.replicated(scope, next, chan, names, body)
+                self.replicated(scope, next, chan, names, body.get())
             }
-            RawProcForm::Agent(agent, body, rest) => { self.agent(scope, next, agent, body, rest) }
-            RawProcForm::Migrate(site, body) => self.migrate(scope, next, site, body),
+            RawProcForm::Agent(agent, body, rest) => {
+                self.agent(scope, next, agent, body.get(), rest.get())
+            }
+            RawProcForm::Migrate(site, body) => self.migrate(scope, next, site, body.get()),
             RawProcForm::IfLocal(agent, chan, value, met, unmet) => {
-                self.iflocal(scope, next, agent, chan, value, met, unmet)
+                self.iflocal(scope, next, agent, chan, value, met.get(), unmet.get())
             }
             RawProcForm::Send(agent, site, chan, value) => {
                 self.send(scope, next, agent, site, chan, value)
             }
             RawProcForm::Post(agent, chan, value) => self.post(scope, next, agent, chan, value),
-            RawProcForm::If(e, met, unmet) => self.test(scope, next, e, met, unmet),
-            RawProcForm::Let(names, value, body) => { self.bind(scope, next, names, value, body) }
+            RawProcForm::If(e, met, unmet) => self.test(scope, next, e, met.get(), unmet.get()),
+            RawProcForm::Let(names, value, body) => {
+                self.bind(scope, next, names, value, body.get())
+            }
             RawProcForm::Print(value) => self.print(scope, next, value),
         }
     }
@@ -82,19 +84,17 @@ impl Resolver {
         self,
         scope: &mut Scope<'a>,
         next: Numbers,
-        first: &'a Boxed<RawProc>,
-        second: &'a Boxed<RawProc>,
+        first: &'a RawProc,
+        second: &'a RawProc,
     ) -> Result<(Boxed<Proc>, Boxed<Proc>, Numbers), ScopeFail>
         requires { TwoFit next first.now second.now }
         ensures gives { Gives (spec.two (spec.proc_of self.sites first.now) (spec.proc_of self.sites second.now) scope.old next) result }
         ensures scope { OnOk result (scope.new ≡ scope.old) }
         ensures behind { IfOk result (λ r. IsBehindTwo next first.now second.now r.2) }
     {
-        let first = self.proc(scope, next, first.get())?;
-        match self.proc(scope, first.next, second.get()) {
-            Ok(second) => Ok((first.proc, second.proc, second.next)),
-            Err(e) => Err(e),
-        }
+        let first = self.proc(scope, next, first)?;
+        let second = self.proc(scope, first.next, second)?;
+        Ok((first.proc, second.proc, second.next))
     }
 
     /// A body in the scope of a pattern's names, behind the pattern, and the numbers behind it.
@@ -105,7 +105,7 @@ impl Resolver {
         scope: &mut Scope<'a>,
         next: Numbers,
         names: &'a RawPat,
-        body: &'a Boxed<RawProc>,
+        body: &'a RawProc,
     ) -> Result<(Pat, Boxed<Proc>, Numbers), ScopeFail>
         requires { BodyFits next names.now body.now }
         ensures gives { Gives (spec.under names.now (spec.proc_of self.sites body.now) scope.old next) result }
@@ -118,7 +118,7 @@ impl Resolver {
             node: next.node,
             binder,
         };
-        let body = self.proc(scope, inner, body.get())?;
+        let body = self.proc(scope, inner, body)?;
         scope.leave_to(depth);
         Ok((names, body.proc, body.next))
     }
@@ -130,18 +130,16 @@ impl Resolver {
         self,
         scope: &mut Scope<'a>,
         next: Numbers,
-        left: &'a Boxed<RawProc>,
-        right: &'a Boxed<RawProc>,
+        left: &'a RawProc,
+        right: &'a RawProc,
     ) -> Result<(ProcForm, Numbers), ScopeFail>
         requires { FormFits next (raw.Par left.now right.now) }
         ensures gives { Gives (spec.par_form (spec.proc_of self.sites left.now) (spec.proc_of self.sites right.now) scope.old next) result }
         ensures scope { OnOk result (scope.new ≡ scope.old) }
         ensures behind { IfOk result (λ r. IsBehindForm next (raw.Par left.now right.now) r.1) }
     {
-        match self.two(scope, next.next_node(), left, right) {
-            Ok((left, right, after)) => Ok((ProcForm::Par(left, right), after)),
-            Err(e) => Err(e),
-        }
+        let (left, right, after) = self.two(scope, next.next_node(), left, right)?;
+        Ok((ProcForm::Par(left, right), after))
     }
 
     /// A new channel, whose name is in scope in the body.
@@ -153,7 +151,7 @@ impl Resolver {
         next: Numbers,
         name: &'a Ident,
         ty: &Ty,
-        body: &'a Boxed<RawProc>,
+        body: &'a RawProc,
     ) -> Result<(ProcForm, Numbers), ScopeFail>
         requires { FormFits next (raw.New name.now ty.now body.now) }
         ensures gives { Gives (spec.new_form name.now ty.now (spec.proc_of self.sites body.now) scope.old next) result }
@@ -162,13 +160,9 @@ impl Resolver {
     {
         let ty = ty.copy(self.alloc)?;
         scope.enter(name.text.as_slice(), Meaning::Binder(next.binder))?;
-        match self.proc(scope, next.next_both(), body.get()) {
-            Ok(body) => {
-                scope.leave();
-                Ok((ProcForm::New(next.binder, ty, body.proc), body.next))
-            }
-            Err(e) => Err(e),
-        }
+        let body = self.proc(scope, next.next_both(), body)?;
+        scope.leave();
+        Ok((ProcForm::New(next.binder, ty, body.proc), body.next))
     }
 
     /// An input, whose body is in the scope of the pattern's names.
@@ -180,7 +174,7 @@ impl Resolver {
         next: Numbers,
         chan: &Ident,
         names: &'a RawPat,
-        body: &'a Boxed<RawProc>,
+        body: &'a RawProc,
     ) -> Result<(ProcForm, Numbers), ScopeFail>
         requires { FormFits next (raw.Inp chan.now names.now body.now) }
         ensures gives { Gives (spec.inp_form chan.now names.now (spec.proc_of self.sites body.now) scope.old next) result }
@@ -188,10 +182,8 @@ impl Resolver {
         ensures behind { IfOk result (λ r. IsBehindForm next (raw.Inp chan.now names.now body.now) r.1) }
     {
         let chan = use_of(scope, chan)?;
-        match self.under(scope, next.next_node(), names, body) {
-            Ok((names, body, after)) => Ok((ProcForm::Inp(chan, names, body), after)),
-            Err(e) => Err(e),
-        }
+        let (names, body, after) = self.under(scope, next.next_node(), names, body)?;
+        Ok((ProcForm::Inp(chan, names, body), after))
     }
 
     /// A replicated input.
@@ -203,7 +195,7 @@ impl Resolver {
         next: Numbers,
         chan: &Ident,
         names: &'a RawPat,
-        body: &'a Boxed<RawProc>,
+        body: &'a RawProc,
     ) -> Result<(ProcForm, Numbers), ScopeFail>
         requires { FormFits next (raw.Rep chan.now names.now body.now) }
         ensures gives { Gives (spec.rep_form chan.now names.now (spec.proc_of self.sites body.now) scope.old next) result }
@@ -211,10 +203,8 @@ impl Resolver {
         ensures behind { IfOk result (λ r. IsBehindForm next (raw.Rep chan.now names.now body.now) r.1) }
     {
         let chan = use_of(scope, chan)?;
-        match self.under(scope, next.next_node(), names, body) {
-            Ok((names, body, after)) => Ok((ProcForm::Rep(chan, names, body), after)),
-            Err(e) => Err(e),
-        }
+        let (names, body, after) = self.under(scope, next.next_node(), names, body)?;
+        Ok((ProcForm::Rep(chan, names, body), after))
     }
 
     /// A new agent, whose name is in scope in its body and in the rest.
@@ -225,8 +215,8 @@ impl Resolver {
         scope: &mut Scope<'a>,
         next: Numbers,
         agent: &'a Ident,
-        body: &'a Boxed<RawProc>,
-        rest: &'a Boxed<RawProc>,
+        body: &'a RawProc,
+        rest: &'a RawProc,
     ) -> Result<(ProcForm, Numbers), ScopeFail>
         requires { FormFits next (raw.Agent agent.now body.now rest.now) }
         ensures gives { Gives (spec.agent_form agent.now (spec.proc_of self.sites body.now) (spec.proc_of self.sites rest.now) scope.old next) result }
@@ -234,13 +224,9 @@ impl Resolver {
         ensures behind { IfOk result (λ r. IsBehindForm next (raw.Agent agent.now body.now rest.now) r.1) }
     {
         scope.enter(agent.text.as_slice(), Meaning::Binder(next.binder))?;
-        match self.two(scope, next.next_both(), body, rest) {
-            Ok((body, rest, after)) => {
-                scope.leave();
-                Ok((ProcForm::Agent(next.binder, body, rest), after))
-            }
-            Err(e) => Err(e),
-        }
+        let (body, rest, after) = self.two(scope, next.next_both(), body, rest)?;
+        scope.leave();
+        Ok((ProcForm::Agent(next.binder, body, rest), after))
     }
 
     /// A migration, and what the agent does at the site.
@@ -251,7 +237,7 @@ impl Resolver {
         scope: &mut Scope<'a>,
         next: Numbers,
         site: &RawExpr,
-        body: &'a Boxed<RawProc>,
+        body: &'a RawProc,
     ) -> Result<(ProcForm, Numbers), ScopeFail>
         requires { FormFits next (raw.Migrate site.now body.now) }
         ensures gives { Gives (spec.migrate_form self.sites site.now (spec.proc_of self.sites body.now) scope.old next) result }
@@ -259,10 +245,8 @@ impl Resolver {
         ensures behind { IfOk result (λ r. IsBehindForm next (raw.Migrate site.now body.now) r.1) }
     {
         let site = self.expr(scope, site)?;
-        match self.proc(scope, next.next_node(), body.get()) {
-            Ok(body) => Ok((ProcForm::Migrate(site, body.proc), body.next)),
-            Err(e) => Err(e),
-        }
+        let body = self.proc(scope, next.next_node(), body)?;
+        Ok((ProcForm::Migrate(site, body.proc), body.next))
     }
 
     /// A message to an agent, if it is here, and what follows in either case.
@@ -275,8 +259,8 @@ impl Resolver {
         agent: &RawExpr,
         chan: &Ident,
         value: &RawExpr,
-        met: &'a Boxed<RawProc>,
-        unmet: &'a Boxed<RawProc>,
+        met: &'a RawProc,
+        unmet: &'a RawProc,
     ) -> Result<(ProcForm, Numbers), ScopeFail>
         requires { FormFits next (raw.IfLocal agent.now chan.now value.now met.now unmet.now) }
         ensures gives { Gives (spec.iflocal_form self.sites agent.now chan.now value.now (spec.proc_of self.sites met.now) (spec.proc_of self.sites unmet.now) scope.old next) result }
@@ -284,13 +268,8 @@ impl Resolver {
         ensures behind { IfOk result (λ r. IsBehindForm next (raw.IfLocal agent.now chan.now value.now met.now unmet.now) r.1) }
     {
         let (agent, chan, value) = self.addressed(scope, agent, chan, value)?;
-        match self.two(scope, next.next_node(), met, unmet) {
-            Ok((met, unmet, after)) => Ok((
-                ProcForm::IfLocal(agent, chan, value, met, unmet),
-                after,
-            )),
-            Err(e) => Err(e),
-        }
+        let (met, unmet, after) = self.two(scope, next.next_node(), met, unmet)?;
+        Ok((ProcForm::IfLocal(agent, chan, value, met, unmet), after))
     }
 
     /// A test, and what follows in either case.
@@ -301,8 +280,8 @@ impl Resolver {
         scope: &mut Scope<'a>,
         next: Numbers,
         test: &RawExpr,
-        met: &'a Boxed<RawProc>,
-        unmet: &'a Boxed<RawProc>,
+        met: &'a RawProc,
+        unmet: &'a RawProc,
     ) -> Result<(ProcForm, Numbers), ScopeFail>
         requires { FormFits next (raw.If test.now met.now unmet.now) }
         ensures gives { Gives (spec.if_form self.sites test.now (spec.proc_of self.sites met.now) (spec.proc_of self.sites unmet.now) scope.old next) result }
@@ -310,10 +289,8 @@ impl Resolver {
         ensures behind { IfOk result (λ r. IsBehindForm next (raw.If test.now met.now unmet.now) r.1) }
     {
         let test = self.expr(scope, test)?;
-        match self.two(scope, next.next_node(), met, unmet) {
-            Ok((met, unmet, after)) => Ok((ProcForm::If(test, met, unmet), after)),
-            Err(e) => Err(e),
-        }
+        let (met, unmet, after) = self.two(scope, next.next_node(), met, unmet)?;
+        Ok((ProcForm::If(test, met, unmet), after))
     }
 
     /// A `let`, whose body is in the scope of the pattern's names, and whose expression is not.
@@ -325,7 +302,7 @@ impl Resolver {
         next: Numbers,
         names: &'a RawPat,
         value: &RawExpr,
-        body: &'a Boxed<RawProc>,
+        body: &'a RawProc,
     ) -> Result<(ProcForm, Numbers), ScopeFail>
         requires { FormFits next (raw.Let names.now value.now body.now) }
         ensures gives { Gives (spec.let_form self.sites names.now value.now (spec.proc_of self.sites body.now) scope.old next) result }
@@ -333,9 +310,7 @@ impl Resolver {
         ensures behind { IfOk result (λ r. IsBehindForm next (raw.Let names.now value.now body.now) r.1) }
     {
         let given = self.expr(scope, value)?;
-        match self.under(scope, next.next_node(), names, body) {
-            Ok((names, body, after)) => Ok((ProcForm::Let(names, given, body), after)),
-            Err(e) => Err(e),
-        }
+        let (names, body, after) = self.under(scope, next.next_node(), names, body)?;
+        Ok((ProcForm::Let(names, given, body), after))
     }
 }

@@ -8,6 +8,10 @@ use Rattle.np_show.specs.Shown.{bracketed}
 pub glue : (out written last pieces text : List ℕ) {now : List ℕ} → now ≡ written → written ++ last ≡ out ++ pieces → text ≡ pieces → now ++ last ≡ out ++ text
 glue out written last pieces text e d f = ap (λ now. now ++ last) e ∙ d ∙ ap (λ l. out ++ l) (sym f)
 
+-- a part and what stands behind it, after what was written
+pub behind : (written part tail : List ℕ) {before now : List ℕ} → before ≡ written → now ≡ before ++ part ++ tail → now ≡ written ++ part ++ tail
+behind written part tail e d = d ∙ ap (λ l. l ++ part ++ tail) e
+
 abbrev pub opened : Bool → List ℕ
 opened round = if round then codes "(" else []
 

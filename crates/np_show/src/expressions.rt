@@ -1,6 +1,6 @@
 //! The texts of expressions.
 
-ghost use Rattle.std.specs.Prelude.{◌≡◌, ℕ, List as Items, [], ◌++◌, OnOk, map, codes, if◌then◌else◌};
+ghost use Rattle.std.specs.Prelude.{◌≡◌, [], ◌++◌, OnOk, map, codes, if◌then◌else◌};
 ghost use Rattle.np_syntax.specs.Printed.{spaced, value_text};
 ghost use Rattle.np_lex.specs.Tokens.{sign_text};
 ghost use Rattle.np_show.specs.Shown as spec;
@@ -86,43 +86,20 @@ pub fn put_expr(alloc: Global, text: &mut Text, level: u32, x: &RawExpr) -> Resu
         RawExprForm::Tuple(parts) => put_tuple(alloc, text, parts.as_slice()),
         RawExprForm::Bin(op, x, y) => {
             let round = strength(*op) < level;
-            let begun = put_first(alloc, text, round, *op, x);
-            put_second(alloc, begun, text, round, *op, y)
+            open_round(text, round)?;
+            put_operand(alloc, text, left(*op), x)?;
+            put_op(text, *op)?;
+            put_operand(alloc, text, right(*op), y)?;
+            close_round(text, round)
         }
     }
 }
 
-/// The left operand and the operation's sign, behind the round bracket where there is one.
 #[cycle(expr)]
-fn put_first(
-    alloc: Global,
-    text: &mut Text,
-    round: bool,
-    op: Op,
-    x: &Boxed<RawExpr>,
-) -> Result<(), Memory>
-    ensures { OnOk result (text.new ≡ text.old ++ (if round then codes "(" else []) ++ spec.expr_text (spec.left op) x.now ++ codes " " ++ sign_text (spec.op_sign op) ++ codes " ") }
+fn put_operand(alloc: Global, text: &mut Text, level: u32, x: &Boxed<RawExpr>) -> Result<(), Memory>
+    ensures { OnOk result (text.new ≡ text.old ++ spec.expr_text level x.now) }
 {
-    open_round(text, round)?;
-    put_expr(alloc, text, left(op), x.get())?;
-    put_op(text, op)
-}
-
-/// The right operand and the round bracket where there is one, where what stands before is put.
-#[cycle(expr)]
-fn put_second(
-    alloc: Global,
-    begun: Result<(), Memory>,
-    text: &mut Text,
-    round: bool,
-    op: Op,
-    y: &Boxed<RawExpr>,
-) -> Result<(), Memory>
-    ensures { (front : Items ℕ) → OnOk begun (text.old ≡ front) → OnOk result (text.new ≡ front ++ spec.expr_text (spec.right op) y.now ++ (if round then codes ")" else [])) }
-{
-    begun?;
-    put_expr(alloc, text, right(op), y.get())?;
-    close_round(text, round)
+    put_expr(alloc, text, level, x.get())
 }
 
 #[cycle(expr)]

@@ -1,6 +1,6 @@
 //! The texts of processes.
 
-ghost use Rattle.std.specs.Prelude.{◌≡◌, ℕ, List as Items, ◌++◌, OnOk, true, false, codes};
+ghost use Rattle.std.specs.Prelude.{◌≡◌, ◌++◌, OnOk, true, false, codes};
 ghost use Rattle.np_show.specs.Shown.{type_text, pat_text, expr_text, message_text, proc_text};
 
 use super::expressions::{close_round, open_round, put_expr};
@@ -121,8 +121,9 @@ pub fn put_proc(alloc: Global, text: &mut Text, bracket: bool, p: &RawProc) -> R
     match &p.form {
         Form::Stop => text.append(b"0"),
         Form::Par(p, q) => {
-            let begun = put_left(alloc, open_round(text, bracket), text, false, p, b" | ");
-            put_part(alloc, begun, text, q)?;
+            open_round(text, bracket)?;
+            put_left(alloc, text, false, p, b" | ")?;
+            put_part(alloc, text, q)?;
             close_round(text, bracket)
         }
         Form::New(c, ty, p) => put_new(alloc, text, p, c, ty),
@@ -130,21 +131,22 @@ pub fn put_proc(alloc: Global, text: &mut Text, bracket: bool, p: &RawProc) -> R
         Form::Inp(c, pat, p) => put_input(alloc, text, p, c, pat),
         Form::Rep(c, pat, p) => put_always(alloc, text, p, c, pat),
         Form::Agent(b, p, q) => {
-            let begun = put_left(alloc, put_agent(text, b), text, true, p, b" in ");
-            put_part(alloc, begun, text, q)
+            put_agent(text, b)?;
+            put_left(alloc, text, true, p, b" in ")?;
+            put_part(alloc, text, q)
         }
         Form::Migrate(site, p) => put_migrate(alloc, text, p, site),
         Form::IfLocal(b, c, x, p, q) => {
-            let begun = put_iflocal(alloc, text, b, c, x);
-            let begun = put_left(alloc, begun, text, true, p, b" else ");
-            put_part(alloc, begun, text, q)
+            put_iflocal(alloc, text, b, c, x)?;
+            put_left(alloc, text, true, p, b" else ")?;
+            put_part(alloc, text, q)
         }
         Form::Send(b, s, c, x) => put_send(alloc, text, b, s, c, x),
         Form::Post(b, c, x) => put_post(alloc, text, b, c, x),
         Form::If(test, p, q) => {
-            let begun = put_if(alloc, text, test);
-            let begun = put_left(alloc, begun, text, true, p, b" else ");
-            put_part(alloc, begun, text, q)
+            put_if(alloc, text, test)?;
+            put_left(alloc, text, true, p, b" else ")?;
+            put_part(alloc, text, q)
         }
         Form::Let(pat, x, p) => put_let(alloc, text, p, pat, x),
         Form::Print(x) => put_print(alloc, text, x),
@@ -166,7 +168,8 @@ fn put_new(
     put_name(text, c)?;
     text.append(b" : ")?;
     put_type(text, ty)?;
-    put_part(alloc, text.append(b" in "), text, p)
+    text.append(b" in ")?;
+    put_part(alloc, text, p)
 }
 
 /// `c?p -> P`
@@ -180,7 +183,8 @@ fn put_input(
 ) -> Result<(), Memory>
     ensures { OnOk result (text.new ≡ text.old ++ c.now.text ++ codes "?" ++ pat_text pat.now ++ codes " -> " ++ proc_text true p.now) }
 {
-    put_part(alloc, put_taking(text, c, pat), text, p)
+    put_taking(text, c, pat)?;
+    put_part(alloc, text, p)
 }
 
 /// `*c?p -> P`
@@ -195,7 +199,8 @@ fn put_always(
     ensures { OnOk result (text.new ≡ text.old ++ codes "*" ++ c.now.text ++ codes "?" ++ pat_text pat.now ++ codes " -> " ++ proc_text true p.now) }
 {
     text.append(b"*")?;
-    put_part(alloc, put_taking(text, c, pat), text, p)
+    put_taking(text, c, pat)?;
+    put_part(alloc, text, p)
 }
 
 /// `migrate to e -> P`
@@ -210,7 +215,8 @@ fn put_migrate(
 {
     text.append(b"migrate to ")?;
     put_expr(alloc, text, 0, site)?;
-    put_part(alloc, text.append(b" -> "), text, p)
+    text.append(b" -> ")?;
+    put_part(alloc, text, p)
 }
 
 /// `let p = e in P`
@@ -228,36 +234,28 @@ fn put_let(
     put_pat(text, pat)?;
     text.append(b" = ")?;
     put_expr(alloc, text, 0, x)?;
-    put_part(alloc, text.append(b" in "), text, p)
+    text.append(b" in ")?;
+    put_part(alloc, text, p)
 }
 
-/// A part, where what stands before it is put.
 #[cycle(process)]
-fn put_part(
-    alloc: Global,
-    begun: Result<(), Memory>,
-    text: &mut Text,
-    p: &Boxed<RawProc>,
-) -> Result<(), Memory>
-    ensures { (front : Items ℕ) → OnOk begun (text.old ≡ front) → OnOk result (text.new ≡ front ++ proc_text true p.now) }
+fn put_part(alloc: Global, text: &mut Text, p: &Boxed<RawProc>) -> Result<(), Memory>
+    ensures { OnOk result (text.new ≡ text.old ++ proc_text true p.now) }
 {
-    begun?;
     put_proc(alloc, text, true, p.get())
 }
 
-/// A part and what stands behind it, where what stands before it is put.
+/// A part, and what stands behind it.
 #[cycle(process)]
 fn put_left(
     alloc: Global,
-    begun: Result<(), Memory>,
     text: &mut Text,
     bracket: bool,
     p: &Boxed<RawProc>,
     behind: &[u8],
 ) -> Result<(), Memory>
-    ensures { (front : Items ℕ) → OnOk begun (text.old ≡ front) → OnOk result (text.new ≡ front ++ proc_text bracket p.now ++ behind.now) }
+    ensures { OnOk result (text.new ≡ text.old ++ proc_text bracket p.now ++ behind.now) }
 {
-    begun?;
     put_proc(alloc, text, bracket, p.get())?;
     text.append(behind)
 }

@@ -1,6 +1,6 @@
 //! The canonical text.
 
-ghost use Rattle.std.specs.Prelude.{◌≡◌, ◌++◌, OnOk, IfOk, map, codes};
+ghost use Rattle.std.specs.Prelude.{◌≡◌, ◌++◌, OnOk, IfOk, map};
 ghost use Rattle.np_syntax.specs.Printed.{spaced};
 ghost use Rattle.np_show.specs.Shown.{name_text, shown};
 ghost use Rattle.np_show.specs.Again.{ReadsBack};
@@ -10,25 +10,19 @@ use np_syntax::{List, Memory, Text};
 use np_tree::{Ident, Tree};
 use std::alloc::Global;
 
-fn put_tree(alloc: Global, text: &mut Text, tree: &Tree) -> Result<(), Memory>
-    ensures { OnOk result (text.new ≡ text.old ++ shown tree.now) }
-{
-    text.append(b"sites ")?;
-    put_names(text, tree.sites.as_slice())?;
-    text.append(b" ; main at ")?;
-    text.append(tree.at.text.as_slice())?;
-    text.append(b" = ")?;
-    put_proc(alloc, text, true, &tree.main)?;
-    text.append(b"\n")
-}
-
 /// The canonical text of a tree: one line and a line feed.
 pub fn show(alloc: Global, tree: &Tree) -> Result<Text, Memory>
     ensures text { IfOk result (λ text. text ≡ shown tree.now) }
     ensures law { IfOk result (λ text. ReadsBack text tree.now) }
 {
     let mut text = List::new(alloc);
-    put_tree(alloc, &mut text, tree)?;
+    text.append(b"sites ")?;
+    put_names(&mut text, tree.sites.as_slice())?;
+    text.append(b" ; main at ")?;
+    text.append(tree.at.text.as_slice())?;
+    text.append(b" = ")?;
+    put_proc(alloc, &mut text, true, &tree.main)?;
+    text.append(b"\n")?;
     Ok(text)
 }
 
@@ -41,15 +35,8 @@ fn put_names(text: &mut Text, names: &[Ident]) -> Result<(), Memory>
     };
     text.append(first.text.as_slice())?;
     for other in others {
-        put_other(text, other)?;
+        text.append(b" ")?;
+        text.append(other.text.as_slice())?;
     }
     Ok(())
-}
-
-/// A name behind a space.
-fn put_other(text: &mut Text, name: &Ident) -> Result<(), Memory>
-    ensures { OnOk result (text.new ≡ text.old ++ (codes " " ++ name_text name.now)) }
-{
-    text.append(b" ")?;
-    text.append(name.text.as_slice())
 }

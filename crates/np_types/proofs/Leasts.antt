@@ -1,5 +1,5 @@
 -- The least type of each form of expression.
-use Rattle.std.proofs.Common.{◌≡◌, ℕ, Bool, true, false, List, [], ◌∷◌, ◌++◌, map, Option, None, Some, Ok, Err, refl, ap, ◌∙◌}
+use Rattle.std.proofs.Common.{◌≡◌, ℕ, Bool, true, false, List, [], ◌∷◌, ◌++◌, map, Option, None, Some, Result, Ok, Err, refl, ap, ◌∙◌}
 use Rattle.std.specs.FinMap as table
 use Rattle.np_syntax.specs.declared.types.Cap.{Cap}
 use Rattle.np_syntax.specs.declared.types.Ty.{Ty, out-Ty}
@@ -17,12 +17,13 @@ use Rattle.np_subtyping.specs.Sub.{TyLayer, sub, is_int, is_places, is_agent, wr
 use Rattle.np_syntax.specs.Parts.{as_channel}
 use Rattle.np_types.specs.Widths.{narrow}
 use Rattle.np_syntax.specs.Results.{◌>>=◌, ◌>>◌, all_ok}
-use Rattle.np_types.specs.Checks.{Check, Met, checked, ensure, want}
+use Rattle.np_types.specs.Checks.{Check, checked, ensure, want}
 use Rattle.np_types.specs.Worlds.{World, kind}
 use Rattle.np_types.specs.Least.{Types, Least, Leasts, least, leasts, least_of, least_form, least_op, least_step, test_of, number, output, input, is_lock_type}
 use Rattle.np_types.specs.Operands.{takes_first, first_rule, takes_second, second_rule, type_of, written_on, read_on}
-use Rattle.np_types.specs.Operands.{after, both, first_operand, operated, written, letter, sent, ensure_places, ensure_agent, with_lock, tuple_type}
-use Rattle.np_types.proofs.Tellings.{asked, met}
+use Rattle.np_types.specs.declared.fault.LeastFail.{LeastFail}
+use Rattle.np_types.specs.Told.{Told, Failed}
+use Rattle.np_types.proofs.Tellings.{asked, met, failed_then}
 
 -- one layer of an expression, with each part's least type
 abbrev pub least_layer : World → Types → ExprForm-F ExprForm Expr → Leasts
@@ -151,54 +152,112 @@ asking : {A B : Type 0} (o : Check A) (test : A → Bool) (at : ℕ) (r : Rule) 
 asking (Err e) test at r next = refl
 asking (Ok a) test at r next = passing (test a) at r (next a)
 
--- two checks, and a test of what both give
-on_both : (x y : Check Ty) (test : Ty → Ty → Bool) (at : ℕ) (r : Rule) (u : Ty) → (x >>= λ s. asked y (test s) at r (λ _. Ok u)) ≡ (both x y >>= λ p. checked (test p.0 p.1) at r u)
-on_both (Err e) y test at r u = refl
-on_both (Ok s) (Err e) test at r u = refl
-on_both (Ok s) (Ok t) test at r u = passing (test s t) at r u
+-- what each form with parts gives, check by check
+abbrev operating : Op → ℕ → Check Ty → ℕ → Check Ty → Check Ty
+operating o i x j y = x >>= λ s. checked (takes_first o (out-Ty s)) i (first_rule o) s >>= λ s. y >>= λ t. checked (takes_second o (out-Ty s) (out-Ty t)) j (second_rule o) (type_of o)
 
--- checks one after another, of which only the last gives anything
-opening : {B : Type 0} (x : Check Ty) (test : Ty → Bool) (at : ℕ) (r : Rule) (next : Check B) → asked x test at r (λ _. next) ≡ ((x >>= λ t. ensure (test t) at r) >> next)
-opening (Err e) test at r next = refl
-opening (Ok t) test at r next = refl
+operating_is : (o : Op) (i : ℕ) (x : Check Ty) (j : ℕ) (y : Check Ty) → operation o i x j y ≡ operating o i x j y
+operating_is o i (Err e) j y = refl
+operating_is o i (Ok s) j y =
+    ap (λ k. ensure (takes_first o (out-Ty s)) i (first_rule o) >> k) (asking y (λ t. takes_second o (out-Ty s) (out-Ty t)) j (second_rule o) (λ _. type_of o))
+    ∙ going_on (takes_first o (out-Ty s)) i (first_rule o) s (λ s. y >>= λ t. checked (takes_second o (out-Ty s) (out-Ty t)) j (second_rule o) (type_of o))
 
-following : {B : Type 0} (m : Met) (x : Check Ty) (test : Ty → Bool) (at : ℕ) (r : Rule) (next : Check B) → (m >> asked x test at r (λ _. next)) ≡ ((after m x >>= λ t. ensure (test t) at r) >> next)
-following (Err e) x test at r next = refl
-following (Ok u) x test at r next = opening x test at r next
+abbrev lettering : ℕ → Check Ty → ℕ → Check Ty → Check Ty
+lettering i c j x = c >>= λ s. written_on (out-Ty s) i >>= λ k. x >>= λ t. checked (sub t k) j rule.Mismatch ty.Letter
 
-closing : (m : Met) (x : Check Ty) (test : Ty → Bool) (at : ℕ) (r : Rule) (u : Ty) → (m >> asked x test at r (λ _. Ok u)) ≡ (after m x >>= λ t. checked (test t) at r u)
-closing (Err e) x test at r u = refl
-closing (Ok v) x test at r u = asking x test at r (λ _. u)
+lettering_is : (i : ℕ) (c : Check Ty) (j : ℕ) (x : Check Ty) → packing i c j x ≡ lettering i c j x
+lettering_is i (Err e) j x = refl
+lettering_is i (Ok s) j x = on_chan (written_on (out-Ty s) i)
+  where
+    on_chan : (o : Check Ty) → (o >>= λ k. asked x (λ t. sub t k) j rule.Mismatch (λ _. Ok ty.Letter)) ≡ (o >>= λ k. x >>= λ t. checked (sub t k) j rule.Mismatch ty.Letter)
+    on_chan (Err e) = refl
+    on_chan (Ok k) = asking x (λ t. sub t k) j rule.Mismatch (λ _. ty.Letter)
 
--- what each form with parts gives, as code checks it
-operated_is : (o : Op) (i : ℕ) (x : Check Ty) (j : ℕ) (y : Check Ty) → operation o i x j y ≡ operated o j (first_operand o i x) y
-operated_is o i (Err e) j y = refl
-operated_is o i (Ok s) j y =
-    going_on (takes_first o (out-Ty s)) i (first_rule o) s (λ s. asked y (λ t. takes_second o (out-Ty s) (out-Ty t)) j (second_rule o) (λ _. Ok (type_of o)))
-    ∙ on_both (checked (takes_first o (out-Ty s)) i (first_rule o) s) y (λ s t. takes_second o (out-Ty s) (out-Ty t)) j (second_rule o) (type_of o)
-
-letter_is : (i : ℕ) (c : Check Ty) (j : ℕ) (x : Check Ty) → packing i c j x ≡ letter j (written i c) x
-letter_is i (Err e) j x = refl
-letter_is i (Ok s) j x = on_both (written_on (out-Ty s) i) x (λ k t. sub t k) j rule.Mismatch ty.Letter
-
-with_lock_is : (i : ℕ) (m : Check Ty) (j : ℕ) (a : Check Ty) (k : ℕ) (l : Check Ty) → placing i m j a k l ≡ with_lock k (ensure_agent j (ensure_places i m) a) l
-with_lock_is i m j a k l =
-    opening m (λ t. is_places (out-Ty t)) i rule.Mismatch _
-    ∙ following (ensure_places i m) a (λ t. is_agent (out-Ty t)) j rule.NotAgent _
-    ∙ closing (ensure_agent j (ensure_places i m) a) l (λ t. is_lock_type (out-Ty t)) k rule.Mismatch ty.Places
+abbrev setting : ℕ → Check Ty → ℕ → Check Ty → ℕ → Check Ty → Check Ty
+setting i m j a k l =
+    m >>= λ s. ensure (is_places (out-Ty s)) i rule.Mismatch >> (a >>= λ t. ensure (is_agent (out-Ty t)) j rule.NotAgent >> (l >>= λ u. checked (is_lock_type (out-Ty u)) k rule.Mismatch ty.Places))
 
 module _ (w : World) (env : Types) (at : ℕ) where
-  pub tuple-told : (es : List Expr) → least_form w env (expr.Tuple es) at ≡ tuple_type at (leasts w env es)
-  tuple-told es = least-tuple w env at es ∙ asking (leasts w env es) (λ ts. narrow (ty.Tuple ts)) at rule.Wide (λ ts. ty.Tuple ts)
+  module _ (es : List Expr) where
+    tuple-parts : least_form w env (expr.Tuple es) at ≡ (leasts w env es >>= λ ts. checked (narrow (ty.Tuple ts)) at rule.Wide (ty.Tuple ts))
+    tuple-parts = least-tuple w env at es ∙ asking (leasts w env es) (λ ts. narrow (ty.Tuple ts)) at rule.Wide (λ ts. ty.Tuple ts)
 
-  pub bin-told : (o : Op) (a b : Expr) → least_form w env (expr.Bin o a b) at ≡ operated o b.at (first_operand o a.at (least w env a)) (least w env b)
-  bin-told o a b = least-bin w env at o a b ∙ operated_is o a.at (least w env a) b.at (least w env b)
+    pub tuple-1 : (e : LeastFail) → Failed e (leasts w env es) → Failed e (least_form w env (expr.Tuple es) at)
+    tuple-1 e h = rw tuple-parts (failed_then e (leasts w env es) _ h)
 
-  pub pack-told : (c x : Expr) → least_form w env (expr.Pack c x) at ≡ letter x.at (written c.at (least w env c)) (least w env x)
-  pack-told c x = least-pack w env at c x ∙ letter_is c.at (least w env c) x.at (least w env x)
+    pub tuple-2 : (r : Result Ty LeastFail) (ts : List Ty) → leasts w env es ≡ Ok ts → Told r (checked (narrow (ty.Tuple ts)) at rule.Wide (ty.Tuple ts)) → Told r (least_form w env (expr.Tuple es) at)
+    tuple-2 r ts p h = rw (tuple-parts, p) h
 
-  pub with-told : (m a l : Expr) → least_form w env (expr.With m a l) at ≡ with_lock l.at (ensure_agent a.at (ensure_places m.at (least w env m)) (least w env a)) (least w env l)
-  with-told m a l = least-with w env at m a l ∙ with_lock_is m.at (least w env m) a.at (least w env a) l.at (least w env l)
+  module _ (o : Op) (a b : Expr) where
+    abbrev first : Ty → Check Ty
+    first s = checked (takes_first o (out-Ty s)) a.at (first_rule o) s
+
+    abbrev second : Ty → Ty → Check Ty
+    second s t = checked (takes_second o (out-Ty s) (out-Ty t)) b.at (second_rule o) (type_of o)
+
+    bin-parts : least_form w env (expr.Bin o a b) at ≡ operating o a.at (least w env a) b.at (least w env b)
+    bin-parts = least-bin w env at o a b ∙ operating_is o a.at (least w env a) b.at (least w env b)
+
+    pub bin-1 : (e : LeastFail) → Failed e (least w env a) → Failed e (least_form w env (expr.Bin o a b) at)
+    bin-1 e h = rw bin-parts (failed_then e (least w env a) _ h)
+
+    pub bin-2 : (e : LeastFail) (s : Ty) → least w env a ≡ Ok s → Failed e (first s) → Failed e (least_form w env (expr.Bin o a b) at)
+    bin-2 e s p h = rw (bin-parts, p) (failed_then e (first s) _ h)
+
+    pub bin-3 : (e : LeastFail) (s u : Ty) → least w env a ≡ Ok s → first s ≡ Ok u → Failed e (least w env b) → Failed e (least_form w env (expr.Bin o a b) at)
+    bin-3 e s u p q h = rw (bin-parts, p, q) (failed_then e (least w env b) _ h)
+
+    pub bin-4 : (r : Result Ty LeastFail) (s u t : Ty) → least w env a ≡ Ok s → first s ≡ Ok u → least w env b ≡ Ok t → Told r (second u t) → Told r (least_form w env (expr.Bin o a b) at)
+    bin-4 r s u t p q k h = rw (bin-parts, p, q, k) h
+
+  module _ (a b : Expr) where
+    pack-parts : least_form w env (expr.Pack a b) at ≡ lettering a.at (least w env a) b.at (least w env b)
+    pack-parts = least-pack w env at a b ∙ lettering_is a.at (least w env a) b.at (least w env b)
+
+    pub pack-1 : (e : LeastFail) → Failed e (least w env a) → Failed e (least_form w env (expr.Pack a b) at)
+    pack-1 e h = rw pack-parts (failed_then e (least w env a) _ h)
+
+    pub pack-2 : (e : LeastFail) (s : Ty) → least w env a ≡ Ok s → Failed e (written_on (out-Ty s) a.at) → Failed e (least_form w env (expr.Pack a b) at)
+    pack-2 e s p h = rw (pack-parts, p) (failed_then e (written_on (out-Ty s) a.at) _ h)
+
+    pub pack-3 : (e : LeastFail) (s k : Ty) → least w env a ≡ Ok s → written_on (out-Ty s) a.at ≡ Ok k → Failed e (least w env b) → Failed e (least_form w env (expr.Pack a b) at)
+    pack-3 e s k p q h = rw (pack-parts, p, q) (failed_then e (least w env b) _ h)
+
+    pub pack-4 : (r : Result Ty LeastFail) (s k t : Ty) → least w env a ≡ Ok s → written_on (out-Ty s) a.at ≡ Ok k → least w env b ≡ Ok t
+        → Told r (checked (sub t k) b.at rule.Mismatch ty.Letter) → Told r (least_form w env (expr.Pack a b) at)
+    pack-4 r s k t p q u h = rw (pack-parts, p, q, u) h
+
+  module _ (m a l : Expr) where
+    abbrev maps : Ty → Check (Unit {0})
+    maps t = ensure (is_places (out-Ty t)) m.at rule.Mismatch
+
+    abbrev acts : Ty → Check (Unit {0})
+    acts t = ensure (is_agent (out-Ty t)) a.at rule.NotAgent
+
+    with-parts : least_form w env (expr.With m a l) at ≡ setting m.at (least w env m) a.at (least w env a) l.at (least w env l)
+    with-parts =
+        least-with w env at m a l
+        ∙ ap (λ k. asked (least w env m) (λ t. is_places (out-Ty t)) m.at rule.Mismatch (λ _. asked (least w env a) (λ t. is_agent (out-Ty t)) a.at rule.NotAgent (λ _. k)))
+        (asking (least w env l) (λ t. is_lock_type (out-Ty t)) l.at rule.Mismatch (λ _. ty.Places))
+
+    pub with-1 : (e : LeastFail) → Failed e (least w env m) → Failed e (least_form w env (expr.With m a l) at)
+    with-1 e h = rw with-parts (failed_then e (least w env m) _ h)
+
+    pub with-2 : (e : LeastFail) (s : Ty) → least w env m ≡ Ok s → Failed e (maps s) → Failed e (least_form w env (expr.With m a l) at)
+    with-2 e s p h = rw (with-parts, p) (failed_then e (maps s) _ h)
+
+    pub with-3 : (e : LeastFail) (s : Ty) → least w env m ≡ Ok s → maps s ≡ Ok tt → Failed e (least w env a) → Failed e (least_form w env (expr.With m a l) at)
+    with-3 e s p q h = rw (with-parts, p, q) (failed_then e (least w env a) _ h)
+
+    pub with-4 : (e : LeastFail) (s t : Ty) → least w env m ≡ Ok s → maps s ≡ Ok tt → least w env a ≡ Ok t → Failed e (acts t) → Failed e (least_form w env (expr.With m a l) at)
+    with-4 e s t p q u h = rw (with-parts, p, q, u) (failed_then e (acts t) _ h)
+
+    pub with-5 : (e : LeastFail) (s t : Ty) → least w env m ≡ Ok s → maps s ≡ Ok tt → least w env a ≡ Ok t → acts t ≡ Ok tt → Failed e (least w env l) → Failed e (least_form w env (expr.With m a l) at)
+    with-5 e s t p q u v h = rw (with-parts, p, q, u, v) (failed_then e (least w env l) _ h)
+
+    pub with-6 : (r : Result Ty LeastFail) (s t k : Ty) → least w env m ≡ Ok s → maps s ≡ Ok tt → least w env a ≡ Ok t → acts t ≡ Ok tt → least w env l ≡ Ok k
+        → Told r (checked (is_lock_type (out-Ty k)) l.at rule.Mismatch ty.Places) → Told r (least_form w env (expr.With m a l) at)
+    with-6 r s t k p q u v x h = rw (with-parts, p, q, u, v, x) h
 
 -- an output and an input, check by check
 abbrev pub sending : ℕ → Check Ty → ℕ → Check Ty → Check (Unit {0})
@@ -228,18 +287,6 @@ taking_is i (Ok s) = refl
 
 pub input-parts : (w : World) (env : Types) (c : Expr) → input (least_of w env c) ≡ (least w env c >>= λ s. read_on (out-Ty s) c.at)
 input-parts w env c = (λ i. input (least_parts w env c i)) ∙ taking_is c.at (least w env c)
-
-sent_is : (i : ℕ) (c : Check Ty) (j : ℕ) (x : Check Ty) → sending i c j x ≡ sent j (written i c) x
-sent_is i (Err e) j x = refl
-sent_is i (Ok s) j x = on_types (written_on (out-Ty s) i) x
-  where
-    on_types : (o x : Check Ty) → (o >>= λ k. x >>= λ t. ensure (sub t k) j rule.Mismatch) ≡ sent j o x
-    on_types (Err e) x = refl
-    on_types (Ok k) (Err e) = refl
-    on_types (Ok k) (Ok t) = refl
-
-pub output-told : (w : World) (env : Types) (c x : Expr) → output (least_of w env c) (least_of w env x) ≡ sent x.at (written c.at (least w env c)) (least w env x)
-output-told w env c x = output-parts w env c x ∙ sent_is c.at (least w env c) x.at (least w env x)
 
 -- the types so far, and then those of the rest
 abbrev pub after_leasts : List Ty → Check (List Ty) → Check (List Ty)

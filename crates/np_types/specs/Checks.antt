@@ -7,10 +7,6 @@ use Rattle.np_types.specs.declared.fault.TypeFault.{TypeFault}
 abbrev pub Check : Type 0 → Type 0
 Check A = Result A TypeFault
 
--- a check that gives nothing
-abbrev pub Met : Type 0
-Met = Check (Unit {0})
-
 -- goes on where the test is met
 abbrev pub ensure : Bool → ℕ → Rule → Check (Unit {0})
 ensure true at rule = Ok tt

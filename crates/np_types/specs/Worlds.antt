@@ -65,8 +65,3 @@ kinds w (v ∷ vs) = do
   t ← kind w v
   ts ← kinds w vs
   Some (t ∷ ts)
-
-abbrev pub tupled : Option (List Ty) → Option Ty
-tupled types = do
-  ts ← types
-  Some (ty.Tuple ts)

@@ -1,7 +1,7 @@
 ghost use Rattle.std.specs.Prelude.{◌≡◌, Err};
-ghost use Rattle.np_syntax.specs.declared.types.Ty.{Ty as Kind};
-ghost use Rattle.np_types.specs.Checks.{Check, ensure};
-ghost use Rattle.np_types.specs.Operands.{read, written};
+ghost use Rattle.np_syntax.specs.declared.types.Ty.{out-Ty};
+ghost use Rattle.np_types.specs.Checks.{ensure};
+ghost use Rattle.np_types.specs.Operands.{written_on, read_on};
 ghost use Rattle.np_types.specs.Told.{Told};
 ghost use Rattle.np_types.specs.declared.fault.LeastFail.TheVariants as fail;
 
@@ -22,22 +22,22 @@ pub fn ensure(met: bool, at: u32, rule: Rule) -> Result<(), LeastFail>
     if met { Ok(()) } else { fault(at, rule) }
 }
 
-/// What may be written on a channel of this type, or the first fault.
-pub fn written_on(ty: Result<Ty, LeastFail>, at: u32) -> Result<Ty, LeastFail>
-    ensures { (t : Check Kind) → Told ty t → Told result (written at t) }
+/// What may be written on a channel of this type, or the fault at its place.
+pub fn written_on(ty: Ty, at: u32) -> Result<Ty, LeastFail>
+    ensures { Told result (written_on (out-Ty ty) at) }
 {
-    match ty?.into_channel() {
+    match ty.into_channel() {
         Some((Cap::Input, _)) => fault(at, Rule::NoOutput),
         Some((_, carried)) => Ok(carried),
         None => fault(at, Rule::NotChannel),
     }
 }
 
-/// What may be read on a channel of this type, or the first fault.
-pub fn read_on(ty: Result<Ty, LeastFail>, at: u32) -> Result<Ty, LeastFail>
-    ensures { (t : Check Kind) → Told ty t → Told result (read at t) }
+/// What may be read on a channel of this type, or the fault at its place.
+pub fn read_on(ty: Ty, at: u32) -> Result<Ty, LeastFail>
+    ensures { Told result (read_on (out-Ty ty) at) }
 {
-    match ty?.into_channel() {
+    match ty.into_channel() {
         Some((Cap::Output, _)) => fault(at, Rule::NoInput),
         Some((_, carried)) => Ok(carried),
         None => fault(at, Rule::NotChannel),

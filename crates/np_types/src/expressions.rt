@@ -1,11 +1,10 @@
-ghost use Rattle.std.specs.Prelude.{List as Items};
 ghost use Rattle.std.specs.FinMap as map;
-ghost use Rattle.np_syntax.specs.declared.types.Ty.{Ty as Kind};
+ghost use Rattle.np_syntax.specs.declared.types.Ty as shape;
 ghost use Rattle.np_types.specs.declared.fault.Rule.TheVariants as rule;
-ghost use Rattle.np_types.specs.Checks.{Check, want};
+ghost use Rattle.np_types.specs.Checks.{checked, want};
 ghost use Rattle.np_types.specs.Least.{least, least_form, leasts};
-ghost use Rattle.np_types.specs.Operands.{tuple_type};
 ghost use Rattle.np_types.specs.Told.{Told};
+ghost use Rattle.np_types.specs.Widths.{narrow};
 ghost use Rattle.np_types.specs.Worlds.{bare, kind};
 
 use super::checks::{fault, written_on};
@@ -35,22 +34,24 @@ fn least_form(alloc: Global, env: &Env, form: &ExprForm, at: u32) -> Result<Ty, 
     match form {
         ExprForm::Val(value) => value_type(alloc, value, at),
         ExprForm::Var(binder) => binder_type(alloc, env, *binder, at),
-        ExprForm::Tuple(parts) => tuple_type(leasts(alloc, env, parts.as_slice()), at),
+        ExprForm::Tuple(parts) => tuple_type(leasts(alloc, env, parts.as_slice())?, at),
         ExprForm::Bin(op, left, right) => {
             let (left, right) = (left.get(), right.get());
-            let first = first_operand(*op, least(alloc, env, left), left.at);
-            operated(*op, first, least(alloc, env, right), right.at)
+            let first = first_operand(*op, least(alloc, env, left)?, left.at)?;
+            let second = least(alloc, env, right)?;
+            operated(*op, first, second, right.at)
         }
         ExprForm::Pack(chan, value) => {
             let (chan, value) = (chan.get(), value.get());
-            let carried = written_on(least(alloc, env, chan), chan.at);
-            letter(carried, least(alloc, env, value), value.at)
+            let carried = written_on(least(alloc, env, chan)?, chan.at)?;
+            let given = least(alloc, env, value)?;
+            letter(given, carried, value.at)
         }
         ExprForm::With(places, agent, lock) => {
             let (places, agent, lock) = (places.get(), agent.get(), lock.get());
-            let met = ensure_places(least(alloc, env, places), places.at);
-            let met = ensure_agent(met, least(alloc, env, agent), agent.at);
-            with_lock(met, least(alloc, env, lock), lock.at)
+            ensure_places(least(alloc, env, places)?, places.at)?;
+            ensure_agent(least(alloc, env, agent)?, agent.at)?;
+            with_lock(least(alloc, env, lock)?, lock.at)
         }
     }
 }
@@ -87,11 +88,11 @@ fn binder_type(alloc: Global, env: &Env, binder: u32, at: u32) -> Result<Ty, Lea
     }
 }
 
-/// The type of a tuple, or the first fault, which may be that it is too wide.
-fn tuple_type(types: Result<List<Ty>, LeastFail>, at: u32) -> Result<Ty, LeastFail>
-    ensures { (ts : Check (Items Kind)) → Told types ts → Told result (tuple_type at ts) }
+/// The type of a tuple, or a fault where it is too wide.
+fn tuple_type(types: List<Ty>, at: u32) -> Result<Ty, LeastFail>
+    ensures { Told result (checked (narrow (shape.Tuple types)) at rule.Wide (shape.Tuple types)) }
 {
-    let ty = Ty::Tuple(types?);
+    let ty = Ty::Tuple(types);
     if is_narrow(&ty) {
         Ok(ty)
     } else {

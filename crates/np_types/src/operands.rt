@@ -1,8 +1,11 @@
 ghost use Rattle.std.specs.Prelude.{◌≡◌};
-ghost use Rattle.np_syntax.specs.declared.types.Ty.{Ty as Kind, out-Ty};
-ghost use Rattle.np_types.specs.Checks.{Check, Met};
+ghost use Rattle.np_syntax.specs.declared.types.Ty as shape;
+ghost use Rattle.np_syntax.specs.declared.types.Ty.{out-Ty};
+ghost use Rattle.np_types.specs.declared.fault.Rule.TheVariants as rule;
+ghost use Rattle.np_types.specs.Checks.{checked, ensure};
+ghost use Rattle.np_types.specs.Least.{is_lock_type};
 ghost use Rattle.np_types.specs.Operands.{takes_first, first_rule, takes_second, second_rule, type_of};
-ghost use Rattle.np_types.specs.Operands.{after, both, first_operand, operated, letter, sent, ensure_places, ensure_agent, with_lock};
+ghost use Rattle.np_subtyping.specs.Sub.{is_agent, is_places, sub};
 ghost use Rattle.np_types.specs.Told.{Told};
 
 use super::checks::{ensure, fault};
@@ -12,10 +15,9 @@ use np_subtyping::{is_agent, is_int, is_places, sub};
 use np_syntax::{Op, Ty};
 
 /// The type of an operation's first operand, or its fault.
-pub fn first_operand(op: Op, ty: Result<Ty, LeastFail>, at: u32) -> Result<Ty, LeastFail>
-    ensures { (t : Check Kind) → Told ty t → Told result (first_operand op at t) }
+pub fn first_operand(op: Op, ty: Ty, at: u32) -> Result<Ty, LeastFail>
+    ensures { Told result (checked (takes_first op (out-Ty ty)) at (first_rule op) ty) }
 {
-    let ty = ty?;
     if takes_first(op, &ty) {
         Ok(ty)
     } else {
@@ -23,16 +25,10 @@ pub fn first_operand(op: Op, ty: Result<Ty, LeastFail>, at: u32) -> Result<Ty, L
     }
 }
 
-/// The type of an operation on two operands, the first of which is taken, or the first fault.
-pub fn operated(
-    op: Op,
-    first: Result<Ty, LeastFail>,
-    second: Result<Ty, LeastFail>,
-    at: u32,
-) -> Result<Ty, LeastFail>
-    ensures { (s t : Check Kind) → Told first s → Told second t → Told result (operated op at s t) }
+/// The type of an operation on two operands, the first of which is taken, or the fault of the second.
+pub fn operated(op: Op, first: Ty, second: Ty, at: u32) -> Result<Ty, LeastFail>
+    ensures { Told result (checked (takes_second op (out-Ty first) (out-Ty second)) at (second_rule op) (type_of op)) }
 {
-    let (first, second) = both(first, second)?;
     if takes_second(op, &first, &second) {
         Ok(type_of(op))
     } else {
@@ -40,15 +36,10 @@ pub fn operated(
     }
 }
 
-/// The type of a value packed for a channel, where what the channel carries is above the value's type, or the first fault.
-pub fn letter(
-    carried: Result<Ty, LeastFail>,
-    given: Result<Ty, LeastFail>,
-    at: u32,
-) -> Result<Ty, LeastFail>
-    ensures { (k t : Check Kind) → Told carried k → Told given t → Told result (letter at k t) }
+/// The type of a value packed for a channel, where what the channel carries is above the value's type.
+pub fn letter(given: Ty, carried: Ty, at: u32) -> Result<Ty, LeastFail>
+    ensures { Told result (checked (sub given carried) at rule.Mismatch shape.Letter) }
 {
-    let (carried, given) = both(carried, given)?;
     if sub(&given, &carried) {
         Ok(Ty::Letter)
     } else {
@@ -56,72 +47,28 @@ pub fn letter(
     }
 }
 
-/// The checks of a value sent on a channel that carries that type: whether there is no fault, or the first one.
-pub fn sent(
-    carried: Result<Ty, LeastFail>,
-    given: Result<Ty, LeastFail>,
-    at: u32,
-) -> Result<(), LeastFail>
-    ensures { (k t : Check Kind) → Told carried k → Told given t → Told result (sent at k t) }
-{
-    let (carried, given) = both(carried, given)?;
-    ensure(sub(&given, &carried), at, Rule::Mismatch)
-}
-
-/// Both types, or the first fault.
-fn both(first: Result<Ty, LeastFail>, second: Result<Ty, LeastFail>) -> Result<(Ty, Ty), LeastFail>
-    ensures { (s t : Check Kind) → Told first s → Told second t → Told result (both s t) }
-{
-    match (first, second) {
-        (Ok(first), Ok(second)) => Ok((first, second)),
-        (Err(fail), _) => Err(fail),
-        (Ok(_), Err(fail)) => Err(fail),
-    }
-}
-
 /// Goes on where it is the type of a map of places.
-pub fn ensure_places(ty: Result<Ty, LeastFail>, at: u32) -> Result<(), LeastFail>
-    ensures { (t : Check Kind) → Told ty t → Told result (ensure_places at t) }
+pub fn ensure_places(ty: Ty, at: u32) -> Result<(), LeastFail>
+    ensures { Told result (ensure (is_places (out-Ty ty)) at rule.Mismatch) }
 {
-    let ty = ty?;
     ensure(is_places(&ty), at, Rule::Mismatch)
 }
 
-/// Goes on where the checks so far are met and it is the type of agents.
-pub fn ensure_agent(
-    met: Result<(), LeastFail>,
-    ty: Result<Ty, LeastFail>,
-    at: u32,
-) -> Result<(), LeastFail>
-    ensures { (m : Met) (t : Check Kind) → Told met m → Told ty t → Told result (ensure_agent at m t) }
+/// Goes on where it is the type of agents.
+pub fn ensure_agent(ty: Ty, at: u32) -> Result<(), LeastFail>
+    ensures { Told result (ensure (is_agent (out-Ty ty)) at rule.NotAgent) }
 {
-    let ty = after(met, ty)?;
     ensure(is_agent(&ty), at, Rule::NotAgent)
 }
 
-/// The type of a map of places with one more, where the checks so far are met and the lock's type is that of lock channels.
-pub fn with_lock(
-    met: Result<(), LeastFail>,
-    ty: Result<Ty, LeastFail>,
-    at: u32,
-) -> Result<Ty, LeastFail>
-    ensures { (m : Met) (t : Check Kind) → Told met m → Told ty t → Told result (with_lock at m t) }
+/// The type of a map of places with one more, where the lock's type is that of lock channels.
+pub fn with_lock(ty: Ty, at: u32) -> Result<Ty, LeastFail>
+    ensures { Told result (checked (is_lock_type (out-Ty ty)) at rule.Mismatch shape.Places) }
 {
-    let ty = after(met, ty)?;
     if is_lock(&ty) {
         Ok(Ty::Places)
     } else {
         fault(at, Rule::Mismatch)
-    }
-}
-
-/// The type, where the checks so far are met, or the first fault.
-fn after(met: Result<(), LeastFail>, ty: Result<Ty, LeastFail>) -> Result<Ty, LeastFail>
-    ensures { (m : Met) (t : Check Kind) → Told met m → Told ty t → Told result (after m t) }
-{
-    match met {
-        Ok(()) => ty,
-        Err(fail) => Err(fail),
     }
 }
 

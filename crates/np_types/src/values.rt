@@ -1,6 +1,5 @@
-ghost use Rattle.std.specs.Prelude.{◌≡◌, IfOk, Option, List as Items};
-ghost use Rattle.np_syntax.specs.declared.types.Ty.{Ty as Kind};
-ghost use Rattle.np_types.specs.Worlds.{bare, kind, kinds, tupled};
+ghost use Rattle.std.specs.Prelude.{◌≡◌, IfOk};
+ghost use Rattle.np_types.specs.Worlds.{bare, kind, kinds};
 
 use np_syntax::{List, Memory, Ty, Value};
 use std::alloc::Global;
@@ -18,7 +17,10 @@ pub fn kind(alloc: Global, value: &Value) -> Result<Option<Ty>, Memory>
         Value::Site(_) => Ok(Some(Ty::Site)),
         Value::Agent(_) => Ok(Some(Ty::Agent)),
         Value::Chan(_) => Ok(None),
-        Value::Tuple(parts) => tupled(kinds(alloc, parts.as_slice())),
+        Value::Tuple(parts) => match kinds(alloc, parts.as_slice())? {
+            Some(types) => Ok(Some(Ty::Tuple(types))),
+            None => Ok(None),
+        },
         Value::Letter(_, _) => Ok(None),
         Value::Places(places) => {
             if places.len() == 0 {
@@ -37,22 +39,10 @@ fn kinds(alloc: Global, values: &[Value]) -> Result<Option<List<Ty>>, Memory>
 {
     let mut types = List::new(alloc);
     for value in values {
-        match kind(alloc, value) {
-            Ok(Some(ty)) => types.add(ty)?,
-            Ok(None) => return Ok(None),
-            Err(memory) => return Err(memory),
-        }
+        let Some(ty) = kind(alloc, value)? else {
+            return Ok(None);
+        };
+        types.add(ty)?;
     }
     Ok(Some(types))
-}
-
-/// The type of a tuple of values with these types.
-fn tupled(types: Result<Option<List<Ty>>, Memory>) -> Result<Option<Ty>, Memory>
-    ensures { (ts : Option (Items Kind)) → IfOk types (λ types. types ≡ ts) → IfOk result (λ ty. ty ≡ tupled ts) }
-{
-    match types {
-        Ok(Some(types)) => Ok(Some(Ty::Tuple(types))),
-        Ok(None) => Ok(None),
-        Err(memory) => Err(memory),
-    }
 }

@@ -1,13 +1,13 @@
 -- The one command of the program, argument by argument, and what it answers.
-use Rattle.std.proofs.Common.{◌≡◌, inl, inr, ◌∙◌, ap, sym, subst, true, List, [], ◌∷◌, Option, None, Some, Result, Ok, Err, refl, map}
+use Rattle.std.proofs.Common.{◌≡◌, inl, inr, ◌∙◌, ap, sym, subst, codes, true, List, [], ◌∷◌, Option, None, Some, Result, Ok, Err, refl, map}
 use Rattle.std.specs.Prelude.{IfOk}
 use Rattle.np_syntax.specs.Options.{◌>>=◌}
-use Rattle.clap.specs.Words.{App, Rule, Text, HasMatchesOf, found_of, rows_of, matches_of, fault_of, is_simple, is_simple_and_free, Kinds, HasKind, kind_of, with_rule}
+use Rattle.clap.specs.Words.{App, Text, HasMatchesOf, found_of, rows_of, matches_of, fault_of, is_simple, is_simple_and_free, Kinds, HasKind, kind_of, with_rule}
 use Rattle.clap.specs.declared.error.Error.{Error}
 use Rattle.clap.specs.declared.error.kind.ErrorKind.TheVariants.{OutOfMemory}
 use Rattle.clap.specs.declared.parser.matches.ArgMatches.{ArgMatches}
 use Rattle.clap.proofs.OnLiterals.{clap_on_literals}
-use Rattle.np_words.specs.Arguments.{Given, start, arguments, command, given, has_fault, taken}
+use Rattle.np_words.specs.Arguments.{Given, start, operand, further, valued, flag, command, given, has_fault, taken}
 use Rattle.np_words.specs.Plans.{plan, planned, Plans}
 use Rattle.np_words.specs.declared.planning.Plan.{Plan}
 use Rattle.np_words.specs.declared.fail.PlanFail.{PlanFail}
@@ -16,14 +16,12 @@ pub if_ok : {A E : Type 0} {P Q : A → Type 0} (r : Result A E) → ((x : A) �
 if_ok (Ok x) f h = f x h
 if_ok (Err e) f h = h
 
--- these rules, each behind those before
-abbrev with_rules : App → List Rule → App
-with_rules app [] = app
-with_rules app (rule ∷ rules) = with_rules (with_rule app rule) rules
-
-pub chained : with_rules start arguments ≡ command
+pub chained : {a b c d e f g h i j k l : App} → a ≡ start → b ≡ with_rule a (operand (codes "mode")) → c ≡ with_rule b (operand (codes "file"))
+    → d ≡ with_rule c (further (codes "second")) → e ≡ with_rule d (valued (codes "budget")) → f ≡ with_rule e (flag (codes "history"))
+    → g ≡ with_rule f (flag (codes "high")) → h ≡ with_rule g (flag (codes "serial")) → i ≡ with_rule h (valued (codes "links"))
+    → j ≡ with_rule i (valued (codes "infra")) → k ≡ with_rule j (valued (codes "line")) → l ≡ with_rule k (flag (codes "one")) → l ≡ command
 unfolding command
-chained = refl
+chained a b c d e f g h i j k l = rw (l, k, j, i, h, g, f, e, d, c, b, a) refl
 
 pub simple : is_simple command ≡ true
 unfolding command clap_on_literals

@@ -1,7 +1,7 @@
 //! The command line as one simple command of clap, and what the words give for its arguments.
 
 ghost use Rattle.std.specs.Prelude.{◌≡◌, option_map, IfOk};
-ghost use Rattle.clap.specs.Words.{App, app_of, with_rule, found_of, rows_of, first_of};
+ghost use Rattle.clap.specs.Words.{app_of, with_rule, found_of, rows_of, first_of};
 ghost use Rattle.np_words.specs.Arguments as spec;
 
 use clap::{Arg, ArgAction, ArgMatches, Command};
@@ -10,57 +10,45 @@ use std::alloc::{AllocError, Global};
 /// A word that has to stand there, in its place.
 fn with_operand<'a>(
     alloc: Global,
-    command: Result<Command<'a>, AllocError>,
+    command: Command<'a>,
     id: &'a str,
 ) -> Result<Command<'a>, AllocError>
-    ensures { (app : App) → IfOk command.entry (λ shorter. app_of shorter ≡ app) → IfOk result (λ longer. app_of longer ≡ with_rule app (spec.operand id.entry.now)) }
+    ensures { IfOk result (λ longer. app_of longer ≡ with_rule (app_of command.entry) (spec.operand id.entry.now)) }
 {
-    match command {
-        Ok(command) => command.arg(Arg::new(alloc, id).required(true)),
-        Err(e) => Err(e),
-    }
+    command.arg(Arg::new(alloc, id).required(true))
 }
 
 /// A word that may stand there, in its place.
 fn with_further<'a>(
     alloc: Global,
-    command: Result<Command<'a>, AllocError>,
+    command: Command<'a>,
     id: &'a str,
 ) -> Result<Command<'a>, AllocError>
-    ensures { (app : App) → IfOk command.entry (λ shorter. app_of shorter ≡ app) → IfOk result (λ longer. app_of longer ≡ with_rule app (spec.further id.entry.now)) }
+    ensures { IfOk result (λ longer. app_of longer ≡ with_rule (app_of command.entry) (spec.further id.entry.now)) }
 {
-    match command {
-        Ok(command) => command.arg(Arg::new(alloc, id)),
-        Err(e) => Err(e),
-    }
+    command.arg(Arg::new(alloc, id))
 }
 
 /// An option with a value in the next word.
 fn with_valued<'a>(
     alloc: Global,
-    command: Result<Command<'a>, AllocError>,
+    command: Command<'a>,
     id: &'a str,
 ) -> Result<Command<'a>, AllocError>
-    ensures { (app : App) → IfOk command.entry (λ shorter. app_of shorter ≡ app) → IfOk result (λ longer. app_of longer ≡ with_rule app (spec.valued id.entry.now)) }
+    ensures { IfOk result (λ longer. app_of longer ≡ with_rule (app_of command.entry) (spec.valued id.entry.now)) }
 {
-    match command {
-        Ok(command) => command.arg(Arg::new(alloc, id).long(id)),
-        Err(e) => Err(e),
-    }
+    command.arg(Arg::new(alloc, id).long(id))
 }
 
 /// An option without a value.
 fn with_flag<'a>(
     alloc: Global,
-    command: Result<Command<'a>, AllocError>,
+    command: Command<'a>,
     id: &'a str,
 ) -> Result<Command<'a>, AllocError>
-    ensures { (app : App) → IfOk command.entry (λ shorter. app_of shorter ≡ app) → IfOk result (λ longer. app_of longer ≡ with_rule app (spec.flag id.entry.now)) }
+    ensures { IfOk result (λ longer. app_of longer ≡ with_rule (app_of command.entry) (spec.flag id.entry.now)) }
 {
-    match command {
-        Ok(command) => command.arg(Arg::new(alloc, id).long(id).action(ArgAction::SetTrue)),
-        Err(e) => Err(e),
-    }
+    command.arg(Arg::new(alloc, id).long(id).action(ArgAction::SetTrue))
 }
 
 /// The command line without its arguments. The words leave out the program's name.
@@ -74,16 +62,16 @@ fn start<'a>(alloc: Global) -> Command<'a>
 pub fn command<'a>(alloc: Global) -> Result<Command<'a>, AllocError>
     ensures { IfOk result (λ command. app_of command ≡ spec.command) }
 {
-    let command = with_operand(alloc, Ok(start(alloc)), "mode");
-    let command = with_operand(alloc, command, "file");
-    let command = with_further(alloc, command, "second");
-    let command = with_valued(alloc, command, "budget");
-    let command = with_flag(alloc, command, "history");
-    let command = with_flag(alloc, command, "high");
-    let command = with_flag(alloc, command, "serial");
-    let command = with_valued(alloc, command, "links");
-    let command = with_valued(alloc, command, "infra");
-    let command = with_valued(alloc, command, "line");
+    let command = with_operand(alloc, start(alloc), "mode")?;
+    let command = with_operand(alloc, command, "file")?;
+    let command = with_further(alloc, command, "second")?;
+    let command = with_valued(alloc, command, "budget")?;
+    let command = with_flag(alloc, command, "history")?;
+    let command = with_flag(alloc, command, "high")?;
+    let command = with_flag(alloc, command, "serial")?;
+    let command = with_valued(alloc, command, "links")?;
+    let command = with_valued(alloc, command, "infra")?;
+    let command = with_valued(alloc, command, "line")?;
     with_flag(alloc, command, "one")
 }
 

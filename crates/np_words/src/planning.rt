@@ -215,23 +215,13 @@ fn run_of(given: &Given<'_>) -> Option<Task>
     ensures is { result ≡ spec.run_of (seen given.now) }
     ensures limits { IfSome result spec.HasBudget }
 {
-    let budget = budget_of(given.budget)?;
-    let Some(high) = high_text(given.high, given.one) else {
-        return None;
-    };
-    let Some(links) = kind_of(given.links) else {
-        return None;
-    };
-    let Some(infrastructure) = infrastructure_given(given.infrastructure) else {
-        return None;
-    };
     Some(Task::Run {
-        budget,
+        budget: budget_of(given.budget)?,
         history: given.history,
-        high,
+        high: high_text(given.high, given.one)?,
         serial: given.serial,
-        links,
-        infrastructure,
+        links: kind_of(given.links)?,
+        infrastructure: infrastructure_given(given.infrastructure)?,
     })
 }
 
@@ -277,24 +267,15 @@ fn on_history(
     ensures plans { spec.Plans (spec.on_history file.now (seen given.now) view) result }
     ensures limits { IfOk result spec.IsWithinLimits }
 {
-    let Some(second) = given.second else {
-        return Err(PlanFail::Usage);
-    };
-    let Some(infrastructure) = infrastructure_given(given.infrastructure) else {
-        return Err(PlanFail::Usage);
-    };
-    let Some(view) = view else {
-        return Err(PlanFail::Usage);
-    };
-    match (Word::new(alloc, file), Word::new(alloc, second)) {
-        (Ok(source), Ok(history)) => Ok(Plan::Replay {
-            source,
-            history,
-            infrastructure,
-            view,
-        }),
-        _ => Err(PlanFail::Memory),
-    }
+    let second = given.second.ok_or(PlanFail::Usage)?;
+    let infrastructure = infrastructure_given(given.infrastructure).ok_or(PlanFail::Usage)?;
+    let view = view.ok_or(PlanFail::Usage)?;
+    Ok(Plan::Replay {
+        source: Word::new(alloc, file)?,
+        history: Word::new(alloc, second)?,
+        infrastructure,
+        view,
+    })
 }
 
 /// The plan where FILE is a source and SECOND a saved history, from which on it is run.
@@ -302,31 +283,20 @@ fn resume_of(alloc: Global, file: &str, given: &Given<'_>) -> Result<Plan, PlanF
     ensures plans { spec.Plans (spec.resume_of file.now (seen given.now)) result }
     ensures limits { IfOk result spec.IsWithinLimits }
 {
-    let Some(saved) = given.second else {
-        return Err(PlanFail::Usage);
-    };
-    let Some(budget) = budget_of(given.budget) else {
-        return Err(PlanFail::Usage);
-    };
-    let Some(links) = kind_of(given.links) else {
-        return Err(PlanFail::Usage);
-    };
-    let Some(infrastructure) = infrastructure_given(given.infrastructure) else {
-        return Err(PlanFail::Usage);
-    };
-    match (Word::new(alloc, file), Word::new(alloc, saved)) {
-        (Ok(source), Ok(saved)) => Ok(Plan::Resume {
-            source,
-            saved,
-            budget,
-            history: given.history,
-            high: given.high,
-            serial: given.serial,
-            links,
-            infrastructure,
-        }),
-        _ => Err(PlanFail::Memory),
-    }
+    let saved = given.second.ok_or(PlanFail::Usage)?;
+    let budget = budget_of(given.budget).ok_or(PlanFail::Usage)?;
+    let links = kind_of(given.links).ok_or(PlanFail::Usage)?;
+    let infrastructure = infrastructure_given(given.infrastructure).ok_or(PlanFail::Usage)?;
+    Ok(Plan::Resume {
+        source: Word::new(alloc, file)?,
+        saved: Word::new(alloc, saved)?,
+        budget,
+        history: given.history,
+        high: given.high,
+        serial: given.serial,
+        links,
+        infrastructure,
+    })
 }
 
 /// The past of the line that the words say.
@@ -364,15 +334,9 @@ fn load_of(file: &str, given: &Given<'_>) -> Result<Plan, PlanFail>
     ensures plans { spec.Plans (spec.load_of file.now (seen given.now)) result }
     ensures limits { IfOk result spec.IsWithinLimits }
 {
-    let Some(agents) = number_of(MOST_DIGITS, MOST_AGENTS, file) else {
-        return Err(PlanFail::Usage);
-    };
-    let Some(links) = kind_of(given.links) else {
-        return Err(PlanFail::Usage);
-    };
-    let Some(infrastructure) = infrastructure_given(given.infrastructure) else {
-        return Err(PlanFail::Usage);
-    };
+    let agents = number_of(MOST_DIGITS, MOST_AGENTS, file).ok_or(PlanFail::Usage)?;
+    let links = kind_of(given.links).ok_or(PlanFail::Usage)?;
+    let infrastructure = infrastructure_given(given.infrastructure).ok_or(PlanFail::Usage)?;
     Ok(Plan::Load {
         agents,
         serial: given.serial,

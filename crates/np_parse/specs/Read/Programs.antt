@@ -1,5 +1,5 @@
 -- How programs are read, from left to right (docs/LANGUAGE.md, "Grammar" and "Depth").
-use Rattle.std.specs.Prelude.{ℕ, Bool, true, false, List, [], ◌∷◌, ◌++◌, Result, Ok, Err}
+use Rattle.std.specs.Prelude.{ℕ, Bool, true, false, List, [], ◌∷◌, ◌++◌, Ok, Err}
 use Rattle.np_lex.specs.declared.token.Key.TheVariants as key
 use Rattle.np_lex.specs.declared.token.Sign.TheVariants as sign
 use Rattle.np_lex.specs.declared.token.Token.{Token}
@@ -8,7 +8,6 @@ use Rattle.np_lex.specs.declared.token.What.TheVariants as what
 use Rattle.np_tree.specs.declared.tree.Ident.{Ident}
 use Rattle.np_tree.specs.declared.tree.Tree.{Tree}
 use Rattle.np_tree.specs.Grammar.{ident}
-use Rattle.np_parse.specs.declared.fail.ParseFail.{ParseFail}
 use Rattle.np_parse.specs.declared.fail.ParseFail.TheVariants as fail
 use Rattle.np_parse.specs.Input.{Outcome, Parser, ◌>>=◌, ◌>>◌, pure, syntax, name, expect_sign, expect_word, expect_end}
 use Rattle.np_parse.specs.Read.Processes.{proc}
@@ -27,11 +26,6 @@ site_by again found t ts _ = Err (syntax (t ∷ ts), t ∷ ts)
 unfoldable pub sites : List Ident → Parser (List Ident)
 sites found [] = Err (fail.Syntax 0, [])
 sites found (t ∷ ts) = site_by (λ more. sites more ts) found t ts t.what
-
--- these sites, where they were read
-abbrev pub filled : {A : Type 0} → List Ident → Result A ParseFail → Result (List Ident) ParseFail
-filled found (Ok _) = Ok found
-filled found (Err e) = Err e
 
 -- from `sites` to the `=` before main's process
 unfoldable pub program_head : Parser (List Ident × Ident)

@@ -12,23 +12,32 @@ put_expr-returns-in-Tuple t c =
     let text = ap (expr_form_text c.args.sites.now c.args.level) c.in-Tuple.is ∙ text-tuple c.args.sites.now c.args.level c.in-Tuple.parts in
     on_same c.put_tuple.result c.put_tuple.new.text (rw (parts, text)) c.put_tuple.ensures
 
-pub put_expr-returns-in-Bin : goal.put_expr-returns-in-Bin
-put_expr-returns-in-Bin t c =
-    on_same c.put_second.result c.put_second.new.text (bin_steps c.args.sites.now c.args.level c.args.text.now c.in-Bin.x c.in-Bin.y c.in-Bin.is c.strength.ensures) (c.put_second.ensures _ c.put_first-begun.ensures)
+pub put_expr-returns-in_ok-put_operand-in-Bin-2 : goal.put_expr-returns-in_ok-put_operand-in-Bin-2
+put_expr-returns-in_ok-put_operand-in-Bin-2 t c =
+    on_same c.close_round.result c.close_round.new.text
+    (bin_steps c.args.sites.now c.args.level c.args.text.now c.in-Bin.x c.in-Bin.y c.in-Bin.is c.strength.ensures c.left.ensures c.right.ensures c.in_ok-open_round-in-Bin.ensures c.in_ok-put_operand-in-Bin.ensures
+    c.in_ok-put_op-in-Bin.ensures c.in_ok-put_operand-in-Bin-2.ensures)
+    c.close_round.ensures
 
-pub put_expr-returns-in-Pack : goal.put_expr-returns-in-Pack
-put_expr-returns-in-Pack t c =
-    let is = c.in-Pack in
-    on_same c.put_operand.result c.put_operand.new.text (pack_steps c.args.sites.now c.args.text.now c.args.level is.chan is.value is.is) (c.put_operand.ensures _ (c.put_operand-begun.ensures _ c.put_words-begun.ensures))
+pub put_expr-returns-in_ok-put_operand-in-Pack-2 : goal.put_expr-returns-in_ok-put_operand-in-Pack-2
+put_expr-returns-in_ok-put_operand-in-Pack-2 t c =
+    on_same c.put_words-in-Pack-2.result c.put_words-in-Pack-2.new.text
+    (pack_steps c.args.sites.now c.args.text.now c.args.level c.in-Pack.chan c.in-Pack.value c.in-Pack.is c.in_ok-put_words-in-Pack.ensures c.in_ok-put_operand-in-Pack.ensures
+    c.in_ok-put_words-in-Pack-2.ensures c.in_ok-put_operand-in-Pack-2.ensures)
+    c.put_words-in-Pack-2.ensures
 
-pub put_expr-returns-in-With : goal.put_expr-returns-in-With
-put_expr-returns-in-With t c =
-    let is = c.in-With in
-    on_same c.put_operand-in-With.result c.put_operand-in-With.new.text (with_steps c.args.sites.now c.args.text.now c.args.level is.places is.agent is.lock is.is)
-    (c.put_operand-in-With.ensures _ (c.put_operand-begun-in-With-2.ensures _ (c.put_operand-begun-in-With.ensures _ c.put_words-begun-in-With.ensures)))
+pub put_expr-returns-in_ok-put_operand-in-With-3 : goal.put_expr-returns-in_ok-put_operand-in-With-3
+put_expr-returns-in_ok-put_operand-in-With-3 t c =
+    on_same c.put_words-in-With-4.result c.put_words-in-With-4.new.text
+    (with_steps c.args.sites.now c.args.text.now c.args.level c.in-With.places c.in-With.agent c.in-With.lock c.in-With.is c.in_ok-put_words-in-With.ensures c.in_ok-put_operand-in-With.ensures
+    c.in_ok-put_words-in-With-2.ensures c.in_ok-put_operand-in-With-2.ensures c.in_ok-put_words-in-With-3.ensures c.in_ok-put_operand-in-With-3.ensures)
+    c.put_words-in-With-4.ensures
 
 pub put_exprs-loop-other-preserved : goal.put_exprs-loop-other-preserved
 put_exprs-loop-other-preserved t c = grind (arith, common_steps)
 
 pub put_exprs-returns : goal.put_exprs-returns
 put_exprs-returns t c = grind (arith, common_steps)
+
+pub put_expr-returns-in_err-put_operand-in-With-3 : goal.put_expr-returns-in_err-put_operand-in-With-3
+put_expr-returns-in_err-put_operand-in-With-3 t c = grind (arith, common_steps)

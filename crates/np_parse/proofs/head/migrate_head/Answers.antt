@@ -3,6 +3,6 @@ use Rattle.std.proofs.lemmas.Grind.{common_steps}
 use Rattle.np_parse.specs.Read.Heads.{migrate_head}
 use Rattle.np_parse.proofs.head.migrate_head.Goals as goal
 
-pub returns-in_ok-expect_sign-in-Ok : goal.returns-in_ok-expect_sign-in-Ok
+pub returns : goal.returns
 unfolding migrate_head
-returns-in_ok-expect_sign-in-Ok c = grind (arith, common_steps)
+returns c = grind (arith, common_steps)

@@ -3,6 +3,6 @@ use Rattle.std.proofs.lemmas.Grind.{common_steps}
 use Rattle.np_parse.specs.Read.Programs.{program}
 use Rattle.np_parse.proofs.programs.program.Goals as goal
 
-pub returns-in_ok-expect_end-in-Ok : goal.returns-in_ok-expect_end-in-Ok
+pub returns : goal.returns
 unfolding program
-returns-in_ok-expect_end-in-Ok c = grind (arith, common_steps)
+returns c = grind (arith, common_steps)

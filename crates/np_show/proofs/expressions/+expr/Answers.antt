@@ -12,9 +12,12 @@ put_expr-returns-in-Tuple t c =
     let text = ap (expr_form_text c.args.level) c.in-Tuple.is ∙ text-tuple c.args.level c.in-Tuple.parts in
     on_same c.put_tuple.result c.put_tuple.new.text (rw (parts, text)) c.put_tuple.ensures
 
-pub put_expr-returns-in-Bin : goal.put_expr-returns-in-Bin
-put_expr-returns-in-Bin t c =
-    on_same c.put_second.result c.put_second.new.text (bin_steps c.args.level c.args.text.now c.in-Bin.x c.in-Bin.y c.in-Bin.is c.strength.ensures) (c.put_second.ensures _ c.put_first-begun.ensures)
+pub put_expr-returns-in_ok-put_operand-in-Bin-2 : goal.put_expr-returns-in_ok-put_operand-in-Bin-2
+put_expr-returns-in_ok-put_operand-in-Bin-2 t c =
+    on_same c.close_round.result c.close_round.new.text
+    (bin_steps c.args.level c.args.text.now c.in-Bin.x c.in-Bin.y c.in-Bin.is c.strength.ensures c.left.ensures c.right.ensures c.in_ok-open_round-in-Bin.ensures c.in_ok-put_operand-in-Bin.ensures
+    c.in_ok-put_op-in-Bin.ensures c.in_ok-put_operand-in-Bin-2.ensures)
+    c.close_round.ensures
 
 pub put_exprs-returns : goal.put_exprs-returns
 put_exprs-returns t c = grind (arith, common_steps)

@@ -6,9 +6,8 @@ use Rattle.np_show.proofs.processes.+process.Goals as goal
 
 pub put_proc-returns-in_ok-put_part-in-Par : goal.put_proc-returns-in_ok-put_part-in-Par
 put_proc-returns-in_ok-put_part-in-Par t c =
-    let is = c.in-Par in
     on_same c.close_round.result c.close_round.new.text
-    (par_steps c.args.text.now c.args.bracket is.p is.q is.is (c.in_ok-put_part-in-Par.ensures _ (c.put_left-begun.ensures _ c.open_round.ensures)))
+    (par_steps c.args.text.now c.args.bracket c.in-Par.p c.in-Par.q c.in-Par.is c.in_ok-open_round-in-Par.ensures c.in_ok-put_left-in-Par.ensures c.in_ok-put_part-in-Par.ensures)
     c.close_round.ensures
 
 pub put_proc-returns-in-New : goal.put_proc-returns-in-New
@@ -26,25 +25,27 @@ put_proc-returns-in-Rep t c =
     let is = c.in-Rep in
     on_same c.put_always.result c.put_always.new.text (rep_steps c.args.text.now c.args.bracket is.c is.pat is.p is.is) c.put_always.ensures
 
-pub put_proc-returns-in-Agent : goal.put_proc-returns-in-Agent
-put_proc-returns-in-Agent t c =
+pub put_proc-returns-in_ok-put_left-in-Agent : goal.put_proc-returns-in_ok-put_left-in-Agent
+put_proc-returns-in_ok-put_left-in-Agent t c =
     let is = c.in-Agent in
-    on_same c.put_part-in-Agent.result c.put_part-in-Agent.new.text (agent_steps c.args.text.now c.args.bracket is.b is.p is.q is.is) (c.put_part-in-Agent.ensures _ (c.put_left-begun-in-Agent.ensures _ c.put_agent.ensures))
+    on_same c.put_part-in-Agent.result c.put_part-in-Agent.new.text (agent_steps c.args.text.now c.args.bracket is.b is.p is.q is.is c.in_ok-put_agent-in-Agent.ensures c.in_ok-put_left-in-Agent.ensures) c.put_part-in-Agent.ensures
 
 pub put_proc-returns-in-Migrate : goal.put_proc-returns-in-Migrate
 put_proc-returns-in-Migrate t c =
     let is = c.in-Migrate in
     on_same c.put_migrate.result c.put_migrate.new.text (migrate_steps c.args.text.now c.args.bracket is.site is.p is.is) c.put_migrate.ensures
 
-pub put_proc-returns-in-IfLocal : goal.put_proc-returns-in-IfLocal
-put_proc-returns-in-IfLocal t c =
+pub put_proc-returns-in_ok-put_left-in-IfLocal : goal.put_proc-returns-in_ok-put_left-in-IfLocal
+put_proc-returns-in_ok-put_left-in-IfLocal t c =
     let is = c.in-IfLocal in
-    on_same c.put_part-in-IfLocal.result c.put_part-in-IfLocal.new.text (iflocal_steps c.args.text.now c.args.bracket is.b is.c is.x is.p is.q is.is) (c.put_part-in-IfLocal.ensures _ (c.put_left-begun-in-IfLocal.ensures _ c.put_iflocal-begun.ensures))
+    on_same c.put_part-in-IfLocal.result c.put_part-in-IfLocal.new.text
+    (iflocal_steps c.args.text.now c.args.bracket is.b is.c is.x is.p is.q is.is c.in_ok-put_iflocal-in-IfLocal.ensures c.in_ok-put_left-in-IfLocal.ensures)
+    c.put_part-in-IfLocal.ensures
 
-pub put_proc-returns-in-If : goal.put_proc-returns-in-If
-put_proc-returns-in-If t c =
+pub put_proc-returns-in_ok-put_left-in-If : goal.put_proc-returns-in_ok-put_left-in-If
+put_proc-returns-in_ok-put_left-in-If t c =
     let is = c.in-If in
-    on_same c.put_part-in-If.result c.put_part-in-If.new.text (if_steps c.args.text.now c.args.bracket is.test is.p is.q is.is) (c.put_part-in-If.ensures _ (c.put_left-begun-in-If.ensures _ c.put_if-begun.ensures))
+    on_same c.put_part-in-If.result c.put_part-in-If.new.text (if_steps c.args.text.now c.args.bracket is.test is.p is.q is.is c.in_ok-put_if-in-If.ensures c.in_ok-put_left-in-If.ensures) c.put_part-in-If.ensures
 
 pub put_proc-returns-in-Let : goal.put_proc-returns-in-Let
 put_proc-returns-in-Let t c =

@@ -6,5 +6,5 @@ use Rattle.np_show.proofs.written.show.Goals as goal
 
 pub returns-clause-law : goal.returns-clause-law
 returns-clause-law c =
-    let text : c.put_tree.new.text ≡ shown c.args.tree.now = search rules in
+    let text : c.append-5.new.self ≡ shown c.args.tree.now = search rules in
     subst (λ t. ReadsBack t c.args.tree.now) (sym text) (reads_back c.args.tree.now)

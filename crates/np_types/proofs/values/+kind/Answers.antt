@@ -1,6 +1,6 @@
 use Rattle.std.proofs.lemmas.Grind.{common_steps}
 use Rattle.std.proofs.Common.{sym, ◌∙◌, arith}
-use Rattle.np_types.proofs.ValueTypes.{told, kind-int, kind-truth, kind-str, kind-site, kind-agent, kind-chan, kind-letter, kind-tuple, places_none, places_some, value_types}
+use Rattle.np_types.proofs.ValueTypes.{told, kind-int, kind-truth, kind-str, kind-site, kind-agent, kind-chan, kind-letter, places_none, places_some, value_types}
 use Rattle.np_types.proofs.values.+kind.Goals as goal
 
 pub kind-returns-in-Int : goal.kind-returns-in-Int
@@ -30,11 +30,11 @@ kind-returns-then-len-eq0 t c = told c.in-Places.is (places_none c.in-Places.pla
 pub kind-returns-else-len-eq0 : goal.kind-returns-else-len-eq0
 kind-returns-else-len-eq0 t c = told c.in-Places.is (places_some c.in-Places.places (λ e. c.if-len-eq0.false (c.len.ensures ∙ e)))
 
-pub kind-returns-in-Tuple : goal.kind-returns-in-Tuple
-kind-returns-in-Tuple t c = rw (c.in-Tuple.is, kind-tuple, ← c.as_slice.ensures) (c.tupled.ensures _ c.kinds.ensures)
+pub kind-returns-in-Some : goal.kind-returns-in-Some
+kind-returns-in-Some t c = grind (arith, common_steps, value_types)
 
 pub kinds-loop-value-preserved : goal.kinds-loop-value-preserved
 kinds-loop-value-preserved t c = grind (arith, common_steps, value_types)
 
-pub kinds-returns-in-Ok-None : goal.kinds-returns-in-Ok-None
-kinds-returns-in-Ok-None t c = grind (arith, common_steps, value_types)
+pub kinds-returns-in_default : goal.kinds-returns-in_default
+kinds-returns-in_default t c = grind (arith, common_steps, value_types)

@@ -3,7 +3,7 @@ use Rattle.np_syntax.specs.declared.event.Kind.TheVariants as kind
 use Rattle.np_syntax.specs.declared.event.Made.TheVariants as made
 use Rattle.np_syntax.proofs.Options.{none_there}
 use Rattle.agent_pool.proofs.Missing.{no-form, par-missing}
-use Rattle.agent_pool.proofs.Rows.{made-as, forks}
+use Rattle.agent_pool.proofs.Rows.{forks}
 use Rattle.agent_pool.proofs.agent.Agent.after_fork.Goals as goal
 
 pub unreachable-requires : goal.unreachable-requires
@@ -15,4 +15,4 @@ unreachable-requires-in_default-form c =
     (par-missing c.args.code.now.processes c.in-Some.node.now.form c.in_default-form.not-Par) c.requires
 
 pub returns : goal.returns
-returns c = made-as _ _ _ (c.both.ensures _ c.copy.ensures) (forks c.in-Some.ensures _ _ _ c.in-Par.is c.requires)
+returns c = rw (c.in_ok-own.ensures, c.in_ok-other.ensures) (forks c.in-Some.ensures _ _ _ c.in-Par.is c.requires)

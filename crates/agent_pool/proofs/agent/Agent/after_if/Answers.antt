@@ -5,7 +5,7 @@ use Rattle.np_syntax.proofs.Options.{none_there}
 use Rattle.np_calculus.specs.Reductions.{act}
 use Rattle.agent_pool.proofs.Acting.{row-met}
 use Rattle.agent_pool.proofs.Missing.{no-form, if-missing}
-use Rattle.agent_pool.proofs.Rows.{made-as, first-there, goes-if}
+use Rattle.agent_pool.proofs.Rows.{first-there, goes-if}
 use Rattle.agent_pool.proofs.agent.Agent.after_if.Goals as goal
 use Rattle.agent_pool.proofs.agent.Agent.after_if.Goals.{then-truth, else-truth}
 
@@ -29,4 +29,4 @@ returns c =
       | then-truth w ↦ w.next-is ∙ ap (λ t. cond t c.in-If.met c.in-If.unmet) (sym w.if-truth.true)
       | else-truth w ↦ w.next-is ∙ ap (λ t. cond t c.in-If.met c.in-If.unmet) (sym w.if-truth.false)
     ] in
-    made-as _ _ _ c.under.ensures (rw (next) (goes-if c.in-Some.ensures _ _ _ c.in-If.is c.requires _ (sym c.in-Some-2.is ∙ c.in_ok-truth.ensures)))
+    rw (c.in_ok-copy.ensures, next) (goes-if c.in-Some.ensures _ _ _ c.in-If.is c.requires _ (sym c.in-Some-2.is ∙ c.in_ok-truth.ensures))

@@ -7,7 +7,7 @@ use Rattle.np_eval.specs.Eval.{places_of}
 use Rattle.np_calculus.specs.Reductions.{act}
 use Rattle.agent_pool.proofs.Acting.{row-met}
 use Rattle.agent_pool.proofs.Missing.{no-form, lookup-missing}
-use Rattle.agent_pool.proofs.Rows.{made-as, first-there, next-there, finds, misses}
+use Rattle.agent_pool.proofs.Rows.{first-there, next-there, finds, misses}
 use Rattle.agent_pool.proofs.agent.Agent.after_look.Goals as goal
 
 pub unreachable-requires : goal.unreachable-requires
@@ -32,10 +32,10 @@ unreachable-requires-in_default-2 c =
 
 pub returns-in_default-found : goal.returns-in_default-found
 returns-in_default-found c =
-    made-as _ _ _ c.under.ensures (misses c.in-Some.ensures _ _ _ _ _ c.in-Lookup.is c.requires _ c.in-Some-agent_of.ensures
+    rw (c.in_ok-env.ensures) (misses c.in-Some.ensures _ _ _ _ _ c.in-Lookup.is c.requires _ c.in-Some-agent_of.ensures
     (ap Some (sym c.in_default-found.is) ∙ sym c.in-Some-2.is ∙ c.in_ok-found.ensures.found))
 
 pub returns : goal.returns
 returns c =
-    made-as _ _ _ (c.over.ensures _ c.extended.ensures) (finds c.in-Some.ensures _ _ _ _ _ c.in-Lookup.is c.requires _ c.in-Some-agent_of.ensures _
+    rw (c.in_ok-set.ensures.ok, c.in_ok-env.ensures) (finds c.in-Some.ensures _ _ _ _ _ c.in-Lookup.is c.requires _ c.in-Some-agent_of.ensures _
     (ap Some (sym c.in-Some-found.is) ∙ sym c.in-Some-2.is ∙ c.in_ok-found.ensures.found))

@@ -3,7 +3,7 @@ use Rattle.np_syntax.specs.declared.event.Kind.TheVariants as kind
 use Rattle.np_syntax.specs.declared.event.Made.TheVariants as made
 use Rattle.np_syntax.proofs.Options.{none_there}
 use Rattle.agent_pool.proofs.Missing.{no-form, iflocal-missing}
-use Rattle.agent_pool.proofs.Rows.{made-as, passes}
+use Rattle.agent_pool.proofs.Rows.{passes}
 use Rattle.agent_pool.proofs.agent.Agent.after_passed.Goals as goal
 
 pub unreachable-requires : goal.unreachable-requires
@@ -15,4 +15,4 @@ unreachable-requires-in_default-form c =
     (iflocal-missing c.args.code.now.processes c.in-Some.node.now.form c.in_default-form.not-IfLocal) c.requires
 
 pub returns : goal.returns
-returns c = made-as _ _ _ c.under.ensures (passes c.in-Some.ensures _ _ _ _ _ c.in-IfLocal.is c.requires)
+returns c = rw (c.in_ok-copy.ensures) (passes c.in-Some.ensures _ _ _ _ _ c.in-IfLocal.is c.requires)

@@ -5,7 +5,7 @@ use Rattle.np_syntax.proofs.Options.{none_there}
 use Rattle.np_calculus.specs.Reductions.{act}
 use Rattle.agent_pool.proofs.Acting.{row-met}
 use Rattle.agent_pool.proofs.Missing.{no-form, iflocal-missing}
-use Rattle.agent_pool.proofs.Rows.{made-as, first-there, next-there, tells}
+use Rattle.agent_pool.proofs.Rows.{first-there, next-there, tells}
 use Rattle.agent_pool.proofs.agent.Agent.after_told.Goals as goal
 
 pub unreachable-requires : goal.unreachable-requires
@@ -36,5 +36,5 @@ unreachable-requires-in_default-2 c =
 
 pub returns : goal.returns
 returns c =
-    made-as _ _ _ (c.with_packet.ensures _ c.under.ensures) (tells c.in-Some.ensures c.args.mark _ _ _ _ _ c.in-IfLocal.is c.requires _ c.in-Some-agent_of.ensures _
+    rw (c.in_ok-copy.ensures) (tells c.in-Some.ensures c.args.mark _ _ _ _ _ c.in-IfLocal.is c.requires _ c.in-Some-agent_of.ensures _
     c.in-Some-chan_of.ensures _ (sym c.in-Some-2.is ∙ c.in_ok-value.ensures))

@@ -10,11 +10,16 @@ invariant_of-self c = rw (c.remove.ensures.items) (kept-landed c.self.invariant 
 
 pub invariant_of-self-2 : goal.invariant_of-self-2
 invariant_of-self-2 c =
-    let p = c.in-Some.packet.now in
-    let flies : map.get c.self.inside.packets.items c.args.e.now.actor ≡ Some p = search rules in
-    rw (c.in_ok-file.ensures.ok, c.put_landed.ensures.atoms p flies, c.in_ok-file.ensures.atoms, c.put_landed.ensures.packets)
-    (kept-output (kept-landed c.self.invariant c.args.e.now.actor) c.args.e.now.actor p.agent p.chan
-    p.value c.args.e.now.tag (kept-flight c.self.invariant c.args.e.now.actor p flies))
+    let flies : map.get c.self.inside.packets.items c.args.e.now.actor ≡ Some c.in_ok-packet.packet.now = search rules in
+    rw (c.in_ok-file.ensures.ok, c.put.ensures.items, c.in_ok-file.ensures.atoms, c.take.ensures.items, c.output_in-made.ensures)
+    (kept-output (kept-landed c.self.invariant c.args.e.now.actor) c.args.e.now.actor c.in_ok-packet.packet.now.agent c.in_ok-packet.packet.now.chan
+    c.in-Some.packet.value c.args.e.now.tag (kept-flight c.self.invariant c.args.e.now.actor c.in_ok-packet.packet.now flies))
+
+pub put-requires : goal.put-requires
+put-requires c = grind (arith, common_steps)
+
+pub unreachable-requires : goal.unreachable-requires
+unreachable-requires c = grind (arith, common_steps)
 
 pub invariant_of-self-in_err-file : goal.invariant_of-self-in_err-file
 invariant_of-self-in_err-file c = grind (arith, common_steps)

@@ -5,5 +5,5 @@ use Rattle.np_configuration.proofs.cfg.Cfg.apply_let.Goals as goal
 pub enter-requires : goal.enter-requires
 enter-requires c = (let-step c.args.self.now c.args.e.now _ c.in_ok-entry.ensures).can
 
-pub returns-in-Ok : goal.returns-in-Ok
-returns-in-Ok c = let s = let-step c.args.self.now c.args.e.now _ c.in_ok-entry.ensures in s.gives ∙ ap Some (sym (c.in-Ok.ensures.ok.each s.can))
+pub returns : goal.returns
+returns c = let s = let-step c.args.self.now c.args.e.now _ c.in_ok-entry.ensures in s.gives ∙ ap Some (sym (c.in_ok-enter.ensures.ok.each s.can))

@@ -8,5 +8,5 @@ use Rattle.np_configuration.proofs.cfg.Cfg.apply_open.Goals as goal
 pub stand-requires : goal.stand-requires
 stand-requires c = stands as_open open_more c.args.self.now c.args.e.now _ c.in_ok-atom.ensures
 
-pub returns-in-Ok : goal.returns-in-Ok
-returns-in-Ok c = row-gives _ _ (stood c.args.self.now c.args.e.now.actor) c.in_ok-atom.ensures ∙ ap Some (sym c.in-Ok.ensures.ok)
+pub returns : goal.returns
+returns c = row-gives _ _ (stood c.args.self.now c.args.e.now.actor) c.in_ok-atom.ensures ∙ ap Some (sym c.in_ok-stand.ensures.ok)

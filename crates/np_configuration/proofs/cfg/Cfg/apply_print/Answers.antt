@@ -2,5 +2,5 @@ use Rattle.std.proofs.Common.{arith}
 use Rattle.std.proofs.lemmas.Grind.{common_steps}
 use Rattle.np_configuration.proofs.cfg.Cfg.apply_print.Goals as goal
 
-pub returns-in-Ok : goal.returns-in-Ok
-returns-in-Ok c = grind (arith, common_steps)
+pub returns : goal.returns
+returns c = grind (arith, common_steps)

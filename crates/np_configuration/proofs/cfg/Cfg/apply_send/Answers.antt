@@ -8,5 +8,5 @@ use Rattle.np_configuration.proofs.cfg.Cfg.apply_send.Goals as goal
 pub fly-requires : goal.fly-requires
 fly-requires c = stands as_send send_more c.args.self.now c.args.e.now _ c.in_ok-packet.ensures
 
-pub returns-in-Ok : goal.returns-in-Ok
-returns-in-Ok c = row-gives _ _ (flown c.args.self.now c.args.e.now.actor) c.in_ok-packet.ensures ∙ ap Some (sym c.in-Ok.ensures.ok)
+pub returns : goal.returns
+returns c = row-gives _ _ (flown c.args.self.now c.args.e.now.actor) c.in_ok-packet.ensures ∙ ap Some (sym c.in_ok-fly.ensures.ok)

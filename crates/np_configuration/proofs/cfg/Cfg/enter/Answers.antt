@@ -7,5 +7,5 @@ use Rattle.np_configuration.proofs.cfg.Cfg.enter.Goals as goal
 pub invariant_of-self-2 : goal.invariant_of-self-2
 invariant_of-self-2 c =
     let s = c.requires in
-    entered-kept c.self.view_is c.args.actor s c.self.invariant c.args.made c.in_ok-file_born.ensures.ok (atoms-entered c.self.view_is c.args.actor s c.in_ok-file_born.ensures.atoms c.enter.ensures)
-    (c.bear.ensures ∙ ap (λ (x : NameSet). with_made x c.args.made) c.in_ok-file_born.ensures.born)
+    entered-kept c.self.view_is c.args.actor s c.self.invariant c.args.made c.in_ok-file.ensures.ok (atoms-entered c.self.view_is c.args.actor s c.in_ok-file.ensures.atoms c.enter.ensures)
+    (c.bear.ensures ∙ ap (λ (x : NameSet). with_made x c.args.made) c.in_ok-reserve.ensures.members)

@@ -2,8 +2,8 @@ use Rattle.std.proofs.Common.{arith}
 use Rattle.std.proofs.lemmas.Grind.{common_steps}
 use Rattle.np_configuration.proofs.cfg.Cfg.find_rep.Goals as goal
 
-pub returns-in-Ok : goal.returns-in-Ok
-returns-in-Ok c = grind (arith, common_steps)
+pub returns : goal.returns
+returns c = grind (arith, common_steps)
 
 pub returns-in_default-none_made : goal.returns-in_default-none_made
 returns-in_default-none_made c = grind (arith, common_steps)

@@ -1,7 +1,7 @@
 use Rattle.std.proofs.Common.{arith}
 use Rattle.std.proofs.lemmas.Grind.{common_steps}
 use Rattle.np_parse.proofs.Sites.{sites_refused, sites_ended, sites_unended, sites_stuck, sites_step, name_takes}
-use Rattle.np_parse.proofs.programs.more_sites.Goals as goal
+use Rattle.np_parse.proofs.programs.sites.Goals as goal
 
 pub returns-then-ends : goal.returns-then-ends
 returns-then-ends c = grind (arith, common_steps, sites_refused, sites_ended, sites_unended, sites_stuck, sites_step, name_takes)
