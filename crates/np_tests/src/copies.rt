@@ -1,6 +1,6 @@
 //! Copies of programs of both levels, in which each form of a process stands.
 
-use super::levels::checked;
+use super::sources::checked;
 use cache_encode::encode_cached;
 use np_check::Checked;
 use np_syntax::{LowProgram, Memory, Program, Tag};

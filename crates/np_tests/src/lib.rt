@@ -5,13 +5,9 @@
 #[cfg(test)]
 mod adapters;
 #[cfg(test)]
-mod caches;
-#[cfg(test)]
 mod copies;
 #[cfg(test)]
 mod gates;
-#[cfg(test)]
-mod levels;
 #[cfg(test)]
 mod links;
 #[cfg(test)]
@@ -22,6 +18,8 @@ mod low_values;
 mod nodes;
 #[cfg(test)]
 mod numbers;
+#[cfg(test)]
+mod sources;
 #[cfg(test)]
 mod tables;
 #[cfg(test)]

@@ -1,4 +1,4 @@
-//! Links: an item that is put in a round is taken in that round, and one that is settled is taken after it.
+//! Links: an item that is put in a round is taken in that round.
 
 ghost use Rattle.std.specs.Prelude.{◌≡◌, ◌<◌};
 
@@ -6,7 +6,7 @@ use agent_move::{Item, pack_packet};
 use crew_inboxes::Inboxes;
 use np_calculus::Packet;
 use np_syntax::{Memory, Name, Role, Tag, Value};
-use site_links::{Port, Rings, Tray};
+use site_links::{Port, Rings};
 use std::alloc::Global;
 use std::sync::atomic::{AtomicBool, Ordering};
 use std::thread::{Threads, join_mut};
@@ -122,37 +122,6 @@ fn rings_carry_items_within_a_round(rt: HostRuntime) {
 fn inboxes_carry_items_within_a_round(rt: HostRuntime) {
     assert_eq!(rt;
         goes_within_a_round::<HostRuntime, Inboxes>(&rt, rt.alloc()),
-        Ok(true)
-    );
-}
-
-/// Puts one item, settles the link, and takes it.
-fn passes<R, P: Port<R, Item>>(rt: &R, sender: &mut P, receiver: &mut P, from: u32, to: u32) -> bool
-    requires { (to < P.among sender.old) × (from ≡ P.site sender.old) × ∥ P.linked sender.old receiver.old ∥₁ }
-{
-    let put = sender.put(rt, to, parcel(from, to, 1)).is_ok();
-    sender.settle(rt, receiver);
-    match receiver.take(rt) {
-        Some(item) => put && item.stamp() == 1,
-        None => false,
-    }
-}
-
-/// Whether an item goes from the first of two sites to the second where their link is settled.
-fn goes_by_settling<R, P: Port<R, Item>>(rt: &R, alloc: Global) -> Result<bool, Memory> {
-    let mut ports = P::make(alloc, 2)?;
-    let (left, right) = ports.as_mut_slice().split_at_mut(1);
-    Ok(passes(rt, &mut left[0], &mut right[0], 0, 1))
-}
-
-#[test]
-fn settled_links_give_what_was_put(rt: HostRuntime) {
-    assert_eq!(rt;
-        goes_by_settling::<HostRuntime, Rings<Item>>(&rt, rt.alloc()),
-        Ok(true)
-    );
-    assert_eq!(rt;
-        goes_by_settling::<HostRuntime, Tray<Item>>(&rt, rt.alloc()),
         Ok(true)
     );
 }

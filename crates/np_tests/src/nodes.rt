@@ -1,6 +1,6 @@
 //! Tables of nodes, each of which gives back the low program that it was made of.
 
-use super::levels::{LETTER, SHOP, TOUR, checked};
+use super::sources::{LETTER, SHOP, TOUR, checked};
 use daemon_encode::encode;
 use np_check::Checked;
 use np_code::{Code, flatten, unflatten};
