@@ -10,7 +10,7 @@ use Rattle.np_modes.specs.Readings.{IsText}
 use Rattle.np_modes.specs.Causes.{HasMade, RefusesPlan, Stands}
 use Rattle.np_run.specs.Answers.{Call, HasCauses, IsRefused}
 use Rattle.np_outcomes.specs.Laws.{IsTold}
-use Rattle.np_run.specs.declared.answer.Answer.{Answer}
+use Rattle.np_answers.specs.declared.answer.Answer.{Answer}
 
 -- ---- plans and texts
 

@@ -21,7 +21,7 @@ use Rattle.np_histories.specs.declared.limits.TheConstants.{LONGEST_HISTORY}
 use Rattle.np_sources.specs.Reaches.{Reach, TakenTo, FaultyTo, IsLowOf, reach_of}
 use Rattle.np_modes.specs.Causes.{IsFit, IsUnfit, Stands}
 use Rattle.np_run.specs.Answers.{Call, HasCauses, IsRefused}
-use Rattle.np_run.specs.declared.answer.Answer.{Answer}
+use Rattle.np_answers.specs.declared.answer.Answer.{Answer}
 
 -- the name holds these bytes, and no read of it failed
 pub record IsTold (call : Call) (name bytes : List ℕ) : Type 0 where

@@ -1,5 +1,5 @@
--- An answer has its cause, where what was made was written, or the line of a refusal.
-use Rattle.std.proofs.Common.{◌≡◌, ◌≢◌, ℕ, ◌+◌, ◌≤◌, ◌⊎◌, not, T, List, [], Option, None, Some, inl, inr, refl, sym, ◌∙◌, append-nil, arith}
+-- An answer has its cause, where what the call made, or its refusal, has its own.
+use Rattle.std.proofs.Common.{◌≡◌, ◌≢◌, ℕ, ◌+◌, ◌≤◌, ◌⊎◌, not, T, Option, None, Some, Result, Ok, Err, IfOk, IfErr, inl, inr, refl, sym, subst, ◌∙◌, arith}
 use Rattle.std.proofs.Math.Dec.{eqb}
 use Rattle.std.proofs.Math.Facts.{eqb_no}
 use Rattle.std.specs.Io.KnownBytes.{Appends, Keeps}
@@ -8,10 +8,13 @@ use Rattle.np_syntax.specs.declared.event.End.TheVariants.{Rest, Spent}
 use Rattle.np_serial.specs.declared.serial.SerialRun.{SerialRun}
 use Rattle.np_words.specs.Plans.{plan}
 use Rattle.np_verdict.specs.Lines.{line_of, status_of}
-use Rattle.np_modes.specs.Causes.{Stands, texts_read}
-use Rattle.np_verdict.specs.declared.statuses.TheConstants.{WRITE_FAILED}
-use Rattle.np_run.specs.Answers.{Call, ErrFailed, HasCauses, IsDone, IsRefused, IsStatus, IsWanting, end_status, status_at}
-use Rattle.np_run.specs.declared.answer.Answer.{Answer}
+use Rattle.np_sources.specs.declared.job.Job.{Job}
+use Rattle.np_modes.specs.Causes.{HasMade, Stands, texts_read}
+use Rattle.np_verdict.specs.declared.statuses.TheConstants.{BAD_HISTORY, BAD_SOURCE, NO_MEMORY, WRITE_FAILED}
+use Rattle.np_answers.specs.Answers.{Answers, end_status, status_at, without_run}
+use Rattle.np_answers.specs.declared.answer.Answer.{Answer}
+use Rattle.np_run.specs.Answers.{Call, ErrFailed, HasCauses, IsDone, IsRefused, IsStatus, IsWanting, OutFailed}
+use Rattle.np_run.proofs.Headlines.{headline}
 use Rattle.np_on_sites.specs.declared.record.Record.{Record}
 use Rattle.np_verdict.specs.declared.refusal.Refusal.{Refusal}
 use Rattle.np_verdict.specs.declared.refusal.Refusal.TheVariants.{Memory, Usage, ReadFault, TooLong, HistoryTooLong, HistSyntax, NotARun, NoLine, NotOurs, BudgetPast}
@@ -22,20 +25,11 @@ use Rattle.np_verdict.specs.declared.refusal.Refusal.TheVariants.{Unbound, SiteT
 unlike : {X : Type 0} {s m n : ℕ} → s ≡ m → T (not (eqb m n)) → s ≡ n → X
 unlike is apart e = absurd (eqb_no apart (sym is ∙ e))
 
-abbrev refusing : ℕ → Answer
-refusing status = record { status = status; kept = None; high = None }
-
 -- no more texts began than the words ask for
 abbrev Begins : Call → Type 0
 Begins call = call.texts.begins ≤ call.texts.begun + texts_read (plan call.words)
 
--- what is written of want of memory is nothing
-nothing_written : (a b : Option (List ℕ)) → Appends a b [] → Keeps a b
-nothing_written None b p = tt
-nothing_written (Some x) None p = absurd p
-nothing_written (Some x) (Some y) p = p ∙ append-nil x
-
-wanting : (call : Call) (status : ℕ) → status ≡ 6 → IsWanting call (refusing status) → Begins call → HasCauses call (refusing status)
+wanting : (call : Call) (status : ℕ) → status ≡ 6 → IsWanting call (without_run status) → Begins call → HasCauses call (without_run status)
 wanting call status is w b = record {
   done = λ e. unlike is tt e;
   spent = λ e. unlike is tt e;
@@ -49,7 +43,7 @@ wanting call status is w b = record {
   begins = b;
 }
 
-usage : (call : Call) (status : ℕ) → status ≡ 2 → IsRefused call (refusing status) Usage → Begins call → HasCauses call (refusing status)
+usage : (call : Call) (status : ℕ) → status ≡ 2 → IsRefused call (without_run status) Usage → Begins call → HasCauses call (without_run status)
 usage call status is r b = record {
   done = λ e. unlike is tt e;
   spent = λ e. unlike is tt e;
@@ -63,7 +57,7 @@ usage call status is r b = record {
   begins = b;
 }
 
-fault : (call : Call) (status : ℕ) → status ≡ 4 → IsRefused call (refusing status) ReadFault → Begins call → HasCauses call (refusing status)
+fault : (call : Call) (status : ℕ) → status ≡ 4 → IsRefused call (without_run status) ReadFault → Begins call → HasCauses call (without_run status)
 fault call status is r b = record {
   done = λ e. unlike is tt e;
   spent = λ e. unlike is tt e;
@@ -77,8 +71,8 @@ fault call status is r b = record {
   begins = b;
 }
 
-source : (call : Call) (status : ℕ) (refusal : Refusal) → status ≡ 3 → status_of refusal ≡ 3 → IsRefused call (refusing status) refusal
-    → Begins call → HasCauses call (refusing status)
+source : (call : Call) (status : ℕ) (refusal : Refusal) → status ≡ 3 → status_of refusal ≡ 3 → IsRefused call (without_run status) refusal
+    → Begins call → HasCauses call (without_run status)
 source call status refusal is of r b = record {
   done = λ e. unlike is tt e;
   spent = λ e. unlike is tt e;
@@ -92,8 +86,8 @@ source call status refusal is of r b = record {
   begins = b;
 }
 
-history : (call : Call) (status : ℕ) (refusal : Refusal) → status ≡ 7 → status_of refusal ≡ 7 → IsRefused call (refusing status) refusal
-    → Begins call → HasCauses call (refusing status)
+history : (call : Call) (status : ℕ) (refusal : Refusal) → status ≡ 7 → status_of refusal ≡ 7 → IsRefused call (without_run status) refusal
+    → Begins call → HasCauses call (without_run status)
 history call status refusal is of r b = record {
   done = λ e. unlike is tt e;
   spent = λ e. unlike is tt e;
@@ -107,65 +101,42 @@ history call status refusal is of r b = record {
   begins = b;
 }
 
--- the line of the refusal was written
-pub record Told (call : Call) (refusal : Refusal) : Type 0 where
-  pub stands : refusal ≢ Memory → Stands call.words call.texts refusal
-  pub out : Keeps call.out.old call.out.new
-  pub err : Appends call.err.old call.err.new (line_of refusal)
-  pub begins : Begins call
+-- the line of a refusal was written
+refused : (call : Call) (status : ℕ) (refusal : Refusal) → Stands call.words call.texts refusal → Keeps call.out.old call.out.new
+    → Appends call.err.old call.err.new (line_of refusal) → IsRefused call (without_run status) refusal
+refused call status refusal stands out err = record { stands = stands; kept = refl; high = refl; out = out; err = err }
 
-refused : (call : Call) (status : ℕ) (refusal : Refusal) → refusal ≢ Memory → Told call refusal → IsRefused call (refusing status) refusal
-refused call status refusal some t = record { stands = t.stands some; kept = refl; high = refl; out = t.out; err = t.err }
+module _ (call : Call) (status : ℕ) (b : Begins call) where
+  of_source : (refusal : Refusal) → status ≡ BAD_SOURCE → status_of refusal ≡ BAD_SOURCE → IsRefused call (without_run status) refusal → HasCauses call (without_run status)
+  of_source refusal is of r = source call status refusal is of r b
 
-of_source : (call : Call) (status : ℕ) (refusal : Refusal) → refusal ≢ Memory → status ≡ 3 → status_of refusal ≡ 3 → Told call refusal
-    → HasCauses call (refusing status)
-of_source call status refusal some is of t = source call status refusal is of (refused call status refusal some t) t.begins
+  of_history : (refusal : Refusal) → status ≡ BAD_HISTORY → status_of refusal ≡ BAD_HISTORY → IsRefused call (without_run status) refusal → HasCauses call (without_run status)
+  of_history refusal is of r = history call status refusal is of r b
 
-of_history : (call : Call) (status : ℕ) (refusal : Refusal) → refusal ≢ Memory → status ≡ 7 → status_of refusal ≡ 7 → Told call refusal
-    → HasCauses call (refusing status)
-of_history call status refusal some is of t = history call status refusal is of (refused call status refusal some t) t.begins
-
-pub answered : (call : Call) (status : ℕ) (refusal : Refusal) → status ≡ status_of refusal → Told call refusal → HasCauses call (refusing status)
-answered call status Memory is t =
-    let nothing = nothing_written call.err.old call.err.new t.err in
-    wanting call status is (record { kept = refl; high = refl; out = t.out; err = nothing }) t.begins
-answered call status Usage is t = usage call status is (refused call status Usage (λ e. cc) t) t.begins
-answered call status ReadFault is t = fault call status is (refused call status ReadFault (λ e. cc) t) t.begins
-answered call status TooLong is t = of_source call status TooLong (λ e. cc) is refl t
-answered call status (BadChar at) is t = of_source call status (BadChar at) (λ e. cc) is refl t
-answered call status (BadString at) is t = of_source call status (BadString at) (λ e. cc) is refl t
-answered call status (BigNumber at) is t = of_source call status (BigNumber at) (λ e. cc) is refl t
-answered call status (Syntax at) is t = of_source call status (Syntax at) (λ e. cc) is refl t
-answered call status (TooDeep at) is t = of_source call status (TooDeep at) (λ e. cc) is refl t
-answered call status (Unbound at) is t = of_source call status (Unbound at) (λ e. cc) is refl t
-answered call status (SiteTwice at) is t = of_source call status (SiteTwice at) (λ e. cc) is refl t
-answered call status (TooManySites at) is t = of_source call status (TooManySites at) (λ e. cc) is refl t
-answered call status (NotASite at) is t = of_source call status (NotASite at) (λ e. cc) is refl t
-answered call status (TypeFault fault) is t = of_source call status (TypeFault fault) (λ e. cc) is refl t
-answered call status (LocationTest at) is t = of_source call status (LocationTest at) (λ e. cc) is refl t
-answered call status (TooManyNodes nodes) is t = of_source call status (TooManyNodes nodes) (λ e. cc) is refl t
-answered call status TooManyEvents is t = of_source call status TooManyEvents (λ e. cc) is refl t
-answered call status HistoryTooLong is t = of_history call status HistoryTooLong (λ e. cc) is refl t
-answered call status (HistSyntax line) is t = of_history call status (HistSyntax line) (λ e. cc) is refl t
-answered call status (NotARun index) is t = of_history call status (NotARun index) (λ e. cc) is refl t
-answered call status (NoLine lines) is t = of_history call status (NoLine lines) (λ e. cc) is refl t
-answered call status (NotOurs index) is t = of_history call status (NotOurs index) (λ e. cc) is refl t
-answered call status (BudgetPast site) is t = of_history call status (BudgetPast site) (λ e. cc) is refl t
-
--- the line of the refusal could not be written whole
-pub unwritten : (call : Call) → ErrFailed call (refusing WRITE_FAILED) → Begins call → HasCauses call (refusing WRITE_FAILED)
-unwritten call f b = record {
-  done = λ e. unlike refl tt e;
-  spent = λ e. unlike refl tt e;
-  usage = λ e. unlike refl tt e;
-  source = λ e. unlike refl tt e;
-  read = λ e. unlike refl tt e;
-  write = λ e. inr f;
-  memory = λ e. unlike refl tt e;
-  history = λ e. unlike refl tt e;
-  status = inr (inr (inr (inr (inr (inl refl)))));
-  begins = b;
-}
+  of_refusal : (refusal : Refusal) → refusal ≢ Memory → status ≡ status_of refusal → IsRefused call (without_run status) refusal → HasCauses call (without_run status)
+  of_refusal Memory some is r = absurd (some refl)
+  of_refusal Usage some is r = usage call status is r b
+  of_refusal ReadFault some is r = fault call status is r b
+  of_refusal TooLong some is r = of_source TooLong is refl r
+  of_refusal (BadChar at) some is r = of_source (BadChar at) is refl r
+  of_refusal (BadString at) some is r = of_source (BadString at) is refl r
+  of_refusal (BigNumber at) some is r = of_source (BigNumber at) is refl r
+  of_refusal (Syntax at) some is r = of_source (Syntax at) is refl r
+  of_refusal (TooDeep at) some is r = of_source (TooDeep at) is refl r
+  of_refusal (Unbound at) some is r = of_source (Unbound at) is refl r
+  of_refusal (SiteTwice at) some is r = of_source (SiteTwice at) is refl r
+  of_refusal (TooManySites at) some is r = of_source (TooManySites at) is refl r
+  of_refusal (NotASite at) some is r = of_source (NotASite at) is refl r
+  of_refusal (TypeFault fault) some is r = of_source (TypeFault fault) is refl r
+  of_refusal (LocationTest at) some is r = of_source (LocationTest at) is refl r
+  of_refusal (TooManyNodes nodes) some is r = of_source (TooManyNodes nodes) is refl r
+  of_refusal TooManyEvents some is r = of_source TooManyEvents is refl r
+  of_refusal HistoryTooLong some is r = of_history HistoryTooLong is refl r
+  of_refusal (HistSyntax line) some is r = of_history (HistSyntax line) is refl r
+  of_refusal (NotARun index) some is r = of_history (NotARun index) is refl r
+  of_refusal (NoLine lines) some is r = of_history (NoLine lines) is refl r
+  of_refusal (NotOurs index) some is r = of_history (NotOurs index) is refl r
+  of_refusal (BudgetPast site) some is r = of_history (BudgetPast site) is refl r
 
 -- ---- what was made was written
 
@@ -193,8 +164,48 @@ by_status call answer small is d b = record {
   begins = b;
 }
 
-pub done : (call : Call) (answer : Answer) → IsDone call answer → Begins call → HasCauses call answer
+done : (call : Call) (answer : Answer) → IsDone call answer → Begins call → HasCauses call answer
 done call answer d b = elim (made_status answer.kept answer.high) [
   | inl e ↦ by_status call answer (omega (arith, d.status, e)) (inl (d.status ∙ e)) d b
   | inr e ↦ by_status call answer (omega (arith, d.status, e)) (inr (inl (d.status ∙ e))) d b
 ]
+
+-- ---- it could not be written whole
+
+failed : (call : Call) (answer : Answer) → answer.status ≡ WRITE_FAILED → OutFailed call answer ⊎ ErrFailed call answer → Begins call → HasCauses call answer
+failed call answer is f b = record {
+  done = λ e. unlike is tt e;
+  spent = λ e. unlike is tt e;
+  usage = λ e. unlike is tt e;
+  source = λ e. unlike is tt e;
+  read = λ e. unlike is tt e;
+  write = λ e. f;
+  memory = λ e. unlike is tt e;
+  history = λ e. unlike is tt e;
+  status = inr (inr (inr (inr (inr (inl is)))));
+  begins = b;
+}
+
+-- ---- the answer of a call
+
+abbrev Made : Call → Job → Type 0
+Made call job = HasMade call.words call.texts job.kept job.high job.text
+
+-- what was made, or the refusal, has its cause; so has the answer
+pub answered : (call : Call) (made : Result Job Refusal) (answer : Answer) → IfOk made (Made call) → IfErr made (λ refusal. refusal ≢ Memory → Stands call.words call.texts refusal)
+    → Begins call → Answers made call.out call.err answer → HasCauses call answer
+answered call (Ok job) answer makes stands b (inl t) = subst (HasCauses call) (sym t.is) (done call _ (record {
+  text = job.text;
+  made = makes;
+  headline = headline call.words call.texts job.kept job.high job.text makes;
+  status = refl;
+  out = t.out;
+  err = t.err;
+}) b)
+answered call (Ok job) answer makes stands b (inr t) = subst (HasCauses call) (sym t.is) (failed call _ refl (inl (record { text = job.text; made = makes; rose = t.rose; out = t.out; err = t.err })) b)
+answered call (Err refusal) answer makes stands b (inl l) =
+    subst (HasCauses call) (sym l.is) (of_refusal call _ b refusal l.some refl (refused call _ refusal (stands l.some) l.out l.err))
+answered call (Err refusal) answer makes stands b (inr (inl l)) =
+    subst (HasCauses call) (sym l.is) (failed call _ refl (inr (record { refusal = refusal; stands = stands l.some; kept = refl; high = refl; rose = l.rose; out = l.out; err = l.err })) b)
+answered call (Err refusal) answer makes stands b (inr (inr n)) =
+    subst (HasCauses call) (sym n.is) (wanting call NO_MEMORY refl (record { kept = refl; high = refl; out = n.out; err = n.err }) b)

@@ -1,12 +1,8 @@
 -- The program's answers and their causes (docs/LANGUAGE.md, "Reports and refusals"). Want of memory alone has no cause.
-use Rattle.std.specs.Prelude.{◌≡◌, ℕ, ◌+◌, ◌-◌, ◌^◌, ◌≤◌, ◌⊎◌, min, List, length, sum_by, Option, Some, None}
+use Rattle.std.specs.Prelude.{◌≡◌, ℕ, ◌+◌, ◌≤◌, ◌⊎◌, List, Some, None}
 use Rattle.std.specs.Io.KnownBytes.{Appends, Keeps}
-use Rattle.np_syntax.specs.declared.event.End.{End}
-use Rattle.np_syntax.specs.declared.event.End.TheVariants.{Rest, Spent}
-use Rattle.stamp_history.specs.Histories.{Stored}
 use Rattle.np_io.specs.Causes.{Rose}
 use Rattle.np_io.specs.Bytes.{AppendsPrefix}
-use Rattle.np_serial.specs.declared.serial.SerialRun.{SerialRun}
 use Rattle.np_words.specs.Plans.{plan}
 use Rattle.np_on_sites.specs.declared.record.Record.{Record}
 use Rattle.np_verdict.specs.Lines.{line_of, status_of}
@@ -15,18 +11,11 @@ use Rattle.np_verdict.specs.declared.refusal.Refusal.TheVariants.{Usage, ReadFau
 use Rattle.np_modes.specs.Readings.{Reading}
 use Rattle.np_modes.specs.Causes.{Stands, HasMade, texts_read}
 use Rattle.np_verdict.specs.declared.statuses.TheConstants.{BAD_HISTORY, BAD_SOURCE, BAD_USAGE, BUDGET_SPENT, DONE, NO_MEMORY, READ_FAILED, WRITE_FAILED}
+use Rattle.np_answers.specs.Answers.{Writing, status_at}
+use Rattle.np_answers.specs.declared.answer.Answer.{Answer}
 use Rattle.np_run.specs.Headline.{Headline}
-use Rattle.np_run.specs.declared.answer.Answer.{Answer}
-use Rattle.np_run.specs.declared.answer.Told.{Told}
 
 -- ---- calls
-
--- what a call did to a sink: its faults and, where they are told, its bytes
-pub record Writing : Type 0 where
-  pub before : ℕ
-  pub now : ℕ
-  pub old : Option (List ℕ)
-  pub new : Option (List ℕ)
 
 -- one call of the program
 pub record Call : Type 0 where
@@ -36,16 +25,6 @@ pub record Call : Type 0 where
   pub err : Writing
 
 -- ---- answers
-
-abbrev pub end_status : End → ℕ
-end_status Rest = DONE
-end_status Spent = BUDGET_SPENT
-
--- the status of what was made, where its text was written: it tells how a run has ended, if it is one
-abbrev pub status_at : Option Record → Option SerialRun → ℕ
-status_at (Some made) high = end_status made.end
-status_at None (Some made) = end_status made.end
-status_at None None = DONE
 
 -- it was made, and its text was written
 pub record IsDone (call : Call) (answer : Answer) : Type 0 where
@@ -112,18 +91,3 @@ pub record HasCauses (call : Call) (answer : Answer) : Type 0 where
   pub status : IsStatus answer.status
   -- no more texts began than the words ask for
   pub begins : call.texts.begins ≤ call.texts.begun + texts_read (plan call.words)
-
--- ---- what is told of an answer
-
--- how many events the histories have; the number stands still at the greatest one of 64 bits
-abbrev pub events_of : List Stored → ℕ
-events_of histories = min (sum_by (λ s. length s.history.events) histories) (2 ^ 64 - 1)
-
--- how many events the run has
-abbrev pub events_in : Option Record → Option SerialRun → Option ℕ
-events_in (Some made) high = Some (events_of made.histories)
-events_in None (Some made) = Some (length made.events)
-events_in None None = None
-
-abbrev pub told_of : Answer → Told
-told_of answer = record { status = answer.status; events = events_in answer.kept answer.high }

@@ -1,10 +1,9 @@
 //! The top call: from the words and the bytes of a source to the bytes of a report.
 #![tactic(auto)]
 
-mod answer;
 mod top;
 
-pub use answer::{Answer, Told};
+pub use np_answers::{Answer, Told};
 pub use np_on_sites::{Free, Gate, Record};
 pub use np_sources::run_low;
 pub use np_verdict::{

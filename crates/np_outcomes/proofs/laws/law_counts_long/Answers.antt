@@ -11,7 +11,7 @@ use Rattle.np_modes.specs.Readings.{Reading, IsUnread}
 use Rattle.np_modes.specs.Causes.{Does, IsFaultySource}
 use Rattle.np_sources.specs.Laws as source_laws
 use Rattle.np_run.specs.Answers.{Call, IsRefused}
-use Rattle.np_run.specs.declared.answer.Answer.{Answer}
+use Rattle.np_answers.specs.declared.answer.Answer.{Answer}
 use Rattle.np_outcomes.proofs.Outcomes.{Outcome, outcome, one, refused_plan}
 use Rattle.np_outcomes.proofs.laws.law_counts_long.Goals as goal
 

@@ -8,7 +8,7 @@ use Rattle.np_histories.specs.declared.limits.TheConstants.{LONGEST_HISTORY}
 use Rattle.np_modes.specs.Readings.{Reading}
 use Rattle.np_modes.specs.Causes.{Does, RefusesHistory}
 use Rattle.np_run.specs.Answers.{Call, IsRefused}
-use Rattle.np_run.specs.declared.answer.Answer.{Answer}
+use Rattle.np_answers.specs.declared.answer.Answer.{Answer}
 use Rattle.np_outcomes.proofs.Outcomes.{Outcome, outcome, one, refused_plan}
 use Rattle.np_outcomes.proofs.laws.law_counts_long_histories.Goals as goal
 

@@ -5,7 +5,7 @@ use Rattle.np_sources.specs.Laws as source_laws
 use Rattle.np_histories.specs.Laws as history_laws
 use Rattle.np_run.specs.Answers.{Call, IsRefused}
 use Rattle.np_outcomes.specs.Laws.{FaultyHistory, Follows, Purpose}
-use Rattle.np_run.specs.declared.answer.Answer.{Answer}
+use Rattle.np_answers.specs.declared.answer.Answer.{Answer}
 use Rattle.np_outcomes.proofs.Outcomes.{Outcome, outcome}
 use Rattle.np_outcomes.proofs.Histories.{stands_says, says_faulty_history, made_accepts, not_both, same_fault}
 use Rattle.np_outcomes.proofs.laws.law_refuses_histories.Goals as goal

@@ -8,7 +8,7 @@ use Rattle.np_sources.specs.Laws as source_laws
 use Rattle.np_histories.specs.Laws as history_laws
 use Rattle.np_run.specs.Answers.{Call, IsRefused}
 use Rattle.np_outcomes.specs.Laws.{Reads}
-use Rattle.np_run.specs.declared.answer.Answer.{Answer}
+use Rattle.np_answers.specs.declared.answer.Answer.{Answer}
 use Rattle.np_outcomes.proofs.Outcomes.{Outcome, outcome}
 use Rattle.np_outcomes.proofs.Sources.{Cause, IsOfHistory, stands_cause, made_accepts}
 use Rattle.np_outcomes.proofs.laws.law_refuses_long.Goals as goal

@@ -5,7 +5,7 @@ use Rattle.np_histories.specs.declared.limits.TheConstants.{LONGEST_HISTORY}
 use Rattle.np_sources.specs.Laws as source_laws
 use Rattle.np_run.specs.Answers.{Call, IsRefused}
 use Rattle.np_outcomes.specs.Laws.{Follows, Purpose}
-use Rattle.np_run.specs.declared.answer.Answer.{Answer}
+use Rattle.np_answers.specs.declared.answer.Answer.{Answer}
 use Rattle.np_outcomes.proofs.Outcomes.{Outcome, outcome}
 use Rattle.np_outcomes.proofs.Histories.{SaysHistory, stands_says, made_accepts, not_long}
 use Rattle.np_outcomes.proofs.laws.law_refuses_long_histories.Goals as goal

@@ -16,7 +16,7 @@ use Rattle.np_modes.specs.Causes.{IsFaultySource, RefusesHistory, RefusesRun, Re
 use Rattle.np_sources.specs.Laws as source_laws
 use Rattle.np_histories.specs.Laws as history_laws
 use Rattle.np_run.specs.Answers.{Call}
-use Rattle.np_run.specs.declared.answer.Answer.{Answer}
+use Rattle.np_answers.specs.declared.answer.Answer.{Answer}
 use Rattle.np_outcomes.proofs.Outcomes.{Outcome, outcome}
 use Rattle.np_outcomes.proofs.Sources.{unfit_status}
 use Rattle.np_outcomes.proofs.laws.law_refuses_words.Goals as goal

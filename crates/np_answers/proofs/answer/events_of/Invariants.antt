@@ -1,6 +1,6 @@
 use Rattle.std.proofs.Common.{◌≡◌, take}
-use Rattle.np_run.specs.Answers.{events_of}
-use Rattle.np_run.proofs.answer.events_of.Given as goal
+use Rattle.np_answers.specs.Answers.{events_of}
+use Rattle.np_answers.proofs.answer.events_of.Given as goal
 
 -- the events of the histories so far
 abbrev pub invariant-loop-history : goal.invariant-loop-history

@@ -1,5 +1,5 @@
 ghost use Rattle.std.specs.Prelude.{◌≡◌};
-ghost use Rattle.np_run.specs.Answers.{events_in, events_of, told_of};
+ghost use Rattle.np_answers.specs.Answers.{events_in, events_of, told_of};
 
 use np_on_sites::Record;
 use np_serial::SerialRun;
