@@ -19,12 +19,13 @@ use Rattle.np_calculus.specs.declared.config.Atom.{Atom}
 use Rattle.np_calculus.specs.declared.config.Packet.{Packet}
 use Rattle.np_calculus.specs.declared.config.Place.TheVariants as place
 use Rattle.np_calculus.specs.Changes.{Change, put, still}
+use Rattle.np_calculus.specs.Rows.{asked_of, output_of}
 use Rattle.stamp_history.specs.declared.stamped.Stamped.{Stamped}
 use Rattle.np_holdings.specs.Holdings.{Does, Holding}
 use Rattle.np_holdings.specs.Coming.{taking}
-use Rattle.np_holdings.specs.Going.{Goes, GoesPast, asked_of}
+use Rattle.np_holdings.specs.Going.{Goes, GoesPast}
 use Rattle.np_holdings.specs.Leaving.{putting}
-use Rattle.np_holdings.specs.Loads.{agent_load, output_of, packet_load}
+use Rattle.np_holdings.specs.Loads.{agent_load, packet_load}
 use Rattle.np_holdings.specs.Making.{AreNext, next_after}
 use Rattle.np_holdings.specs.Within.{IsOwnEvent, inner, with_value}
 use Rattle.np_holdings.proofs.Coming.{arrives, is_lost, lands}

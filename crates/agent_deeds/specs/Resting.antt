@@ -9,6 +9,7 @@ use Rattle.np_tables.specs.Names.{NameMap}
 use Rattle.np_calculus.specs.Config.{Config}
 use Rattle.np_calculus.specs.Idle.{Idle}
 use Rattle.np_calculus.specs.Reductions.{apply}
+use Rattle.np_calculus.specs.Rows.{made_of}
 use Rattle.np_holdings.specs.Holdings.{IsPart, name_of}
 use Rattle.np_holdings.specs.Making.{AreNext}
 use Rattle.np_code.specs.Programs.{ProgramTable}
@@ -16,7 +17,7 @@ use Rattle.agent_pool.specs.declared.ready.Ready.{Ready}
 use Rattle.agent_pool.specs.Idle.{IsIdle}
 use Rattle.agent_pool.specs.Moves.{IsTarget}
 use Rattle.agent_pool.specs.Pools.{Pool, atoms_of}
-use Rattle.agent_pool.specs.Readies.{IsReady, NothingReady, made_of}
+use Rattle.agent_pool.specs.Readies.{IsReady, NothingReady}
 use Rattle.agent_pool.specs.Rows.{event_of}
 use Rattle.agent_deeds.specs.Standing.{holding}
 

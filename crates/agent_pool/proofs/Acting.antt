@@ -6,6 +6,7 @@ use Rattle.np_syntax.specs.declared.event.Kind.TheVariants as kind
 use Rattle.np_syntax.specs.declared.event.Made.{Made}
 use Rattle.np_calculus.proofs.Common.{Name, Expr, ProcForm-F, Event, Kind, ◌>>=◌, ◌>>◌, need, Env, layer, Sight, Change, same_tag, act}
 use Rattle.np_calculus.specs.declared.config.Atom.{Atom}
+use Rattle.np_calculus.specs.Rows.{change_in}
 use Rattle.np_tables.proofs.Mapped.{get-mapped}
 use Rattle.np_code.specs.declared.node.Node.{Node}
 use Rattle.np_code.specs.declared.node.NodeForm.{NodeForm}
@@ -16,7 +17,7 @@ use Rattle.agent_pool.specs.declared.held.Held.{Held}
 use Rattle.agent_pool.specs.declared.ready.Ready.{Ready}
 use Rattle.agent_pool.specs.Held.{proc_of, atom_of, IsOutput, IsNode}
 use Rattle.agent_pool.specs.Pools.{Pool, seen_as, atoms_of}
-use Rattle.agent_pool.specs.Rows.{own_sight, event_of, change_in, ActsAs, NeverActs}
+use Rattle.agent_pool.specs.Rows.{own_sight, event_of, ActsAs, NeverActs}
 
 same-held : (h g : Held) → Some h ≡ Some g → h ≡ g
 same-held h g e = cc

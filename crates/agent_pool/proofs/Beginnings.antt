@@ -12,14 +12,15 @@ use Rattle.np_eval.specs.Eval.{Env}
 use Rattle.np_eval.specs.Fitting.{fits}
 use Rattle.np_calculus.specs.declared.config.Atom.{Atom}
 use Rattle.np_calculus.specs.Reductions.{role_index, site_in}
+use Rattle.np_calculus.specs.Rows.{change_in, made_of}
 use Rattle.np_calculus.proofs.Rows.{parts}
 use Rattle.np_calculus.proofs.Steps.{same_site}
 use Rattle.np_code.specs.Programs.{ProgramTable}
 use Rattle.np_calculus.proofs.Enabled.{tag-itself}
 use Rattle.agent_pool.specs.declared.ready.Ready.{Ready}
 use Rattle.agent_pool.specs.Deciding.{posts, post_in}
-use Rattle.agent_pool.specs.Readies.{sight_of, IsReady, NothingReady, made_of, begins, alone_in, taken_by, offers_in, offers, meets, pair_in, NoneAlone, NoneMeet}
-use Rattle.agent_pool.specs.Rows.{event_of, change_in}
+use Rattle.agent_pool.specs.Readies.{sight_of, IsReady, NothingReady, begins, alone_in, taken_by, offers_in, offers, meets, pair_in, NoneAlone, NoneMeet}
+use Rattle.agent_pool.specs.Rows.{event_of}
 
 is-there : {A : Type 0} (o : Option A) {R : Type 0} → is_some o ≡ true → ((a : A) → o ≡ Some a → R) → R
 is-there None h f = absurd cc

@@ -10,11 +10,12 @@ use Rattle.np_syntax.specs.declared.event.Kind.TheVariants as kind
 use Rattle.np_calculus.proofs.Common.{Name, Event, Kind, ◌>>=◌, then, when, done, NameMap, layer, Change, same_tag, acting_in, act}
 use Rattle.np_calculus.specs.declared.config.Atom.{Atom}
 use Rattle.np_calculus.specs.Reductions.{role_index}
+use Rattle.np_calculus.specs.Rows.{change_in, made_of}
 use Rattle.np_code.specs.Programs.{ProgramTable}
 use Rattle.agent_pool.specs.declared.ready.Ready.{Ready}
 use Rattle.agent_pool.specs.Deciding.{posts, post_at, lone_in, found_with, found_in}
-use Rattle.agent_pool.specs.Readies.{sight_of, IsReady, made_of, begins, alone_in, meets}
-use Rattle.agent_pool.specs.Rows.{event_of, change_in}
+use Rattle.agent_pool.specs.Readies.{sight_of, IsReady, begins, alone_in, meets}
+use Rattle.agent_pool.specs.Rows.{event_of}
 use Rattle.agent_pool.proofs.Beginnings.{Begun, Lone, MetWith, row-begun, post-begun, post-ready, alone-ready, pair-ready}
 
 one-role : (r s : Role) → nat_eq (role_index r) (role_index s) ≡ true → r ≡ s

@@ -14,7 +14,8 @@ use Rattle.np_code.specs.Programs.{ProgramTable}
 use Rattle.np_code.specs.Trees.{layer_of}
 use Rattle.agent_pool.specs.declared.ready.Ready.{Ready}
 use Rattle.agent_pool.specs.Pools.{Pool}
-use Rattle.agent_pool.specs.Rows.{own_sight, event_of, change_in, ActsAs}
+use Rattle.np_calculus.specs.Rows.{change_in}
+use Rattle.agent_pool.specs.Rows.{own_sight, event_of, ActsAs}
 use Rattle.agent_pool.proofs.Acting.{acted, row-met}
 
 -- an acting atom of another form

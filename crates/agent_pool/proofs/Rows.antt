@@ -12,6 +12,7 @@ use Rattle.np_calculus.proofs.Common.{chan_of, agent_of, truth_of, letter_of, pl
 use Rattle.np_calculus.specs.declared.config.Atom.{Atom}
 use Rattle.np_calculus.specs.Changes.{put, cut, still}
 use Rattle.np_calculus.specs.Reductions.{site_in, offered_in}
+use Rattle.np_calculus.specs.Rows.{change_in}
 use Rattle.np_code.specs.declared.node.Node.{Node}
 use Rattle.np_code.specs.declared.node.NodeForm.{NodeForm}
 use Rattle.np_code.specs.declared.node.NodeForm.TheVariants as node
@@ -23,7 +24,7 @@ use Rattle.agent_pool.specs.declared.ready.Ready.{Ready}
 use Rattle.agent_pool.specs.Held.{atom_of}
 use Rattle.agent_pool.specs.Operands.{place_in}
 use Rattle.agent_pool.specs.Pools.{Pool, atoms_of}
-use Rattle.agent_pool.specs.Rows.{own_sight, event_of, change_in, taken_in, ActsAs, IsMet, GoesOnAs, IsFork, IsPrinted}
+use Rattle.agent_pool.specs.Rows.{own_sight, event_of, taken_in, ActsAs, IsMet, GoesOnAs, IsFork, IsPrinted}
 use Rattle.agent_pool.specs.Moves.{IsDepart, IsSent, IsTold, IsAway, IsTarget, IsSplit}
 use Rattle.agent_pool.proofs.Acting.{no-atom, atom-there, acted, row-met, row-is}
 

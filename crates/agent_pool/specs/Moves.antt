@@ -1,25 +1,20 @@
 -- What leaves an agent by its events: the agent itself, a new agent, a message (docs/LANGUAGE.md, "Reductions").
-use Rattle.std.specs.Prelude.{◌≡◌, ℕ, Bool, true, false, List, [], ◌∷◌, Option, None, Some}
+use Rattle.std.specs.Prelude.{◌≡◌, ℕ, Bool, true, false, [], ◌∷◌, Option, None, Some}
 use Rattle.std.specs.FinMap as map
 use Rattle.np_syntax.specs.declared.value.Name.{Name}
 use Rattle.np_syntax.specs.declared.event.Kind.TheVariants as kind
 use Rattle.np_syntax.specs.declared.event.Made.TheVariants as made
 use Rattle.np_syntax.specs.Options.{◌>>=◌}
-use Rattle.np_tables.specs.Names.{NameMap}
-use Rattle.np_eval.specs.Eval.{agent_of}
-use Rattle.np_eval.specs.Forms.{layer}
-use Rattle.np_eval.specs.FormParts.{as_iflocal}
-use Rattle.np_calculus.specs.declared.config.Atom.{Atom}
 use Rattle.np_calculus.specs.declared.config.Packet.{Packet}
 use Rattle.np_calculus.specs.declared.config.Place.TheVariants as place
-use Rattle.np_calculus.specs.Changes.{Change, Write, put, cut, still, written}
-use Rattle.np_calculus.specs.Reductions.{output_in}
+use Rattle.np_calculus.specs.Changes.{put, cut, still}
+use Rattle.np_calculus.specs.Rows.{asked_of, change_in, leaves_outside, output_of}
 use Rattle.np_code.specs.Programs.{ProgramTable}
 use Rattle.agent_pool.specs.declared.held.Held.{Held}
 use Rattle.agent_pool.specs.declared.ready.Ready.{Ready}
 use Rattle.agent_pool.specs.Held.{atom_of, wait_of}
 use Rattle.agent_pool.specs.Pools.{Pool, atoms_of}
-use Rattle.agent_pool.specs.Rows.{own_sight, event_of, change_in, GoesOnAs, Reduces}
+use Rattle.agent_pool.specs.Rows.{own_sight, event_of, GoesOnAs, Reduces}
 
 -- the agent leaves for a site, and the acting atom goes on as this one
 abbrev pub IsDepart : ProgramTable → Pool → Ready → Held → ℕ → Type 0
@@ -34,15 +29,8 @@ IsSent code p r packet =
     ≡ Some (record still { atoms = cut r.actor ∷ []; packets = put r.actor packet ∷ [] })
 
 -- the acting atom asks for this agent
-abbrev pub asked_of : Atom → Option Name
-asked_of a = as_iflocal (layer a.proc) >>= λ (b, c, v, met, unmet). agent_of b a.env
-
 abbrev pub IsTarget : ProgramTable → Pool → Ready → Name → Type 0
 IsTarget code p r agent = (map.get (atoms_of code.processes p) r.actor >>= asked_of) ≡ Some agent
-
--- the output that a packet stands for, in its agent
-abbrev pub output_of : Packet → Atom
-output_of packet = output_in packet.agent packet.chan packet.value packet.tag
 
 -- a location test that finds its agent: the acting atom goes on as this one, and the output stands under a mark
 abbrev pub IsTold : ProgramTable → Pool → Ready → Name → Held → Packet → Type 0
@@ -53,15 +41,6 @@ IsTold code p r mark h packet =
 -- one that does not
 abbrev pub IsAway : ProgramTable → Pool → Ready → Held → Type 0
 IsAway code p r h = GoesOnAs kind.Local code p r made.Nothing r.actor h
-
--- what an event leaves, where the first atom that it writes is of another agent: all that it changes but the agent's own
--- atoms, and these
-abbrev pub outside : NameMap Atom → Change → List (Write Atom) → Option (Change × NameMap Atom)
-outside atoms d [] = None
-outside atoms d (w ∷ ws) = Some (record d { atoms = w ∷ [] }, written atoms ws)
-
-abbrev pub leaves_outside : NameMap Atom → Change → Option (Change × NameMap Atom)
-leaves_outside atoms d = outside atoms d d.atoms
 
 -- by a location test the agent goes on: where it finds its agent, the packet is its output in that agent
 abbrev pub LocalLeaves : ProgramTable → Pool → Pool → Ready → Name → Bool → Option Packet → Type 0

@@ -1,5 +1,5 @@
 -- What an agent can do (docs/LANGUAGE.md, "Reductions").
-use Rattle.std.specs.Prelude.{◌≡◌, ℕ, Bool, false, is_some, cond, ◌&&◌, length, Option, None, Some, IsSome}
+use Rattle.std.specs.Prelude.{◌≡◌, ℕ, Bool, false, is_some, ◌&&◌, length, Option, None, Some, IsSome}
 use Rattle.std.specs.FinMap as map
 use Rattle.np_syntax.specs.declared.value.Name.{Name}
 use Rattle.np_syntax.specs.declared.value.Value.{Value}
@@ -9,8 +9,6 @@ use Rattle.np_syntax.specs.declared.process.ProcForm.{ProcForm-F}
 use Rattle.np_syntax.specs.declared.event.Event.{Event}
 use Rattle.np_syntax.specs.declared.event.Kind.{Kind}
 use Rattle.np_syntax.specs.declared.event.Kind.TheVariants as kind
-use Rattle.np_syntax.specs.declared.event.Made.{Made}
-use Rattle.np_syntax.specs.declared.event.Made.TheVariants as made
 use Rattle.np_syntax.specs.Options.{◌>>=◌, ◌>>◌, need}
 use Rattle.np_tables.specs.Names.{NameMap, same_name}
 use Rattle.np_eval.specs.Eval.{Env, eval, bind, chan_of, agent_of, truth_of, letter_of, places_of}
@@ -18,18 +16,11 @@ use Rattle.np_eval.specs.Fitting.{fits}
 use Rattle.np_eval.specs.Forms.{Layer, layer}
 use Rattle.np_calculus.specs.declared.config.Atom.{Atom}
 use Rattle.np_calculus.specs.Reductions.{sends, site_in}
+use Rattle.np_calculus.specs.Rows.{change_in, made_of}
 use Rattle.np_calculus.specs.Sight.{Sight}
 use Rattle.np_code.specs.Programs.{ProgramTable}
 use Rattle.agent_pool.specs.declared.ready.Ready.{Ready}
-use Rattle.agent_pool.specs.Rows.{event_of, change_in}
-
--- the names that an event of a kind makes, where these are the next ones; a location test makes one where its agent is here
-abbrev pub made_of : Kind → Bool → Name → Name → Made
-made_of kind.Fork here first second = made.One first
-made_of kind.New here first second = made.One first
-made_of kind.Agent here first second = made.Two first second
-made_of kind.Local here first second = cond here (made.One first) made.Nothing
-made_of _ here first second = made.Nothing
+use Rattle.agent_pool.specs.Rows.{event_of}
 
 -- what these atoms see where they stand alone: the program's sites, themselves, and whether an agent for which one asks is here
 abbrev pub sight_of : ProgramTable → NameMap Atom → Bool → Sight

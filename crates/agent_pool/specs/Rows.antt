@@ -11,12 +11,12 @@ use Rattle.np_syntax.specs.declared.event.Kind.TheVariants as kind
 use Rattle.np_syntax.specs.declared.event.Made.{Made}
 use Rattle.np_syntax.specs.declared.event.Made.TheVariants as made
 use Rattle.np_syntax.specs.Options.{◌>>=◌}
-use Rattle.np_tables.specs.Names.{NameMap}
 use Rattle.np_eval.specs.Eval.{Env, bind}
 use Rattle.np_eval.specs.Forms.{layer}
 use Rattle.np_calculus.specs.declared.config.Atom.{Atom}
-use Rattle.np_calculus.specs.Changes.{Change, put, cut, still, written}
-use Rattle.np_calculus.specs.Reductions.{act, acting_in, sends}
+use Rattle.np_calculus.specs.Changes.{Change, put, cut, still}
+use Rattle.np_calculus.specs.Reductions.{sends}
+use Rattle.np_calculus.specs.Rows.{change_in, leaves}
 use Rattle.np_calculus.specs.Sight.{Sight}
 use Rattle.np_code.specs.declared.node.Node.{Node}
 use Rattle.np_code.specs.Programs.{ProgramTable}
@@ -34,10 +34,6 @@ own_sight code p here = record { sites = length code.sites; here = λ q. here; a
 abbrev pub event_of : ℕ → Ready → Made → Event
 event_of site r made = record { site = site; kind = r.kind; actor = r.actor; other = r.other; tag = r.tag; made = made }
 
--- what an event of an acting atom changes by the row of a kind, or none where the row is not met
-abbrev pub change_in : Kind → Sight → Event → Option Change
-change_in k w e = acting_in w e >>= λ a. act k (layer a.proc) w e a
-
 -- the row of a kind is met by the event of a ready that makes these names
 abbrev pub IsMet : Kind → ProgramTable → Pool → Ready → Made → Type 0
 IsMet k code p r made = IsSome (change_in k (own_sight code p false) (event_of 0 r made))
@@ -51,10 +47,6 @@ pub record ActsAs (code : ProgramTable) (p : Pool) (r : Ready) (n : Node) (env :
 -- no row of a ready is met
 pub record NeverActs (code : ProgramTable) (p : Pool) (r : Ready) : Type 0 where
   pub row : (k : Kind) (here : Bool) (site : ℕ) (made : Made) → change_in k (own_sight code p here) (event_of site r made) ≡ None
-
--- what an event of the agent leaves: all that it changes but the agent's atoms, and these
-abbrev pub leaves : NameMap Atom → Change → Option (Change × NameMap Atom)
-leaves atoms d = Some (record d { atoms = [] }, written atoms d.atoms)
 
 -- by the event of a ready that makes these names, and by the row of this kind, the agent goes on; this is all else that changes
 abbrev pub Reduces : Kind → ProgramTable → Pool → Pool → Ready → Made → Change → Type 0

@@ -13,11 +13,12 @@ use Rattle.np_calculus.specs.declared.config.Place.TheVariants as place
 use Rattle.np_calculus.specs.Changes.{Change}
 use Rattle.np_calculus.specs.Config.{Config}
 use Rattle.np_calculus.specs.Reductions.{change}
+use Rattle.np_calculus.specs.Rows.{change_in}
 use Rattle.np_calculus.specs.Seen.{is_at}
 use Rattle.np_calculus.specs.Sight.{inside}
 use Rattle.np_code.specs.Programs.{ProgramTable}
 use Rattle.agent_pool.specs.Pools.{Pool, atoms_of}
-use Rattle.agent_pool.specs.Rows.{own_sight, change_in}
+use Rattle.agent_pool.specs.Rows.{own_sight}
 
 -- the agent stands at the site, and the configuration's atoms of this agent are those that it has
 pub record Shows (code : ProgramTable) (p : Pool) (c : Config) (site : ℕ) : Type 0 where

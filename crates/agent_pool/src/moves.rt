@@ -4,8 +4,9 @@ ghost use Rattle.np_syntax.specs.declared.event.Made.TheVariants as made;
 ghost use Rattle.np_eval.specs.Eval.{agent_of};
 ghost use Rattle.np_calculus.specs.declared.config.Place.TheVariants as place;
 ghost use Rattle.np_calculus.specs.Changes.{put, still};
+ghost use Rattle.np_calculus.specs.Rows.{change_in};
 ghost use Rattle.agent_pool.specs.Pools.{Unchanged, IsFiled};
-ghost use Rattle.agent_pool.specs.Rows.{Reduces, IsMet, change_in, own_sight, event_of};
+ghost use Rattle.agent_pool.specs.Rows.{Reduces, IsMet, own_sight, event_of};
 ghost use Rattle.agent_pool.specs.Moves.{IsDepart, IsSent, IsTold, IsAway, IsTarget, LocalLeaves, IsSplit, Births};
 
 use super::agent::Agent;

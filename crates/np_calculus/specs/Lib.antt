@@ -10,6 +10,7 @@ pub mod Idle
 pub mod NotEnabled
 pub mod Parts
 pub mod Reductions
+pub mod Rows
 pub mod Runs
 pub mod Seen
 pub mod Sight

@@ -6,8 +6,9 @@ use Rattle.np_syntax.specs.declared.event.Kind.TheVariants as kind
 use Rattle.np_calculus.specs.declared.config.Atom.{Atom}
 use Rattle.np_calculus.specs.declared.config.Place.{Place}
 use Rattle.np_calculus.specs.declared.config.Place.TheVariants as place
+use Rattle.np_calculus.specs.Rows.{asked_of, change_in}
 use Rattle.np_calculus.proofs.Steps.{acting-step, same_site}
-use Rattle.np_holdings.specs.Going.{AsksFor, asked_of, change_in, own_sight}
+use Rattle.np_holdings.specs.Going.{AsksFor, own_sight}
 use Rattle.np_holdings.specs.Holdings.{Holding, IsHeld, IsPart}
 use Rattle.np_holdings.proofs.Parts.{place-of, shows}
 use Rattle.np_holdings.proofs.Showing.{IsTold, sees}

@@ -13,6 +13,7 @@ use Rattle.np_calculus.specs.Begins.{arrival, landing}
 use Rattle.np_calculus.specs.Changes.{cut, put, still}
 use Rattle.np_calculus.specs.FrameRule.{Every}
 use Rattle.np_calculus.specs.Parts.{IsOfSite, either}
+use Rattle.np_calculus.specs.Rows.{output_of}
 use Rattle.np_calculus.proofs.FrameRule.{none-some, none_of}
 use Rattle.np_calculus.proofs.Steps.{same_site}
 use Rattle.np_calculus.proofs.Writes.{either-none}
@@ -24,7 +25,7 @@ use Rattle.np_stamped_run.specs.Deeds.{StampedItem}
 use Rattle.np_calculus.proofs.Enabled.{tag-itself}
 use Rattle.np_holdings.specs.Holdings.{Holding, IsPart}
 use Rattle.np_holdings.specs.Coming.{Arrives, IsLost, Lands}
-use Rattle.np_holdings.specs.Loads.{agent_load, output_of, packet_load}
+use Rattle.np_holdings.specs.Loads.{agent_load, packet_load}
 use Rattle.np_holdings.specs.Within.{given}
 use Rattle.np_holdings.proofs.Holds.{hold-come, hold-write}
 use Rattle.np_holdings.proofs.Parts.{holds, no-agent, no-place, numbers-none, of-site, part-of, place-of, same-places}

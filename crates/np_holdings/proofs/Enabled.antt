@@ -7,11 +7,12 @@ use Rattle.np_syntax.specs.declared.event.Kind.TheVariants as kind
 use Rattle.np_syntax.specs.declared.event.Made.TheVariants as made
 use Rattle.np_calculus.specs.declared.config.Atom.{Atom}
 use Rattle.np_calculus.specs.Reductions.{site_in}
+use Rattle.np_calculus.specs.Rows.{change_in, made_of}
 use Rattle.np_calculus.proofs.Fits.{some}
 use Rattle.np_calculus.proofs.Rows.{asked, parts}
 use Rattle.np_calculus.proofs.Steps.{is-none, is-one, is-two, row-step}
-use Rattle.np_holdings.specs.Enabled.{EnabledIsOfAgent, made_of}
-use Rattle.np_holdings.specs.Going.{change_in, own_sight}
+use Rattle.np_holdings.specs.Enabled.{EnabledIsOfAgent}
+use Rattle.np_holdings.specs.Going.{own_sight}
 use Rattle.np_holdings.specs.Holdings.{Holding, name_of}
 use Rattle.np_holdings.specs.Making.{AreNext}
 use Rattle.np_holdings.proofs.Acting.{changed-here}

@@ -9,9 +9,9 @@ use Rattle.np_calculus.specs.declared.config.Place.TheVariants as place
 use Rattle.np_calculus.specs.Changes.{cut, put}
 use Rattle.np_eval.specs.FormParts.{as_iflocal}
 use Rattle.np_calculus.specs.Reductions.{site_in}
+use Rattle.np_calculus.specs.Rows.{asked_of, change_in}
 use Rattle.np_calculus.proofs.Rows.{parts}
 use Rattle.np_calculus.proofs.Steps.{is-none, is-one, is-two}
-use Rattle.np_holdings.specs.Going.{asked_of, change_in}
 
 module _ (w : Sight) (e : Event) where
   pub actor-there : (a : Atom) → acting_in w e ≡ Some a → w.atom e.actor ≡ Some a

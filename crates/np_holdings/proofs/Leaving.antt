@@ -11,6 +11,7 @@ use Rattle.np_calculus.specs.declared.config.Packet.{Packet}
 use Rattle.np_calculus.specs.declared.config.Place.TheVariants as place
 use Rattle.np_calculus.specs.Changes.{put, still, with_said, written}
 use Rattle.np_calculus.specs.FrameRule.{Every}
+use Rattle.np_calculus.specs.Rows.{change_in}
 use Rattle.np_calculus.proofs.Fits.{some}
 use Rattle.np_calculus.proofs.FrameRule.{none_of}
 use Rattle.np_merged_run.specs.Items.{IsOwn, of_agent, of_packet}
@@ -18,7 +19,7 @@ use Rattle.np_merged_run.specs.Steps.{IsStep}
 use Rattle.np_merged_run.proofs.Items.{agent_leaves, packet_leaves}
 use Rattle.stamp_history.specs.declared.stamped.Stamped.{Stamped}
 use Rattle.np_holdings.specs.Holdings.{Holding, IsPart}
-use Rattle.np_holdings.specs.Going.{Goes, change_in, own_sight}
+use Rattle.np_holdings.specs.Going.{Goes, own_sight}
 use Rattle.np_holdings.specs.Leaving.{Leaves, Sends, without}
 use Rattle.np_holdings.specs.Loads.{agent_load, packet_load}
 use Rattle.np_holdings.specs.Making.{next_after}

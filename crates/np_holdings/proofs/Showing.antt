@@ -9,11 +9,12 @@ use Rattle.np_eval.specs.Eval.{Env}
 use Rattle.np_calculus.specs.declared.config.Atom.{Atom}
 use Rattle.np_calculus.specs.declared.config.Place.TheVariants as place
 use Rattle.np_calculus.specs.FrameRule.{Every, Fits, IsMade, changed}
+use Rattle.np_calculus.specs.Rows.{asked_of, change_in}
 use Rattle.np_calculus.proofs.Fits.{fits}
 use Rattle.np_calculus.proofs.Rows.{step, asked, by}
 use Rattle.np_calculus.proofs.Steps.{same_site, offer-seen}
 use Rattle.np_calculus.proofs.Writes.{agent-changed, every-map}
-use Rattle.np_holdings.specs.Going.{asked_of, change_in, own_sight}
+use Rattle.np_holdings.specs.Going.{own_sight}
 use Rattle.np_holdings.proofs.Holds.{every-both}
 
 -- ---- a row depends on little that is seen

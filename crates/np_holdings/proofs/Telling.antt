@@ -11,6 +11,7 @@ use Rattle.np_calculus.specs.declared.config.Place.TheVariants as place
 use Rattle.np_calculus.specs.Changes.{put, still, written}
 use Rattle.np_calculus.specs.FrameRule.{IsMade}
 use Rattle.np_calculus.specs.Parts.{either}
+use Rattle.np_calculus.specs.Rows.{asked_of, change_in, output_of, outside}
 use Rattle.np_calculus.proofs.Fits.{some}
 use Rattle.np_calculus.proofs.OwnNames.{not_true}
 use Rattle.np_calculus.proofs.Steps.{same_site}
@@ -18,8 +19,7 @@ use Rattle.np_calculus.proofs.Writes.{either-none}
 use Rattle.np_merged_run.proofs.Items.{inner_step}
 use Rattle.stamp_history.specs.declared.stamped.Stamped.{Stamped}
 use Rattle.np_holdings.specs.Holdings.{Holding, IsPart, AreMade}
-use Rattle.np_holdings.specs.Going.{GoesPast, asked_of, change_in, outside, own_sight}
-use Rattle.np_holdings.specs.Loads.{output_of}
+use Rattle.np_holdings.specs.Going.{GoesPast, own_sight}
 use Rattle.np_holdings.specs.Making.{AreNext}
 use Rattle.np_holdings.specs.Within.{IsOwnEvent, Makes, Tells, given, gone_on}
 use Rattle.np_holdings.proofs.Holds.{Holds, hold-come, hold-write, mine-there}

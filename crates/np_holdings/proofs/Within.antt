@@ -8,13 +8,14 @@ use Rattle.np_calculus.specs.declared.config.Place.TheVariants as place
 use Rattle.np_calculus.specs.Changes.{Write, still, with_said, written}
 use Rattle.np_calculus.specs.FrameRule.{Every, IsMade}
 use Rattle.np_calculus.specs.Parts.{IsOfSite}
+use Rattle.np_calculus.specs.Rows.{asked_of, change_in}
 use Rattle.np_calculus.proofs.Rows.{asked, parts}
 use Rattle.np_calculus.proofs.Writes.{every-map}
 use Rattle.np_eval.specs.FormParts.{as_iflocal}
 use Rattle.stamp_history.specs.declared.stamped.Stamped.{Stamped}
 use Rattle.np_merged_run.proofs.Items.{inner_step}
 use Rattle.np_holdings.specs.Holdings.{Holding, IsPart, AreMade, StepsOn}
-use Rattle.np_holdings.specs.Going.{Goes, asked_of, change_in, own_sight}
+use Rattle.np_holdings.specs.Going.{Goes, own_sight}
 use Rattle.np_holdings.specs.Making.{AreNext, next_after}
 use Rattle.np_holdings.specs.Within.{GoesOn, GoesOnAlone, IsOwnEvent, gone_on, inner, with_value}
 use Rattle.np_holdings.proofs.Holds.{Holds, hold-write}

@@ -6,10 +6,11 @@ use Rattle.np_tables.specs.Names.{NameMap}
 use Rattle.np_calculus.specs.declared.config.Atom.{Atom}
 use Rattle.np_calculus.specs.declared.config.Packet.{Packet}
 use Rattle.np_calculus.specs.Begins.{arrival, landing}
+use Rattle.np_calculus.specs.Rows.{output_of}
 use Rattle.stamp_history.specs.declared.stamped.Stamped.{Stamped}
 use Rattle.np_stamped_run.specs.Deeds.{Deed, StampedItem}
 use Rattle.np_holdings.specs.Holdings.{Does, Holding}
-use Rattle.np_holdings.specs.Loads.{agent_load, output_of, packet_load}
+use Rattle.np_holdings.specs.Loads.{agent_load, packet_load}
 use Rattle.np_holdings.specs.Within.{given}
 
 -- an event that takes an item

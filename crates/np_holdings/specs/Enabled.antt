@@ -1,27 +1,17 @@
 -- Of which agent an event is that is enabled in what a site holds (docs/LANGUAGE.md, "Reductions").
-use Rattle.std.specs.Prelude.{◌≡◌, ◌+◌, ℕ, Bool, cond, is_some, IsSome, Some}
+use Rattle.std.specs.Prelude.{◌≡◌, ◌+◌, ℕ, Bool, is_some, IsSome, Some}
 use Rattle.std.specs.FinMap as table
 use Rattle.np_syntax.specs.declared.value.Name.{Name}
 use Rattle.np_syntax.specs.declared.event.Event.{Event}
-use Rattle.np_syntax.specs.declared.event.Kind.{Kind}
 use Rattle.np_syntax.specs.declared.event.Kind.TheVariants as kind
-use Rattle.np_syntax.specs.declared.event.Made.{Made}
-use Rattle.np_syntax.specs.declared.event.Made.TheVariants as made
 use Rattle.np_tables.specs.Names.{NameMap}
 use Rattle.np_calculus.specs.declared.config.Atom.{Atom}
 use Rattle.np_calculus.specs.Config.{Config}
 use Rattle.np_calculus.specs.Reductions.{apply}
-use Rattle.np_holdings.specs.Going.{AsksFor, change_in, own_sight}
+use Rattle.np_calculus.specs.Rows.{change_in, made_of}
+use Rattle.np_holdings.specs.Going.{AsksFor, own_sight}
 use Rattle.np_holdings.specs.Holdings.{Holding, IsPart, name_of}
 use Rattle.np_holdings.specs.Making.{AreNext}
-
--- the names that an event of a kind makes, where these are the next ones; a location test makes one where its agent is here
-abbrev pub made_of : Kind → Bool → Name → Name → Made
-made_of kind.Fork here first second = made.One first
-made_of kind.New here first second = made.One first
-made_of kind.Agent here first second = made.Two first second
-made_of kind.Local here first second = cond here (made.One first) made.Nothing
-made_of _ here first second = made.Nothing
 
 -- the row of the event's kind is met by an agent's atoms, whatever names it makes, and whether or not an agent for which it asks is here
 abbrev pub IsReady : ℕ → NameMap Atom → Event → Type 0

@@ -6,7 +6,6 @@ use Rattle.np_tables.specs.Names.{NameMap, same_name}
 use Rattle.np_calculus.specs.declared.config.Atom.{Atom}
 use Rattle.np_calculus.specs.declared.config.Packet.{Packet}
 use Rattle.np_calculus.specs.declared.config.Place.TheVariants as place
-use Rattle.np_calculus.specs.Reductions.{output_in}
 use Rattle.np_calculus.specs.Sight.{Contents}
 use Rattle.np_merged_run.specs.Steps.{IsItem}
 use Rattle.np_stamped_run.specs.Resting.{Brings}
@@ -18,10 +17,6 @@ agent_load agent atoms to = record { place = λ q. cond (same_name q agent) (Som
 -- a packet under a mark
 abbrev pub packet_load : Name → Packet → Contents
 packet_load mark packet = record { place = λ q. None; atom = λ m. None; packet = λ m. cond (same_name m mark) (Some packet) None }
-
--- the output that a packet stands for, in its agent
-abbrev pub output_of : Packet → Atom
-output_of packet = output_in packet.agent packet.chan packet.value packet.tag
 
 -- each of them brings something to the site to which it goes, and is fit to be under way
 abbrev pub AgentIsBrought : Type 0

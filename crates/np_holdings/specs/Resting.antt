@@ -12,7 +12,8 @@ use Rattle.np_calculus.specs.declared.config.Atom.{Atom}
 use Rattle.np_calculus.specs.Config.{Config}
 use Rattle.np_calculus.specs.Idle.{Idle, waits}
 use Rattle.np_calculus.specs.Reductions.{apply}
-use Rattle.np_holdings.specs.Going.{change_in, own_sight}
+use Rattle.np_calculus.specs.Rows.{change_in}
+use Rattle.np_holdings.specs.Going.{own_sight}
 use Rattle.np_holdings.specs.Holdings.{Holding, IsPart}
 
 -- this holds of the atoms of each agent that stands here

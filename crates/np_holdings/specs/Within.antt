@@ -11,11 +11,11 @@ use Rattle.np_calculus.specs.declared.config.Atom.{Atom}
 use Rattle.np_calculus.specs.declared.config.Packet.{Packet}
 use Rattle.np_calculus.specs.declared.config.Place.TheVariants as place
 use Rattle.np_calculus.specs.Changes.{put, still}
+use Rattle.np_calculus.specs.Rows.{output_of}
 use Rattle.stamp_history.specs.declared.stamped.Stamped.{Stamped}
 use Rattle.np_stamped_run.specs.Deeds.{Deed}
 use Rattle.np_holdings.specs.Holdings.{Does, Holding}
 use Rattle.np_holdings.specs.Going.{AsksFor, Goes, GoesPast}
-use Rattle.np_holdings.specs.Loads.{output_of}
 use Rattle.np_holdings.specs.Making.{AreNext, next_after}
 
 -- an event that takes no item and puts none out

@@ -15,15 +15,15 @@ use Rattle.np_calculus.proofs.Rows.{parts}
 use Rattle.np_calculus.specs.declared.config.Atom.{Atom}
 use Rattle.np_calculus.specs.Config.{Config}
 use Rattle.np_calculus.specs.Reductions.{same_tag}
+use Rattle.np_calculus.specs.Rows.{asked_of, change_in, made_of}
 use Rattle.np_stamped_run.proofs.Elements.{there-is}
 use Rattle.np_holdings.specs.Holdings.{IsPart, name_of}
 use Rattle.np_holdings.specs.Making.{AreNext}
 use Rattle.np_code.specs.Programs.{ProgramTable}
 use Rattle.agent_pool.specs.declared.ready.Ready.{Ready}
-use Rattle.agent_pool.specs.Moves.{asked_of}
 use Rattle.agent_pool.specs.Pools.{Pool, atoms_of}
-use Rattle.agent_pool.specs.Readies.{IsReady, made_of, sight_of}
-use Rattle.agent_pool.specs.Rows.{change_in, event_of}
+use Rattle.agent_pool.specs.Readies.{IsReady, sight_of}
+use Rattle.agent_pool.specs.Rows.{event_of}
 use Rattle.agent_deeds.specs.Resting.{IsOfReady}
 use Rattle.site_agents.specs.Standings.{CanDo}
 use Rattle.site_state.specs.Doing.{IsPossible, event_at, finds, ready_of}

@@ -11,12 +11,13 @@ use Rattle.np_calculus.specs.declared.config.Place.{Place}
 use Rattle.np_calculus.specs.declared.config.Place.TheVariants as place
 use Rattle.np_calculus.specs.Changes.{Write, put, still}
 use Rattle.np_calculus.specs.Reductions.{site_in}
+use Rattle.np_calculus.specs.Rows.{change_in}
 use Rattle.np_calculus.proofs.Rows.{parts}
 use Rattle.np_holdings.proofs.Parts.{below}
 use Rattle.np_code.specs.Programs.{ProgramTable}
 use Rattle.agent_pool.specs.declared.ready.Ready.{Ready}
 use Rattle.agent_pool.specs.Pools.{Pool}
-use Rattle.agent_pool.specs.Rows.{Reduces, change_in, event_of, own_sight}
+use Rattle.agent_pool.specs.Rows.{Reduces, event_of, own_sight}
 
 site_below : (sites : ℕ) (e : Expr) (env : Env) (t : ℕ) → site_in sites e env ≡ Some t → t < sites
 site_below sites e env t h = then (eval e env) _ h λ v gives h. then (as_site (out-Value v)) _ h λ s is h. when (nat_lt s sites) _ h λ l h. subst (λ k. k < sites) (sym (done h)) (below s sites l)

@@ -16,11 +16,11 @@ use Rattle.np_calculus.specs.declared.config.Atom.{Atom}
 use Rattle.np_calculus.specs.declared.config.Packet.{Packet}
 use Rattle.np_calculus.specs.Begins.{landing}
 use Rattle.np_calculus.specs.Reductions.{output_in}
+use Rattle.np_calculus.specs.Rows.{output_of}
 use Rattle.stamp_history.specs.declared.stamped.Stamped.{Stamped}
 use Rattle.stamp_history.specs.Histories.{Recorded}
 use Rattle.np_holdings.specs.Coming.{Arrives, IsLost, Lands, taking}
 use Rattle.np_holdings.specs.Holdings.{Does, Holding}
-use Rattle.np_holdings.specs.Loads.{output_of}
 use Rattle.np_holdings.specs.Making.{next_after}
 use Rattle.np_code.specs.Programs.{ProgramTable}
 use Rattle.agent_index.specs.Shelves.{Kept}

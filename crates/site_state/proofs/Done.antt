@@ -10,6 +10,7 @@ use Rattle.np_syntax.specs.declared.value.Value.{Value}
 use Rattle.np_tables.specs.Mapped.{mapped}
 use Rattle.np_tables.proofs.Mapped.{mapped-put, mapped_there}
 use Rattle.np_calculus.specs.Changes.{still}
+use Rattle.np_calculus.specs.Rows.{made_of}
 use Rattle.stamp_history.specs.declared.stamped.Stamped.{Stamped}
 use Rattle.stamp_history.specs.Histories.{Recorded}
 use Rattle.np_holdings.specs.Holdings.{Does, name_of}
@@ -18,7 +19,6 @@ use Rattle.np_holdings.specs.Within.{GoesOn, gone_on, inner, with_value}
 use Rattle.np_code.specs.Programs.{ProgramTable}
 use Rattle.agent_pool.specs.declared.ready.Ready.{Ready}
 use Rattle.agent_pool.specs.Pools.{atoms_of}
-use Rattle.agent_pool.specs.Readies.{made_of}
 use Rattle.agent_pool.specs.Rows.{event_of}
 use Rattle.site_state.specs.Doing.{ArePut, HasDone, HasDoneEvent, deed_of, event_at, finds, recorded}
 use Rattle.site_state.specs.Lines.{SameLines}

@@ -11,8 +11,9 @@ use Rattle.np_holdings.specs.Making.{AreNext}
 use Rattle.np_code.specs.Programs.{ProgramTable}
 use Rattle.agent_pool.specs.declared.ready.Ready.{Ready}
 use Rattle.agent_pool.specs.Pools.{Pool, atoms_of}
-use Rattle.agent_pool.specs.Readies.{IsReady, made_of}
-use Rattle.agent_pool.specs.Rows.{IsMet, change_in, event_of, own_sight}
+use Rattle.np_calculus.specs.Rows.{change_in, made_of}
+use Rattle.agent_pool.specs.Readies.{IsReady}
+use Rattle.agent_pool.specs.Rows.{IsMet, event_of, own_sight}
 use Rattle.site_state.specs.Parts.{is_inner}
 use Rattle.site_agents.specs.Standings.{CanDo}
 

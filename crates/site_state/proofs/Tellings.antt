@@ -17,11 +17,11 @@ use Rattle.np_calculus.specs.declared.config.Atom.{Atom}
 use Rattle.np_calculus.specs.declared.config.Packet.{Packet}
 use Rattle.np_calculus.specs.Changes.{Change, Write, put, still}
 use Rattle.np_calculus.specs.Reductions.{output_in}
+use Rattle.np_calculus.specs.Rows.{asked_of, change_in, made_of, output_of, outside}
 use Rattle.np_calculus.specs.Sight.{Sight}
 use Rattle.stamp_history.specs.declared.stamped.Stamped.{Stamped}
 use Rattle.stamp_history.specs.Histories.{Recorded}
 use Rattle.np_holdings.specs.Holdings.{Does, name_of}
-use Rattle.np_holdings.specs.Loads.{output_of}
 use Rattle.np_holdings.specs.Making.{next_after}
 use Rattle.np_holdings.specs.Within.{GoesOnAlone, Tells, given, gone_on, inner}
 use Rattle.np_holdings.proofs.Inversions as inverted
@@ -29,10 +29,10 @@ use Rattle.np_code.specs.Programs.{ProgramTable}
 use Rattle.agent_index.specs.Shelves.{Kept}
 use Rattle.agent_pool.specs.declared.held.Held.{Held}
 use Rattle.agent_pool.specs.declared.ready.Ready.{Ready}
-use Rattle.agent_pool.specs.Moves.{IsTarget, LocalLeaves, asked_of, outside}
+use Rattle.agent_pool.specs.Moves.{IsTarget, LocalLeaves}
 use Rattle.agent_pool.specs.Pools.{Pool, atoms_of, seen_as}
-use Rattle.agent_pool.specs.Readies.{IsReady, made_of}
-use Rattle.agent_pool.specs.Rows.{Reduces, change_in, event_of, own_sight}
+use Rattle.agent_pool.specs.Readies.{IsReady}
+use Rattle.agent_pool.specs.Rows.{Reduces, event_of, own_sight}
 use Rattle.site_state.specs.Coming.{HasGot, HasSpare}
 use Rattle.site_state.specs.Doing.{HasDoneEvent, deed_of, finds}
 use Rattle.site_state.specs.Parts.{Asks, HasGone, HasTold, IsNoted}

@@ -12,9 +12,8 @@ use Rattle.np_stamped_run.specs.Deeds.{Deed, ticked}
 use Rattle.np_holdings.specs.Holdings.{Does, name_of}
 use Rattle.np_code.specs.Programs.{ProgramTable}
 use Rattle.agent_pool.specs.declared.ready.Ready.{Ready}
-use Rattle.agent_pool.specs.Moves.{asked_of}
+use Rattle.np_calculus.specs.Rows.{asked_of, made_of}
 use Rattle.agent_pool.specs.Pools.{Pool, atoms_of}
-use Rattle.agent_pool.specs.Readies.{made_of}
 use Rattle.agent_pool.specs.Rows.{event_of}
 use Rattle.agent_move.specs.declared.item.Item.{Item}
 use Rattle.agent_move.specs.Items.{item_of}

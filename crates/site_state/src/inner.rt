@@ -1,7 +1,7 @@
 ghost use Rattle.std.specs.Prelude.{◌≡◌, true, false, length, OnOk, OnErr};
 ghost use Rattle.np_calculus.specs.Changes.{still};
+ghost use Rattle.np_calculus.specs.Rows.{made_of};
 ghost use Rattle.np_holdings.specs.Holdings.{name_of};
-ghost use Rattle.agent_pool.specs.Readies.{made_of};
 ghost use Rattle.site_state.specs.Doing.{HasDoneEvent, HasRoom, event_at};
 ghost use Rattle.site_state.specs.Parts.{HasReduced, is_inner};
 ghost use Rattle.site_agents.specs.Standings.{CanDo};

@@ -2,8 +2,9 @@
 
 ghost use Rattle.std.specs.Prelude.{◌≡◌, true, false, OnOk, OnErr};
 ghost use Rattle.np_calculus.specs.Changes.{still};
+ghost use Rattle.np_calculus.specs.Rows.{made_of};
 ghost use Rattle.agent_pool.specs.Pools.{Unchanged, atoms_of};
-ghost use Rattle.agent_pool.specs.Readies.{IsReady, made_of};
+ghost use Rattle.agent_pool.specs.Readies.{IsReady};
 ghost use Rattle.agent_pool.specs.Rows.{Reduces};
 ghost use Rattle.site_state.specs.Parts.{is_inner};
 

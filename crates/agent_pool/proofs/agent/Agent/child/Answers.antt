@@ -3,8 +3,8 @@ use Rattle.std.specs.FinMap as map
 use Rattle.np_syntax.specs.Options.{◌>>=◌}
 use Rattle.np_calculus.specs.declared.config.Place.TheVariants as place
 use Rattle.np_calculus.specs.Changes.{put, still}
+use Rattle.np_calculus.specs.Rows.{leaves_outside}
 use Rattle.agent_pool.specs.Held.{atom_of}
-use Rattle.agent_pool.specs.Moves.{leaves_outside}
 use Rattle.agent_pool.specs.Pools.{atoms_of}
 use Rattle.agent_pool.proofs.Maps.{gone-on}
 use Rattle.agent_pool.proofs.agent.Agent.child.Goals as goal
