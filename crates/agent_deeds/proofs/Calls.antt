@@ -36,11 +36,11 @@ use Rattle.np_code.specs.Programs.{ProgramTable}
 use Rattle.agent_pool.specs.declared.ready.Ready.{Ready}
 use Rattle.agent_pool.specs.Held.{atom_of, wait_of}
 use Rattle.agent_pool.specs.Moves.{Births}
-use Rattle.agent_pool.specs.Pools.{Pool, atoms_of, seen_as}
+use Rattle.agent_pool.specs.Pools.{Pool, atoms_of, seen_as, without_room}
 use Rattle.agent_pool.specs.Rows.{Reduces}
 use Rattle.agent_deeds.specs.Calls as calls
 use Rattle.agent_deeds.specs.Calls.{Ever}
-use Rattle.agent_deeds.specs.Standing.{IsCall, Received, RoomIsUnseen, holding, without_room, without_room_if}
+use Rattle.agent_deeds.specs.Standing.{IsCall, Received, RoomIsUnseen, holding, without_room_if}
 
 -- ---- what is seen of agents
 

@@ -29,6 +29,7 @@ use Rattle.agent_pool.specs.Held.{env_of, gives, proc_of, takes, wait_at, wait_o
 use Rattle.agent_pool.specs.Idle.{IsIdle, NoOutputBy, Stays, is_output, waits_in}
 use Rattle.agent_pool.specs.Pools.{Pool, atoms_of, seen_as}
 use Rattle.agent_pool.specs.Readies.{IsReady}
+use Rattle.agent_pool.specs.Rows.{ready_of}
 use Rattle.agent_deeds.specs.Calls.{Ever}
 use Rattle.agent_deeds.specs.Resting as rest
 use Rattle.agent_deeds.specs.Resting.{OfEachAgent}
@@ -176,7 +177,7 @@ enabled_at code site agents next said c after e part post is =
       name = o.agent;
       agent = k.0;
       stands = k.1;
-      ready = subst (λ t. IsReady code t (rest.ready_of e)) k.2 o.ready;
+      ready = subst (λ t. IsReady code t (ready_of e)) k.2 o.ready;
       here = o.here;
       told = λ other asks. sym (some-mapped (atoms_of code.processes) agents other) ∙ o.told other (subst (λ t. AsksFor t e.actor other) (sym k.2) asks);
       is = λ makes. λ i. record e { site = o.site i; made = o.made makes i };

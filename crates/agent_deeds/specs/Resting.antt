@@ -13,21 +13,16 @@ use Rattle.np_calculus.specs.Rows.{made_of}
 use Rattle.np_holdings.specs.Holdings.{IsPart, name_of}
 use Rattle.np_holdings.specs.Making.{AreNext}
 use Rattle.np_code.specs.Programs.{ProgramTable}
-use Rattle.agent_pool.specs.declared.ready.Ready.{Ready}
 use Rattle.agent_pool.specs.Idle.{IsIdle}
 use Rattle.agent_pool.specs.Moves.{IsTarget}
 use Rattle.agent_pool.specs.Pools.{Pool, atoms_of}
 use Rattle.agent_pool.specs.Readies.{IsReady, NothingReady}
-use Rattle.agent_pool.specs.Rows.{event_of}
+use Rattle.agent_pool.specs.Rows.{event_of, ready_of}
 use Rattle.agent_deeds.specs.Standing.{holding}
 
 -- this holds of each of the agents
 abbrev pub OfEachAgent : NameMap Pool → (Pool → Type 0) → Type 0
 OfEachAgent agents P = (q : Name) (p : Pool) → map.get agents q ≡ Some p → P p
-
--- what is ready by an event
-abbrev pub ready_of : Event → Ready
-ready_of e = record { kind = e.kind; actor = e.actor; other = e.other; tag = e.tag }
 
 -- an agent that stands at the site is ready for the event, which is then the one of this ready, with the names that its kind makes
 pub record IsOfReady (code : ProgramTable) (site : ℕ) (agents : NameMap Pool) (next : ℕ) (said : List Value) (e : Event) : Type 0 where

@@ -16,7 +16,7 @@ use Rattle.agent_index.specs.Shelves.{Kept}
 use Rattle.agent_pool.specs.declared.held.Held.{Held}
 use Rattle.agent_pool.specs.declared.held.Held.TheVariants as held
 use Rattle.agent_pool.specs.declared.ready.Ready.{Ready}
-use Rattle.agent_pool.specs.Pools.{Pool, atoms_of}
+use Rattle.agent_pool.specs.Pools.{Pool, atoms_of, without_room}
 use Rattle.agent_pool.specs.Rows.{event_of}
 use Rattle.np_calculus.specs.declared.config.Packet.{Packet}
 
@@ -25,10 +25,7 @@ abbrev pub holding : ProgramTable → ℕ → NameMap Pool → ℕ → List Valu
 holding code site agents next said =
     record { site = site; sites = length code.sites; agents = mapped (atoms_of code.processes) agents; next = next; said = said }
 
--- an agent but for its room
-abbrev pub without_room : Pool → Name × NameMap (Kept Held)
-without_room p = (p.name, p.atoms)
-
+-- an agent, if any, but for its room
 abbrev pub without_room_if : Option Pool → Option (Name × NameMap (Kept Held))
 without_room_if None = None
 without_room_if (Some p) = Some (without_room p)

@@ -32,6 +32,10 @@ seen_as ts agent kept = atom_of ts agent kept.1
 abbrev pub atoms_of : List Proc → Pool → NameMap Atom
 atoms_of ts p = mapped (seen_as ts p.name) p.atoms
 
+-- an agent but for its room
+abbrev pub without_room : Pool → Name × NameMap (Kept Held)
+without_room p = (p.name, p.atoms)
+
 -- nothing that contracts see has changed, but for the room
 pub record Unchanged (old new : Pool) : Type 0 where
   pub name : new.name ≡ old.name

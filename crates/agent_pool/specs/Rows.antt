@@ -34,6 +34,10 @@ own_sight code p here = record { sites = length code.sites; here = λ q. here; a
 abbrev pub event_of : ℕ → Ready → Made → Event
 event_of site r made = record { site = site; kind = r.kind; actor = r.actor; other = r.other; tag = r.tag; made = made }
 
+-- what an event asks of the agent that does it
+abbrev pub ready_of : Event → Ready
+ready_of e = record { kind = e.kind; actor = e.actor; other = e.other; tag = e.tag }
+
 -- the row of a kind is met by the event of a ready that makes these names
 abbrev pub IsMet : Kind → ProgramTable → Pool → Ready → Made → Type 0
 IsMet k code p r made = IsSome (change_in k (own_sight code p false) (event_of 0 r made))

@@ -23,10 +23,10 @@ use Rattle.np_code.specs.Programs.{ProgramTable}
 use Rattle.agent_pool.specs.declared.ready.Ready.{Ready}
 use Rattle.agent_pool.specs.Pools.{Pool, atoms_of}
 use Rattle.agent_pool.specs.Readies.{IsReady, sight_of}
-use Rattle.agent_pool.specs.Rows.{event_of}
+use Rattle.agent_pool.specs.Rows.{event_of, ready_of}
 use Rattle.agent_deeds.specs.Resting.{IsOfReady}
 use Rattle.site_agents.specs.Standings.{CanDo}
-use Rattle.site_state.specs.Doing.{IsPossible, event_at, finds, ready_of}
+use Rattle.site_state.specs.Doing.{IsPossible, event_at, finds}
 use Rattle.site_state.specs.Standings.{Standing, holding_of}
 
 -- the acting atom of an event of a ready is one of the agent's

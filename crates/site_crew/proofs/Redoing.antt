@@ -25,8 +25,9 @@ use Rattle.site_links.specs.declared.port.Port as Port
 use Rattle.site_links.proofs.Rows.{get-push_at, get-set_same}
 use Rattle.np_code.specs.Programs.{ProgramTable}
 use Rattle.agent_pool.specs.declared.ready.Ready.{Ready}
+use Rattle.agent_pool.specs.Rows.{ready_of}
 use Rattle.agent_move.specs.declared.item.Item.{Item}
-use Rattle.site_state.specs.Doing.{HasDoneAsked, HasDoneEvent, HasTaken, IsRedone, event_at, ready_of}
+use Rattle.site_state.specs.Doing.{HasDoneAsked, HasDoneEvent, HasTaken, IsRedone, event_at}
 use Rattle.site_state.specs.Standings.{Standing, Stays, with_clock}
 use Rattle.site_turn.specs.declared.seat.Seat.{Seat}
 use Rattle.site_turn.specs.Turns.{Accepts, SetsAside, Turned}

@@ -7,7 +7,8 @@ use Rattle.np_code.specs.Programs.{ProgramTable}
 use Rattle.np_following.specs.Following.{AreOf}
 use Rattle.agent_move.specs.declared.item.Item.{Item}
 use Rattle.site_agents.specs.Standings.{NoneCanDo}
-use Rattle.site_state.specs.Doing.{HasDoneAsked, HasRoom, IsPossible, event_at, ready_of}
+use Rattle.agent_pool.specs.Rows.{ready_of}
+use Rattle.site_state.specs.Doing.{HasDoneAsked, HasRoom, IsPossible, event_at}
 use Rattle.site_state.specs.Standings.{Stays}
 use Rattle.site_turn.specs.declared.seat.Seat.{Seat}
 use Rattle.site_turn.specs.Turns.{Turned}

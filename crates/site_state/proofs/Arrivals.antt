@@ -27,7 +27,7 @@ use Rattle.agent_index.specs.Shelves.{Kept}
 use Rattle.agent_index.specs.declared.wait.Wait.TheVariants as wait
 use Rattle.agent_pool.specs.declared.held.Held.{Held}
 use Rattle.agent_pool.specs.declared.held.Held.TheVariants as held
-use Rattle.agent_pool.specs.Pools.{Pool, atoms_of, seen_as}
+use Rattle.agent_pool.specs.Pools.{Pool, atoms_of, seen_as, without_room}
 use Rattle.agent_pool.proofs.Maps.{gone-on}
 use Rattle.agent_move.specs.declared.item.Item.{Item}
 use Rattle.agent_move.specs.declared.load.Load.{Load}
@@ -39,7 +39,7 @@ use Rattle.site_state.specs.Doing.{HasTaken, deed_of, recorded}
 use Rattle.site_state.specs.Lines.{queue_at}
 use Rattle.site_state.specs.Parts.{IsNoted}
 use Rattle.site_agents.specs.Standings.{AreNamed}
-use Rattle.site_state.specs.Standings.{KeepsQuiet, SameAgents, SameRecords, Standing, holding_of, without_room}
+use Rattle.site_state.specs.Standings.{KeepsQuiet, SameAgents, SameRecords, Standing, holding_of}
 use Rattle.site_state.proofs.Done.{same_quiet}
 
 -- the calculus does not see the room of agents

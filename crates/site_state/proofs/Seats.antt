@@ -9,12 +9,12 @@ use Rattle.np_syntax.specs.declared.value.Value.{Value}
 use Rattle.np_tables.specs.Names.{NameMap, same_name}
 use Rattle.np_tables.proofs.Tables.{get-none, get-put, put-cut, same_name-is, cut_here, put_here}
 use Rattle.np_code.specs.Programs.{ProgramTable}
-use Rattle.agent_pool.specs.Pools.{Pool, Unchanged}
+use Rattle.agent_pool.specs.Pools.{Pool, Unchanged, without_room}
 use Rattle.site_agents.specs.LentAgents.{with_agent}
 use Rattle.site_agents.proofs.Comings.{quiet_with as quiet_there}
 use Rattle.site_state.specs.Coming.{HasGot, HasSpare, IsGiven, KeepsSeats}
 use Rattle.site_agents.specs.Standings.{AreNamed, AreQuiet, Standing as Seated}
-use Rattle.site_state.specs.Standings.{SameAgents, without_room}
+use Rattle.site_state.specs.Standings.{SameAgents}
 
 named_at : (agents : NameMap Pool) (k : Name) (p : Pool) → AreNamed agents → p.name ≡ k → (q : Name) (t : Bool) (x : Pool) → same_name q k ≡ t
     → cond t (Some p) (map.get agents q) ≡ Some x → x.name ≡ q

@@ -5,9 +5,9 @@ use Rattle.std.specs.FinMap as map
 use Rattle.np_syntax.specs.declared.limits.TheConstants.{LARGEST_BUDGET}
 use Rattle.np_tables.specs.Names.{NameMap}
 use Rattle.stamp_history.specs.Histories.{Recorded, without_events}
-use Rattle.agent_pool.specs.Pools.{Pool}
+use Rattle.agent_pool.specs.Pools.{Pool, without_room}
 use Rattle.site_state.proofs.Seats.{named-none}
-use Rattle.site_state.specs.Standings.{IsStanding, SameAgents, Standing, without_room}
+use Rattle.site_state.specs.Standings.{IsStanding, SameAgents, Standing}
 
 pub stands_first : (s : Standing) (site budget : ℕ) → s.site ≡ site → budget ≤ LARGEST_BUDGET → s.agents ≡ map.empty → s.next ≡ 0 → s.clock ≡ 0
     → s.history ≡ without_events site budget → IsStanding s

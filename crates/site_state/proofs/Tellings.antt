@@ -30,14 +30,14 @@ use Rattle.agent_index.specs.Shelves.{Kept}
 use Rattle.agent_pool.specs.declared.held.Held.{Held}
 use Rattle.agent_pool.specs.declared.ready.Ready.{Ready}
 use Rattle.agent_pool.specs.Moves.{IsTarget, LocalLeaves}
-use Rattle.agent_pool.specs.Pools.{Pool, atoms_of, seen_as}
+use Rattle.agent_pool.specs.Pools.{Pool, atoms_of, seen_as, without_room}
 use Rattle.agent_pool.specs.Readies.{IsReady}
 use Rattle.agent_pool.specs.Rows.{Reduces, event_of, own_sight}
 use Rattle.site_state.specs.Coming.{HasGot, HasSpare}
 use Rattle.site_state.specs.Doing.{HasDoneEvent, deed_of, finds}
 use Rattle.site_state.specs.Parts.{Asks, HasGone, HasTold, IsNoted}
 use Rattle.site_agents.specs.Standings.{AreNamed, CanDo}
-use Rattle.site_state.specs.Standings.{KeepsQuiet, SameAgents, SameRecords, Standing, holding_of, without_room}
+use Rattle.site_state.specs.Standings.{KeepsQuiet, SameAgents, SameRecords, Standing, holding_of}
 use Rattle.site_state.proofs.Arrivals.{got_seen, same_seen}
 use Rattle.site_state.proofs.Done.{done_inner}
 use Rattle.site_state.proofs.Lines.{lines_are_same}

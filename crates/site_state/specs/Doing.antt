@@ -14,7 +14,7 @@ use Rattle.np_code.specs.Programs.{ProgramTable}
 use Rattle.agent_pool.specs.declared.ready.Ready.{Ready}
 use Rattle.np_calculus.specs.Rows.{asked_of, made_of}
 use Rattle.agent_pool.specs.Pools.{Pool, atoms_of}
-use Rattle.agent_pool.specs.Rows.{event_of}
+use Rattle.agent_pool.specs.Rows.{event_of, ready_of}
 use Rattle.agent_move.specs.declared.item.Item.{Item}
 use Rattle.agent_move.specs.Items.{item_of}
 use Rattle.site_state.specs.declared.stepping.Stepped.{Stepped}
@@ -63,10 +63,6 @@ finds code agents name r = is_some (map.get agents name >>= λ p. map.get (atoms
 -- the event of the agent of a name that does this at the site: it makes the site's next names
 abbrev pub event_at : ProgramTable → Standing → Name → Ready → Event
 event_at code s name r = event_of s.site r (made_of r.kind (finds code s.agents name r) (name_of s.site s.next) (name_of s.site (s.next + 1)))
-
--- what an event asks of the agent that does it
-abbrev pub ready_of : Event → Ready
-ready_of e = record { kind = e.kind; actor = e.actor; other = e.other; tag = e.tag }
 
 -- an agent that stands here can do the event, and whichever does it, it is this very event
 pub record IsPossible (code : ProgramTable) (s : Standing) (event : Event) : Type 0 where

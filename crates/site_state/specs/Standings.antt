@@ -10,9 +10,7 @@ use Rattle.np_tables.specs.Mapped.{mapped}
 use Rattle.stamp_history.specs.Histories.{IsAboveLast, Recorded, recorded_code, without_events}
 use Rattle.np_holdings.specs.Holdings.{Holding}
 use Rattle.np_code.specs.Programs.{ProgramTable}
-use Rattle.agent_index.specs.Shelves.{Kept}
-use Rattle.agent_pool.specs.declared.held.Held.{Held}
-use Rattle.agent_pool.specs.Pools.{Pool, pool_code, atoms_of}
+use Rattle.agent_pool.specs.Pools.{Pool, pool_code, atoms_of, without_room}
 use Rattle.agent_move.specs.declared.item.Item.{Item}
 use Rattle.site_agents.specs.Standings.{AreNamed, AreQuiet, Standing as Seated}
 use Rattle.site_state.specs.Lines.{Waiting, waiting_code, AreEmpty, SameLines, IsTaken, queue_at}
@@ -61,10 +59,6 @@ IsQuiet code s = AreQuiet code (seated s 0)
 -- so it is then, if it was
 abbrev pub KeepsQuiet : ProgramTable → Standing → Standing → Type 0
 KeepsQuiet code old new = IsQuiet code old → IsQuiet code new
-
--- an agent but for its room
-abbrev pub without_room : Pool → Name × NameMap (Kept Held)
-without_room p = (p.name, p.atoms)
 
 -- the same agents, but for their room
 pub record SameAgents (old new : NameMap Pool) : Type 0 where

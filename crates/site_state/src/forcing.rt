@@ -3,7 +3,8 @@
 ghost use Rattle.std.specs.Prelude.{◌≡◌, ◌<◌, ◌≤◌, ◌+◌, ◌-◌, length, max, IfOk, OnOk, OnErr};
 ghost use Rattle.np_syntax.specs.declared.limits.TheConstants.{STAMPS_END};
 ghost use Rattle.stamp_history.specs.Histories.{IsAboveLast};
-ghost use Rattle.site_state.specs.Doing.{HasDoneEvent, HasRoom, IsPossible, IsRedone, event_at, ready_of};
+ghost use Rattle.agent_pool.specs.Rows.{ready_of};
+ghost use Rattle.site_state.specs.Doing.{HasDoneEvent, HasRoom, IsPossible, IsRedone, event_at};
 ghost use Rattle.site_agents.specs.Standings.{CanDo};
 ghost use Rattle.site_state.specs.Standings.{IsStanding, Stays, with_clock};
 

@@ -7,6 +7,7 @@ use Rattle.np_syntax.specs.declared.event.Event.{Event}
 use Rattle.site_links.specs.Words.{only_at}
 use Rattle.site_links.specs.declared.port.Port as Port
 use Rattle.np_code.specs.Programs.{ProgramTable}
+use Rattle.agent_pool.specs.Pools.{without_room}
 use Rattle.agent_pool.specs.Readies.{NothingReady}
 use Rattle.agent_move.specs.declared.item.Item.{Item}
 use Rattle.site_agents.specs.Standings.{NoneCan}
@@ -14,7 +15,7 @@ use Rattle.site_state.specs.declared.stepping.Stepped.{Stepped}
 use Rattle.site_state.specs.declared.stepping.Stepped.TheVariants as stepped
 use Rattle.site_state.specs.Doing.{Did, HasRoom, HasTaken, IsStepped, IsTried}
 use Rattle.site_state.specs.Lines.{queue_at}
-use Rattle.site_state.specs.Standings.{IsOut, IsQuiet, SameRecords, SameSite, Standing, Stays, StaysForAll, without_room}
+use Rattle.site_state.specs.Standings.{IsOut, IsQuiet, SameRecords, SameSite, Standing, Stays, StaysForAll}
 use Rattle.site_state.proofs.Tellings.{same_atoms, there_still}
 use Rattle.site_turn.specs.declared.seat.Seat.{Seat}
 use Rattle.site_turn.specs.Turns.{Accepts, HadNoneWaiting, HadNothing, MakesNone, MakesOne, LeavesLink, OnlySends, Polls, Receives, ReceivesAside, ReceivesNone, Seated, SetsAside, Steps, Sends, SendsFor, SendsNone}

@@ -16,9 +16,9 @@ use Rattle.site_links.proofs.Kept.{Begins-same}
 use Rattle.np_code.specs.Programs.{ProgramTable}
 use Rattle.agent_index.specs.Shelves.{Kept}
 use Rattle.agent_pool.specs.declared.held.Held.{Held}
-use Rattle.agent_pool.specs.Pools.{Pool, atoms_of, seen_as}
+use Rattle.agent_pool.specs.Pools.{Pool, atoms_of, seen_as, without_room}
 use Rattle.site_state.specs.Doing.{recorded}
-use Rattle.site_state.specs.Standings.{SameAgents, SameSite, Standing, holding_of, without_room}
+use Rattle.site_state.specs.Standings.{SameAgents, SameSite, Standing, holding_of}
 use Rattle.run_merge.proofs.InOrder.{all_append, all_weaker}
 use Rattle.site_turn.specs.Turns.{HistoryGrows, IsLater}
 

@@ -1,5 +1,6 @@
 use Rattle.std.proofs.Common.{◌≡◌, Bool, true, false, refl, subst}
-use Rattle.site_state.specs.Doing.{IsRedone, ready_of}
+use Rattle.agent_pool.specs.Rows.{ready_of}
+use Rattle.site_state.specs.Doing.{IsRedone}
 use Rattle.site_turn.proofs.Steps.{turned_refl}
 use Rattle.site_crew.specs.Following.{HasNotRedone}
 use Rattle.site_crew.proofs.Redoing.{adds_redone, differs_redone, turned_redone}
