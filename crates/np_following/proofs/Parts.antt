@@ -6,6 +6,7 @@ use Rattle.std.specs.FinSet as set
 use Rattle.np_calculus.proofs.Common.{Name, Event, Kind, Made, same_name, same_name-is, then, Config, Contents, Change, inside, sight, acting_in, are_new, change, apply}
 use Rattle.np_syntax.specs.declared.event.Kind.TheVariants as kind
 use Rattle.np_syntax.specs.declared.event.Made.TheVariants as made
+use Rattle.np_syntax.specs.Reordering.{Reordered, and_then, behind, kept, swapped}
 use Rattle.np_calculus.specs.declared.config.Atom.{Atom}
 use Rattle.np_calculus.specs.declared.config.Place.TheVariants as place
 use Rattle.np_calculus.specs.FrameRule.{Comes, Every}
@@ -15,10 +16,11 @@ use Rattle.np_calculus.proofs.FrameRule.{frame_back}
 use Rattle.np_calculus.proofs.OwnNames.{not_true}
 use Rattle.np_calculus.proofs.Steps.{Acts, acting-step, row-step}
 use Rattle.np_calculus.proofs.Writes.{every-map}
-use Rattle.np_merged_run.specs.Joined.{IsJoined, Reordered, and_then, behind, kept, swapped, together}
+use Rattle.np_merged_run.specs.Joined.{IsJoined, together}
 use Rattle.np_merged_run.specs.Links.{spread}
 use Rattle.np_merged_run.specs.Steps.{IsItem, IsSpread, Spread, sites}
-use Rattle.np_merged_run.proofs.Joined.{every-append, reorder-after, reorder-joined}
+use Rattle.np_syntax.proofs.Reorderings.{reorder-after}
+use Rattle.np_merged_run.proofs.Joined.{every-append, reorder-joined}
 use Rattle.np_merged_run.proofs.Steps.{false_eq, not_eq, together-away, together-lodged}
 use Rattle.np_stamped_run.specs.Elements.{Occurs}
 use Rattle.np_stamped_run.proofs.Elements.{occurs-either, occurs-not}

@@ -9,6 +9,7 @@ use Rattle.np_syntax.specs.declared.process.Role.TheVariants as role
 use Rattle.np_syntax.specs.declared.event.Event.{Event}
 use Rattle.np_syntax.specs.declared.event.Kind.TheVariants as kind
 use Rattle.np_syntax.specs.declared.event.Made.TheVariants as made
+use Rattle.np_syntax.specs.Reordering.{kept}
 use Rattle.np_syntax.proofs.Options.{then, when, done}
 use Rattle.np_tables.specs.Names.{NameMap, same_name}
 use Rattle.np_tables.proofs.Tables.{get-put, same_name-is, same_name-swap}
@@ -35,7 +36,6 @@ use Rattle.np_levels.proofs.Marks.{reshape}
 use Rattle.np_levels.proofs.Scenes.{scene_put}
 use Rattle.np_levels.proofs.Together.{together}
 use Rattle.np_levels.proofs.Caches.{by_step, reordered, same_agents}
-use Rattle.np_levels.proofs.Orders.{kept}
 use Rattle.np_levels.specs.Letters.{SameLetters}
 use Rattle.cache_rule.specs.Steps.{CacheStep}
 use Rattle.np_levels.proofs.Applies.{takes_nothing}

@@ -8,6 +8,7 @@ use Rattle.np_syntax.specs.declared.value.Name.{Name}
 use Rattle.np_syntax.specs.declared.event.Event.{Event}
 use Rattle.np_syntax.specs.declared.event.Made.{Made}
 use Rattle.np_syntax.specs.declared.event.Made.TheVariants as made
+use Rattle.np_syntax.specs.Reordering.{Reordered}
 use Rattle.np_syntax.proofs.Options.{done}
 use Rattle.np_tables.specs.Names.{NameMap, NameSet, same_name}
 use Rattle.np_tables.proofs.Tables.{born_insert, same_name-is, get-cut, get-put}
@@ -27,7 +28,7 @@ use Rattle.cache_rule.proofs.Keeps.{keeps-rule}
 use Rattle.infrastructure_texts.specs.Infrastructures.{Infrastructure}
 use Rattle.np_things.specs.Things.{Thing, carried}
 use Rattle.np_levels.specs.Coupled.{IsCarrier, cache_chips, levels}
-use Rattle.np_levels.proofs.Orders.{Reordered, permuted}
+use Rattle.np_levels.proofs.Orders.{permuted}
 
 -- ---- names
 

@@ -42,6 +42,7 @@ use Rattle.np_protocol.proofs.Moves.{only-zero}
 use Rattle.np_protocol.proofs.Tallies.{only}
 use Rattle.np_protocol.proofs.Steps.{all_taken}
 use Rattle.np_syntax.specs.declared.expression.ExprForm as expr
+use Rattle.np_syntax.specs.Reordering.{and_then, behind, swapped}
 use Rattle.infrastructure_texts.specs.Pieces.{ack, beside, currentloc, daemon, deliver, expression, gives, lock, migrating, name, nothing, pair, process, sends as sends_text, site, takes, tells, unit, variable}
 use Rattle.infrastructure_texts.specs.Texts.{migrate_text, move_text, settles}
 use Rattle.infrastructure_texts.specs.Daemon.{acks}
@@ -62,7 +63,7 @@ use Rattle.np_levels.specs.Coupled.{Coupled, View, chips, is_channel, is_child_o
 use Rattle.np_levels.proofs.Becomes.{cancel}
 use Rattle.np_levels.proofs.Marks.{same_chips, step_at}
 use Rattle.np_levels.proofs.Meets.{IsMeeting, meeting, meets}
-use Rattle.np_levels.proofs.Orders.{and_then, behind, permuted, swapped}
+use Rattle.np_levels.proofs.Orders.{permuted}
 use Rattle.np_levels.proofs.Outputs.{by_lock, by_map, by_number, by_token, given_by, is-own, number-of, IsHintsLock, awaited_lock, by_cache, by_hint}
 use Rattle.np_levels.proofs.Quiet.{any_in, any_kept, any_out, knows_more, or_cases}
 use Rattle.np_levels.proofs.Serves.{no_lock_at}

@@ -17,6 +17,7 @@ use Rattle.np_syntax.specs.declared.event.Event.{Event}
 use Rattle.np_syntax.specs.declared.event.Kind.TheVariants as kind
 use Rattle.np_syntax.specs.declared.event.Made.TheVariants as made
 use Rattle.np_syntax.specs.Options.{◌>>=◌}
+use Rattle.np_syntax.specs.Reordering.{and_then, behind, swapped}
 use Rattle.np_syntax.proofs.Bools.{and-in, and-out}
 use Rattle.np_syntax.proofs.Options.{then, done}
 use Rattle.np_tables.specs.Names.{NameMap, NameSet, same_name}
@@ -71,7 +72,7 @@ use Rattle.np_levels.proofs.Places.{put_another, same_place}
 use Rattle.np_levels.proofs.Becomes.{cancel}
 use Rattle.np_levels.proofs.Keeping.{first_put, known_on, only_at, step_new}
 use Rattle.np_levels.proofs.Marks.{reshape, step_at}
-use Rattle.np_levels.proofs.Orders.{and_then, behind, permuted, swapped}
+use Rattle.np_levels.proofs.Orders.{permuted}
 use Rattle.np_levels.proofs.Outputs.{is-own}
 use Rattle.np_levels.proofs.Plains.{made_no_move, plain_tag}
 use Rattle.np_levels.proofs.Posts.{mirrors_put}

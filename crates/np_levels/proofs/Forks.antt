@@ -16,7 +16,9 @@ use Rattle.np_syntax.specs.declared.event.Event.{Event}
 use Rattle.np_syntax.specs.declared.event.Kind.TheVariants as kind
 use Rattle.np_syntax.specs.declared.event.Made.TheVariants as made
 use Rattle.np_syntax.specs.Options.{◌>>=◌}
+use Rattle.np_syntax.specs.Reordering.{Reordered, and_then, behind}
 use Rattle.np_syntax.proofs.Options.{then, done}
+use Rattle.np_syntax.proofs.Reorderings.{reorder-back, reorder-front}
 use Rattle.np_tables.specs.Names.{NameMap, same_name}
 use Rattle.np_tables.proofs.Tables.{get-put, same_name-is}
 use Rattle.np_calculus.specs.declared.config.Atom.{Atom}
@@ -44,7 +46,7 @@ use Rattle.np_protocol.specs.Protocol.{Protocol}
 use Rattle.np_protocol.proofs.Steps.{all_left, all_right}
 use Rattle.np_levels.proofs.Letters.{low-carries-none}
 use Rattle.np_levels.proofs.Marks.{may_know_more, reshape}
-use Rattle.np_levels.proofs.Orders.{Reordered, and_then, backwards, behind, entries_at, entries_new, entries_put, flat, past, permuted}
+use Rattle.np_levels.proofs.Orders.{entries_at, entries_new, entries_put, flat, permuted}
 use Rattle.np_levels.proofs.Quiet.{knows_more, quiet, things_born}
 use Rattle.np_levels.proofs.Starts.{any_order}
 use Rattle.np_levels.proofs.Shapes.{of_atom, same_role}
@@ -238,10 +240,10 @@ module _ {i : Infrastructure} {n from first : ℕ} {low high : Config} {v : View
               (behind (entries_put v.things e.actor left))) in
               let old = flat (λ (e : Name × List Thing). flat_map show e.1) (entries_at v.things e.actor (left ++ right) there) in
               let middle : Reordered (flat_map show right ++ (flat_map show left ++ rest)) (flat_map show left ++ (flat_map show right ++ rest)) =
-              past (flat_map show right) (flat_map show left) rest in
+              reorder-front (flat_map show right) (flat_map show left) rest in
               let joined : flat_map show left ++ (flat_map show right ++ rest) ≡ flat_map show (left ++ right) ++ rest =
               sym (append_assoc (flat_map show left) (flat_map show right) rest) ∙ ap (λ l. l ++ rest) (sym (flat_map-append show left right)) in
-              and_then new (and_then middle (subst (λ l. Reordered l (shown show v.things)) (sym joined) (backwards old)))
+              and_then new (and_then middle (subst (λ l. Reordered l (shown show v.things)) (sym joined) (reorder-back old)))
 
           step_order : Reordered (chips things) (chips v.things)
           step_order = split_shown shows
@@ -250,7 +252,7 @@ module _ {i : Infrastructure} {n from first : ℕ} {low high : Config} {v : View
           protocol = any_order (scene v high) v.phase (chips v.things) (chips things) (permuted step_order) c.protocol
 
           more : (t : Thing) (b : Name) → may_know v.lock (chips v.things) t b ≡ true → may_know v.lock (chips things) t b ≡ true
-          more = may_know_more v.lock (chips v.things) (chips things) (λ a b i. sym (list_any-IsPermutation (is_child_of a b) (chips v.things) (chips things) (permuted (backwards step_order))) ∙ i)
+          more = may_know_more v.lock (chips v.things) (chips things) (λ a b i. sym (list_any-IsPermutation (is_child_of a b) (chips v.things) (chips things) (permuted (reorder-back step_order))) ∙ i)
 
           weaker : (ts : List Thing) → All (λ t. KnowsOnly (may_know v.lock (chips v.things) t) (is_channel n high.born) from t) ts → All (λ t. KnowsOnly (may_know v.lock (chips things) t) (is_channel n high.born) from t) ts
           weaker ts k = All-weaker (λ t. KnowsOnly (may_know v.lock (chips v.things) t) (is_channel n high.born) from t) (λ t. KnowsOnly (may_know v.lock (chips things) t) (is_channel n high.born) from t)

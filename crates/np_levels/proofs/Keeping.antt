@@ -7,6 +7,7 @@ use Rattle.std.specs.FinMap as map
 use Rattle.np_syntax.specs.declared.value.Name.{Name}
 use Rattle.np_syntax.specs.declared.event.Made.{Made}
 use Rattle.np_syntax.specs.Options.{◌>>=◌}
+use Rattle.np_syntax.specs.Reordering.{and_then, behind}
 use Rattle.np_tables.specs.Names.{NameMap, NameSet, same_name}
 use Rattle.np_tables.proofs.Tables.{get-put}
 use Rattle.np_calculus.specs.Changes.{with_made}
@@ -19,7 +20,7 @@ use Rattle.infrastructure_texts.specs.Infrastructures.{Infrastructure}
 use Rattle.np_things.specs.Things.{Thing}
 use Rattle.np_levels.specs.Coupled.{Coupled, KnowsOnly, View, is_channel, is_child_of, may_know, shown, is_high}
 use Rattle.np_levels.proofs.Marks.{may_know_more}
-use Rattle.np_levels.proofs.Orders.{and_then, behind, entries_at, entries_new, entries_put, flat, permuted}
+use Rattle.np_levels.proofs.Orders.{entries_at, entries_new, entries_put, flat, permuted}
 use Rattle.np_levels.proofs.Together.{IsOldOrNew, knows_wider, more_channels, one_mark}
 
 -- what a mark's first thing is, where other things are put under a mark

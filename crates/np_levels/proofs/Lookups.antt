@@ -12,6 +12,7 @@ use Rattle.np_syntax.specs.declared.process.ProcForm.{ProcForm-F}
 use Rattle.np_syntax.specs.declared.process.ProcForm.TheVariants as forms
 use Rattle.np_syntax.specs.declared.event.Event.{Event}
 use Rattle.np_syntax.specs.declared.event.Kind.TheVariants as kind
+use Rattle.np_syntax.specs.Reordering.{and_then, behind, swapped}
 use Rattle.np_syntax.proofs.Options.{then, done}
 use Rattle.np_tables.specs.Names.{same_name}
 use Rattle.np_tables.proofs.Tables.{same_name-itself}
@@ -48,7 +49,7 @@ use Rattle.np_things.specs.CacheShapes.{IsLookingBack}
 use Rattle.np_levels.specs.Coupled.{Coupled, View, chips, scene}
 use Rattle.np_levels.proofs.Becomes.{becomes, cancel}
 use Rattle.np_levels.proofs.Marks.{step_at}
-use Rattle.np_levels.proofs.Orders.{and_then, behind, permuted, swapped}
+use Rattle.np_levels.proofs.Orders.{permuted}
 use Rattle.np_levels.proofs.Values.{channel-is, here_is, there_is, unit-is, variable-is, gives_two, gives_own}
 use Rattle.np_levels.proofs.Caches.{handed_on}
 use Rattle.np_levels.specs.Letters.{SameLetters}

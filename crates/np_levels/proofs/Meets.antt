@@ -11,6 +11,7 @@ use Rattle.np_syntax.specs.declared.event.Event.{Event}
 use Rattle.np_syntax.specs.declared.event.Kind.TheVariants as kind
 use Rattle.np_syntax.specs.declared.event.Made.TheVariants as made
 use Rattle.np_syntax.specs.Options.{◌>>=◌}
+use Rattle.np_syntax.specs.Reordering.{and_then, behind}
 use Rattle.np_syntax.proofs.Options.{then, done}
 use Rattle.np_tables.specs.Names.{NameMap, same_name}
 use Rattle.np_tables.proofs.Tables.{get-cut, get-put, same_name-is, same_name-swap}
@@ -37,7 +38,7 @@ use Rattle.np_levels.specs.Coupled.{Coupled, IsShaped, KnowsOnly, View, chips, i
 use Rattle.np_calculus.proofs.BornKept.{born-kept, made-kept}
 use Rattle.np_levels.proofs.Letters.{low-carries-none}
 use Rattle.np_levels.proofs.Marks.{reshape}
-use Rattle.np_levels.proofs.Orders.{and_then, behind, entries_at, entries_put, flat, permuted}
+use Rattle.np_levels.proofs.Orders.{entries_at, entries_put, flat, permuted}
 use Rattle.np_levels.proofs.Outputs.{is_output}
 use Rattle.np_levels.proofs.Quiet.{knows_more, or_cases, or_second, quiet}
 use Rattle.np_levels.proofs.Caches.{by_step, carry_cut, carry_put}

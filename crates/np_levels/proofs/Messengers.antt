@@ -9,6 +9,7 @@ use Rattle.np_syntax.specs.declared.process.ProcForm.TheVariants as forms
 use Rattle.np_syntax.specs.declared.process.Role.TheVariants as role
 use Rattle.np_syntax.specs.declared.event.Event.{Event}
 use Rattle.np_syntax.specs.declared.event.Kind.TheVariants as kind
+use Rattle.np_syntax.specs.Reordering.{kept}
 use Rattle.np_syntax.proofs.Options.{done}
 use Rattle.np_tables.specs.Names.{NameMap, same_name}
 use Rattle.np_tables.proofs.Tables.{cut_here, get-cut, get-put, put_here, same_name-is}
@@ -37,7 +38,6 @@ use Rattle.np_levels.proofs.Marks.{at_mark, ends, same_chips, step_at, reshape}
 use Rattle.np_levels.proofs.Quiet.{SamePlaces, any_kept, quiet}
 use Rattle.np_levels.proofs.Shapes.{of_actor, same_role}
 use Rattle.np_levels.proofs.Stops.{stopping}
-use Rattle.np_levels.proofs.Orders.{kept}
 use Rattle.np_levels.proofs.Arrivals.{arriving}
 use Rattle.np_calculus.proofs.BornKept.{born-kept, made-kept}
 

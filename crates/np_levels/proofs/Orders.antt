@@ -1,5 +1,5 @@
 -- Lists of entries in another order: what the things under the marks show does not depend on it.
-use Rattle.std.proofs.Common.{◌≡◌, cond, None, Some, List, [], ◌∷◌, ◌++◌, refl, sym, ap, subst, ◌∙◌}
+use Rattle.std.proofs.Common.{◌≡◌, cond, None, Some, List, [], ◌∷◌, refl, sym, ap, subst, ◌∙◌}
 use Rattle.std.specs.List.{flat_map}
 use Rattle.std.specs.List.Sorted.{IsPermutation}
 use Rattle.std.proofs.lemmas.List.Sorted.{IsPermutation-refl, IsPermutation-cons, IsPermutation-middle, IsPermutation-trans}
@@ -10,15 +10,10 @@ use Rattle.std.specs.FinMap as map
 use Rattle.std.specs.FinMap.{entries-insert, find, get-entries, put}
 use Rattle.std.specs.FinMap.Entries.{by_order}
 use Rattle.np_syntax.specs.declared.value.Name.{Name}
+use Rattle.np_syntax.specs.Reordering.{Reordered}
+use Rattle.np_syntax.proofs.Reorderings.{reorder-before, reorder-front}
 use Rattle.np_tables.specs.Names.{NameMap, name_cmp}
 use Rattle.np_tables.proofs.Tables.{total, cut_here, put-cut, put-same}
-
--- the same elements in another order
-pub data Reordered {A : Type 0} : List A → List A → Type 0 where
-  kept : {xs : List A} → Reordered xs xs
-  behind : {x : A} {xs ys : List A} → Reordered xs ys → Reordered (x ∷ xs) (x ∷ ys)
-  swapped : {x y : A} {xs : List A} → Reordered (x ∷ y ∷ xs) (y ∷ x ∷ xs)
-  and_then : {xs ys zs : List A} → Reordered xs ys → Reordered ys zs → Reordered xs zs
 
 module _ {A : Type 0} where
   pub permuted : {xs ys : List A} → Reordered xs ys → IsPermutation xs ys
@@ -27,29 +22,10 @@ module _ {A : Type 0} where
   permuted (Reordered.swapped {x = x} {y = y} {xs = xs}) = IsPermutation-middle (x ∷ []) y xs
   permuted (Reordered.and_then {xs = xs} {ys = ys} {zs = zs} r s) = IsPermutation-trans xs ys zs (permuted r) (permuted s)
 
-  pub backwards : {xs ys : List A} → Reordered xs ys → Reordered ys xs
-  backwards Reordered.kept = Reordered.kept
-  backwards (Reordered.behind r) = Reordered.behind (backwards r)
-  backwards Reordered.swapped = Reordered.swapped
-  backwards (Reordered.and_then r s) = Reordered.and_then (backwards s) (backwards r)
-
-  before : (xs : List A) {ys zs : List A} → Reordered ys zs → Reordered (xs ++ ys) (xs ++ zs)
-  before [] r = r
-  before (x ∷ xs) r = Reordered.behind (before xs r)
-
-  -- an element goes over a list, and a list over a list
-  over : (x : A) (xs ys : List A) → Reordered (x ∷ (xs ++ ys)) (xs ++ (x ∷ ys))
-  over x [] ys = Reordered.kept
-  over x (z ∷ xs) ys = Reordered.and_then Reordered.swapped (Reordered.behind (over x xs ys))
-
-  pub past : (xs ys zs : List A) → Reordered (xs ++ (ys ++ zs)) (ys ++ (xs ++ zs))
-  past [] ys zs = Reordered.kept
-  past (x ∷ xs) ys zs = Reordered.and_then (Reordered.behind (past xs ys zs)) (over x ys (xs ++ zs))
-
 pub flat : {A B : Type 0} (f : A → List B) {xs ys : List A} → Reordered xs ys → Reordered (flat_map f xs) (flat_map f ys)
 flat f Reordered.kept = Reordered.kept
-flat f (Reordered.behind {x = x} r) = before (f x) (flat f r)
-flat f (Reordered.swapped {x = x} {y = y} {xs = xs}) = past (f x) (f y) (flat_map f xs)
+flat f (Reordered.behind {x = x} r) = reorder-before (f x) (flat f r)
+flat f (Reordered.swapped {x = x} {y = y} {xs = xs}) = reorder-front (f x) (f y) (flat_map f xs)
 flat f (Reordered.and_then r s) = Reordered.and_then (flat f r) (flat f s)
 
 module _ {X : Type 0} where

@@ -17,6 +17,7 @@ use Rattle.np_syntax.specs.declared.event.Event.{Event}
 use Rattle.np_syntax.specs.declared.event.Kind.TheVariants as kind
 use Rattle.np_syntax.specs.declared.event.Made.TheVariants as made
 use Rattle.np_syntax.specs.Options.{◌>>=◌}
+use Rattle.np_syntax.specs.Reordering.{and_then, behind, swapped}
 use Rattle.np_syntax.proofs.Options.{then, done}
 use Rattle.np_tables.specs.Names.{NameMap, same_name}
 use Rattle.np_tables.proofs.Tables.{born_here, get-put, put_here, same_name-is, same_name-swap}
@@ -55,7 +56,7 @@ use Rattle.np_levels.proofs.Becomes.{cancel, becomes}
 use Rattle.np_calculus.proofs.BornKept.{born-kept, made-kept}
 use Rattle.np_levels.proofs.Letters.{same-letters}
 use Rattle.np_levels.proofs.Marks.{may_know_more, reshape, step_at, same_chips}
-use Rattle.np_levels.proofs.Orders.{and_then, behind, permuted, swapped}
+use Rattle.np_levels.proofs.Orders.{permuted}
 use Rattle.np_levels.proofs.Quiet.{any_kept, knows_more, or_cases, or_second, quiet_with}
 use Rattle.np_levels.proofs.Shapes.{of_actor, same_role}
 use Rattle.np_levels.proofs.Values.{channel-is, here_is, there_is, unit-is, variable-is, gives_two}

@@ -33,7 +33,9 @@ use Rattle.np_syntax.specs.declared.value.Name.{Name}
 use Rattle.np_syntax.specs.declared.value.Value.{Value}
 use Rattle.np_syntax.specs.declared.event.Event.{Event}
 use Rattle.np_syntax.specs.Options.{◌>>=◌}
+use Rattle.np_syntax.specs.Reordering.{Reordered, and_then, kept}
 use Rattle.np_syntax.proofs.Options.{done}
+use Rattle.np_syntax.proofs.Reorderings.{reorder-back}
 use Rattle.np_tables.specs.Names.{NameMap, same_name}
 use Rattle.np_tables.proofs.Tables.{cut_absent, same_name-is}
 use Rattle.np_calculus.specs.declared.config.Atom.{Atom}
@@ -53,7 +55,7 @@ use Rattle.np_levels.specs.Coupled.{Coupled, IsShaped, KnowsOnly, View, chips, i
 use Rattle.np_levels.specs.Letters.{SameLetters, first_letter_of, letter_under}
 use Rattle.np_levels.specs.Mirrors.{Mirrors}
 use Rattle.np_levels.proofs.Marks.{may_know_more, reshape}
-use Rattle.np_levels.proofs.Orders.{Reordered, and_then, backwards, entries_at, entries_put, flat, kept, permuted}
+use Rattle.np_levels.proofs.Orders.{entries_at, entries_put, flat, permuted}
 use Rattle.np_levels.proofs.Quiet.{knows_more, things_born}
 use Rattle.np_levels.proofs.Starts.{any_order}
 use Rattle.np_levels.proofs.Together.{IsOldOrNew, knows_wider, more_channels, one_mark, together, true_or_false, high_by_atom, high_by_packet}
@@ -83,7 +85,7 @@ module _ {X : Type 0} (show : Thing → List X) (things : NameMap (List Thing)) 
 
   without : IsBlank → Reordered (shown show (map.remove things m)) (shown show things)
   without (inl none) = subst (λ (t : NameMap (List Thing)). Reordered (shown show t) (shown show things)) (sym (cut_absent things m none)) kept
-  without (inr some) = backwards
+  without (inr some) = reorder-back
       (subst (λ l. Reordered (shown show things) (l ++ shown show (map.remove things m))) some.2
       (flat (λ (e : Name × List Thing). flat_map show e.1) (entries_at things m some.0 some.1)))
 
@@ -380,4 +382,4 @@ module _ {i : Infrastructure} {n from first : ℕ} {low high : Config} {v : View
 
       more : (t : Thing) (b : Name) → may_know v.lock (chips v.things) t b ≡ true → may_know v.lock (chips things) t b ≡ true
       more = may_know_more v.lock (chips v.things) (chips things)
-          (λ a b i. sym (list_any-IsPermutation (is_child_of a b) (chips v.things) (chips things) (permuted (backwards s.order))) ∙ i)
+          (λ a b i. sym (list_any-IsPermutation (is_child_of a b) (chips v.things) (chips things) (permuted (reorder-back s.order))) ∙ i)

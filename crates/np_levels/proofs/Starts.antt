@@ -12,6 +12,7 @@ use Rattle.np_syntax.specs.declared.value.Name.{Name}
 use Rattle.np_syntax.specs.declared.program.Program.{Program}
 use Rattle.np_syntax.specs.declared.program.LowProgram.{LowProgram}
 use Rattle.np_syntax.specs.Options.{◌>>=◌}
+use Rattle.np_syntax.specs.Reordering.{Reordered, and_then, behind, kept}
 use Rattle.np_tables.specs.Names.{NameMap, name_cmp, same_name}
 use Rattle.np_tables.proofs.Tables.{contains-none, get-none, get-put, put_cases, put_here, born_here, same_name-is, same_name-itself, same_name-swap}
 use Rattle.np_calculus.specs.declared.config.Atom.{Atom}
@@ -50,7 +51,8 @@ use Rattle.np_things.proofs.Starts.{own-apart, starts-with-things, caching_holds
 use Rattle.np_levels.specs.Coupled.{Coupled, IsShaped, KnowsOnly, View, chips, is_channel, may_know, whereabouts, IsCarrier, cache_chips, levels, shown}
 use Rattle.np_levels.specs.Laws.{StartsCoupled}
 use Rattle.np_levels.specs.Letters.{first_letter_of}
-use Rattle.np_levels.proofs.Orders.{Reordered, and_then, behind, entries_new, flat, past, permuted, kept}
+use Rattle.np_syntax.proofs.Reorderings.{reorder-front}
+use Rattle.np_levels.proofs.Orders.{entries_new, flat, permuted}
 use Rattle.np_levels.proofs.Caches.{low_grows, reordered}
 use Rattle.np_levels.proofs.Values.{no_value}
 
@@ -86,7 +88,7 @@ starts-with Infrastructure.central main lock site map same = (first_phase main, 
 starts-with Infrastructure.cached main lock site map same =
     let chips = first_chips main lock site map in
     any_order (first_scene main lock site) (first_phase main) (Chip.serves Service.tells ∷ chips) (chips ++ Chip.serves Service.tells ∷ [])
-    (permuted (past chips (Chip.serves Service.tells ∷ []) []))
+    (permuted (reorder-front chips (Chip.serves Service.tells ∷ []) []))
     (serves-more (first_scene main lock site) (first_phase main) chips Service.tells (starts-in-order main lock site map same))
 
 module _ {structure : Infrastructure} (p : Program) (q : LowProgram) (low : IsLowOf structure p q) (sound : IsSound p) where
@@ -141,7 +143,7 @@ module _ {structure : Infrastructure} (p : Program) (q : LowProgram) (low : IsLo
       let shown = in_entries shows in
       let mains : show_all (main_things structure n p.at p.main) ≡ Chip.token main p.at ∷ Chip.takes_letters main ∷ [] =
       ap (λ l. Chip.token main p.at ∷ Chip.takes_letters main ∷ l) (no_chips structure main) in
-      and_then shown (and_then (past (show_all (daemon_things structure n p.at)) (show_all (main_things structure n p.at p.main)) [])
+      and_then shown (and_then (reorder-front (show_all (daemon_things structure n p.at)) (show_all (main_things structure n p.at p.main)) [])
       (subst (λ l. Reordered (show_all (main_things structure n p.at p.main) ++ (show_all (daemon_things structure n p.at) ++ [])) (l ++ show_all (daemon_things structure n p.at))) mains
       (subst (λ l. Reordered (show_all (main_things structure n p.at p.main) ++ (show_all (daemon_things structure n p.at) ++ [])) (show_all (main_things structure n p.at p.main) ++ l))
       (append-nil (show_all (daemon_things structure n p.at))) kept)))

@@ -13,6 +13,7 @@ use Rattle.np_syntax.specs.declared.process.Role.TheVariants as role
 use Rattle.np_syntax.specs.declared.event.Event.{Event}
 use Rattle.np_syntax.specs.declared.event.Kind.TheVariants as kind
 use Rattle.np_syntax.specs.Options.{◌>>=◌}
+use Rattle.np_syntax.specs.Reordering.{behind, swapped}
 use Rattle.np_syntax.proofs.Options.{done}
 use Rattle.np_tables.specs.Names.{NameMap, same_name}
 use Rattle.np_tables.proofs.Tables.{born_insert, get-put, put_here, same_name-is, same_name-itself, same_name-swap}
@@ -52,7 +53,7 @@ use Rattle.np_calculus.proofs.BornKept.{born-kept, made-kept}
 use Rattle.np_levels.proofs.Caches.{by_step, carry_put, handed_on, low_grows}
 use Rattle.np_levels.proofs.Locals.{FindsIt, IsLocating, Misses, locating}
 use Rattle.np_levels.proofs.Marks.{step_at}
-use Rattle.np_levels.proofs.Orders.{behind, permuted, swapped}
+use Rattle.np_levels.proofs.Orders.{permuted}
 use Rattle.np_levels.proofs.Quiet.{any_kept, things_born}
 use Rattle.np_levels.proofs.Shapes.{of_actor, same_role}
 use Rattle.np_levels.proofs.Shifts.{Shifted, shift}

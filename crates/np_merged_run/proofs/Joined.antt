@@ -5,7 +5,8 @@ use Rattle.np_calculus.proofs.Common.{Name, Contents}
 use Rattle.np_calculus.specs.FrameRule.{Every}
 use Rattle.np_calculus.specs.Parts.{IsApart, IsMark, LacksMark, either, beside, nothing}
 use Rattle.np_calculus.proofs.FrameRule.{lacks, none-some, none_of}
-use Rattle.np_merged_run.specs.Joined.{AreApart, IsJoined, Reordered, and_then, behind, kept, swapped, together}
+use Rattle.np_syntax.specs.Reordering.{Reordered, and_then, behind, kept, swapped}
+use Rattle.np_merged_run.specs.Joined.{AreApart, IsJoined, together}
 
 module _ {X : Type 0} where
   either-assoc : (a b c : Option X) → either a (either b c) ≡ either (either a b) c
@@ -133,37 +134,11 @@ pub reorder-joined : {xs ys : List Contents} (c : Contents) → Reordered xs ys 
 reorder-joined c p j = let t = reorder-apart p j.apart in record { is = j.is ∙ t.0; apart = t.1 }
 
 module _ {A : Type 0} where
-  pub reorder-back : {xs ys : List A} → Reordered xs ys → Reordered ys xs
-  reorder-back kept = kept
-  reorder-back (behind p) = behind (reorder-back p)
-  reorder-back swapped = swapped
-  reorder-back (and_then p r) = and_then (reorder-back r) (reorder-back p)
-
   pub reorder-every : (P : A → Type 0) {xs ys : List A} → Reordered xs ys → Every P xs → Every P ys
   reorder-every P kept h = h
   reorder-every P (behind p) h = (h.0, reorder-every P p h.1)
   reorder-every P swapped h = (h.1.0, (h.0, h.1.1))
   reorder-every P (and_then p r) h = reorder-every P r (reorder-every P p h)
-
-  pub reorder-before : (xs : List A) {ys zs : List A} → Reordered ys zs → Reordered (xs ++ ys) (xs ++ zs)
-  reorder-before [] p = p
-  reorder-before (x ∷ xs) p = behind (reorder-before xs p)
-
-  pub reorder-after : {xs ys : List A} (zs : List A) → Reordered xs ys → Reordered (xs ++ zs) (ys ++ zs)
-  reorder-after zs kept = kept
-  reorder-after zs (behind p) = behind (reorder-after zs p)
-  reorder-after zs swapped = swapped
-  reorder-after zs (and_then p r) = and_then (reorder-after zs p) (reorder-after zs r)
-
-  -- an element in the middle comes first
-  pub reorder-up : (xs : List A) (y : A) (zs : List A) → Reordered (xs ++ (y ∷ zs)) (y ∷ (xs ++ zs))
-  reorder-up [] y zs = kept
-  reorder-up (x ∷ xs) y zs = and_then (behind (reorder-up xs y zs)) swapped
-
-  -- and so do more
-  pub reorder-front : (xs ys zs : List A) → Reordered (xs ++ (ys ++ zs)) (ys ++ (xs ++ zs))
-  reorder-front xs [] zs = kept
-  reorder-front xs (y ∷ ys) zs = and_then (reorder-up xs y (ys ++ zs)) (behind (reorder-front xs ys zs))
 
   pub every-append : (P : A → Type 0) (xs ys : List A) → Every P xs → Every P ys → Every P (xs ++ ys)
   every-append P [] ys h i = i

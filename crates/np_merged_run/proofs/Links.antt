@@ -3,10 +3,10 @@ use Rattle.std.proofs.Common.{◌≡◌, ◌<◌, ℕ, zero, suc, Bool, true, fa
 use Rattle.std.proofs.lemmas.Bool.{eqb-true, eq-eqb}
 use Rattle.np_calculus.proofs.Common.{◌>>=◌, Contents}
 use Rattle.np_calculus.specs.Reductions.{run}
-use Rattle.np_merged_run.specs.Joined.{Reordered, and_then, behind, kept, swapped}
+use Rattle.np_syntax.specs.Reordering.{Reordered, and_then, behind, kept, swapped}
 use Rattle.np_merged_run.specs.Links.{Item, Linked, Links, MergedRun, Move, MovesTo, Puts, Takes, air, loads, over, spread, with_link}
 use Rattle.np_merged_run.specs.Steps.{IsSpread, Step, StepsTo}
-use Rattle.np_merged_run.proofs.Joined.{reorder-after, reorder-back, reorder-before, reorder-up}
+use Rattle.np_syntax.proofs.Reorderings.{reorder-after, reorder-back, reorder-before, reorder-up}
 use Rattle.np_merged_run.proofs.Steps.{false_eq, not_eq, step_spread}
 
 module _ {A : Type 0} (f g : ℕ → List A) where

@@ -6,6 +6,7 @@ use Rattle.std.proofs.lemmas.List.Elements.{filter-append}
 use Rattle.std.specs.FinSet as set
 use Rattle.np_calculus.proofs.Common.{Name, Value, Event, Made, ◌>>=◌, NameSet, same_name, same_name-is, Config, Contents, inside, are_new, apply}
 use Rattle.np_syntax.specs.declared.event.Made.TheVariants as made
+use Rattle.np_syntax.specs.Reordering.{Reordered, and_then, behind, kept, swapped}
 use Rattle.np_tables.proofs.Tables.{born_insert}
 use Rattle.np_calculus.specs.declared.config.Atom.{Atom}
 use Rattle.np_calculus.specs.declared.config.Place.{Place}
@@ -19,9 +20,10 @@ use Rattle.np_calculus.proofs.OwnNames.{not_true}
 use Rattle.np_calculus.proofs.Steps.{row-step}
 use Rattle.np_calculus.proofs.Touches.{every-last}
 use Rattle.np_calculus.proofs.Writes.{every-map}
-use Rattle.np_merged_run.specs.Joined.{AreApart, IsJoined, Reordered, and_then, behind, kept, swapped, together}
+use Rattle.np_merged_run.specs.Joined.{AreApart, IsJoined, together}
 use Rattle.np_merged_run.specs.Steps.{IsItem, IsSpread, IsStep, Spread, Step, StepsRun, StepsTo, said_at, sites, with_site}
-use Rattle.np_merged_run.proofs.Joined.{divide_apart, every-append, reorder-after, reorder-back, reorder-before, reorder-every, reorder-front, reorder-joined, together-append, unite_apart}
+use Rattle.np_syntax.proofs.Reorderings.{reorder-after, reorder-back, reorder-before, reorder-front}
+use Rattle.np_merged_run.proofs.Joined.{divide_apart, every-append, reorder-every, reorder-joined, together-append, unite_apart}
 
 -- ---- parts that are lodged, and away from a site
 

@@ -5,12 +5,13 @@ use Rattle.np_syntax.specs.declared.value.Name.{Name}
 use Rattle.np_syntax.specs.declared.value.Value.{Value}
 use Rattle.np_syntax.specs.declared.event.Event.{Event}
 use Rattle.np_syntax.specs.declared.event.Kind.TheVariants as kind
+use Rattle.np_syntax.specs.Reordering.{Reordered}
 use Rattle.np_calculus.specs.Config.{Config}
 use Rattle.np_calculus.specs.FrameRule.{Every, IsMade}
 use Rattle.np_calculus.specs.Parts.{AreBorn, IsAway, IsLodged, IsOfSite}
 use Rattle.np_calculus.specs.Reductions.{apply, run}
 use Rattle.np_calculus.specs.Sight.{Contents, inside}
-use Rattle.np_merged_run.specs.Joined.{IsJoined, Reordered}
+use Rattle.np_merged_run.specs.Joined.{IsJoined}
 
 -- what is under way: its atoms are with their agents, and no agent is at a site
 pub record IsItem (x : Contents) : Type 0 where

@@ -4,12 +4,13 @@ use Rattle.std.proofs.Common.{◌≡◌, ◌≢◌, ◌<◌, ⊎_elim, ℕ, zero
 use Rattle.std.specs.List.{AllByRecursion}
 use Rattle.np_syntax.specs.declared.value.Value.{Value}
 use Rattle.np_syntax.specs.declared.value.Value.TheVariants as value
+use Rattle.np_syntax.specs.Reordering.{Reordered}
 use Rattle.np_calculus.proofs.Common.{Config, Contents, inside, apply, ◌>>=◌}
 use Rattle.np_calculus.specs.FrameRule.{Every}
 use Rattle.np_calculus.specs.Parts.{IsApart}
 use Rattle.np_calculus.specs.Reductions.{run}
 use Rattle.np_calculus.specs.Starts.{names_alone}
-use Rattle.np_merged_run.specs.Joined.{Reordered, together}
+use Rattle.np_merged_run.specs.Joined.{together}
 use Rattle.np_merged_run.specs.Links.{Linked, air, loads}
 use Rattle.np_merged_run.specs.Steps.{IsItem, IsStep, sites, with_site}
 use Rattle.np_merged_run.proofs.Joined.{apart-first, apart-halves, divide_apart, reorder-apart, reorder-every, together-append}

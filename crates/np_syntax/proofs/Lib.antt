@@ -2,6 +2,7 @@ pub mod Bools
 pub mod Joining
 pub mod Numerals
 pub mod Options
+pub mod Reorderings
 pub mod Results
 pub mod Searching
 mod Tells

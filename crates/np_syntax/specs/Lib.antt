@@ -5,5 +5,6 @@ pub mod Options
 pub mod Parts
 pub mod Printed
 pub mod ProcessParts
+pub mod Reordering
 pub mod Results
 pub mod formers
