@@ -5,9 +5,11 @@ use Rattle.std.proofs.Math.Logic.{∥∥₁_elim}
 use Rattle.std.proofs.Props.{props}
 use Rattle.std.proofs.lemmas.Option.{slice_get_within}
 use Rattle.std.proofs.lemmas.Bool.Decides.{eqb_tells}
+use Rattle.np_syntax.proofs.Numbers.{lt-prop}
+use Rattle.np_syntax.proofs.Options.{some_is}
 use Rattle.site_links.specs.declared.places.TheConstants.{PLACES}
 use Rattle.site_links.specs.Words.{KeepsBut}
-use Rattle.site_links.proofs.Rows.{some_is, get-set_same, get-set_other}
+use Rattle.site_links.proofs.Rows.{get-set_same, get-set_other}
 use Rattle.agent_move.specs.declared.item.Item.{Item}
 use Rattle.site_inboxes.specs.Ends.{Counts}
 use Rattle.site_inboxes.specs.declared.ends.Inbox.{Inbox}
@@ -174,9 +176,6 @@ settled_linked a b a' b' x y z w h k t u last none l =
       joined = t ∙ (ap (λ (o : Outlet Item). o.pass.table_id) out ∙ (l.joined ∙ sym u));
       counts = λ le. let same = ap (λ (n : ℕ). length (taken_of b'.inbox n)) h.site_same in let all = ap length last in omega (arith, same, all, none);
     }
-
-lt-prop : (a b : ℕ) → IsProp (a < b)
-lt-prop a b = Prim.hlevel props
 
 eq-prop : (a b : ℕ) → IsProp (a ≡ b)
 eq-prop a b = Prim.hlevel props

@@ -7,7 +7,8 @@ use Rattle.std.proofs.lemmas.Bool.Decides.{eqb_tells}
 use Rattle.crossbeam_queue.specs.Passes.{view}
 use Rattle.site_links.specs.Words.{Takes, only_at}
 use Rattle.site_links.proofs.Kept.{Begins-same}
-use Rattle.site_links.proofs.Rows.{some_is, get-set_same, get-set_other, only_at-same, only_at-other}
+use Rattle.np_syntax.proofs.Options.{some_is}
+use Rattle.site_links.proofs.Rows.{get-set_same, get-set_other, only_at-same, only_at-other}
 use Rattle.agent_move.specs.declared.item.Item.{Item}
 use Rattle.np_inbox_rule.specs.Rule.{items_of}
 use Rattle.np_inbox_rule.specs.Steps.{got_in, told_in}

@@ -5,7 +5,8 @@ use Rattle.std.proofs.lemmas.List.{length_push}
 use Rattle.std.proofs.lemmas.Option.{slice_get_within, slice_get_cases}
 use Rattle.std.proofs.lemmas.Bool.Decides.{eqb_tells}
 use Rattle.crossbeam_queue.specs.Passes.{view}
-use Rattle.site_links.proofs.Rows.{some_is, get-set_same, get-set_other, get-push_cases}
+use Rattle.np_syntax.proofs.Options.{some_is}
+use Rattle.site_links.proofs.Rows.{get-set_same, get-set_other, get-push_cases}
 use Rattle.agent_move.specs.declared.item.Item.{Item}
 use Rattle.np_inbox_rule.specs.declared.views.View.{View}
 use Rattle.site_inboxes.specs.Views.{number_in, sites_in}

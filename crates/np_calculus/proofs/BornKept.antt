@@ -1,5 +1,7 @@
 -- What stands in a configuration stays born.
-use Rattle.std.proofs.Common.{◌≡◌, true, None, Some, refl, sym, subst, ◌∙◌}
+use Rattle.std.proofs.Common.{◌≡◌, true, Some, refl, sym, subst, ◌∙◌}
+use Rattle.std.proofs.lemmas.Bool.{or_right}
+use Rattle.std.proofs.lemmas.Option.{none-some}
 use Rattle.std.specs.FinSet as set
 use mathlib.Core.Path.{fun_ext}
 use Rattle.np_syntax.specs.declared.value.Name.{Name}
@@ -15,12 +17,8 @@ use Rattle.np_calculus.specs.Parts.{AreBorn, IsWhole, nothing}
 use Rattle.np_calculus.specs.Reductions.{apply}
 use Rattle.np_calculus.specs.Sight.{inside}
 use Rattle.np_calculus.proofs.FrameRule.{frame_rule}
-use Rattle.np_calculus.proofs.OwnNames.{or-second}
 use Rattle.np_calculus.proofs.Steps.{row-step}
 use Rattle.np_calculus.proofs.Writes.{either-none}
-
-no_value : {A : Type 0} {x : A} → None ≡ Some x → ⊥
-no_value e = cc
 
 -- a configuration is one of itself and nothing
 whole : (c : Config) → AreBorn c → IsWhole c c nothing
@@ -39,10 +37,10 @@ whole c born = record {
 
 pub born-kept : (c d : Config) (e : Event) → AreBorn c → apply c e ≡ Some d → AreBorn d
 born-kept c d e born h =
-    let f = frame_rule c c d nothing e (whole c born) (record { each = λ m a h. absurd (no_value h) }) (record { none = λ a h. no_value h }) (row-step c e d e.kind h).new h in
+    let f = frame_rule c c d nothing e (whole c born) (record { each = λ m a h. absurd (none-some _ h) }) (record { none = λ a h. none-some _ h }) (row-step c e d e.kind h).new h in
     subst AreBorn (sym (done (sym f.applies ∙ h))) f.is.born
 
 pub made-kept : (born : NameSet) (x : Made) (q : Name) → set.contains born q ≡ true → set.contains (with_made born x) q ≡ true
 made-kept born made.Nothing q h = h
-made-kept born (made.One m) q h = born_insert born m q ∙ or-second (same_name q m) _ h
-made-kept born (made.Two m k) q h = born_insert (set.insert born m) k q ∙ or-second (same_name q k) _ (born_insert born m q ∙ or-second (same_name q m) _ h)
+made-kept born (made.One m) q h = born_insert born m q ∙ or_right (same_name q m) _ h
+made-kept born (made.Two m k) q h = born_insert (set.insert born m) k q ∙ or_right (same_name q k) _ (born_insert born m q ∙ or_right (same_name q m) _ h)

@@ -1,5 +1,6 @@
 -- The frame rule and its reverse, and what an event keeps.
 use Rattle.std.proofs.Common.{◌≡◌, ℕ, Bool, true, false, not, ◌⊎◌, inl, inr, List, Option, None, Some, IsSome, IfSome, refl, ap, sym, subst, ◌∙◌}
+use Rattle.std.proofs.lemmas.Bool.{or_right}
 use Rattle.std.specs.FinSet as set
 use mathlib.Core.Path.{fun_ext}
 use Rattle.np_calculus.proofs.Common.{Name, Event, Kind, Made, ◌>>=◌, ◌>>◌, need, NameSet, same_name, layer, Atom, Place, Config, Contents, Sight, inside}
@@ -12,8 +13,9 @@ use Rattle.np_calculus.specs.Changes.{with_made, with_said}
 use Rattle.np_calculus.specs.FrameRule.{Comes, Every, Fits, FrameBack, FrameRule, IsMade, KeepsLodged, KeepsOfSite, Writes, changed, left_by}
 use Rattle.np_calculus.specs.Parts.{IsApart, IsAway, IsLodged, IsMark, IsWhole, LacksMark, beside, either}
 use Rattle.np_syntax.proofs.Bools.{and-out}
+use Rattle.np_syntax.proofs.Options.{none_of}
 use Rattle.np_calculus.proofs.Fits.{comes-in, fits}
-use Rattle.np_calculus.proofs.OwnNames.{not_true, or-second}
+use Rattle.np_calculus.proofs.OwnNames.{not_true}
 use Rattle.np_calculus.proofs.Steps.{at_site-is, row-step}
 use Rattle.np_calculus.proofs.Writes.{agent-changed, either-none, every-map, inside-effect, left-by, left-is, left-there, mark-changed, split-changed, writes-map}
 
@@ -21,10 +23,6 @@ use Rattle.np_calculus.proofs.Writes.{agent-changed, either-none, every-map, ins
 
 pub either-first : {X : Type 0} (x b : Option X) → b ≡ None → either x b ≡ x
 either-first x b h = ap (either x) h ∙ either-none x
-
-pub none_of : {X : Type 0} (o : Option X) → (IsSome o → ⊥) → o ≡ None
-none_of None h = refl
-none_of (Some x) h = absurd (h refl)
 
 pub none-some : {X : Type 0} (o : Option X) → o ≡ None → IsSome o → ⊥
 none-some None e h = cc
@@ -107,7 +105,7 @@ made-unborn born (made.Two m n) q h (inl is) = let k = and-out _ _ (and-out _ _ 
 made-unborn born (made.Two m n) q h (inr is) = let k = and-out _ _ (and-out _ _ h).1 in ap (set.contains born) is ∙ not-false (set.contains born n) k.1
 
 pub born-stays : (born : NameSet) (k q : Name) → set.contains born q ≡ true → set.contains (set.insert born k) q ≡ true
-born-stays born k q h = born_insert born k q ∙ or-second (same_name q k) (set.contains born q) h
+born-stays born k q h = born_insert born k q ∙ or_right (same_name q k) (set.contains born q) h
 
 born-now : (born : NameSet) (k q : Name) → q ≡ k → set.contains (set.insert born k) q ≡ true
 born-now born k q is = ap (set.contains (set.insert born k)) is ∙ born_here born k

@@ -9,6 +9,7 @@ pub mod Fits
 pub mod FrameRule
 pub mod Housed
 pub mod HousedKept
+pub mod LowStart
 pub mod NotEnabled
 pub mod OwnNames
 pub mod Puts

@@ -2,13 +2,10 @@
 use Rattle.std.proofs.Common.{◌≡◌, Bool, true, false, ◌||◌, inl, inr, Option, None, Some, IsSome, option_map, refl, sym, subst}
 use Rattle.std.specs.FinMap as map
 use Rattle.std.specs.FinSet as set
+use Rattle.np_syntax.proofs.Options.{there-is}
 use Rattle.np_configuration.proofs.Common.{Name, Errand, NameMap, NameSet, same_name, get-none, get-mapped, Atom, Packet, IsKept, errand_of}
 use Rattle.np_tables.proofs.Tables.{put_cases, cut_cases, born_insert, born_here}
 use Rattle.np_tables.proofs.Mapped.{mapped-put, mapped-cut, mapped-empty}
-
-some_of : {X : Type 0} (o : Option X) → IsSome o → (x : X) × (o ≡ Some x)
-some_of None h = cc
-some_of (Some x) h = (x, refl)
 
 pub is_some_of : {X : Type 0} (o : Option X) (x : X) → o ≡ Some x → IsSome o
 is_some_of None x e = cc
@@ -23,14 +20,14 @@ module _ {work : NameMap Errand} {atoms : NameMap Atom} {packets : NameMap Packe
       → IsKept (map.insert work m (errand_of a)) (map.insert atoms m a) packets born
   kept-put k m a known = record {
     filed = rw (k.filed) (sym (mapped-put errand_of atoms m a));
-    marked = λ q h. let e = some_of _ h in elim (put_cases atoms m a q e.0 e.1) [ inl same ↦ subst (λ n. set.contains born n ≡ true) (sym same.0) known | inr old ↦ k.marked q (is_some_of _ _ old) ];
+    marked = λ q h. let e = there-is _ h in elim (put_cases atoms m a q e.0 e.1) [ inl same ↦ subst (λ n. set.contains born n ≡ true) (sym same.0) known | inr old ↦ k.marked q (is_some_of _ _ old) ];
     flown = k.flown;
   }
 
   pub kept-cut : IsKept work atoms packets born → (m : Name) → IsKept (map.remove work m) (map.remove atoms m) packets born
   kept-cut k m = record {
     filed = rw (k.filed) (sym (mapped-cut errand_of atoms m));
-    marked = λ q h. let e = some_of _ h in k.marked q (is_some_of _ _ (cut_cases atoms m q e.0 e.1).1);
+    marked = λ q h. let e = there-is _ h in k.marked q (is_some_of _ _ (cut_cases atoms m q e.0 e.1).1);
     flown = k.flown;
   }
 
@@ -39,14 +36,14 @@ module _ {work : NameMap Errand} {atoms : NameMap Atom} {packets : NameMap Packe
   kept-sent k m p known = record {
     filed = k.filed;
     marked = k.marked;
-    flown = λ q h. let e = some_of _ h in elim (put_cases packets m p q e.0 e.1) [ inl same ↦ subst (λ n. set.contains born n ≡ true) (sym same.0) known | inr old ↦ k.flown q (is_some_of _ _ old) ];
+    flown = λ q h. let e = there-is _ h in elim (put_cases packets m p q e.0 e.1) [ inl same ↦ subst (λ n. set.contains born n ≡ true) (sym same.0) known | inr old ↦ k.flown q (is_some_of _ _ old) ];
   }
 
   pub kept-landed : IsKept work atoms packets born → (m : Name) → IsKept work atoms (map.remove packets m) born
   kept-landed k m = record {
     filed = k.filed;
     marked = k.marked;
-    flown = λ q h. let e = some_of _ h in k.flown q (is_some_of _ _ (cut_cases packets m q e.0 e.1).1);
+    flown = λ q h. let e = there-is _ h in k.flown q (is_some_of _ _ (cut_cases packets m q e.0 e.1).1);
   }
 
   pub kept-born : IsKept work atoms packets born → (m : Name) → IsKept work atoms packets (set.insert born m)

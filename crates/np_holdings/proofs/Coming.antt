@@ -14,7 +14,8 @@ use Rattle.np_calculus.specs.Changes.{cut, put, still}
 use Rattle.np_calculus.specs.FrameRule.{Every}
 use Rattle.np_calculus.specs.Parts.{IsOfSite, either}
 use Rattle.np_calculus.specs.Rows.{output_of}
-use Rattle.np_calculus.proofs.FrameRule.{none-some, none_of}
+use Rattle.np_syntax.proofs.Options.{none_of}
+use Rattle.np_calculus.proofs.FrameRule.{none-some}
 use Rattle.np_calculus.proofs.Steps.{same_site}
 use Rattle.np_calculus.proofs.Writes.{either-none}
 use Rattle.np_merged_run.specs.Joined.{AreApart, IsJoined}

@@ -13,7 +13,7 @@ use Rattle.np_calculus.specs.Changes.{put, still, with_said, written}
 use Rattle.np_calculus.specs.FrameRule.{Every}
 use Rattle.np_calculus.specs.Rows.{change_in}
 use Rattle.np_calculus.proofs.Fits.{some}
-use Rattle.np_calculus.proofs.FrameRule.{none_of}
+use Rattle.np_syntax.proofs.Options.{none_of}
 use Rattle.np_merged_run.specs.Items.{IsOwn, of_agent, of_packet}
 use Rattle.np_merged_run.specs.Steps.{IsStep}
 use Rattle.np_merged_run.proofs.Items.{agent_leaves, packet_leaves}

@@ -8,7 +8,8 @@ use Rattle.np_calculus.specs.declared.config.Place.TheVariants as place
 use Rattle.np_calculus.proofs.Fits.{some}
 use Rattle.np_merged_run.specs.Steps.{IsSpread, Spread, sites}
 use Rattle.np_stamped_run.specs.Elements.{Occurs}
-use Rattle.np_stamped_run.proofs.Elements.{occurs-first, there-is}
+use Rattle.np_syntax.proofs.Options.{there-is}
+use Rattle.np_stamped_run.proofs.Elements.{occurs-first}
 use Rattle.np_stamped_run.proofs.Resting.{atom-out, in_sites, place-out}
 use Rattle.np_holdings.specs.Holdings.{Holding, IsHeld, IsPart, name_of}
 use Rattle.np_holdings.specs.Making.{MadeInSpread}

@@ -14,7 +14,7 @@ use Rattle.np_calculus.specs.Changes.{with_made, with_said}
 use Rattle.np_calculus.specs.FrameRule.{IsMade}
 use Rattle.np_calculus.specs.Parts.{IsOfSite}
 use Rattle.np_calculus.proofs.Fits.{some}
-use Rattle.np_calculus.proofs.FrameRule.{none_of}
+use Rattle.np_syntax.proofs.Options.{none_of}
 use Rattle.np_calculus.proofs.OwnNames.{not_true}
 use Rattle.np_holdings.specs.Holdings.{AreMade, Holding, IsPart, Numbers, name_of}
 use Rattle.np_holdings.specs.Making.{AreNext, next_after}

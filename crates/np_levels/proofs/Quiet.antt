@@ -24,7 +24,7 @@ use Rattle.np_levels.specs.Coupled.{Coupled, IsCarrier, IsShaped, KnowsLetter, K
 use Rattle.np_levels.proofs.Caches.{KeepsHints, low_grows}
 use Rattle.np_levels.proofs.Values.{no_value}
 use Rattle.np_calculus.proofs.Fits.{some}
-pub use Rattle.np_calculus.proofs.OwnNames.{or-second as or_second}
+pub use Rattle.std.proofs.lemmas.Bool.{or_right as or_second}
 
 -- ---- what is known
 

@@ -7,7 +7,8 @@ use Rattle.np_calculus.specs.declared.config.Packet.{Packet}
 use Rattle.np_calculus.specs.declared.config.Place.TheVariants as place
 use Rattle.np_calculus.specs.Parts.{IsAway, IsLodged, IsWhole, either}
 use Rattle.np_calculus.proofs.Fits.{some}
-use Rattle.np_calculus.proofs.FrameRule.{frame_rule, none-some, none_of}
+use Rattle.np_syntax.proofs.Options.{none_of}
+use Rattle.np_calculus.proofs.FrameRule.{frame_rule, none-some}
 use Rattle.np_merged_run.specs.Agrees.{Agrees, EventOfSite, lacking, minus}
 
 -- a look-up of the whole is one of the part, or else one of the rest

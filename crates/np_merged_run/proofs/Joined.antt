@@ -4,7 +4,8 @@ use mathlib.Core.Path.{fun_ext}
 use Rattle.np_calculus.proofs.Common.{Name, Contents}
 use Rattle.np_calculus.specs.FrameRule.{Every}
 use Rattle.np_calculus.specs.Parts.{IsApart, IsMark, LacksMark, either, beside, nothing}
-use Rattle.np_calculus.proofs.FrameRule.{lacks, none-some, none_of}
+use Rattle.np_syntax.proofs.Options.{none_of}
+use Rattle.np_calculus.proofs.FrameRule.{lacks, none-some}
 use Rattle.np_syntax.specs.Reordering.{Reordered, and_then, behind, kept, swapped}
 use Rattle.np_merged_run.specs.Joined.{AreApart, IsJoined, together}
 

@@ -1,12 +1,12 @@
 -- What a refusal says of a history that is told, and what is made of one.
-use Rattle.std.proofs.Common.{◌≡◌, ℕ, ◌≤◌, ◌<◌, ◌⊎◌, List, length, Option, IsSome, None, Some, inl, inr, refl, subst, arith, ◌-◌, ap}
+use Rattle.std.proofs.Common.{◌≡◌, ℕ, ◌≤◌, ◌<◌, ◌⊎◌, List, length, Option, Some, inl, inr, subst, arith, ◌-◌, ap}
 use Rattle.std.specs.Prelude.{slice_get}
 use Rattle.std.proofs.lemmas.Option.{slice_get_within}
+use Rattle.np_syntax.proofs.Options.{there-is}
 use Rattle.np_syntax.specs.declared.limits.TheConstants.{LONGEST_SOURCE}
 use Rattle.np_syntax.specs.declared.event.Event.{Event}
 use Rattle.np_syntax.specs.declared.program.LowProgram.{LowProgram}
 use Rattle.np_syntax.specs.declared.value.Value.{Value}
-use Rattle.np_calculus.specs.Config.{Config}
 use Rattle.np_calculus.specs.Reductions.{run}
 use Rattle.np_calculus.specs.Starts.{start_low}
 use Rattle.np_words.specs.declared.modes.Infrastructure.{Infrastructure}
@@ -177,15 +177,11 @@ has_run infra low (views.Past line) bytes text r =
     has_line said line item all some its is = let within = slice_get_within said (line - 1) item its in let same = ap length is in omega arith
 
 -- a run that went on from a history could go on from it
-some_run : (low : LowProgram) (events : List Event) (o : Option Config) → run (start_low low) events ≡ o → IsSome o → (last : Config) × (run (start_low low) events ≡ Some last)
-some_run low events (Some last) is some = (last, is)
-some_run low events None is some = let no = some in absurd cc
-
 is_fit : (call : Call) (source saved : List ℕ) (infra : Infrastructure) (budget : ℕ) (how : Shown) (kept : Option Record) (high : Option SerialRun) (text : List ℕ)
     (d : OfResume call.texts source saved infra budget how kept high text) → IsFit budget d.run.goes_on.keeps.keeps.promises.low d.run.bytes
 is_fit call source saved infra budget how kept high text d =
     let from = d.run.goes_on in
-    let runs = some_run from.keeps.keeps.promises.low from.events _ refl from.keeps.run in
+    let runs = there-is (run (start_low from.keeps.keeps.promises.low) from.events) from.keeps.run in
     record { events = from.events; history = from.history; last = runs.0; reaches = runs.1; can = from.keeps.can }
 
 module _ (sources : source_laws.HaveOneAnswer) where

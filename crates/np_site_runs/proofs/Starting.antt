@@ -5,6 +5,7 @@ use Rattle.std.proofs.lemmas.Bool.{eqb-true, eq-eqb}
 use Rattle.std.proofs.lemmas.Bool.Decides.{nat_tests}
 use Rattle.std.specs.FinMap as table
 use Rattle.std.specs.FinSet as set
+use Rattle.np_syntax.proofs.Numbers.{nat_eq-turned}
 use Rattle.np_syntax.specs.declared.process.Proc.{Proc}
 use Rattle.np_tables.specs.Names.{NameMap, NameSet, same_name}
 use Rattle.np_tables.proofs.Tables.{born_insert, contains-none, get-none, get-put, put_cases, put_here, same_name-is, same_name-itself}
@@ -69,9 +70,6 @@ from a (suc n) = a ∷ from (a + 1) n
 abbrev among : ℕ → List ℕ → Bool
 among k [] = false
 among k (x ∷ xs) = nat_eq k x || among k xs
-
-turned : (a b : ℕ) → nat_eq a b ≡ nat_eq b a
-turned a b = grind (arith, nat_tests)
 
 none-from : (k a : ℕ) → a ≤ k → false ≡ nat_lt k (a + zero)
 none-from k a h = grind (arith, nat_tests)
@@ -145,12 +143,12 @@ and_false true = refl
 and_false false = refl
 
 placed-there : (s u : ℕ) (t : Bool) → nat_eq s u ≡ t → cond t (Some (place.At s)) None ≡ cond (nat_eq u s) (Some (place.At u)) None
-placed-there s u true e = ap (λ v. Some (place.At v)) (eqb-true s u e) ∙ ap (λ t. cond t (Some (place.At u)) None) (sym (turned u s ∙ e))
-placed-there s u false e = ap (λ t. cond t (Some (place.At u)) None) (sym (turned u s ∙ e))
+placed-there s u true e = ap (λ v. Some (place.At v)) (eqb-true s u e) ∙ ap (λ t. cond t (Some (place.At u)) None) (sym (nat_eq-turned u s ∙ e))
+placed-there s u false e = ap (λ t. cond t (Some (place.At u)) None) (sym (nat_eq-turned u s ∙ e))
 
 kept-there : (s u : ℕ) (t : Bool) (a : Atom) → nat_eq s u ≡ t → cond t (Some a) None ≡ (need (nat_eq u s) >> Some a)
-kept-there s u true a e = ap (λ t. need t >> Some a) (sym (turned u s ∙ e))
-kept-there s u false a e = ap (λ t. need t >> Some a) (sym (turned u s ∙ e))
+kept-there s u true a e = ap (λ t. need t >> Some a) (sym (nat_eq-turned u s ∙ e))
+kept-there s u false a e = ap (λ t. need t >> Some a) (sym (nat_eq-turned u s ∙ e))
 
 -- ---- what one site holds
 

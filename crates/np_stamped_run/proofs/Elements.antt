@@ -1,14 +1,10 @@
--- One of the elements of a list, and what there is.
-use Rattle.std.proofs.Common.{◌≡◌, ◌<◌, ◌⊎◌, inl, inr, ⊎_elim, ℕ, zero, suc, Bool, true, false, cond, List, [], ◌∷◌, ◌++◌, Option, None, Some, IsSome, map, filter, refl, subst, arith}
+-- One of the elements of a list.
+use Rattle.std.proofs.Common.{◌≡◌, ◌<◌, ◌⊎◌, inl, inr, ⊎_elim, ℕ, zero, suc, Bool, true, false, cond, List, [], ◌∷◌, ◌++◌, map, filter, subst, arith}
 use Rattle.std.proofs.lemmas.Bool.Decides.{nat_tests}
 use Rattle.std.specs.List.{AllByRecursion}
 use Rattle.np_calculus.specs.FrameRule.{Every}
 use Rattle.np_merged_run.specs.Links.{over}
 use Rattle.np_stamped_run.specs.Elements.{Occurs}
-
-pub there-is : {X : Type 0} (o : Option X) → IsSome o → (x : X) × (o ≡ Some x)
-there-is None h = absurd cc
-there-is (Some x) h = (x, refl)
 
 module _ {A : Type 0} where
   pub occurs-map : (P Q : A → Type 0) → ((x : A) → P x → Q x) → (xs : List A) → Occurs P xs → Occurs Q xs

@@ -3,9 +3,9 @@ use Rattle.std.proofs.Common.{◌≡◌, ◌<◌, ◌≤◌, ◌==◌, ◌⊎◌
 use mathlib.Core.Path.{fun_ext}
 use Rattle.std.proofs.Math.Seq.{drop-nil}
 use Rattle.std.proofs.lemmas.Bool.{eqb-true}
-use Rattle.std.proofs.lemmas.Bool.Decides.{nat_tests}
 use Rattle.std.proofs.lemmas.List.{map-append}
 use Rattle.std.specs.List.{AllByRecursion}
+use Rattle.np_syntax.proofs.Numbers.{nat_eq-turned}
 use Rattle.np_calculus.specs.Config.{Config}
 use Rattle.np_merged_run.specs.Links.{Item, Linked, Links, Move, Moves, MovesTo, Puts, Takes, with_link}
 use Rattle.np_merged_run.specs.Steps.{with_site}
@@ -25,9 +25,6 @@ abbrev pub Shows : Links → Waiting → Type 0
 Shows link w = (u v : ℕ) → link u v ≡ items_of (w u v)
 
 -- ---- tests of two numbers
-
-turned : (a b : ℕ) → nat_eq a b ≡ nat_eq b a
-turned a b = grind (arith, nat_tests)
 
 pub below_or_not : (a n : ℕ) → (a < n) ⊎ (n ≤ a)
 below_or_not a n = grind arith
@@ -53,7 +50,7 @@ both_true false q h = absurd cc
 
 takes-one : (u v s : ℕ) (x : StampedItem) → takes_at u v s (Some x) ≡ cond (nat_eq u x.item.sender && nat_eq v s) (x ∷ []) []
 takes-one u v s x =
-    ap₂ (λ p q. cond q (cond p (x ∷ []) []) []) (turned x.item.sender u) (turned s v) ∙ inner_first (nat_eq u x.item.sender) (nat_eq v s) (x ∷ [])
+    ap₂ (λ p q. cond q (cond p (x ∷ []) []) []) (nat_eq-turned x.item.sender u) (nat_eq-turned s v) ∙ inner_first (nat_eq u x.item.sender) (nat_eq v s) (x ∷ [])
 
 pub took : (n s : ℕ) (o : Option StampedItem) (link : Links) (w : Waiting) → Shows link w → ((u v : ℕ) → n ≤ u → w u v ≡ [])
     → ((u v : ℕ) → w u v ≡ takes_at u v s o ++ drop (length (takes_at u v s o)) (w u v))
@@ -85,7 +82,7 @@ took n s (Some x) link w shows none front =
 
 puts-one : (u v s : ℕ) (x : StampedItem) → puts_at u v s (Some x) ≡ cond (nat_eq u s && nat_eq v x.item.receiver) (x ∷ []) []
 puts-one u v s x =
-    ap₂ (λ p q. cond p (cond q (x ∷ []) []) []) (turned s u) (turned x.item.receiver v) ∙ outer_first (nat_eq u s) (nat_eq v x.item.receiver) (x ∷ [])
+    ap₂ (λ p q. cond p (cond q (x ∷ []) []) []) (nat_eq-turned s u) (nat_eq-turned x.item.receiver v) ∙ outer_first (nat_eq u s) (nat_eq v x.item.receiver) (x ∷ [])
 
 sent : (n s : ℕ) (o : Option StampedItem) (link : Links) (w : Waiting) → Shows link w → IfSome o (λ x. x.item.receiver < n)
     → (after : Links) × Puts n link s (plain o) after × Shows after (λ u v. w u v ++ puts_at u v s o)

@@ -19,7 +19,8 @@ use Rattle.run_merge.proofs.Ranks.{ranks_order}
 use Rattle.np_stamped_run.specs.Deeds.{Deed, StampedItem, plain}
 use Rattle.np_stamped_run.specs.Elements.{Occurs}
 use Rattle.np_stamped_run.specs.Passing.{Meets, PassesOn, TakenLater}
-use Rattle.np_stamped_run.proofs.Elements.{every-occurs, mapped-occurs, occurs-either, occurs-filter, occurs-first, occurs-if, occurs-map, occurs-second, over-occurs, there-is}
+use Rattle.np_syntax.proofs.Options.{there-is}
+use Rattle.np_stamped_run.proofs.Elements.{every-occurs, mapped-occurs, occurs-either, occurs-filter, occurs-first, occurs-if, occurs-map, occurs-second, over-occurs}
 use Rattle.np_stamped_run.specs.Turns.{Waiting, moved, none_waits, puts, puts_at, takes, without}
 use Rattle.np_stamped_run.proofs.Flowing.{IsByStamp, IsStamped}
 use Rattle.np_stamped_run.proofs.Merging.{all_deeds, all_unmap, clocked, deeds_of, in_turn, of-site, ranked_deed, turns-by_stamp}

@@ -9,7 +9,8 @@ use Rattle.np_calculus.specs.FrameRule.{Every}
 use Rattle.np_calculus.specs.Idle.{Can, HasAgent, HasArrival, HasMeeting, HasPacket, HasWork}
 use Rattle.np_calculus.specs.Parts.{IsLodged, either}
 use Rattle.np_calculus.proofs.Fits.{some}
-use Rattle.np_calculus.proofs.FrameRule.{none-some, none_of}
+use Rattle.np_syntax.proofs.Options.{none_of}
+use Rattle.np_calculus.proofs.FrameRule.{none-some}
 use Rattle.np_calculus.proofs.Writes.{every-map}
 use Rattle.np_merged_run.specs.Joined.{AreApart, together}
 use Rattle.np_merged_run.specs.Links.{Linked, air, over, spread}

@@ -1,5 +1,6 @@
 pub mod Bools
 pub mod Joining
+pub mod Numbers
 pub mod Numerals
 pub mod Options
 pub mod Reorderings

@@ -1,4 +1,4 @@
--- What a chain of conditions that gave a value says of each of its steps.
+-- What a chain of conditions that gave a value says of each of its steps, and whether there is a value.
 use Rattle.std.proofs.Common.{◌≡◌, Bool, true, false, Option, None, Some, IsSome, refl}
 use Rattle.np_syntax.specs.Options.{◌>>=◌, ◌>>◌, need}
 
@@ -27,3 +27,14 @@ done e = cc
 pub none_there : {X : Type 0} (o : Option X) → IsSome o → o ≡ None → ⊥
 none_there None h e = cc
 none_there (Some x) h e = cc
+
+pub there-is : {X : Type 0} (o : Option X) → IsSome o → (x : X) × (o ≡ Some x)
+there-is None h = absurd cc
+there-is (Some x) h = (x, refl)
+
+pub none_of : {X : Type 0} (o : Option X) → (IsSome o → ⊥) → o ≡ None
+none_of None h = refl
+none_of (Some x) h = absurd (h refl)
+
+pub some_is : {T : Type 0} (o : Option T) (x y : T) → o ≡ Some x → o ≡ Some y → x ≡ y
+some_is o x y e f = cc

@@ -1,5 +1,6 @@
 -- A map of names that is stored as entries in some order, whose keys a derived comparison tells apart.
 use Rattle.std.proofs.Common.{◌≡◌, suc, Bool, true, false, cond, ◌&&◌, nat_eq, List, [], ◌∷◌, length, Option, None, Some, IsSome, refl, sym, ap, subst, ◌∙◌, arith}
+use Rattle.std.proofs.lemmas.Option.{none-some}
 use Rattle.std.specs.Map.{lookup, keys_of}
 use Rattle.std.specs.FinMap as map
 use Rattle.std.specs.FinMap.{get-from_entries, find}
@@ -31,9 +32,6 @@ alike-itself a = grind arith
 pub alike-same : (a b : Name) → alike a b ≡ same_name a b
 alike-same a b = both_true _ _ (λ e. subst (λ x. same_name a x ≡ true) (alike-is a b e) (same_name-itself a)) (λ e. subst (λ x. alike a x ≡ true) (same_name-is a b e) (alike-itself a))
 
-none_some : {A : Type 0} {x : A} → None ≡ Some x → ⊥
-none_some e = cc
-
 module _ {X : Type 0} where
   -- the value of the first entry with the name
   abbrev pub found : List (Name × X) → Name → Option X
@@ -58,7 +56,7 @@ module _ {X : Type 0} where
 
   -- a name that is found stands among the keys
   pub stands : (es : List (Name × X)) (q : Name) (x : X) → found es q ≡ Some x → Stands (keys_of es) q
-  stands [] q x h = absurd (none_some h)
+  stands [] q x h = absurd (none-some _ h)
   stands (e ∷ es) q x h = first (alike q e.0) refl h (stands es q x)
     where
       first : (t : Bool) → alike q e.0 ≡ t → cond t (Some e.1) (found es q) ≡ Some x → (found es q ≡ Some x → Stands (keys_of es) q) → Stands (e.0 ∷ keys_of es) q
@@ -72,7 +70,7 @@ module _ {X : Type 0} where
 
   pub none_of_empty : (es : List (Name × X)) → map_of es ≡ map.empty → length es ≡ 0
   none_of_empty [] e = refl
-  none_of_empty (x ∷ es) e = absurd (none_some (sym (get-none x.0) ∙ sym (ap (λ m. map.get m x.0) e) ∙ put_here (map_of es) x.0 x.1))
+  none_of_empty (x ∷ es) e = absurd (none-some _ (sym (get-none x.0) ∙ sym (ap (λ m. map.get m x.0) e) ∙ put_here (map_of es) x.0 x.1))
 
 -- a name that is there is found
 pub found_there : {X : Type 0} (es : List (Name × X)) (q : Name) → IsSome (map.get (map_of es) q) → found es q ≡ None → ⊥

@@ -10,13 +10,13 @@ use Rattle.np_calculus.specs.declared.config.Place.TheVariants as place
 use Rattle.np_calculus.specs.FrameRule.{IsMade}
 use Rattle.np_calculus.specs.Parts.{beside, either, nothing}
 use Rattle.np_calculus.proofs.Fits.{some}
-use Rattle.np_calculus.proofs.FrameRule.{none_of}
+use Rattle.np_syntax.proofs.Options.{none_of, there-is}
 use Rattle.np_calculus.proofs.Writes.{either-none}
 use Rattle.np_merged_run.specs.Joined.{AreApart, together}
 use Rattle.np_merged_run.specs.Steps.{IsStep}
 use Rattle.np_stamped_run.specs.Deeds.{StampedItem}
 use Rattle.np_stamped_run.specs.Elements.{Occurs}
-use Rattle.np_stamped_run.proofs.Elements.{occurs-map, there-is}
+use Rattle.np_stamped_run.proofs.Elements.{occurs-map}
 use Rattle.np_stamped_run.proofs.Resting.{atom-out, packet-out, place-out, either-is}
 use Rattle.np_holdings.specs.Holdings.{Holding, IsPart}
 use Rattle.np_holdings.proofs.Acting.{not-way}

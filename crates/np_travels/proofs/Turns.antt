@@ -20,7 +20,8 @@ use Rattle.np_merged_run.proofs.Steps.{with-site-same}
 use Rattle.np_stamped_run.specs.Deeds.{Deed, StampedItem, plain, put_for}
 use Rattle.np_stamped_run.specs.Elements.{Occurs}
 use Rattle.np_stamped_run.specs.Turns.{Waiting, WaitsOn, moved, own, puts, puts_at, takes, takes_at, without}
-use Rattle.np_stamped_run.proofs.Elements.{mapped-occurs, occurs-first, occurs-map, occurs-second, over-occurs, there-is}
+use Rattle.np_syntax.proofs.Options.{there-is}
+use Rattle.np_stamped_run.proofs.Elements.{mapped-occurs, occurs-first, occurs-map, occurs-second, over-occurs}
 use Rattle.np_stamped_run.proofs.Flowing.{each_site, takes-here}
 use Rattle.np_stamped_run.proofs.Linking.{all_first, all_second}
 use Rattle.np_stamped_run.proofs.Moving.{below_or_not}

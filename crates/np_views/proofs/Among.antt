@@ -1,5 +1,6 @@
 -- Names in lists, and things in footprints.
 use Rattle.std.proofs.Common.{◌≡◌, ◌⊎◌, inl, inr, ⊎_elim, Bool, true, false, ◌||◌, List, [], ◌∷◌, ◌++◌, refl, sym, subst}
+use Rattle.std.proofs.lemmas.Bool.{or_left, or_right}
 use Rattle.np_syntax.specs.declared.value.Name.{Name}
 use Rattle.np_tables.specs.Names.{same_name}
 use Rattle.np_tables.proofs.Tables.{same_name-is, same_name-itself}
@@ -8,23 +9,15 @@ use Rattle.np_calculus.specs.Footprints.{AgreesOn, Footprint, SameMark, SamePlac
 use Rattle.np_calculus.specs.Sight.{Contents}
 use Rattle.np_views.specs.Past.{Thing, is_among, is_in}
 
-pub or-first : (a b : Bool) → a ≡ true → (a || b) ≡ true
-or-first true b h = refl
-or-first false b h = absurd cc
-
-pub or-second : (a b : Bool) → b ≡ true → (a || b) ≡ true
-or-second true b h = refl
-or-second false b h = h
-
 or-cases : (a b : Bool) → (a || b) ≡ true → (a ≡ true) ⊎ (b ≡ true)
 or-cases true b h = inl refl
 or-cases false b h = inr h
 
 pub among-first : (q : Name) (ks : List Name) → is_among q (q ∷ ks) ≡ true
-among-first q ks = or-first (same_name q q) _ (same_name-itself q)
+among-first q ks = or_left (same_name q q) _ (same_name-itself q)
 
 pub among-later : (q k : Name) (ks : List Name) → is_among q ks ≡ true → is_among q (k ∷ ks) ≡ true
-among-later q k ks h = or-second (same_name q k) _ h
+among-later q k ks h = or_right (same_name q k) _ h
 
 or-keeps : (t a b : Bool) → (t || a) ≡ true → (a ≡ true → b ≡ true) → (t || b) ≡ true
 or-keeps true a b h f = refl
@@ -36,7 +29,7 @@ among-left q (k ∷ ks) js h = or-keeps (same_name q k) (is_among q ks) (is_amon
 
 pub among-right : (q : Name) (ks js : List Name) → is_among q js ≡ true → is_among q (ks ++ js) ≡ true
 among-right q [] js h = h
-among-right q (k ∷ ks) js h = or-second (same_name q k) _ (among-right q ks js h)
+among-right q (k ∷ ks) js h = or_right (same_name q k) _ (among-right q ks js h)
 
 pub among-cases : (q k : Name) (ks : List Name) → is_among q (k ∷ ks) ≡ true → (q ≡ k) ⊎ (is_among q ks ≡ true)
 among-cases q k ks h = ⊎_elim (λ t. inl (same_name-is q k t)) (λ t. inr t) (or-cases (same_name q k) (is_among q ks) h)

@@ -1,6 +1,6 @@
 -- A configuration that agrees with one of a run on all that a set of places has, and goes on by the events of these places.
-use Rattle.std.proofs.Common.{◌≡◌, ◌<◌, ◌⊎◌, inl, inr, ⊎_elim, ℕ, suc, Bool, true, false, not, ◌&&◌, ◌||◌, nat_lt, List, [], ◌∷◌, Option, None, Some, IsSome, refl, ap, sym, subst, ◌∙◌, arith}
-use Rattle.std.proofs.lemmas.Bool.{ltb-true, ltb-false}
+use Rattle.std.proofs.Common.{◌≡◌, ◌<◌, ◌⊎◌, inl, inr, ⊎_elim, ℕ, suc, Bool, true, false, not, ◌&&◌, ◌||◌, nat_lt, List, [], ◌∷◌, Option, None, Some, refl, ap, sym, subst, ◌∙◌, arith}
+use Rattle.std.proofs.lemmas.Bool.{ltb-true, ltb-false, or_right}
 use Rattle.std.specs.FinSet as set
 use Rattle.np_calculus.proofs.Common.{Name, Event, Kind, Made, NameSet, same_name, Config, Contents, inside, Change, Write, effect}
 use Rattle.np_calculus.proofs.Common.{are_new, change, row, apply}
@@ -22,6 +22,7 @@ use Rattle.np_views.specs.Past.{later_names, made_agent, made_names, names_of, t
 use Rattle.np_views.proofs.Among.{Same, agrees-on, among-cases, among-either, among-first}
 use Rattle.np_calculus.proofs.BornKept.{born-kept}
 use Rattle.np_syntax.proofs.Bools.{and-out}
+use Rattle.np_syntax.proofs.Options.{none_of}
 use Rattle.np_views.proofs.Traced.{Traced, land-alone, traced}
 
 pub false-true : {R : Type 0} (b : Bool) → b ≡ true → b ≡ false → R
@@ -29,10 +30,6 @@ false-true true h k = absurd cc
 false-true false h k = absurd cc
 
 -- ---- what a change leaves
-
-none_of : {X : Type 0} (o : Option X) → (IsSome o → ⊥) → o ≡ None
-none_of None h = refl
-none_of (Some x) h = absurd (h refl)
 
 insert-below : (a b : NameSet) (m : Name) → ((q : Name) → set.contains a q ≡ true → set.contains b q ≡ true) → (q : Name)
     → set.contains (set.insert a m) q ≡ true → set.contains (set.insert b m) q ≡ true
@@ -91,10 +88,6 @@ abbrev MadeThing : Event → Thing → Type 0
 MadeThing e (Thing.mark q) = IsMade e.made q
 MadeThing e (Thing.place q) = IsMade e.made q
 
-or-true : (a : Bool) {b : Bool} → b ≡ true → (a || b) ≡ true
-or-true true h = refl
-or-true false h = h
-
 module _ (sites : ℕ) (x : Contents) (e : Event) (d : Change) where
   abbrev Known : Kind → Thing → Type 0
   Known k t = (is_in t (touches k x e) ≡ true) ⊎ MadeThing e t
@@ -108,7 +101,7 @@ module _ (sites : ℕ) (x : Contents) (e : Event) (d : Change) where
   mark-known : (q : Name) → is_among q (names_of e) ≡ true → KnownMark (e.actor ∷ listed e.other) q
   mark-known q h = ⊎_elim
       (λ is. inl (subst (λ n. is_among n (e.actor ∷ listed e.other) ≡ true) (sym is) (among-first e.actor _)))
-      (λ l. ⊎_elim (λ o. inl (or-true (same_name q e.actor) o)) (λ m. inr m) (later-known q l))
+      (λ l. ⊎_elim (λ o. inl (or_right (same_name q e.actor) _ o)) (λ m. inr m) (later-known q l))
       (among-cases q e.actor _ h)
 
   -- the agent of the acting atom is touched
@@ -122,7 +115,7 @@ module _ (sites : ℕ) (x : Contents) (e : Event) (d : Change) where
   known : (k : Kind) (t : Thing) → change k sites x e ≡ Some d → is_in t (writes k x e) ≡ true → Known k t
   known kind.Arrive (Thing.mark q) row h = absurd cc
   known kind.Arrive (Thing.place q) row h = inl h
-  known kind.Rep (Thing.mark q) row h = mark-known q (or-true (same_name q e.actor) h)
+  known kind.Rep (Thing.mark q) row h = mark-known q (or_right (same_name q e.actor) _ h)
   known kind.Rep (Thing.place q) row h = absurd cc
   known kind.Agent (Thing.mark q) row h = mark-known q h
   known kind.Agent (Thing.place q) row h = inr (makes-agent e.made q h)

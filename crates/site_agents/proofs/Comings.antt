@@ -1,5 +1,6 @@
 -- Agents that come and go, and what stays of whose turn it is.
-use Rattle.std.proofs.Common.{◌≡◌, Bool, true, false, cond, inl, inr, Option, None, Some, refl, sym, ap, subst, ◌∙◌}
+use Rattle.std.proofs.Common.{◌≡◌, Bool, true, false, cond, inl, inr, Option, Some, refl, sym, ap, subst, ◌∙◌}
+use Rattle.std.proofs.lemmas.Option.{none-some}
 use Rattle.std.specs.FinMap as map
 use Rattle.np_syntax.specs.declared.value.Name.{Name}
 use Rattle.np_tables.specs.Names.{NameMap, same_name}
@@ -12,14 +13,11 @@ use Rattle.site_agents.specs.Queues.{Waiting, waits, Keeps, KeepsBut}
 use Rattle.site_agents.specs.Rounds.{InTurn}
 use Rattle.site_agents.specs.Standings.{Standing, AreNamed, AreQuiet}
 
-none_some : {A : Type 0} {x : A} → None ≡ Some x → ⊥
-none_some e = cc
-
 abbrev pub nobody : NameMap Seat
 nobody = map.empty
 
 no_seat : (q : Name) (s : Seat) → map.get nobody q ≡ Some s → ⊥
-no_seat q s h = none_some (sym (get-none q) ∙ h)
+no_seat q s h = none-some _ (sym (get-none q) ∙ h)
 
 pub in_turn_none : (t d : Waiting) → InTurn nobody t d
 in_turn_none t d = record { queued = λ q s h i. absurd (no_seat q s h); doubted = λ q s h i. absurd (no_seat q s h) }

@@ -1,5 +1,6 @@
 -- What the agents at a site end as, where one of them was lent.
 use Rattle.std.proofs.Common.{◌≡◌, is_some, ℕ, Bool, true, false, List, Option, None, Some, refl, sym, ap, subst, ◌∙◌}
+use Rattle.std.proofs.lemmas.Option.{none-some}
 use Rattle.std.specs.FinMap as map
 use Rattle.np_syntax.specs.declared.value.Name.{Name}
 use Rattle.np_tables.specs.Names.{NameMap}
@@ -21,15 +22,12 @@ pub absent : {A : Type 0} (o : Option A) → false ≡ is_some o → o ≡ None
 absent None e = refl
 absent (Some x) e = absurd cc
 
-none_some : {A : Type 0} {x : A} → Some x ≡ None → ⊥
-none_some e = cc
-
 -- where an agent is lent its seat is there
 pub present : (m : NameMap Seat) (k : Name) (f : Seat → Seat) (p : Pool) → Some p ≡ map.get (agents_of (changed m k f)) k → (x : Seat) × (map.get m k ≡ Some x)
 present m k f p h = by (map.get m k) refl h
   where
     by : (o : Option Seat) → map.get m k ≡ o → Some p ≡ map.get (agents_of (changed_in m k f o)) k → (x : Seat) × (map.get m k ≡ Some x)
-    by None e g = absurd (none_some (g ∙ mapped_none agent_of m k e))
+    by None e g = absurd (none-some _ (sym (g ∙ mapped_none agent_of m k e)))
     by (Some x) e g = (x, e)
 
 -- a seat that is changed twice

@@ -1,5 +1,6 @@
 -- What is told of seats, told of their agents.
 use Rattle.std.proofs.Common.{◌≡◌, Bool, true, false, not, ◌||◌, ◌↔◌, IsTrue, List, [], Option, None, Some, refl, sym, ap, subst, ◌∙◌}
+use Rattle.std.proofs.lemmas.Option.{none-some}
 use Rattle.std.specs.Prelude.{is_some, option_map}
 use Rattle.std.specs.FinMap as map
 use Rattle.np_syntax.specs.declared.value.Name.{Name}
@@ -18,9 +19,6 @@ use Rattle.site_agents.specs.Queues.{Waiting, waits, listed}
 use Rattle.site_agents.specs.Rounds.{InTurn, QuietCan}
 use Rattle.site_agents.specs.Standings.{Standing, is_quiet, agent_of, agents_of, quiet_of, AreQuiet, CanDo, CanNothing, NoneCan, IdleAt}
 
-none_some : {A : Type 0} {x : A} → None ≡ Some x → ⊥
-none_some e = cc
-
 same_some : {A : Type 0} {x y : A} → Some x ≡ Some y → x ≡ y
 same_some e = cc
 
@@ -29,7 +27,7 @@ pub mapped_back : {X Y : Type 0} (f : X → Y) (m : NameMap X) (q : Name) (y : Y
 mapped_back {X} {Y} f m q y h = by (map.get m q) refl (sym (get-mapped f m q) ∙ h)
   where
     by : (o : Option X) → map.get m q ≡ o → option_map f o ≡ Some y → (x : X) × (map.get m q ≡ Some x) × (f x ≡ y)
-    by None e g = absurd (none_some g)
+    by None e g = absurd (none-some _ g)
     by (Some x) e g = (x, e, same_some g)
 
 pub mapped_none : {X Y : Type 0} (f : X → Y) (m : NameMap X) (q : Name) → map.get m q ≡ None → map.get (mapped f m) q ≡ None
@@ -76,7 +74,7 @@ idle_at ts seats q s b e h = (
 )
 
 pub idle_absent : (ts : List Proc) (seats : NameMap Seat) (q : Name) → map.get seats q ≡ None → IdleAt ts (agents_of seats) q
-idle_absent ts seats q e p g = absurd (none_some (sym (mapped_none agent_of seats q e) ∙ g))
+idle_absent ts seats q e p g = absurd (none-some _ (sym (mapped_none agent_of seats q e) ∙ g))
 
 -- whether the agent of a seat can do this
 pub can_here : (code : ProgramTable) (seats : NameMap Seat) (q : Name) (s : Seat) (r : Ready) (b : Bool) → Some s ≡ map.get seats q → (IsTrue b ↔ IsReady code (atoms_of code.processes s.agent) r)
@@ -87,7 +85,7 @@ can_here code seats q s r b e h = (
 )
 
 pub can_nowhere : (code : ProgramTable) (seats : NameMap Seat) (q : Name) (r : Ready) → map.get seats q ≡ None → CanDo code (agents_of seats) q r → ⊥
-can_nowhere code seats q r e can = none_some (sym (mapped_none agent_of seats q e) ∙ can.here)
+can_nowhere code seats q r e can = none-some _ (sym (mapped_none agent_of seats q e) ∙ can.here)
 
 some_map : {X Y : Type 0} (f : X → Y) (o : Option X) → is_some o ≡ is_some (option_map f o)
 some_map f None = refl

@@ -1,5 +1,6 @@
 -- Seats of which one is changed, and what stays of whose turn it is.
 use Rattle.std.proofs.Common.{◌≡◌, Bool, true, false, cond, ◌⊎◌, inl, inr, Option, None, Some, refl, sym, ap, subst, ◌∙◌}
+use Rattle.std.proofs.lemmas.Option.{none-some}
 use Rattle.std.specs.Prelude.{IfSome}
 use Rattle.std.specs.FinMap as map
 use Rattle.np_syntax.specs.declared.value.Name.{Name}
@@ -23,9 +24,6 @@ pub can_at : (code : ProgramTable) (seats : NameMap Seat) (q : Name) (s : Seat) 
 can_at code seats q s None e h = tt
 can_at code seats q s (Some r) e h = record { agent = s.agent; here = mapped_there agent_of seats q s (sym e); ready = h }
 
-none_some : {A : Type 0} {x : A} → None ≡ Some x → ⊥
-none_some e = cc
-
 same_some : {A : Type 0} {x y : A} → Some x ≡ Some y → x ≡ y
 same_some e = cc
 
@@ -39,7 +37,7 @@ module _ (seats : NameMap Seat) (k : Name) (f : Seat → Seat) where
   by_put q new s false t e h = inr (t, h)
 
   by_absent : (q : Name) (new : Seat) (t : Bool) → same_name q k ≡ t → map.get seats k ≡ None → map.get seats q ≡ Some new → Entry seats k f q new
-  by_absent q new true t e h = absurd (none_some (sym e ∙ sym (ap (map.get seats) (same_name-is q k t)) ∙ h))
+  by_absent q new true t e h = absurd (none-some _ (sym e ∙ sym (ap (map.get seats) (same_name-is q k t)) ∙ h))
   by_absent q new false t e h = inr (t, h)
 
   entry_in : (q : Name) (new : Seat) (o : Option Seat) → map.get seats k ≡ o → map.get (changed_in seats k f o) q ≡ Some new → Entry seats k f q new

@@ -18,7 +18,7 @@ use Rattle.site_crew.specs.Crews.{CrewState, NoneFailed}
 use Rattle.site_crew.specs.Lists.{AreWithin, HasFollowed, HasRedone, IsToFollow}
 use Rattle.site_crew.specs.Following.{AllRest, AreAt, AreLate, HaveAdded, HaveDone, IsNotEarly}
 use Rattle.site_crew.specs.Seats.{Stand, clocks, event_count, histories}
-use Rattle.site_crew.proofs.Pairs.{some_is}
+use Rattle.np_syntax.proofs.Options.{some_is}
 use Rattle.site_crew.proofs.Replacing.{rests_later, rests_trans, there_too}
 use Rattle.site_crew.proofs.Whole.{long-histories}
 

@@ -32,7 +32,7 @@ use Rattle.run_merge.specs.Merged.{items, merged}
 use Rattle.run_merge.proofs.InOrder.{all_map, all_weaker}
 use Rattle.site_links.specs.declared.port.Port as Port
 use Rattle.np_stamped_run.specs.Deeds.{Deed, IsDeedOf}
-use Rattle.np_stamped_run.proofs.Elements.{there-is}
+use Rattle.np_syntax.proofs.Options.{there-is}
 use Rattle.np_holdings.specs.Holdings.{Holding, IsPart}
 use Rattle.np_holdings.specs.Making as holding
 use Rattle.np_site_runs.specs.Accounts.{SitesEnd}

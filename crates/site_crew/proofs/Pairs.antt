@@ -1,10 +1,11 @@
 -- The links are settled one after another.
-use Rattle.std.proofs.Common.{◌≡◌, ◌≢◌, ℕ, ◌+◌, ◌-◌, ◌<◌, ◌⊎◌, inl, inr, Bool, true, false, List, [], ◌∷◌, ◌++◌, length, set, get_or, refl, sym, ◌∙◌, ap, subst, arith, Option, Some, length-set, length-append}
+use Rattle.std.proofs.Common.{◌≡◌, ◌≢◌, ℕ, ◌+◌, ◌-◌, ◌<◌, ◌⊎◌, inl, inr, Bool, true, false, List, [], ◌∷◌, ◌++◌, length, set, get_or, refl, sym, ◌∙◌, ap, subst, arith, Some, length-set, length-append}
 use Rattle.std.specs.Prelude.{slice_get}
 use Rattle.std.proofs.lemmas.Option.{slice_get_within, slice_get-get_or}
 use Rattle.std.proofs.lemmas.List.{set-append_left, set-append_right, get_or_append_left, get_or-append-add}
 use Rattle.std.proofs.lemmas.Bool.Decides.{eqb_tells}
 use Rattle.std.proofs.Math.Logic.{∥∥₁_map}
+use Rattle.np_syntax.proofs.Options.{some_is}
 use Rattle.site_links.specs.Words.{KeepsBut}
 use Rattle.site_links.specs.declared.port.Port as Port
 use Rattle.site_links.proofs.Rows.{get-set_same, get-set_other}
@@ -39,9 +40,6 @@ two_sets xs i j x y hi hj ne = record {
 
 pub two_swap : {T : Type 0} {xs ys : List T} {i j : ℕ} {x y : T} → Two xs ys j i y x → Two xs ys i j x y
 two_swap h = record { count = h.count; at_i = h.at_j; at_j = h.at_i; others = λ k a b. h.others k b a }
-
-pub some_is : {T : Type 0} (o : Option T) (x y : T) → o ≡ Some x → o ≡ Some y → x ≡ y
-some_is o x y e f = cc
 
 -- an element read at a part of a list is one of the list
 pub read_front : {T : Type 0} (xs l r : List T) (n i : ℕ) (d : T) → xs ≡ l ++ r → length l ≡ n → i < n → slice_get xs i ≡ Some (get_or l i d)

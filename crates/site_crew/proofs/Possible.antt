@@ -16,7 +16,7 @@ use Rattle.np_calculus.specs.declared.config.Atom.{Atom}
 use Rattle.np_calculus.specs.Config.{Config}
 use Rattle.np_calculus.specs.Reductions.{same_tag}
 use Rattle.np_calculus.specs.Rows.{asked_of, change_in, made_of}
-use Rattle.np_stamped_run.proofs.Elements.{there-is}
+use Rattle.np_syntax.proofs.Options.{there-is}
 use Rattle.np_holdings.specs.Holdings.{IsPart, name_of}
 use Rattle.np_holdings.specs.Making.{AreNext}
 use Rattle.np_code.specs.Programs.{ProgramTable}

@@ -9,6 +9,7 @@ use Rattle.std.specs.Prelude.{eqb}
 use Rattle.std.proofs.Common.{eq-eqb}
 use denote.Enum.Bare.{sameb, same_true, true_same}
 use Rattle.np_syntax.proofs.Bools.{and-in, and-out}
+use Rattle.np_syntax.proofs.Options.{some_is}
 use Rattle.np_syntax.specs.declared.memory.Memory.{Memory}
 use Rattle.np_syntax.specs.declared.value.Name.{Name}
 use Rattle.np_syntax.specs.contracts.value.NamePartialEq.TheImpl as names
@@ -36,7 +37,6 @@ use Rattle.site_turn.proofs.Steps.{turned_done, turned_stays}
 use Rattle.site_crew.specs.Following.{Adds, AllRest, HasAccepted, HasNotAdded, HasNotRedone, HaveAdded, HaveNotRedone, IsLast, IsNotEarly, Moves, Rests, StandBut}
 use Rattle.site_crew.specs.Links.{AreSettledIn}
 use Rattle.site_crew.specs.Seats.{Stand}
-use Rattle.site_crew.proofs.Pairs.{some_is}
 use Rattle.site_crew.proofs.Replacing.{at_clock, but_none, kept_later, none_but, replaced, rests_refl, stand_moved, there_too}
 
 -- ---- answers

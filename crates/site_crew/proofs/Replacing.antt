@@ -20,7 +20,8 @@ use Rattle.site_crew.specs.Links.{AreLinked, AreSettledIn, IsSettledTo, IsTold}
 use Rattle.site_crew.specs.Seats.{AllGrow, AllTurned, IsSeat, Stand, histories}
 use Rattle.site_crew.proofs.Crewing.{at_place, grows_again}
 use Rattle.site_crew.proofs.Goings.{seat_still, seats_turned}
-use Rattle.site_crew.proofs.Pairs.{all_still_refl, linked_after, some_is, told_same}
+use Rattle.np_syntax.proofs.Options.{some_is}
+use Rattle.site_crew.proofs.Pairs.{all_still_refl, linked_after, told_same}
 use Rattle.site_crew.proofs.Standing.{fresh_again}
 use Rattle.site_crew.proofs.Whole.{long-histories}
 

@@ -14,7 +14,7 @@ use Rattle.crew_ends.specs.Quiet.{AllQuiet, AreOver}
 use Rattle.site_crew.specs.Runs.{IsCrewRun, IsProgram, IsSpent, OnlySpentCan}
 use Rattle.site_crew.specs.Seats.{Stand, histories}
 use Rattle.site_crew.proofs.Directed.{are_directed}
-use Rattle.site_crew.proofs.Pairs.{some_is}
+use Rattle.np_syntax.proofs.Options.{some_is}
 use Rattle.site_crew.proofs.Stillness.{Whole, none-rest, quiet_of, rests_of, still-end}
 use Rattle.site_crew.proofs.CrewRuns.{run_of}
 use Rattle.site_crew.proofs.Whole.{accounts, here, sites_end, some}

@@ -19,7 +19,8 @@ use Rattle.site_turn.specs.Turns.{IsStrange, Kept, came_from, shown}
 use Rattle.site_crew.specs.Links.{AllStill, AreSettled}
 use Rattle.crew_ends.specs.Starts.{AreFirst, IsFirst}
 use Rattle.site_crew.specs.Seats.{AllTurned, AreFresh, AreSeats, AreWhole, Stand}
-use Rattle.site_crew.proofs.Pairs.{linked_after, some_is}
+use Rattle.np_syntax.proofs.Options.{some_is}
+use Rattle.site_crew.proofs.Pairs.{linked_after}
 use Rattle.site_crew.proofs.Goings.{seat_still, seats_turned, turned_at}
 
 no_history : (k limit : ℕ) → IsHistory (without_events k limit)

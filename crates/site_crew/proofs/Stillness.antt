@@ -22,7 +22,7 @@ use Rattle.site_turn.specs.Turns.{came_from, shown}
 use Rattle.crew_ends.specs.Quiet.{AllQuiet, IsQuietSeat}
 use Rattle.site_crew.specs.Runs.{IsProgram}
 use Rattle.site_crew.specs.Seats.{Stand, histories}
-use Rattle.site_crew.proofs.Pairs.{some_is}
+use Rattle.np_syntax.proofs.Options.{some_is}
 use Rattle.site_crew.proofs.Whole.{SeatOf, accounts, aside_of, end_of, here, known_of, queue_of, rest_of, some}
 
 none-left : {T : Type 0} (xs ys : List T) → xs ++ ys ≡ [] → xs ≡ []

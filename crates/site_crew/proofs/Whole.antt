@@ -23,7 +23,7 @@ use Rattle.site_turn.specs.Turns.{came_from, shown}
 use Rattle.site_crew.specs.Links.{AreSettled}
 use Rattle.site_crew.specs.Runs.{AreHistoriesOf}
 use Rattle.site_crew.specs.Seats.{AreSeats, AreWhole, IsSeat, histories}
-use Rattle.site_crew.proofs.Pairs.{some_is}
+use Rattle.np_syntax.proofs.Options.{some_is}
 
 pub not-past : {T : Type 0} (xs : List T) (k : ℕ) → slice_get xs k ≡ None → k < length xs → ⊥
 not-past [] k e h = absurd (omega arith)

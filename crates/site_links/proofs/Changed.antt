@@ -2,14 +2,15 @@
 use Rattle.std.proofs.Common.{◌≡◌, ◌≢◌, ℕ, ◌+◌, ◌<◌, ◌≤◌, List, [], ◌∷◌, ◌++◌, length, set, refl, sym, ◌∙◌, ap, subst, Some, inl, inr, length-set}
 use Rattle.std.specs.Prelude.{slice_get}
 use Rattle.std.proofs.Math.Logic.{∥∥₁_elim, ∥∥₁_map}
-use Rattle.std.proofs.Props.{props}
 use Rattle.std.proofs.lemmas.Option.{slice_get_within}
 use Rattle.std.proofs.lemmas.Bool.Decides.{eqb_tells}
+use Rattle.np_syntax.proofs.Numbers.{lt-prop}
+use Rattle.np_syntax.proofs.Options.{some_is}
 use Rattle.site_links.specs.Words.{Stays, KeepsBut, only_at}
 use Rattle.site_links.specs.Seats.{read, site_of, among_of, Linked, KeepsPort}
 use Rattle.site_links.specs.declared.ends.Ends as Ends
 use Rattle.site_links.specs.declared.port_of.PortOf.{PortOf}
-use Rattle.site_links.proofs.Rows.{some_is, get-set_same, get-set_other, rows_same, rows_more, rows_less}
+use Rattle.site_links.proofs.Rows.{get-set_same, get-set_other, rows_same, rows_more, rows_less}
 
 -- b is a with other ends in one place, y for x
 pub record Changes {E : Type 0} (a b : PortOf E) (i : ℕ) (x y : E) : Type 0 where
@@ -107,9 +108,6 @@ still_linked {E} g a b a' b' x z y w h k m l = record {
       let in' : z ≡ l.in_ = was_is g b b' a.site z w k a.site l.in_ refl l.in_is in
       m (subst (λ (o : E). g.meets x o) (sym in') (subst (λ (o : E). g.meets o l.in_) (sym out) l.meet));
 }
-
-lt-prop : (a b : ℕ) → IsProp (a < b)
-lt-prop a b = Prim.hlevel props
 
 -- the two ends of a link stand in their ports
 module _ {E I : Type 0} (g : Ends.Ghosts E I) {a b : PortOf E} (linked : ∥ Linked g a b ∥₁) where

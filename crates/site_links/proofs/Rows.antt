@@ -9,9 +9,6 @@ use Rattle.std.proofs.lemmas.Bool.Decides.{eqb_tells}
 use Rattle.site_links.specs.Words.{only_at}
 use Rattle.site_links.specs.Seats.{read}
 
-pub some_is : {T : Type 0} (o : Option T) (x y : T) → o ≡ Some x → o ≡ Some y → x ≡ y
-some_is o x y e f = cc
-
 pub get-set_same : {T : Type 0} (xs : List T) (i : ℕ) (y : T) → i < length xs → slice_get (set xs i y) i ≡ Some y
 get-set_same xs i y h = grind (arith, common_steps, slice_get-get_or (set xs i y) i y, get_or-set_same xs i y y)
 

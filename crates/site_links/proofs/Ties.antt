@@ -9,7 +9,8 @@ use Rattle.site_links.specs.Words.{IsFullMake, IsUnused}
 use Rattle.site_links.specs.Seats.{read, site_of, among_of, sent_at, got_at, known_at, room_at, Linked, IsNew, Grown, Tied, OwnTied, AllFresh, Made, Partly}
 use Rattle.site_links.specs.declared.ends.Ends as Ends
 use Rattle.site_links.specs.declared.port_of.PortOf.{PortOf}
-use Rattle.site_links.proofs.Rows.{some_is, get-set_same, get-set_other, get-push_old, get-push_at, get-push_cases}
+use Rattle.np_syntax.proofs.Options.{some_is}
+use Rattle.site_links.proofs.Rows.{get-set_same, get-set_other, get-push_old, get-push_at, get-push_cases}
 
 module _ {E I : Type 0} (g : Ends.Ghosts E I) where
   -- what a port that has grown is linked with still

@@ -1,7 +1,7 @@
-use Rattle.std.proofs.Common.{◌≡◌, ◌≢◌, ℕ, inl, inr, List, Option, IsSome, None, Some, refl, sym, subst, Result, Ok, Err, IfErr}
+use Rattle.std.proofs.Common.{◌≢◌, ℕ, inl, inr, List, sym, subst, Result, Ok, Err, IfErr}
+use Rattle.np_syntax.proofs.Options.{there-is}
 use Rattle.np_syntax.specs.declared.event.Event.{Event}
 use Rattle.np_syntax.specs.declared.program.LowProgram.{LowProgram}
-use Rattle.np_calculus.specs.Config.{Config}
 use Rattle.np_calculus.specs.Reductions.{run}
 use Rattle.np_calculus.specs.Starts.{start_low}
 use Rattle.np_verdict.specs.declared.refusal.Refusal.{Refusal}
@@ -10,16 +10,12 @@ use Rattle.np_histories.specs.Histories.{IsRead}
 use Rattle.np_modes.specs.Causes.{IsUnfit, StopsFrom}
 use Rattle.np_modes.proofs.resuming.resume_from.Goals as goal
 
-some_run : (low : LowProgram) (events : List Event) (o : Option Config) → run (start_low low) events ≡ o → IsSome o → (last : Config) × (run (start_low low) events ≡ Some last)
-some_run low events (Some last) is some = (last, is)
-some_run low events None is some = let no = some in absurd cc
-
 -- events that are no run, or a run from which the sites do not go on
 unfit_for : (budget : ℕ) (low : LowProgram) (bytes : List ℕ) (events : List Event) → IsRead bytes events → (refusal : Refusal) → StopsFrom budget low events refusal
     → IsUnfit budget low bytes refusal
 unfit_for budget low bytes events read refusal (inl stops) = inl (inr (inl (record { events = events; read = read; stops = stops })))
 unfit_for budget low bytes events read refusal (inr cannot) =
-    let last = some_run low events _ refl cannot.0 in
+    let last = there-is (run (start_low low) events) cannot.0 in
     inr (record { events = events; history = read; last = last.0; reaches = last.1; cannot = cannot.1 })
 
 unfit : {X : Type 0} (budget : ℕ) (low : LowProgram) (bytes : List ℕ) (events : List Event) → IsRead bytes events → (r : Result X Refusal)
