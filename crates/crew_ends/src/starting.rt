@@ -6,21 +6,13 @@ ghost use Rattle.np_syntax.specs.declared.limits.TheConstants.{LARGEST_BUDGET};
 ghost use Rattle.crew_ends.specs.Starts.{AreFirst, HasFirst, IsFirst, IsFirstSite};
 
 use agent_pool::Agent;
+use np_calculus::{DAEMON, DAEMON_MARK, MAIN, MAIN_MARK};
 use np_code::Code;
 use np_eval::Frame;
 use np_syntax::{Memory, Name};
 use site_state::Site;
 use site_turn::Seat;
 use std::alloc::Global;
-
-/// The numbers of the names of main's agent, of the daemon's agent, and of the marks of their first atoms.
-const MAIN: u32 = 0;
-
-const DAEMON: u32 = 1;
-
-const MAIN_MARK: u32 = 11;
-
-const DAEMON_MARK: u32 = 12;
 
 /// A name that the program has from the start.
 fn own(code: &Code, n: u32) -> Name

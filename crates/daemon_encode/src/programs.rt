@@ -7,7 +7,8 @@ ghost use Rattle.daemon_encode.specs.LowSound.{IsLowSound};
 
 use super::translator::{Translator, behind};
 use daemon_texts::daemon;
-use infrastructure_texts::{MAIN, Writer};
+use infrastructure_texts::Writer;
+use np_calculus::MAIN;
 use np_check::Checked;
 use np_syntax::{LowProgram, Memory, Proc, Program, copy_texts};
 use std::alloc::Global;

@@ -8,10 +8,11 @@ ghost use Rattle.infrastructure_texts.specs.Pieces.{Writes};
 ghost use Rattle.infrastructure_texts.specs.Daemon as spec;
 
 use infrastructure_texts::own_names::{
-    ACK, DACK, DELIVER, HERE, LOCK, MAIN, MESSAGE, MIGRATED, MIGRATING, REGISTER,
+    ACK, DACK, DELIVER, HERE, LOCK, MESSAGE, MIGRATED, MIGRATING, REGISTER,
 };
 use infrastructure_texts::pieces::{expression, name, pair, site, two_names, unit, variable};
 use infrastructure_texts::{Writer, Written};
+use np_calculus::MAIN;
 use np_syntax::{ExprForm, List, Memory, Pat, Proc, Value};
 use std::alloc::Global;
 

@@ -10,7 +10,6 @@ mod places;
 mod texts;
 mod writer;
 
-pub use own_names::MAIN;
 pub use pieces::variable;
 pub use texts::Made;
 pub use writer::{Writer, Written};

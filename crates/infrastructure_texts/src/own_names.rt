@@ -1,8 +1,4 @@
-//! The numbers of the program's own names.
-
-pub const MAIN: u32 = 0;
-
-pub const DAEMON: u32 = 1;
+//! The numbers of the program's own names, but for those of the agents that it starts with.
 
 pub const REGISTER: u32 = 2;
 

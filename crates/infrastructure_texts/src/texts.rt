@@ -8,9 +8,10 @@ ghost use Rattle.infrastructure_texts.specs.Pieces as piece;
 ghost use Rattle.infrastructure_texts.specs.Pieces.{Writes};
 ghost use Rattle.infrastructure_texts.specs.Texts as spec;
 
-use super::own_names::{ACK, CURRENTLOC, DACK, DAEMON, DELIVER, MAIN, MESSAGE, REGISTER};
+use super::own_names::{ACK, CURRENTLOC, DACK, DELIVER, MESSAGE, REGISTER};
 use super::pieces::{expression, name, nothing, pair, site, two_names, unit, variable};
 use super::writer::{Writer, Written};
+use np_calculus::{DAEMON, MAIN};
 use np_syntax::{Boxed, Expr, ExprForm, Memory, Proc, ProcForm};
 
 impl Writer {

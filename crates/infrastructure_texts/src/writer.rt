@@ -11,8 +11,8 @@ ghost use Rattle.np_syntax.specs.declared.process.ProcForm as form;
 ghost use Rattle.infrastructure_texts.specs.Pieces as spec;
 ghost use Rattle.infrastructure_texts.specs.Pieces.{Writes};
 
-use super::own_names::DAEMON;
 use super::pieces::{expression, site, variable};
+use np_calculus::DAEMON;
 use np_syntax::process_forms::iflocal;
 use np_syntax::{Boxed, Expr, ExprForm, Memory, Name, Pat, Proc, ProcForm, Role, Tag, Value};
 use std::alloc::Global;

@@ -5,22 +5,13 @@ ghost use Rattle.np_calculus.specs.Starts.{start_high, start_low, first_atom, ma
 use super::cfg::{Cfg, Near};
 use super::filing::put_filed;
 use np_agents::Places;
-use np_calculus::{Atom, Place};
+use np_calculus::{Atom, DAEMON, DAEMON_MARK, MAIN, MAIN_MARK, Place};
 use np_eval::Frame;
 use np_syntax::{List, LowProgram, Memory, Name, Proc, Program};
 use np_tables::{Names, Table, WorkLists};
 use std::alloc::Global;
 
 const OWN_NUMBERS: [u32; 17] = [0, 1, 2, 3, 4, 5, 6, 7, 8, 9, 10, 11, 12, 13, 14, 15, 16];
-
-// The numbers of the agents that a program starts with, and of the marks of their first atoms.
-const MAIN: u32 = 0;
-
-const DAEMON: u32 = 1;
-
-const MAIN_MARK: u32 = 11;
-
-const DAEMON_MARK: u32 = 12;
 
 /// The names of these numbers that a program of so many sites has for its own.
 fn names_of(alloc: Global, sites: u32, numbers: &[u32]) -> Result<Names, Memory>
