@@ -25,7 +25,7 @@ two-there {X} a b x y q z h = ⊎_elim
     (put_cases (table.insert (empty_map X) a x) b y q z h)
 
 module _ (n at : ℕ) (main daemon : Proc) where
-  abbrev c : Config
+  abbrev pub c : Config
   c = with_agent (with_agent (names_alone n) (main_agent n) at (main_mark n) main) (daemon_agent n) 0 (daemon_mark n) daemon
 
   pub placed : (q : Name) (p : Place) → (inside c).place q ≡ Some p → ((q ≡ daemon_agent n) × (p ≡ place.At 0)) ⊎ ((q ≡ main_agent n) × (p ≡ place.At at))
