@@ -52,29 +52,17 @@ fn is_resumed_over(
     budget: usize,
     links: &str,
 ) -> Result<bool, ExampleFail> {
-    let way = way_of(budget, links);
-    let option = option_of(run.call.example);
+    let (way, option) = (way_of(budget, links), option_of(run.call.example));
     let options = format!(in alloc; "--history --links {links}{way}{option}")?;
-    is_cut_off(caller, alloc, run, options.as_str(), budget)
-}
-
-/// Whether the run that a budget cuts off is resumed as it has to be, with these options.
-fn is_cut_off(
-    caller: &impl Caller,
-    alloc: Global,
-    run: &LowRun<'_>,
-    options: &str,
-    budget: usize,
-) -> Result<bool, ExampleFail> {
     let words = format!(in alloc; "run a {options} --budget {budget}")?;
     let call = Call {
         words: words.as_str(),
         ..run.call
     };
     let came = came_of(caller, alloc, &call)?;
-    let is_resumed = is_resumed_from(caller, alloc, run, &call, options, budget, &came);
+    let resumed = is_resumed_from(caller, alloc, run, &call, options.as_str(), budget, &came);
     drop(came);
-    is_resumed
+    resumed
 }
 
 /// Whether what came is a run, which is resumed as it has to be from what it wrote.
