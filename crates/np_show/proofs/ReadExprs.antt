@@ -21,35 +21,19 @@ use Rattle.np_show.proofs.Equations.{text-tuple, text-bin}
 use Rattle.np_show.proofs.Canon.{IsCanon, AllCanon, literal, main, name, tuple_expr, bin, round, deeper, none_expr, more_expr}
 use Rattle.np_show.proofs.Raise.{Has, raise, has_atom, has_op, has_joined, no_need, widen}
 use Rattle.np_show.proofs.Literals.{literal_text, literal_goes}
-use Rattle.np_show.proofs.ReadTypes.{from, stay, others, soft_others, squared_text}
+use Rattle.np_show.proofs.ReadTypes.{ReadAs, from, stay, others, soft_others, squared_text}
 
 -- ---- expressions
 
--- the bytes up to those left are tokens of this tree, but for offsets
-pub record ReadsAs (l d at : ℕ) (bytes rest : List ℕ) (x : RawExpr) : Type 0 where
-  pub end : ℕ
-  pub ts : List Token
-  pub tree : RawExpr
-  pub goes : Goes at bytes ts end rest
-  pub has : Has l d ts tree
-  pub same : erased_expr tree ≡ erased_expr x
+abbrev pub ReadsAs : (l d at : ℕ) (bytes rest : List ℕ) → RawExpr → Type 0
+ReadsAs l d = ReadAs (Has l d) erased_expr
 
-record PartsAs (d at : ℕ) (bytes rest : List ℕ) (xs : List RawExpr) : Type 0 where
-  pub end : ℕ
-  pub ts : List Token
-  pub trees : List RawExpr
-  pub goes : Goes at bytes ts end rest
-  pub has : AreExprs MOST_PARTS d ts trees
-  pub same : map erased_expr trees ≡ map erased_expr xs
+abbrev PartsAs : (d at : ℕ) (bytes rest : List ℕ) → List RawExpr → Type 0
+PartsAs d = ReadAs (AreExprs MOST_PARTS d) (map erased_expr)
 
 -- the same behind parts that were read
-record MoreAs (d at : ℕ) (bytes rest : List ℕ) (us : List Token) (ys xs : List RawExpr) : Type 0 where
-  pub end : ℕ
-  pub ts : List Token
-  pub trees : List RawExpr
-  pub goes : Goes at bytes ts end rest
-  pub has : AreExprs MOST_PARTS d (us ++ ts) (ys ++ trees)
-  pub same : map erased_expr trees ≡ map erased_expr xs
+abbrev MoreAs : (d at : ℕ) (bytes rest : List ℕ) (us : List Token) (ys xs : List RawExpr) → Type 0
+MoreAs d at bytes rest us ys = ReadAs (λ ts trees. AreExprs MOST_PARTS d (us ++ ts) (ys ++ trees)) (map erased_expr) at bytes rest
 
 same_bin : (o : Op) (x y u v : RawExpr) → erased_expr x ≡ erased_expr u → erased_expr y ≡ erased_expr v → erased_expr_form (expr.Bin o x y) ≡ erased_expr_form (expr.Bin o u v)
 same_bin o x y u v h k = rw (erased-bin o x y, erased-bin o u v, h, k)
@@ -80,11 +64,11 @@ round_text l at o x y rest h =
 tuple_text : (l at : ℕ) (xs : List RawExpr) (rest : List ℕ) → expr_text l (expression at (expr.Tuple xs)) ++ rest ≡ 91 ∷ (spaced (map (expr_text 0) xs) ++ 93 ∷ rest)
 tuple_text l at xs rest = ap (λ t. t ++ rest) (text-tuple l xs) ∙ squared_text (expr_text 0) xs rest
 
-both : {d at : ℕ} (o : Op) (rest : List ℕ) (x y : RawExpr)
+both : (d : ℕ) {at : ℕ} (o : Op) (rest : List ℕ) (x y : RawExpr)
     (r : ReadsAs (left o) d at (op_then o x y rest) (32 ∷ (sign_text (op_sign o) ++ 32 ∷ (expr_text (right o) y ++ rest))) x)
     → ReadsAs (right o) d (r.end + 1 + length (sign_text (op_sign o)) + 1) (expr_text (right o) y ++ rest) rest y
     → ReadsAs (strength o) (suc d) at (op_then o x y rest) rest (expression 0 (expr.Bin o x y))
-both o rest x y r q = record {
+both d o rest x y r q = record {
   end = q.end;
   ts = r.ts ++ sign_at (r.end + 1) (r.end + 1 + length (sign_text (op_sign o))) (op_sign o) ∷ q.ts;
   tree = expression r.tree.at (expr.Bin o r.tree q.tree);
@@ -111,18 +95,18 @@ mutual
       record {
         end = p.end + 1;
         ts = sign_at at (at + 1) sign.SquareOpen ∷ (p.ts ++ sign_at p.end (p.end + 1) sign.SquareClose ∷ []);
-        tree = expression at (expr.Tuple p.trees);
+        tree = expression at (expr.Tuple p.tree);
         goes = from (tuple_text l i xs rest) (then (sign_goes sign.SquareOpen tt at _) (then p.goes (sign_goes sign.SquareClose tt p.end rest)));
         has = has_atom l (g.tuple _ _ p.has);
-        same = ap (expression 0) (same_tuple p.trees xs p.same);
+        same = ap (expression 0) (same_tuple p.tree xs p.same);
       }
   reads {l = l} (bin {at = i} {o = o} {x = x} {y = y} h a b) at rest soft =
       let r = reads a at (32 ∷ (sign_text (op_sign o) ++ 32 ∷ (expr_text (right o) y ++ rest))) refl in
-      let q = both o rest x y r (reads b (r.end + 1 + length (sign_text (op_sign o)) + 1) rest soft) in
+      let q = both _ o rest x y r (reads b (r.end + 1 + length (sign_text (op_sign o)) + 1) rest soft) in
       record { end = q.end; ts = q.ts; tree = q.tree; goes = from (bin_text l i o x y rest h) q.goes; has = has_op o l _ _ _ h q.has; same = q.same }
   reads {l = l} (round {at = i} {o = o} {x = x} {y = y} h a b) at rest soft =
       let r = reads a (at + 1) (32 ∷ (sign_text (op_sign o) ++ 32 ∷ (expr_text (right o) y ++ 41 ∷ rest))) refl in
-      let q = both o (41 ∷ rest) x y r (reads b (r.end + 1 + length (sign_text (op_sign o)) + 1) (41 ∷ rest) refl) in
+      let q = both _ o (41 ∷ rest) x y r (reads b (r.end + 1 + length (sign_text (op_sign o)) + 1) (41 ∷ rest) refl) in
       record {
         end = q.end + 1;
         ts = sign_at at (at + 1) sign.RoundOpen ∷ (q.ts ++ sign_at q.end (q.end + 1) sign.RoundClose ∷ []);
@@ -136,14 +120,14 @@ mutual
       record { end = r.end; ts = r.ts; tree = r.tree; goes = r.goes; has = raise l _ _ _ r.has; same = r.same }
 
   parts_read : {d : ℕ} {xs : List RawExpr} → AllCanon d xs → length xs ≤ MOST_PARTS → (at : ℕ) (rest : List ℕ) → Soft rest → PartsAs d at (spaced (map (expr_text 0) xs) ++ rest) rest xs
-  parts_read none_expr few at rest soft = record { end = at; ts = []; trees = []; goes = stay at rest; has = g.none; same = refl }
+  parts_read none_expr few at rest soft = record { end = at; ts = []; tree = []; goes = stay at rest; has = g.none; same = refl }
   parts_read (more_expr {x = x} {xs = xs} c all) few at rest soft =
       let r = reads c at (others (expr_text 0) xs ++ rest) (soft_others (expr_text 0) xs rest soft) in
       let m = parts_go_on all 1 (omega arith) (r.tree ∷ []) (g.part g.none r.has) r.end rest soft in
       record {
         end = m.end;
         ts = r.ts ++ m.ts;
-        trees = r.tree ∷ m.trees;
+        tree = r.tree ∷ m.tree;
         goes = from (append_assoc (expr_text 0 x) (others (expr_text 0) xs) rest) (then r.goes m.goes);
         has = m.has;
         same = rw (r.same, m.same);
@@ -152,14 +136,14 @@ mutual
   parts_go_on : {d : ℕ} {xs : List RawExpr} → AllCanon d xs → (room : ℕ) → room + length xs ≤ MOST_PARTS → {us : List Token} (ys : List RawExpr) → AreExprs room d us ys
       → (at : ℕ) (rest : List ℕ) → Soft rest → MoreAs d at (others (expr_text 0) xs ++ rest) rest us ys xs
   parts_go_on none_expr room few {us = us} ys p at rest soft =
-      record { end = at; ts = []; trees = []; goes = stay at rest; has = rw (append-nil us, append-nil ys) (widen p MOST_PARTS (omega arith)); same = refl }
+      record { end = at; ts = []; tree = []; goes = stay at rest; has = rw (append-nil us, append-nil ys) (widen p MOST_PARTS (omega arith)); same = refl }
   parts_go_on (more_expr {x = x} {xs = xs} c all) room few {us = us} ys p at rest soft =
       let r = reads c (at + 1) (others (expr_text 0) xs ++ rest) (soft_others (expr_text 0) xs rest soft) in
       let m = parts_go_on all (suc room) (omega arith) (ys ++ r.tree ∷ []) (g.part p r.has) r.end rest soft in
       record {
         end = m.end;
         ts = r.ts ++ m.ts;
-        trees = r.tree ∷ m.trees;
+        tree = r.tree ∷ m.tree;
         goes = from (ap (λ t. 32 ∷ t) (append_assoc (expr_text 0 x) (others (expr_text 0) xs) rest)) (then (blank at _) (then r.goes m.goes));
         has = simp append_assoc at m.has;
         same = rw (r.same, m.same);

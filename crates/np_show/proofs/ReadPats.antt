@@ -15,33 +15,17 @@ use Rattle.np_tree.proofs.Erases.{erased-tuple_pat}
 use Rattle.np_show.specs.Shown.{pat_text}
 use Rattle.np_show.proofs.Equations.{text-tuple_pat}
 use Rattle.np_show.proofs.Canon.{IsCanonPat, AllCanonPats, any, bind, tuple_pat, none_pat, more_pat}
-use Rattle.np_show.proofs.ReadTypes.{from, stay, others, soft_others, squared_text}
+use Rattle.np_show.proofs.ReadTypes.{ReadAs, from, stay, others, soft_others, squared_text}
 
--- the bytes up to those left are tokens of this pattern, but for offsets
-pub record PatAs (d at : ℕ) (bytes rest : List ℕ) (p : RawPat) : Type 0 where
-  pub end : ℕ
-  pub ts : List Token
-  pub tree : RawPat
-  pub goes : Goes at bytes ts end rest
-  pub has : IsPat d ts tree
-  pub same : erased_pat tree ≡ erased_pat p
+abbrev pub PatAs : (d at : ℕ) (bytes rest : List ℕ) → RawPat → Type 0
+PatAs d = ReadAs (IsPat d) erased_pat
 
-record PatsAs (d at : ℕ) (bytes rest : List ℕ) (ps : List RawPat) : Type 0 where
-  pub end : ℕ
-  pub ts : List Token
-  pub trees : List RawPat
-  pub goes : Goes at bytes ts end rest
-  pub has : ArePats MOST_PARTS d ts trees
-  pub same : map erased_pat trees ≡ map erased_pat ps
+abbrev pub PatsAs : (d at : ℕ) (bytes rest : List ℕ) → List RawPat → Type 0
+PatsAs d = ReadAs (ArePats MOST_PARTS d) (map erased_pat)
 
 -- the same behind parts that were read
-record MorePats (d at : ℕ) (bytes rest : List ℕ) (us : List Token) (ys ps : List RawPat) : Type 0 where
-  pub end : ℕ
-  pub ts : List Token
-  pub trees : List RawPat
-  pub goes : Goes at bytes ts end rest
-  pub has : ArePats MOST_PARTS d (us ++ ts) (ys ++ trees)
-  pub same : map erased_pat trees ≡ map erased_pat ps
+abbrev MorePats : (d at : ℕ) (bytes rest : List ℕ) (us : List Token) (ys ps : List RawPat) → Type 0
+MorePats d at bytes rest us ys = ReadAs (λ ts trees. ArePats MOST_PARTS d (us ++ ts) (ys ++ trees)) (map erased_pat) at bytes rest
 
 widen : {room d : ℕ} {ts : List Token} {ps : List RawPat} → ArePats room d ts ps → (cap : ℕ) → room ≤ cap → ArePats cap d ts ps
 widen g.none cap h = g.none
@@ -63,21 +47,21 @@ mutual
       record {
         end = p.end + 1;
         ts = sign_at at (at + 1) sign.SquareOpen ∷ (p.ts ++ sign_at p.end (p.end + 1) sign.SquareClose ∷ []);
-        tree = pattern at (pat.Tuple p.trees);
+        tree = pattern at (pat.Tuple p.tree);
         goes = from (tuple_text i ps rest) (then (sign_goes sign.SquareOpen tt at _) (then p.goes (sign_goes sign.SquareClose tt p.end rest)));
         has = g.tuple _ _ p.has;
-        same = ap (pattern 0) (same_tuple p.trees ps p.same);
+        same = ap (pattern 0) (same_tuple p.tree ps p.same);
       }
 
   pats_read : {d : ℕ} {ps : List RawPat} → AllCanonPats d ps → length ps ≤ MOST_PARTS → (at : ℕ) (rest : List ℕ) → Soft rest → PatsAs d at (spaced (map pat_text ps) ++ rest) rest ps
-  pats_read none_pat few at rest soft = record { end = at; ts = []; trees = []; goes = stay at rest; has = g.none; same = refl }
+  pats_read none_pat few at rest soft = record { end = at; ts = []; tree = []; goes = stay at rest; has = g.none; same = refl }
   pats_read (more_pat {p = x} {ps = xs} c all) few at rest soft =
       let r = pat_reads c at (others pat_text xs ++ rest) (soft_others pat_text xs rest soft) in
       let m = pats_go_on all 1 (omega arith) (r.tree ∷ []) (g.part g.none r.has) r.end rest soft in
       record {
         end = m.end;
         ts = r.ts ++ m.ts;
-        trees = r.tree ∷ m.trees;
+        tree = r.tree ∷ m.tree;
         goes = from (append_assoc (pat_text x) (others pat_text xs) rest) (then r.goes m.goes);
         has = m.has;
         same = rw (r.same, m.same);
@@ -86,14 +70,14 @@ mutual
   pats_go_on : {d : ℕ} {ps : List RawPat} → AllCanonPats d ps → (room : ℕ) → room + length ps ≤ MOST_PARTS → {us : List Token} (ys : List RawPat) → ArePats room d us ys
       → (at : ℕ) (rest : List ℕ) → Soft rest → MorePats d at (others pat_text ps ++ rest) rest us ys ps
   pats_go_on none_pat room few {us = us} ys p at rest soft =
-      record { end = at; ts = []; trees = []; goes = stay at rest; has = rw (append-nil us, append-nil ys) (widen p MOST_PARTS (omega arith)); same = refl }
+      record { end = at; ts = []; tree = []; goes = stay at rest; has = rw (append-nil us, append-nil ys) (widen p MOST_PARTS (omega arith)); same = refl }
   pats_go_on (more_pat {p = x} {ps = xs} c all) room few {us = us} ys p at rest soft =
       let r = pat_reads c (at + 1) (others pat_text xs ++ rest) (soft_others pat_text xs rest soft) in
       let m = pats_go_on all (suc room) (omega arith) (ys ++ r.tree ∷ []) (g.part p r.has) r.end rest soft in
       record {
         end = m.end;
         ts = r.ts ++ m.ts;
-        trees = r.tree ∷ m.trees;
+        tree = r.tree ∷ m.tree;
         goes = from (ap (λ t. 32 ∷ t) (append_assoc (pat_text x) (others pat_text xs) rest)) (then (blank at _) (then r.goes m.goes));
         has = simp append_assoc at m.has;
         same = rw (r.same, m.same);

@@ -27,6 +27,15 @@ from {at = at} {end = end} {rest = rest} {ts = ts} e g = subst (λ l. Goes at l 
 pub stay : (at : ℕ) (rest : List ℕ) → Goes at rest [] at rest
 stay at rest = record { goes = λ us l. l }
 
+-- the bytes up to those left are tokens of a tree that is this one, but for offsets
+pub record ReadAs {X Y : Type 0} (Is : List Token → X → Type 0) (erased : X → Y) (at : ℕ) (bytes rest : List ℕ) (x : X) : Type 0 where
+  pub end : ℕ
+  pub ts : List Token
+  pub tree : X
+  pub goes : Goes at bytes ts end rest
+  pub has : Is ts tree
+  pub same : erased tree ≡ erased x
+
 -- the texts of parts, each behind a space
 abbrev pub others : {A : Type 0} → (A → List ℕ) → List A → List ℕ
 others f xs = flat_map (λ other. codes " " ++ other) (map f xs)
