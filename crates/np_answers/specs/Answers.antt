@@ -40,43 +40,43 @@ abbrev pub without_run : ℕ → Answer
 without_run status = record { status = status; kept = None; high = None }
 
 -- its text was written
-pub record TextWritten (job : Job) (out err : Writing) (answer : Answer) : Type 0 where
+pub record TextWritten (job : Job) (to_out to_err : Writing) (answer : Answer) : Type 0 where
   pub is : answer ≡ record { status = status_at job.kept job.high; kept = job.kept; high = job.high }
-  pub out : Appends out.old out.new job.text
-  pub err : Keeps err.old err.new
+  pub out : Appends to_out.old to_out.new job.text
+  pub err : Keeps to_err.old to_err.new
 
 -- a call of out failed, and what out has of the text is a prefix
-pub record TextCut (job : Job) (out err : Writing) (answer : Answer) : Type 0 where
+pub record TextCut (job : Job) (to_out to_err : Writing) (answer : Answer) : Type 0 where
   pub is : answer ≡ record { status = WRITE_FAILED; kept = job.kept; high = job.high }
-  pub rose : Rose out.before out.now
-  pub out : AppendsPrefix out.old out.new job.text
-  pub err : Keeps err.old err.new
+  pub rose : Rose to_out.before to_out.now
+  pub out : AppendsPrefix to_out.old to_out.new job.text
+  pub err : Keeps to_err.old to_err.new
 
 -- the line of the refusal was written
-pub record LineWritten (refusal : Refusal) (out err : Writing) (answer : Answer) : Type 0 where
+pub record LineWritten (refusal : Refusal) (to_out to_err : Writing) (answer : Answer) : Type 0 where
   pub some : refusal ≢ Memory
   pub is : answer ≡ without_run (status_of refusal)
-  pub out : Keeps out.old out.new
-  pub err : Appends err.old err.new (line_of refusal)
+  pub out : Keeps to_out.old to_out.new
+  pub err : Appends to_err.old to_err.new (line_of refusal)
 
 -- a call of err failed, and what err has of the line is a prefix
-pub record LineCut (refusal : Refusal) (out err : Writing) (answer : Answer) : Type 0 where
+pub record LineCut (refusal : Refusal) (to_out to_err : Writing) (answer : Answer) : Type 0 where
   pub some : refusal ≢ Memory
   pub is : answer ≡ without_run WRITE_FAILED
-  pub rose : Rose err.before err.now
-  pub out : Keeps out.old out.new
-  pub err : AppendsPrefix err.old err.new (line_of refusal)
+  pub rose : Rose to_err.before to_err.now
+  pub out : Keeps to_out.old to_out.new
+  pub err : AppendsPrefix to_err.old to_err.new (line_of refusal)
 
 -- memory ran out, and nothing was written
-pub record NothingWritten (out err : Writing) (answer : Answer) : Type 0 where
+pub record NothingWritten (to_out to_err : Writing) (answer : Answer) : Type 0 where
   pub is : answer ≡ without_run NO_MEMORY
-  pub out : Keeps out.old out.new
-  pub err : Keeps err.old err.new
+  pub out : Keeps to_out.old to_out.new
+  pub err : Keeps to_err.old to_err.new
 
 -- what comes of what a call made, or of its refusal
 abbrev pub Answers : Result Job Refusal → Writing → Writing → Answer → Type 0
-Answers (Ok job) out err answer = TextWritten job out err answer ⊎ TextCut job out err answer
-Answers (Err refusal) out err answer = LineWritten refusal out err answer ⊎ LineCut refusal out err answer ⊎ NothingWritten out err answer
+Answers (Ok job) to_out to_err answer = TextWritten job to_out to_err answer ⊎ TextCut job to_out to_err answer
+Answers (Err refusal) to_out to_err answer = LineWritten refusal to_out to_err answer ⊎ LineCut refusal to_out to_err answer ⊎ NothingWritten to_out to_err answer
 
 -- ---- what is told of an answer
 
