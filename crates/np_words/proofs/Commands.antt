@@ -7,7 +7,7 @@ use Rattle.clap.specs.declared.error.Error.{Error}
 use Rattle.clap.specs.declared.error.kind.ErrorKind.TheVariants.{OutOfMemory}
 use Rattle.clap.specs.declared.parser.matches.ArgMatches.{ArgMatches}
 use Rattle.clap.proofs.OnLiterals.{clap_on_literals}
-use Rattle.np_words.specs.Arguments.{Given, start, operand, further, valued, flag, command, given, has_fault, taken}
+use Rattle.np_words.specs.Arguments.{Given, start, operand, further, valued, flag, operands, run_options, with_rules, command, given, has_fault, taken}
 use Rattle.np_words.specs.Plans.{plan, planned, Plans}
 use Rattle.np_words.specs.declared.planning.Plan.{Plan}
 use Rattle.np_words.specs.declared.fail.PlanFail.{PlanFail}
@@ -16,12 +16,18 @@ pub if_ok : {A E : Type 0} {P Q : A → Type 0} (r : Result A E) → ((x : A) �
 if_ok (Ok x) f h = f x h
 if_ok (Err e) f h = h
 
-pub chained : {a b c d e f g h i j k l : App} → a ≡ start → b ≡ with_rule a (operand (codes "mode")) → c ≡ with_rule b (operand (codes "file"))
-    → d ≡ with_rule c (further (codes "second")) → e ≡ with_rule d (valued (codes "budget")) → f ≡ with_rule e (flag (codes "history"))
-    → g ≡ with_rule f (flag (codes "high")) → h ≡ with_rule g (flag (codes "serial")) → i ≡ with_rule h (valued (codes "links"))
-    → j ≡ with_rule i (valued (codes "infra")) → k ≡ with_rule j (valued (codes "line")) → l ≡ with_rule k (flag (codes "one")) → l ≡ command
+pub chained_operands : (a : App) {b c d : App} → b ≡ with_rule a (operand (codes "mode")) → c ≡ with_rule b (operand (codes "file")) → d ≡ with_rule c (further (codes "second"))
+    → d ≡ with_rules a operands
+chained_operands a b c d = rw (d, c, b) refl
+
+pub chained_options : (a : App) {b c d e f g : App} → b ≡ with_rule a (valued (codes "budget")) → c ≡ with_rule b (flag (codes "history")) → d ≡ with_rule c (flag (codes "high"))
+    → e ≡ with_rule d (flag (codes "serial")) → f ≡ with_rule e (valued (codes "links")) → g ≡ with_rule f (valued (codes "infra")) → g ≡ with_rules a run_options
+chained_options a b c d e f g = rw (g, f, e, d, c, b) refl
+
+pub chained : {a b c d e : App} → a ≡ start → b ≡ with_rules a operands → c ≡ with_rules b run_options → d ≡ with_rule c (valued (codes "line"))
+    → e ≡ with_rule d (flag (codes "one")) → e ≡ command
 unfolding command
-chained a b c d e f g h i j k l = rw (l, k, j, i, h, g, f, e, d, c, b, a) refl
+chained a b c d e = rw (e, d, c, b, a) refl
 
 pub simple : is_simple command ≡ true
 unfolding command clap_on_literals

@@ -1,8 +1,8 @@
 -- The words of the command line as one simple command (docs/LANGUAGE.md, "Reports and refusals"): its arguments, and what the words
 -- give for each. The definitions of clap say which words are taken.
-use Rattle.std.specs.Prelude.{Bool, true, false, List, [], ◌∷◌, codes, Option, Some, None, option_map, if◌then◌else◌}
+use Rattle.std.specs.Prelude.{Bool, true, false, List, [], ◌∷◌, ◌++◌, codes, Option, Some, None, option_map, if◌then◌else◌}
 use Rattle.std.specs.Str.{bytes_eq}
-use Rattle.clap.specs.Words.{App, Kinds, Row, Rule, Text, fault_of, first_of, matches_of, new_app, new_rule}
+use Rattle.clap.specs.Words.{App, Kinds, Row, Rule, Text, fault_of, first_of, matches_of, new_app, new_rule, with_rule}
 use Rattle.clap.specs.declared.builder.ArgAction.TheVariants.{SetTrue}
 use Rattle.np_words.specs.declared.arguments.Given.{Given as Held}
 
@@ -24,18 +24,30 @@ valued id = record (new_rule id) { long = Some id }
 abbrev pub flag : Text → Rule
 flag id = record (new_rule id) { long = Some id; action = Some SetTrue }
 
-abbrev pub arguments : List Rule
-arguments =
-    operand (codes "mode") ∷ operand (codes "file") ∷ further (codes "second")
-    ∷ valued (codes "budget") ∷ flag (codes "history") ∷ flag (codes "high") ∷ flag (codes "serial") ∷ valued (codes "links")
-    ∷ valued (codes "infra") ∷ valued (codes "line") ∷ flag (codes "one") ∷ []
+-- the mode and the files
+abbrev pub operands : List Rule
+operands = operand (codes "mode") ∷ operand (codes "file") ∷ further (codes "second") ∷ []
+
+-- how a run is made, and what is written of it
+abbrev pub run_options : List Rule
+run_options =
+    valued (codes "budget") ∷ flag (codes "history") ∷ flag (codes "high") ∷ flag (codes "serial") ∷ valued (codes "links") ∷ valued (codes "infra") ∷ []
+
+-- how a run is looked at
+abbrev pub view_options : List Rule
+view_options = valued (codes "line") ∷ flag (codes "one") ∷ []
+
+-- these rules, each behind those before
+abbrev pub with_rules : App → List Rule → App
+with_rules app [] = app
+with_rules app (rule ∷ rules) = with_rules (with_rule app rule) rules
 
 -- the words leave out the program's name
 abbrev pub start : App
 start = record { top = record (new_app (codes "np")).top { no_binary_name = true }; subs = [] }
 
 unfoldable pub command : App
-command = record { top = record start.top { rules = arguments }; subs = [] }
+command = record { top = record start.top { rules = operands ++ run_options ++ view_options }; subs = [] }
 
 -- ---- what the words give
 

@@ -58,19 +58,33 @@ fn start<'a>(alloc: Global) -> Command<'a>
     Command::new(alloc, "np").no_binary_name(true)
 }
 
-/// The command line.
-pub fn command<'a>(alloc: Global) -> Result<Command<'a>, AllocError>
-    ensures { IfOk result (λ command. app_of command ≡ spec.command) }
+/// With the mode and the files.
+fn with_operands<'a>(alloc: Global, command: Command<'a>) -> Result<Command<'a>, AllocError>
+    ensures { IfOk result (λ longer. app_of longer ≡ spec.with_rules (app_of command.entry) spec.operands) }
 {
-    let command = with_operand(alloc, start(alloc), "mode")?;
+    let command = with_operand(alloc, command, "mode")?;
     let command = with_operand(alloc, command, "file")?;
-    let command = with_further(alloc, command, "second")?;
+    with_further(alloc, command, "second")
+}
+
+/// With the options that say how a run is made, and what is written of it.
+fn with_run_options<'a>(alloc: Global, command: Command<'a>) -> Result<Command<'a>, AllocError>
+    ensures { IfOk result (λ longer. app_of longer ≡ spec.with_rules (app_of command.entry) spec.run_options) }
+{
     let command = with_valued(alloc, command, "budget")?;
     let command = with_flag(alloc, command, "history")?;
     let command = with_flag(alloc, command, "high")?;
     let command = with_flag(alloc, command, "serial")?;
     let command = with_valued(alloc, command, "links")?;
-    let command = with_valued(alloc, command, "infra")?;
+    with_valued(alloc, command, "infra")
+}
+
+/// The command line.
+pub fn command<'a>(alloc: Global) -> Result<Command<'a>, AllocError>
+    ensures { IfOk result (λ command. app_of command ≡ spec.command) }
+{
+    let command = with_operands(alloc, start(alloc))?;
+    let command = with_run_options(alloc, command)?;
     let command = with_valued(alloc, command, "line")?;
     with_flag(alloc, command, "one")
 }
