@@ -3,7 +3,6 @@
 //! With the words `history` and the file of a source it prints the history of the run of the source's low program instead.
 #![tactic(auto)]
 
-mod caller;
 mod counting;
 mod high_run;
 mod judging;
@@ -16,7 +15,6 @@ mod tally;
 mod trial;
 mod verdict;
 
-use caller::{Caller, OnRuntime};
 use judging::{gives_said, judge};
 use low_run::{came_of_low, print_history};
 use np_example_files::{Example, ExampleFail, examples_of};
@@ -76,14 +74,14 @@ fn try_file<R: Files + Alloc + Print + Threads + Wait + Sync>(
 ) -> Result<Tally, ExampleFail> {
     let text = fs::read_to_string(rt, file)?;
     let examples = examples_of(rt, alloc, folder_of(file), text.as_str())?;
-    let tally = try_examples(&OnRuntime { rt }, alloc, file, examples.as_slice());
+    let tally = try_examples(rt, alloc, file, examples.as_slice());
     drop(examples);
     tally
 }
 
 /// Tries each of these examples of a file.
-fn try_examples<'a>(
-    caller: &impl Caller,
+fn try_examples<'a, R: Print + Threads + Wait + Sync>(
+    rt: &R,
     alloc: Global,
     file: &'a str,
     examples: &'a [Example],
@@ -98,63 +96,79 @@ fn try_examples<'a>(
             source: None,
             history: None,
         };
-        tally.add(try_example(caller, alloc, &call)?);
+        tally.add(try_example(rt, alloc, &call)?);
     }
     Ok(tally)
 }
 
 /// Tries the example of a call with each of its sources, or with its text `a` where it has no sources.
-fn try_example(caller: &impl Caller, alloc: Global, call: &Call<'_>) -> Result<Tally, ExampleFail> {
+fn try_example<R: Print + Threads + Wait + Sync>(
+    rt: &R,
+    alloc: Global,
+    call: &Call<'_>,
+) -> Result<Tally, ExampleFail> {
     let mut tally = Tally::new();
     if call.example.sources.is_empty() {
-        tally.add(try_source(caller, alloc, call)?);
+        tally.add(try_source(rt, alloc, call)?);
     }
     for source in call.example.sources.iter() {
         let call = Call {
             source: Some(source.as_str()),
             ..*call
         };
-        tally.add(try_source(caller, alloc, &call)?);
+        tally.add(try_source(rt, alloc, &call)?);
     }
     Ok(tally)
 }
 
 /// Tries each call of an example with the source of this one, the run of its low program, and the histories of that run.
-fn try_source(caller: &impl Caller, alloc: Global, call: &Call<'_>) -> Result<Tally, ExampleFail> {
-    let mut tally = try_calls(caller, alloc, call)?;
+fn try_source<R: Print + Threads + Wait + Sync>(
+    rt: &R,
+    alloc: Global,
+    call: &Call<'_>,
+) -> Result<Tally, ExampleFail> {
+    let mut tally = try_calls(rt, alloc, call)?;
     if call.example.runs_low {
-        tally.count(try_low_run(caller, alloc, call)?);
+        tally.count(try_low_run(rt, alloc, call)?);
     }
     if !call.example.replays.is_empty() {
-        tally.add(try_replays(caller, alloc, call)?);
+        tally.add(try_replays(rt, alloc, call)?);
     }
     Ok(tally)
 }
 
 /// Tries each call of an example with the source of this one.
-fn try_calls(caller: &impl Caller, alloc: Global, call: &Call<'_>) -> Result<Tally, ExampleFail> {
+fn try_calls<R: Print + Threads + Wait + Sync>(
+    rt: &R,
+    alloc: Global,
+    call: &Call<'_>,
+) -> Result<Tally, ExampleFail> {
     let mut tally = Tally::new();
     for words in call.example.calls.iter() {
         let call = Call {
             words: words.as_str(),
             ..*call
         };
-        tally.count(gives_said(caller, alloc, &call)?);
+        tally.count(gives_said(rt, alloc, &call)?);
     }
     Ok(tally)
 }
 
 /// Whether the run of a low program does what the example wants.
-fn try_low_run(caller: &impl Caller, alloc: Global, call: &Call<'_>) -> Result<bool, ExampleFail> {
+fn try_low_run<R: Print + Threads + Wait + Sync>(
+    rt: &R,
+    alloc: Global,
+    call: &Call<'_>,
+) -> Result<bool, ExampleFail> {
     let came = came_of_low(alloc, call)?;
-    let passed = judge_low_run(caller, alloc, call, &came);
+    let passed = judge_low_run(rt, alloc, call, &came);
     drop(came);
     passed
 }
 
 /// Whether it did, once it has come.
-fn judge_low_run(
-    caller: &impl Caller,
+fn judge_low_run<R: Print + Threads + Wait + Sync>(
+    rt: &R,
     alloc: Global,
     call: &Call<'_>,
     came: &Came,
@@ -164,14 +178,14 @@ fn judge_low_run(
         ..*call
     };
     Ok(
-        judge(caller, alloc, &low, &Wanted::Said, came)?
-            && (!call.example.as_high || prints_as_high(caller, alloc, call, came)?),
+        judge(rt, alloc, &low, &Wanted::Said, came)?
+            && (!call.example.as_high || prints_as_high(rt, alloc, call, came)?),
     )
 }
 
 /// Whether the run at the high level prints the same lines, in any order.
-fn prints_as_high(
-    caller: &impl Caller,
+fn prints_as_high<R: Print + Threads + Wait + Sync>(
+    rt: &R,
     alloc: Global,
     call: &Call<'_>,
     came: &Came,
@@ -180,12 +194,12 @@ fn prints_as_high(
         words: HIGH_WORDS,
         ..*call
     };
-    let high = came_of(caller, alloc, &high)?;
+    let high = came_of(rt, alloc, &high)?;
     let low = Call {
         words: "low run as high",
         ..*call
     };
-    let same = judge(caller, alloc, &low, &Wanted::Lines(high.out.bytes()), came);
+    let same = judge(rt, alloc, &low, &Wanted::Lines(high.out.bytes()), came);
     drop(high);
     same
 }

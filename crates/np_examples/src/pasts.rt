@@ -1,6 +1,5 @@
 //! The past of each line that the run of a low program prints.
 
-use super::caller::Caller;
 use super::counting::count_of;
 use super::judging::{gives, judge, replays_written};
 use super::low_run::option_of;
@@ -11,11 +10,13 @@ use history_text::write_history;
 use np_example_files::ExampleFail;
 use np_syntax::Kind;
 use std::alloc::Global;
+use std::sync::Wait;
+use std::thread::Threads;
 
 /// Whether the past of a line of the report, counted from 1, is written with that line, and is a run that prints it alone; and
 /// whether one line more is refused. Any other number counts for nothing.
-pub(crate) fn has_past(
-    caller: &impl Caller,
+pub(crate) fn has_past<R: Print + Threads + Wait + Sync>(
+    rt: &R,
     alloc: Global,
     run: &LowRun<'_>,
     line: usize,
@@ -31,12 +32,12 @@ pub(crate) fn has_past(
         words: words.as_str(),
         ..run.call
     };
-    gives_past(caller, alloc, run, &call, text, printed)
+    gives_past(rt, alloc, run, &call, text, printed)
 }
 
 /// Whether the call gives the past of this line of the history of the run; or refuses that there is one more than were printed.
-fn gives_past(
-    caller: &impl Caller,
+fn gives_past<R: Print + Threads + Wait + Sync>(
+    rt: &R,
     alloc: Global,
     run: &LowRun<'_>,
     call: &Call<'_>,
@@ -49,27 +50,27 @@ fn gives_past(
         ..*call
     };
     match text {
-        Some(text) => follows_past(caller, alloc, &call, text),
-        None => gives(caller, alloc, &call, &Wanted::Refused("24 NoLine", printed)),
+        Some(text) => follows_past(rt, alloc, &call, text),
+        None => gives(rt, alloc, &call, &Wanted::Refused("24 NoLine", printed)),
     }
 }
 
 /// Whether a call gives the past of this line.
-fn follows_past(
-    caller: &impl Caller,
+fn follows_past<R: Print + Threads + Wait + Sync>(
+    rt: &R,
     alloc: Global,
     call: &Call<'_>,
     text: &str,
 ) -> Result<bool, ExampleFail> {
-    let came = came_of(caller, alloc, call)?;
-    let passed = is_past(caller, alloc, call, text, &came);
+    let came = came_of(rt, alloc, call)?;
+    let passed = is_past(rt, alloc, call, text, &came);
     drop(came);
     passed
 }
 
 /// Whether what came is the past of this line, and a run that prints the line alone.
-fn is_past(
-    caller: &impl Caller,
+fn is_past<R: Print + Threads + Wait + Sync>(
+    rt: &R,
     alloc: Global,
     call: &Call<'_>,
     text: &str,
@@ -77,7 +78,7 @@ fn is_past(
 ) -> Result<bool, ExampleFail> {
     let count = past_count(came.out()).unwrap_or(0);
     Ok(
-        judge(caller, alloc, call, &Wanted::Past(text), came)?
-            && replays_written(caller, alloc, call, came, count)?,
+        judge(rt, alloc, call, &Wanted::Past(text), came)?
+            && replays_written(rt, alloc, call, came, count)?,
     )
 }

@@ -1,6 +1,5 @@
 //! Histories of low runs, replayed as they are and changed.
 
-use super::caller::Caller;
 use super::counting::count_of;
 use super::judging::{gives, judge};
 use super::low_run::{replay_call, run_of_low};
@@ -15,6 +14,8 @@ use np_example_files::{
 };
 use np_syntax::{Event, Kind};
 use std::alloc::Global;
+use std::sync::Wait;
+use std::thread::Threads;
 
 /// The refusal of events of which so many of the first are a run, and one more is none.
 const NOT_A_RUN: &str = "21 NotARun";
@@ -29,8 +30,8 @@ pub(crate) struct LowRun<'a> {
 }
 
 /// Tries each change of the history of the low run of a source.
-pub(crate) fn try_replays(
-    caller: &impl Caller,
+pub(crate) fn try_replays<R: Print + Threads + Wait + Sync>(
+    rt: &R,
     alloc: Global,
     call: &Call<'_>,
 ) -> Result<Tally, ExampleFail> {
@@ -40,27 +41,27 @@ pub(crate) fn try_replays(
         events: made.events.as_slice(),
         report: std::str::from_utf8(made.out.as_slice()).unwrap_or(""),
     };
-    let tally = try_changes(caller, alloc, &run);
+    let tally = try_changes(rt, alloc, &run);
     drop(made);
     tally
 }
 
 /// Tries each change of the history of this run.
-fn try_changes(
-    caller: &impl Caller,
+fn try_changes<R: Print + Threads + Wait + Sync>(
+    rt: &R,
     alloc: Global,
     run: &LowRun<'_>,
 ) -> Result<Tally, ExampleFail> {
     let mut tally = Tally::new();
     for change in run.call.example.replays.iter() {
-        tally.count(is_answered(caller, alloc, run, *change)?);
+        tally.count(is_answered(rt, alloc, run, *change)?);
     }
     Ok(tally)
 }
 
 /// Whether the change is answered as it has to be at each place.
-fn is_answered(
-    caller: &impl Caller,
+fn is_answered<R: Print + Threads + Wait + Sync>(
+    rt: &R,
     alloc: Global,
     run: &LowRun<'_>,
     change: Change,
@@ -68,7 +69,7 @@ fn is_answered(
     let count = run.events.len();
     let first = if change == Change::Whole { count } else { 0 };
     for place in first..=count {
-        if !is_answered_at(caller, alloc, run, change, place)? {
+        if !is_answered_at(rt, alloc, run, change, place)? {
             return Ok(false);
         }
     }
@@ -76,8 +77,8 @@ fn is_answered(
 }
 
 /// Whether the change at this place is answered as it has to be.
-fn is_answered_at(
-    caller: &impl Caller,
+fn is_answered_at<R: Print + Threads + Wait + Sync>(
+    rt: &R,
     alloc: Global,
     run: &LowRun<'_>,
     change: Change,
@@ -87,18 +88,18 @@ fn is_answered_at(
     let call = Call { check, ..run.call };
     let run = LowRun { call, ..*run };
     match change {
-        Change::Whole | Change::Cut => follows_cut(caller, alloc, &run, place),
-        Change::Without => judges_without(caller, alloc, &run, place),
-        Change::Swapped => stops_at_swap(caller, alloc, &run, place),
-        Change::Early => stops_at_arrival(caller, alloc, &run, place),
-        Change::Past => has_past(caller, alloc, &run, place),
-        Change::Resumed => is_resumed(caller, alloc, &run, place),
+        Change::Whole | Change::Cut => follows_cut(rt, alloc, &run, place),
+        Change::Without => judges_without(rt, alloc, &run, place),
+        Change::Swapped => stops_at_swap(rt, alloc, &run, place),
+        Change::Early => stops_at_arrival(rt, alloc, &run, place),
+        Change::Past => has_past(rt, alloc, &run, place),
+        Change::Resumed => is_resumed(rt, alloc, &run, place),
     }
 }
 
 /// Whether replaying these events gives what is wanted.
-fn replays_to(
-    caller: &impl Caller,
+fn replays_to<R: Print + Threads + Wait + Sync>(
+    rt: &R,
     alloc: Global,
     run: &LowRun<'_>,
     events: &[Event],
@@ -106,7 +107,7 @@ fn replays_to(
 ) -> Result<bool, ExampleFail> {
     let history = write_history(alloc, events)?;
     gives(
-        caller,
+        rt,
         alloc,
         &replay_call(&run.call, history.as_slice()),
         wanted,
@@ -114,8 +115,8 @@ fn replays_to(
 }
 
 /// Whether the first events are a run, which prints the first lines.
-fn follows_cut(
-    caller: &impl Caller,
+fn follows_cut<R: Print + Threads + Wait + Sync>(
+    rt: &R,
     alloc: Global,
     run: &LowRun<'_>,
     place: usize,
@@ -123,7 +124,7 @@ fn follows_cut(
     let events = between(run.events, 0, place);
     let lines = first_lines(run.report, count_of(events, Kind::Print));
     replays_to(
-        caller,
+        rt,
         alloc,
         run,
         events,
@@ -144,19 +145,19 @@ fn first_lines(text: &str, count: usize) -> &str {
 }
 
 /// Whether the events but one are a run, or stop being one behind it, at the index that is answered.
-fn judges_without(
-    caller: &impl Caller,
+fn judges_without<R: Print + Threads + Wait + Sync>(
+    rt: &R,
     alloc: Global,
     run: &LowRun<'_>,
     place: usize,
 ) -> Result<bool, ExampleFail> {
     let events = without(alloc, run.events, place)?;
-    is_run_or_stops(caller, alloc, run, events.as_slice(), place)
+    is_run_or_stops(rt, alloc, run, events.as_slice(), place)
 }
 
 /// Whether the events are a run, or stop being one at the index that is answered, which is this or more.
-fn is_run_or_stops(
-    caller: &impl Caller,
+fn is_run_or_stops<R: Print + Threads + Wait + Sync>(
+    rt: &R,
     alloc: Global,
     run: &LowRun<'_>,
     events: &[Event],
@@ -164,15 +165,15 @@ fn is_run_or_stops(
 ) -> Result<bool, ExampleFail> {
     let history = write_history(alloc, events)?;
     let call = replay_call(&run.call, history.as_slice());
-    let came = came_of(caller, alloc, &call)?;
-    let passed = judge_run_or_stop(caller, alloc, run, &call, events, least, &came);
+    let came = came_of(rt, alloc, &call)?;
+    let passed = judge_run_or_stop(rt, alloc, run, &call, events, least, &came);
     drop(came);
     passed
 }
 
 /// Whether they are, by what came of replaying them.
-fn judge_run_or_stop(
-    caller: &impl Caller,
+fn judge_run_or_stop<R: Print + Threads + Wait + Sync>(
+    rt: &R,
     alloc: Global,
     run: &LowRun<'_>,
     call: &Call<'_>,
@@ -182,16 +183,11 @@ fn judge_run_or_stop(
 ) -> Result<bool, ExampleFail> {
     match stop_of(came) {
         Some(index) if least <= index => Ok(
-            judge(
-                caller,
-                alloc,
-                call,
-                &Wanted::Refused(NOT_A_RUN, index),
-                came,
-            )? && stops_at(caller, alloc, run, events, index)?,
+            judge(rt, alloc, call, &Wanted::Refused(NOT_A_RUN, index), came)?
+                && stops_at(rt, alloc, run, events, index)?,
         ),
         _ => judge(
-            caller,
+            rt,
             alloc,
             call,
             &Wanted::Run(None, events.len(), Some(least)),
@@ -208,8 +204,8 @@ fn stop_of(came: &Came) -> Option<usize> {
 }
 
 /// Whether so many of the first events are a run, and one more is none.
-fn stops_at(
-    caller: &impl Caller,
+fn stops_at<R: Print + Threads + Wait + Sync>(
+    rt: &R,
     alloc: Global,
     run: &LowRun<'_>,
     events: &[Event],
@@ -218,20 +214,14 @@ fn stops_at(
     let before = between(events, 0, index);
     let longer = between(events, 0, index.saturating_add(1));
     Ok(
-        replays_to(caller, alloc, run, before, &Wanted::Run(None, index, None))?
-            && replays_to(
-                caller,
-                alloc,
-                run,
-                longer,
-                &Wanted::Refused(NOT_A_RUN, index),
-            )?,
+        replays_to(rt, alloc, run, before, &Wanted::Run(None, index, None))?
+            && replays_to(rt, alloc, run, longer, &Wanted::Refused(NOT_A_RUN, index))?,
     )
 }
 
 /// Whether the event that was brought forward is the first that is not enabled: at its new place its actor does something else.
-fn stops_at_swap(
-    caller: &impl Caller,
+fn stops_at_swap<R: Print + Threads + Wait + Sync>(
+    rt: &R,
     alloc: Global,
     run: &LowRun<'_>,
     place: usize,
@@ -240,7 +230,7 @@ fn stops_at_swap(
         Some(later) => {
             let events = exchanged(alloc, run.events, place, later)?;
             replays_to(
-                caller,
+                rt,
                 alloc,
                 run,
                 events.as_slice(),
@@ -252,8 +242,8 @@ fn stops_at_swap(
 }
 
 /// Whether the Arrive that was brought forward is the first that is not enabled: at its new place its agent is not under way.
-fn stops_at_arrival(
-    caller: &impl Caller,
+fn stops_at_arrival<R: Print + Threads + Wait + Sync>(
+    rt: &R,
     alloc: Global,
     run: &LowRun<'_>,
     place: usize,
@@ -262,7 +252,7 @@ fn stops_at_arrival(
         Some(earlier) => {
             let events = moved(alloc, run.events, earlier, place)?;
             replays_to(
-                caller,
+                rt,
                 alloc,
                 run,
                 events.as_slice(),

@@ -1,6 +1,5 @@
 //! Runs on sites that a budget cuts off, resumed from the histories that they wrote.
 
-use super::caller::Caller;
 use super::judging::{gives, judge};
 use super::low_run::option_of;
 use super::replays::LowRun;
@@ -8,6 +7,8 @@ use super::trial::{Call, Came, came_of};
 use super::verdict::Wanted;
 use np_example_files::ExampleFail;
 use std::alloc::Global;
+use std::sync::Wait;
+use std::thread::Threads;
 
 /// The greatest budget that a run is cut off by.
 const LAST: usize = 60;
@@ -17,8 +18,8 @@ const MORE: usize = 3;
 
 /// Whether the run that a budget cuts off is resumed as it has to be, with each kind of links. Any budget but those from 1 to 60 counts
 /// for nothing.
-pub(crate) fn is_resumed(
-    caller: &impl Caller,
+pub(crate) fn is_resumed<R: Print + Threads + Wait + Sync>(
+    rt: &R,
     alloc: Global,
     run: &LowRun<'_>,
     budget: usize,
@@ -27,9 +28,9 @@ pub(crate) fn is_resumed(
         return Ok(true);
     }
     Ok(
-        is_resumed_over(caller, alloc, run, budget, "tray")?
-            && is_resumed_over(caller, alloc, run, budget, "rings")?
-            && is_resumed_over(caller, alloc, run, budget, "inbox")?,
+        is_resumed_over(rt, alloc, run, budget, "tray")?
+            && is_resumed_over(rt, alloc, run, budget, "rings")?
+            && is_resumed_over(rt, alloc, run, budget, "inbox")?,
     )
 }
 
@@ -45,29 +46,41 @@ fn way_of(budget: usize, links: &str) -> &'static str {
 }
 
 /// Whether the run that a budget cuts off, with one kind of links, is resumed as it has to be.
-fn is_resumed_over(
-    caller: &impl Caller,
+fn is_resumed_over<R: Print + Threads + Wait + Sync>(
+    rt: &R,
     alloc: Global,
     run: &LowRun<'_>,
     budget: usize,
     links: &str,
 ) -> Result<bool, ExampleFail> {
-    let (way, option) = (way_of(budget, links), option_of(run.call.example));
+    let way = way_of(budget, links);
+    let option = option_of(run.call.example);
     let options = format!(in alloc; "--history --links {links}{way}{option}")?;
+    is_cut_off(rt, alloc, run, options.as_str(), budget)
+}
+
+/// Whether the run that a budget cuts off is resumed as it has to be, with these options.
+fn is_cut_off<R: Print + Threads + Wait + Sync>(
+    rt: &R,
+    alloc: Global,
+    run: &LowRun<'_>,
+    options: &str,
+    budget: usize,
+) -> Result<bool, ExampleFail> {
     let words = format!(in alloc; "run a {options} --budget {budget}")?;
     let call = Call {
         words: words.as_str(),
         ..run.call
     };
-    let came = came_of(caller, alloc, &call)?;
-    let resumed = is_resumed_from(caller, alloc, run, &call, options.as_str(), budget, &came);
+    let came = came_of(rt, alloc, &call)?;
+    let is_resumed = is_resumed_from(rt, alloc, run, &call, options, budget, &came);
     drop(came);
-    resumed
+    is_resumed
 }
 
 /// Whether what came is a run, which is resumed as it has to be from what it wrote.
-fn is_resumed_from(
-    caller: &impl Caller,
+fn is_resumed_from<R: Print + Threads + Wait + Sync>(
+    rt: &R,
     alloc: Global,
     run: &LowRun<'_>,
     call: &Call<'_>,
@@ -76,15 +89,15 @@ fn is_resumed_from(
     came: &Came,
 ) -> Result<bool, ExampleFail> {
     Ok(
-        judge(caller, alloc, call, &Wanted::Sites("", None), came)?
-            && ends(caller, alloc, run, options, came.out())?
-            && ends_in_two(caller, alloc, run, options, came.out(), budget)?,
+        judge(rt, alloc, call, &Wanted::Sites("", None), came)?
+            && ends(rt, alloc, run, options, came.out())?
+            && ends_in_two(rt, alloc, run, options, came.out(), budget)?,
     )
 }
 
 /// Whether a run that is resumed comes to its end: to rest, with the lines of the whole run and as many events.
-fn ends(
-    caller: &impl Caller,
+fn ends<R: Print + Threads + Wait + Sync>(
+    rt: &R,
     alloc: Global,
     run: &LowRun<'_>,
     options: &str,
@@ -97,12 +110,12 @@ fn ends(
         ..run.call
     };
     let whole = (run.report, run.events.len());
-    gives(caller, alloc, &call, &Wanted::Sites(saved, Some(whole)))
+    gives(rt, alloc, &call, &Wanted::Sites(saved, Some(whole)))
 }
 
 /// Whether a run that is resumed with a few events more, and then once more, comes to its end.
-fn ends_in_two(
-    caller: &impl Caller,
+fn ends_in_two<R: Print + Threads + Wait + Sync>(
+    rt: &R,
     alloc: Global,
     run: &LowRun<'_>,
     options: &str,
@@ -116,15 +129,15 @@ fn ends_in_two(
         history: Some(saved.as_bytes()),
         ..run.call
     };
-    let came = came_of(caller, alloc, &call)?;
-    let ends = goes_on_and_ends(caller, alloc, run, &call, options, saved, &came);
+    let came = came_of(rt, alloc, &call)?;
+    let ends = goes_on_and_ends(rt, alloc, run, &call, options, saved, &came);
     drop(came);
     ends
 }
 
 /// Whether what came goes on from what was saved, and comes to its end where it is resumed itself.
-fn goes_on_and_ends(
-    caller: &impl Caller,
+fn goes_on_and_ends<R: Print + Threads + Wait + Sync>(
+    rt: &R,
     alloc: Global,
     run: &LowRun<'_>,
     call: &Call<'_>,
@@ -133,5 +146,5 @@ fn goes_on_and_ends(
     came: &Came,
 ) -> Result<bool, ExampleFail> {
     let wanted = Wanted::Sites(saved, None);
-    Ok(judge(caller, alloc, call, &wanted, came)? && ends(caller, alloc, run, options, came.out())?)
+    Ok(judge(rt, alloc, call, &wanted, came)? && ends(rt, alloc, run, options, came.out())?)
 }

@@ -1,12 +1,13 @@
 //! A call of np over texts and sinks in memory.
 
-use super::caller::Caller;
-use super::high_run::Reading;
+use super::high_run::{Reading, reading_of};
 use np_example_files::{Change, Example, ExampleFail};
 use np_io::{MemSink, MemTexts, Word};
-use np_run::Told;
+use np_run::{Record, Told, np};
 use np_syntax::{List, Memory};
 use std::alloc::Global;
+use std::sync::Wait;
+use std::thread::Threads;
 
 /// How many bytes may be written to a sink.
 const ROOM: usize = 2_097_152;
@@ -112,6 +113,18 @@ pub(crate) fn source_of<'a>(call: &Call<'a>) -> Option<&'a [u8]> {
     }
 }
 
+/// What is seen of a run on the sites of this source, if there is both.
+fn reading_in(
+    alloc: Global,
+    source: Option<&[u8]>,
+    kept: &Option<Record>,
+) -> Result<Option<Reading>, ExampleFail> {
+    match (source, kept) {
+        (Some(source), Some(record)) => Ok(Some(reading_of(alloc, source, record)?)),
+        _ => Ok(None),
+    }
+}
+
 /// The texts of a call.
 fn texts_of(alloc: Global, call: &Call<'_>) -> Result<MemTexts, Memory> {
     let mut texts = MemTexts::new(alloc);
@@ -127,9 +140,25 @@ fn sinks_of(alloc: Global, example: &Example) -> Result<(MemSink, MemSink), Exam
     Ok((out, err))
 }
 
+/// What np tells of its answer, and what is seen of the run that it keeps.
+fn seen_of<R: Threads + Wait + Sync>(
+    rt: &R,
+    alloc: Global,
+    words: &[Word],
+    texts: &mut MemTexts,
+    out: &mut MemSink,
+    err: &mut MemSink,
+    source: Option<&[u8]>,
+) -> Result<(Told, Option<Reading>), ExampleFail> {
+    let answer = np(rt, alloc, words, texts, out, err);
+    let reading = reading_in(alloc, source, &answer.kept);
+    let told = answer.told();
+    Ok((told, reading?))
+}
+
 /// What is seen of a call that writes to these sinks.
-fn seen_into(
-    caller: &impl Caller,
+fn seen_into<R: Threads + Wait + Sync>(
+    rt: &R,
     alloc: Global,
     call: &Call<'_>,
     out: &mut MemSink,
@@ -138,17 +167,17 @@ fn seen_into(
     let words = words_of(alloc, call.words)?;
     let mut texts = texts_of(alloc, call)?;
     let source = source_of(call);
-    caller.call(alloc, words.as_slice(), &mut texts, out, err, source)
+    seen_of(rt, alloc, words.as_slice(), &mut texts, out, err, source)
 }
 
 /// What comes of a call.
-pub(crate) fn came_of(
-    caller: &impl Caller,
+pub(crate) fn came_of<R: Threads + Wait + Sync>(
+    rt: &R,
     alloc: Global,
     call: &Call<'_>,
 ) -> Result<Came, ExampleFail> {
     let (mut out, mut err) = sinks_of(alloc, call.example)?;
-    match seen_into(caller, alloc, call, &mut out, &mut err) {
+    match seen_into(rt, alloc, call, &mut out, &mut err) {
         Ok((told, reading)) => Ok(came_with(told, reading, out, err)),
         Err(fail) => {
             drop(out);

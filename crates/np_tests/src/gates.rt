@@ -69,94 +69,63 @@ fn sink(alloc: Global) -> Result<MemSink, Memory> {
     Ok(sink)
 }
 
-/// Who runs np with a gate. What is tested needs no more of a runtime.
-trait Runner {
-    /// The exit status of a call.
-    fn status(
-        &self,
-        alloc: Global,
-        words: &[Word],
-        texts: &mut MemTexts,
-        out: &mut MemSink,
-        err: &mut MemSink,
-        gate: &InStep,
-    ) -> u8;
-}
-
-#[derive(Drop)]
-struct OnRuntime<'a, R> {
-    rt: &'a R,
-}
-
-impl<R: Threads + Wait + Sync> Runner for OnRuntime<'_, R> {
-    fn status(
-        &self,
-        alloc: Global,
-        words: &[Word],
-        texts: &mut MemTexts,
-        out: &mut MemSink,
-        err: &mut MemSink,
-        gate: &InStep,
-    ) -> u8 {
-        np_gated(self.rt, alloc, words, texts, out, err, gate)
-            .told()
-            .status
-    }
-}
-
 /// The exit status of the run of the source by these words.
-fn status_of(
-    runner: &impl Runner,
+fn status_of<R: Threads + Wait + Sync, G: Gate>(
+    rt: &R,
     alloc: Global,
     words: &[Word],
     out: &mut MemSink,
-    gate: &InStep,
+    gate: &G,
 ) -> Result<u8, Memory> {
     let mut texts = MemTexts::new(alloc);
-    let status = status_over(runner, alloc, words, &mut texts, out, gate);
+    let status = status_over(rt, alloc, words, &mut texts, out, gate);
     drop(texts);
     status
 }
 
 /// The same, where the source is held in these texts first.
-fn status_over(
-    runner: &impl Runner,
+fn status_over<R: Threads + Wait + Sync, G: Gate>(
+    rt: &R,
     alloc: Global,
     words: &[Word],
     texts: &mut MemTexts,
     out: &mut MemSink,
-    gate: &InStep,
+    gate: &G,
 ) -> Result<u8, Memory> {
     hold_source(alloc, texts)?;
     let mut err = sink(alloc)?;
-    let status = runner.status(alloc, words, texts, out, &mut err, gate);
+    let answer = np_gated(rt, alloc, words, texts, out, &mut err, gate);
     drop(err);
-    Ok(status)
+    Ok(answer.told().status)
 }
 
 /// The exit status of the run by the words of a line.
-fn run(
-    runner: &impl Runner,
+fn run<R: Threads + Wait + Sync, G: Gate>(
+    rt: &R,
     alloc: Global,
     line: &str,
     out: &mut MemSink,
-    gate: &InStep,
+    gate: &G,
 ) -> Result<u8, Memory> {
     let words = words(alloc, line)?;
-    let status = status_of(runner, alloc, words.as_slice(), out, gate);
+    let status = status_of(rt, alloc, words.as_slice(), out, gate);
     drop(words);
     status
 }
 
 /// Whether the run comes to rest, and each site was held after each of its first events, none in vain.
-fn goes_in_step(runner: &impl Runner, alloc: Global, line: &str) -> Result<bool, Memory> {
+fn goes_in_step<R: Threads + Wait + Sync>(
+    rt: &R,
+    alloc: Global,
+    line: &str,
+) -> Result<bool, Memory> {
     let gate = InStep {
         home: AtomicU32::new(0),
         far: AtomicU32::new(0),
         late: AtomicBool::new(false),
     };
     let mut out = sink(alloc)?;
-    let status = run(runner, alloc, line, &mut out, &gate);
+    let status = run(rt, alloc, line, &mut out, &gate);
     let is_at_rest = out.bytes() == b"at rest\n".as_slice();
     drop(out);
     let is_late = gate.late.load(Ordering::SeqCst);
@@ -167,12 +136,16 @@ fn goes_in_step(runner: &impl Runner, alloc: Global, line: &str) -> Result<bool,
 
 #[test]
 fn two_sites_make_their_events_beside_each_other(rt: HostRuntime) {
-    let runner = OnRuntime { rt: &rt };
-    for line in [
-        "run a --links tray",
-        "run a --links rings",
-        "run a --links inbox",
-    ] {
-        assert_eq!(rt; goes_in_step(&runner, rt.alloc(), line), Ok(true));
-    }
+    assert_eq!(rt;
+        goes_in_step(&rt, rt.alloc(), "run a --links tray"),
+        Ok(true)
+    );
+    assert_eq!(rt;
+        goes_in_step(&rt, rt.alloc(), "run a --links rings"),
+        Ok(true)
+    );
+    assert_eq!(rt;
+        goes_in_step(&rt, rt.alloc(), "run a --links inbox"),
+        Ok(true)
+    );
 }
