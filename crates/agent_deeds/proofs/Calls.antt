@@ -21,17 +21,17 @@ use Rattle.np_calculus.specs.declared.config.Place.TheVariants as place
 use Rattle.np_calculus.specs.Changes.{Change, put, still}
 use Rattle.np_calculus.specs.Rows.{asked_of, output_of}
 use Rattle.stamp_history.specs.declared.stamped.Stamped.{Stamped}
-use Rattle.np_holdings.specs.Holdings.{Does, Holding}
-use Rattle.np_holdings.specs.Coming.{taking}
-use Rattle.np_holdings.specs.Going.{Goes, GoesPast}
-use Rattle.np_holdings.specs.Leaving.{putting}
-use Rattle.np_holdings.specs.Loads.{agent_load, packet_load}
-use Rattle.np_holdings.specs.Making.{AreNext, next_after}
-use Rattle.np_holdings.specs.Within.{IsOwnEvent, inner, with_value}
-use Rattle.np_holdings.proofs.Coming.{arrives, is_lost, lands}
-use Rattle.np_holdings.proofs.Leaving.{leaves, sends}
-use Rattle.np_holdings.proofs.Telling.{makes, tells}
-use Rattle.np_holdings.proofs.Within.{goes_on, goes_on_alone}
+use Rattle.np_site_runs.specs.Holdings.{Does, Holding}
+use Rattle.np_site_runs.specs.Coming.{taking}
+use Rattle.np_site_runs.specs.Going.{Goes, GoesPast}
+use Rattle.np_site_runs.specs.Leaving.{putting}
+use Rattle.np_site_runs.specs.Loads.{agent_load, packet_load}
+use Rattle.np_site_runs.specs.Making.{AreNext, next_after}
+use Rattle.np_site_runs.specs.Within.{IsOwnEvent, inner, with_value}
+use Rattle.np_site_runs.proofs.Coming.{arrives, is_lost, lands}
+use Rattle.np_site_runs.proofs.Leaving.{leaves, sends}
+use Rattle.np_site_runs.proofs.Telling.{makes, tells}
+use Rattle.np_site_runs.proofs.Within.{goes_on, goes_on_alone}
 use Rattle.np_code.specs.Programs.{ProgramTable}
 use Rattle.agent_pool.specs.declared.ready.Ready.{Ready}
 use Rattle.agent_pool.specs.Held.{atom_of, wait_of}

@@ -16,11 +16,11 @@ use Rattle.np_eval.specs.Forms.{Layer, layer, given_on, taken_on}
 use Rattle.np_calculus.specs.declared.config.Atom.{Atom}
 use Rattle.np_calculus.specs.Idle.{waits}
 use Rattle.np_calculus.proofs.OwnNames.{not_true}
-use Rattle.np_holdings.specs.Going.{AsksFor}
-use Rattle.np_holdings.specs.Resting as atoms_rest
-use Rattle.np_holdings.specs.Resting.{gives_on, takes_on}
-use Rattle.np_holdings.proofs.Enabled.{enabled_is_of_agent}
-use Rattle.np_holdings.proofs.Resting.{idle_by_agents, no_event_here}
+use Rattle.np_site_runs.specs.Going.{AsksFor}
+use Rattle.np_site_runs.specs.Resting as atoms_rest
+use Rattle.np_site_runs.specs.Resting.{gives_on, takes_on}
+use Rattle.np_site_runs.proofs.Enabled.{enabled_is_of_agent}
+use Rattle.np_site_runs.proofs.Resting.{idle_by_agents, no_event_here}
 use Rattle.np_code.specs.Programs.{ProgramTable}
 use Rattle.agent_index.specs.declared.wait.Wait.TheVariants as wait
 use Rattle.agent_index.specs.Shelves.{Kept}

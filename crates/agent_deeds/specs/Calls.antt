@@ -13,13 +13,13 @@ use Rattle.np_calculus.specs.declared.config.Place.TheVariants as place
 use Rattle.np_calculus.specs.Begins.{arrival, landing}
 use Rattle.np_calculus.specs.Changes.{put, still}
 use Rattle.stamp_history.specs.declared.stamped.Stamped.{Stamped}
-use Rattle.np_stamped_run.specs.Deeds.{StampedItem}
-use Rattle.np_holdings.specs.Holdings.{Does}
-use Rattle.np_holdings.specs.Coming.{taking}
-use Rattle.np_holdings.specs.Leaving.{putting}
-use Rattle.np_holdings.specs.Loads.{agent_load, packet_load}
-use Rattle.np_holdings.specs.Making.{next_after}
-use Rattle.np_holdings.specs.Within.{inner, with_value}
+use Rattle.np_merged_run.specs.Deeds.{StampedItem}
+use Rattle.np_site_runs.specs.Holdings.{Does}
+use Rattle.np_site_runs.specs.Coming.{taking}
+use Rattle.np_site_runs.specs.Leaving.{putting}
+use Rattle.np_site_runs.specs.Loads.{agent_load, packet_load}
+use Rattle.np_site_runs.specs.Making.{next_after}
+use Rattle.np_site_runs.specs.Within.{inner, with_value}
 use Rattle.np_code.specs.Programs.{ProgramTable}
 use Rattle.agent_pool.specs.declared.ready.Ready.{Ready}
 use Rattle.agent_pool.specs.Moves.{Births, IsTarget, LocalLeaves}

@@ -10,8 +10,8 @@ use Rattle.np_calculus.specs.Config.{Config}
 use Rattle.np_calculus.specs.Idle.{Idle}
 use Rattle.np_calculus.specs.Reductions.{apply}
 use Rattle.np_calculus.specs.Rows.{made_of}
-use Rattle.np_holdings.specs.Holdings.{IsPart, name_of}
-use Rattle.np_holdings.specs.Making.{AreNext}
+use Rattle.np_site_runs.specs.Holdings.{IsPart, name_of}
+use Rattle.np_site_runs.specs.Making.{AreNext}
 use Rattle.np_code.specs.Programs.{ProgramTable}
 use Rattle.agent_pool.specs.Idle.{IsIdle}
 use Rattle.agent_pool.specs.Moves.{IsTarget}

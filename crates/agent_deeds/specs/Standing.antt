@@ -8,8 +8,8 @@ use Rattle.np_syntax.specs.declared.event.Kind.{Kind}
 use Rattle.np_syntax.specs.declared.event.Made.{Made}
 use Rattle.np_tables.specs.Mapped.{mapped}
 use Rattle.np_tables.specs.Names.{NameMap}
-use Rattle.np_holdings.specs.Holdings.{Holding}
-use Rattle.np_holdings.specs.Making.{AreNext}
+use Rattle.np_site_runs.specs.Holdings.{Holding}
+use Rattle.np_site_runs.specs.Making.{AreNext}
 use Rattle.np_code.specs.Programs.{ProgramTable}
 use Rattle.agent_index.specs.declared.wait.Wait.TheVariants as wait
 use Rattle.agent_index.specs.Shelves.{Kept}

@@ -28,7 +28,7 @@ fn place_in(
     ensures found { IfOk result (λ found. found ≡ place_in among.now frame.now agent) }
     ensures none { IfOk result (λ found. IfNone found (places_of among.now frame.now ≡ None)) }
 {
-    if let ExprForm::Var(x) = &among.form {
+    if let ExprForm::Var(x) = among.form.get() {
         return match frame.get(*x) {
             Some(Value::Places(places)) => Ok(Some(find_place(places.as_slice(), agent))),
             _ => Ok(None),

@@ -14,7 +14,7 @@ use np_syntax::{Expr, ExprForm, Name, Value};
 pub fn agent_of(e: &Expr, frame: &Frame) -> Option<Name>
     ensures { result ≡ agent_of e.now frame.now }
 {
-    match &e.form {
+    match e.form.get() {
         ExprForm::Val(v) => as_agent(v),
         ExprForm::Var(x) => match frame.get(*x) {
             Some(v) => as_agent(v),
@@ -41,7 +41,7 @@ fn as_agent(v: &Value) -> Option<Name>
 fn site_named(e: &Expr, frame: &Frame) -> Option<u32>
     ensures { result ≡ site_named e.now frame.now }
 {
-    match &e.form {
+    match e.form.get() {
         ExprForm::Val(v) => as_site(v),
         ExprForm::Var(x) => match frame.get(*x) {
             Some(v) => as_site(v),

@@ -60,11 +60,11 @@ agent_form n f tag at agent next child p q body rest r is first second h =
 low_of : (p : Program) (n : ℕ) (main : Proc × ℕ) → LowProgram
 low_of p n main = record { sites = p.sites; at = p.at; main = main.0; daemon = cached_daemon n p.at main.1 }
 
-pub made_of : (p : Program) (n : ℕ) (main boxed daemon : Proc) (next : ℕ) (sites : List (List ℕ)) → n ≡ length p.sites → main ≡ boxed
-    → main_of n p ≡ (boxed, next) → daemon ≡ cached_daemon n p.at next → sites ≡ p.sites
+pub made_of : (p : Program) (n : ℕ) (main daemon : Proc) (next : ℕ) (sites : List (List ℕ)) → n ≡ length p.sites
+    → main_of n p ≡ (main, next) → daemon ≡ cached_daemon n p.at next → sites ≡ p.sites
     → ◌≡◌ {A = LowProgram} (record { sites = sites; at = p.at; main = main; daemon = daemon }) (encoded_cached p)
 unfolding low_of
-made_of p n main boxed daemon next sites count same mains daemons names =
+made_of p n main daemon next sites count mains daemons names =
     let parts : ◌≡◌ {A = LowProgram} (record { sites = sites; at = p.at; main = main; daemon = daemon }) (low_of p n (main, next)) =
     ap (λ s. record { sites = s; at = p.at; main = main; daemon = daemon }) names ∙ ap (λ d. record { sites = p.sites; at = p.at; main = main; daemon = d }) daemons in
-    parts ∙ ap (λ m. low_of p n (m, next)) same ∙ ap (low_of p n) (sym mains) ∙ ap (λ k. low_of p k (main_of k p)) count
+    parts ∙ ap (low_of p n) (sym mains) ∙ ap (λ k. low_of p k (main_of k p)) count

@@ -10,11 +10,11 @@ use infrastructure_texts::Writer;
 use infrastructure_texts::cached_creations::main_text;
 use np_calculus::MAIN;
 use np_check::Checked;
-use np_syntax::{Boxed, LowProgram, Memory, Proc, Program, copy_texts};
+use np_syntax::{LowProgram, Memory, Proc, Program, copy_texts};
 use std::alloc::Global;
 
 /// Main's process in the low program, and the number of the next binder.
-fn main_of(alloc: Global, sites: u32, p: &Program) -> Result<(Boxed<Proc>, u32), Memory>
+fn main_of(alloc: Global, sites: u32, p: &Program) -> Result<(Proc, u32), Memory>
     ensures { IfOk result (λ r. main_of sites p.now ≡ (r.0, r.1)) }
 {
     let writer = Writer {
@@ -23,7 +23,7 @@ fn main_of(alloc: Global, sites: u32, p: &Program) -> Result<(Boxed<Proc>, u32),
         node: 0,
     };
     let forms = Translator { alloc, sites };
-    let body = translate(forms, &p.main, &writer.agent(MAIN), p.binders)?;
+    let body = translate(forms, &p.main, &writer.agent(MAIN)?, p.binders)?;
     let first = body.next;
     let next = behind(first, 7)?;
     let main = main_text(writer, p.at, first, body.proc)?;
@@ -42,8 +42,8 @@ fn low_program(alloc: Global, p: &Program) -> Result<LowProgram, Memory>
     Ok(LowProgram {
         sites,
         at: p.at,
-        main: main.into_inner(),
-        daemon: daemon.into_inner(),
+        main,
+        daemon,
     })
 }
 

@@ -8,9 +8,8 @@ ghost use Rattle.infrastructure_texts.specs.CacheTexts as text;
 
 use daemon_encode::{Translated, Translator, behind};
 use infrastructure_texts::cached_creations::agent_text;
-use infrastructure_texts::variable;
 use migration_texts::cached_post_text;
-use np_syntax::{Boxed, Expr, Memory, Proc, ProcForm, Tag};
+use np_syntax::{Expr, Memory, Proc, ProcForm, Tag};
 
 /// The low process of a process of this agent, whose new binders are numbered from the next on.
 #[cycle(translate)]
@@ -18,7 +17,7 @@ use np_syntax::{Boxed, Expr, Memory, Proc, ProcForm, Tag};
 pub fn translate(forms: Translator, p: &Proc, agent: &Expr, next: u32) -> Result<Translated, Memory>
     ensures { IfOk result (λ t. t ≡ spec.cached forms.sites p.now agent.now next) }
 {
-    form(forms, &p.form, p.tag, p.at, agent, next)
+    form(forms, p.form.get(), p.tag, p.at, agent, next)
 }
 
 #[cycle(translate)]
@@ -35,50 +34,50 @@ fn form(
 {
     match form {
         ProcForm::Par(left, right) => {
-            let left = translate(forms, left.get(), agent, next)?;
-            let right = translate(forms, right.get(), agent, left.next)?;
+            let left = translate(forms, left, agent, next)?;
+            let right = translate(forms, right, agent, left.next)?;
             let both = Ok(ProcForm::Par(left.proc, right.proc));
             forms.kept(tag, at, both, right.next)
         }
         ProcForm::New(chan, ty, body) => {
-            let body = translate(forms, body.get(), agent, next)?;
+            let body = translate(forms, body, agent, next)?;
             forms.channel(tag, at, *chan, ty, body)
         }
         ProcForm::Inp(chan, names, body) => {
-            let body = translate(forms, body.get(), agent, next)?;
+            let body = translate(forms, body, agent, next)?;
             forms.input(tag, at, chan, names, body)
         }
         ProcForm::Rep(chan, names, body) => {
-            let body = translate(forms, body.get(), agent, next)?;
+            let body = translate(forms, body, agent, next)?;
             forms.replicated(tag, at, chan, names, body)
         }
         ProcForm::Agent(child, body, rest) => {
-            let body = new_agent(forms, body.get(), *child, next)?;
-            let rest = maker(forms, rest.get(), agent, body.next)?;
+            let body = new_agent(forms, body, *child, next)?;
+            let rest = maker(forms, rest, agent, body.next)?;
             creation(forms, tag, agent, *child, next, body, rest)
         }
         ProcForm::Migrate(to, body) => {
-            let body = translate(forms, body.get(), agent, next)?;
+            let body = translate(forms, body, agent, next)?;
             forms.migration(tag, agent, to, body)
         }
         ProcForm::IfLocal(to, chan, value, met, unmet) => {
-            let met = translate(forms, met.get(), agent, next)?;
-            let unmet = translate(forms, unmet.get(), agent, met.next)?;
+            let met = translate(forms, met, agent, next)?;
+            let unmet = translate(forms, unmet, agent, met.next)?;
             forms.iflocal(tag, at, to, chan, value, met.proc, unmet)
         }
         ProcForm::Post(to, chan, value) => post(forms, tag, agent, to, chan, value, next),
         ProcForm::If(test, met, unmet) => {
-            let met = translate(forms, met.get(), agent, next)?;
-            let unmet = translate(forms, unmet.get(), agent, met.next)?;
+            let met = translate(forms, met, agent, next)?;
+            let unmet = translate(forms, unmet, agent, met.next)?;
             forms.test(tag, at, test, met.proc, unmet)
         }
         ProcForm::Let(names, value, body) => {
-            let body = translate(forms, body.get(), agent, next)?;
+            let body = translate(forms, body, agent, next)?;
             forms.bind(tag, at, names, value, body)
         }
         ProcForm::Lookup(who, places, found, met, unmet) => {
-            let met = translate(forms, met.get(), agent, next)?;
-            let unmet = translate(forms, unmet.get(), agent, met.next)?;
+            let met = translate(forms, met, agent, next)?;
+            let unmet = translate(forms, unmet, agent, met.next)?;
             forms.lookup(tag, at, who, places, *found, met.proc, unmet)
         }
         ProcForm::Stop
@@ -95,7 +94,7 @@ fn new_agent(forms: Translator, p: &Proc, child: u32, next: u32) -> Result<Trans
     ensures { IfOk result (λ t. t ≡ spec.cached forms.sites p.now (piece.variable child) (next + 1)) }
 {
     let first = behind(next, 1)?;
-    translate(forms, p, &variable(child), first)
+    translate(forms, p, &forms.variable(child)?, first)
 }
 
 /// What the agent that makes another does then, behind the binders of the other's server and cache.

@@ -23,12 +23,12 @@ fn main_of(alloc: Global, sites: u32, p: &Program) -> Result<(Proc, u32), Memory
         node: 0,
     };
     let translator = Translator { alloc, sites };
-    let body = translator.translate(&p.main, &writer.agent(MAIN), p.binders)?;
+    let body = translator.translate(&p.main, &writer.agent(MAIN)?, p.binders)?;
     let letter = body.next;
     let place = behind(letter, 1)?;
     let next = behind(letter, 2)?;
     let main = writer.main_text(p.at, letter, place, body.proc)?;
-    Ok((main.into_inner(), next))
+    Ok((main, next))
 }
 
 /// The low program of a program.

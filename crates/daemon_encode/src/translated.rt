@@ -1,8 +1,8 @@
-use np_syntax::{Boxed, Proc};
+use np_syntax::Proc;
 
 /// A process of the low program, and the number of the next binder.
 #[derive(Drop)]
 pub struct Translated {
-    pub proc: Boxed<Proc>,
+    pub proc: Proc,
     pub next: u32,
 }

@@ -8,9 +8,10 @@ ghost use Rattle.np_syntax.specs.declared.process.ProcForm as shape;
 ghost use Rattle.np_syntax.specs.declared.process.ProcForm.{ProcForm as Form};
 
 use super::translated::Translated;
-use infrastructure_texts::{Made, Writer, variable};
+use infrastructure_texts::pieces::expression;
+use infrastructure_texts::{Made, Writer, WrittenExpr};
 use migration_texts::migrate_text;
-use np_syntax::{Boxed, Expr, Memory, Pat, Proc, ProcForm, Tag, Ty, process_forms};
+use np_syntax::{Expr, ExprForm, Memory, Pat, Proc, ProcForm, Tag, Ty, process_forms};
 use std::alloc::Global;
 
 /// Translates the processes of a program of so many sites.
@@ -42,6 +43,13 @@ impl Translator {
         }
     }
 
+    /// A variable of the low program.
+    pub fn variable(self, binder: u32) -> WrittenExpr
+        ensures { piece.Writes result (piece.variable binder) }
+    {
+        expression(self.alloc, ExprForm::Var(binder))
+    }
+
     /// A form that is kept, with its tag and offset. The form comes as it was made, or not, for want of memory.
     pub fn kept(
         self,
@@ -53,7 +61,7 @@ impl Translator {
         ensures { (made : Form) → piece.Writes form made → piece.Writes result (spec.kept tag at made next) }
     {
         let form = form?;
-        let proc = Boxed::of(self.alloc, Proc { tag, at, form })?;
+        let proc = Proc::new(self.alloc, tag, at, form)?;
         Ok(Translated { proc, next })
     }
 
@@ -63,7 +71,7 @@ impl Translator {
     pub fn translate(self, p: &Proc, agent: &Expr, next: u32) -> Result<Translated, Memory>
         ensures { IfOk result (λ t. t ≡ spec.translated self.sites p.now agent.now next) }
     {
-        self.form(&p.form, p.tag, p.at, agent, next)
+        self.form(p.form.get(), p.tag, p.at, agent, next)
     }
 
     #[cycle(translate)]
@@ -80,50 +88,50 @@ impl Translator {
     {
         match form {
             ProcForm::Par(left, right) => {
-                let left = self.translate(left.get(), agent, next)?;
-                let right = self.translate(right.get(), agent, left.next)?;
+                let left = self.translate(left, agent, next)?;
+                let right = self.translate(right, agent, left.next)?;
                 let both = Ok(ProcForm::Par(left.proc, right.proc));
                 self.kept(tag, at, both, right.next)
             }
             ProcForm::New(chan, ty, body) => {
-                let body = self.translate(body.get(), agent, next)?;
+                let body = self.translate(body, agent, next)?;
                 self.channel(tag, at, *chan, ty, body)
             }
             ProcForm::Inp(chan, names, body) => {
-                let body = self.translate(body.get(), agent, next)?;
+                let body = self.translate(body, agent, next)?;
                 self.input(tag, at, chan, names, body)
             }
             ProcForm::Rep(chan, names, body) => {
-                let body = self.translate(body.get(), agent, next)?;
+                let body = self.translate(body, agent, next)?;
                 self.replicated(tag, at, chan, names, body)
             }
             ProcForm::Agent(child, body, rest) => {
-                let body = self.child(body.get(), *child, next)?;
-                let rest = self.rest(rest.get(), agent, body.next)?;
+                let body = self.child(body, *child, next)?;
+                let rest = self.rest(rest, agent, body.next)?;
                 self.creation(tag, agent, *child, next, body, rest)
             }
             ProcForm::Migrate(to, body) => {
-                let body = self.translate(body.get(), agent, next)?;
+                let body = self.translate(body, agent, next)?;
                 self.migration(tag, agent, to, body)
             }
             ProcForm::IfLocal(to, chan, value, met, unmet) => {
-                let met = self.translate(met.get(), agent, next)?;
-                let unmet = self.translate(unmet.get(), agent, met.next)?;
+                let met = self.translate(met, agent, next)?;
+                let unmet = self.translate(unmet, agent, met.next)?;
                 self.iflocal(tag, at, to, chan, value, met.proc, unmet)
             }
             ProcForm::Post(to, chan, value) => self.post(tag, to, chan, value, next),
             ProcForm::If(test, met, unmet) => {
-                let met = self.translate(met.get(), agent, next)?;
-                let unmet = self.translate(unmet.get(), agent, met.next)?;
+                let met = self.translate(met, agent, next)?;
+                let unmet = self.translate(unmet, agent, met.next)?;
                 self.test(tag, at, test, met.proc, unmet)
             }
             ProcForm::Let(names, value, body) => {
-                let body = self.translate(body.get(), agent, next)?;
+                let body = self.translate(body, agent, next)?;
                 self.bind(tag, at, names, value, body)
             }
             ProcForm::Lookup(who, places, found, met, unmet) => {
-                let met = self.translate(met.get(), agent, next)?;
-                let unmet = self.translate(unmet.get(), agent, met.next)?;
+                let met = self.translate(met, agent, next)?;
+                let unmet = self.translate(unmet, agent, met.next)?;
                 self.lookup(tag, at, who, places, *found, met.proc, unmet)
             }
             ProcForm::Stop
@@ -140,7 +148,7 @@ impl Translator {
         ensures { IfOk result (λ t. t ≡ spec.translated self.sites p.now (piece.variable child) (next + 1)) }
     {
         let first = behind(next, 1)?;
-        self.translate(p, &variable(child), first)
+        self.translate(p, &self.variable(child)?, first)
     }
 
     /// What the agent that makes another does then, behind the binders of the other's server.
@@ -220,7 +228,7 @@ impl Translator {
         tag: Tag,
         at: u32,
         test: &Expr,
-        met: Boxed<Proc>,
+        met: Proc,
         unmet: Translated,
     ) -> Result<Translated, Memory>
         ensures { IfOk result (λ t. t ≡ spec.kept tag at (shape.If test.now met unmet.proc) unmet.next) }
@@ -236,7 +244,7 @@ impl Translator {
         agent: &Expr,
         chan: &Expr,
         value: &Expr,
-        met: Boxed<Proc>,
+        met: Proc,
         unmet: Translated,
     ) -> Result<Translated, Memory>
         ensures { IfOk result (λ t. t ≡ spec.kept tag at (shape.IfLocal agent.now chan.now value.now met unmet.proc) unmet.next) }
@@ -252,7 +260,7 @@ impl Translator {
         agent: &Expr,
         places: &Expr,
         found: u32,
-        met: Boxed<Proc>,
+        met: Proc,
         unmet: Translated,
     ) -> Result<Translated, Memory>
         ensures { IfOk result (λ t. t ≡ spec.kept tag at (shape.Lookup agent.now places.now found met unmet.proc) unmet.next) }

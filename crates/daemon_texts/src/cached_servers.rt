@@ -1,25 +1,20 @@
 //! The daemon's process.
 
-ghost use Rattle.std.specs.Prelude.{◌≡◌, ◌+◌, ◌≤◌, IfOk};
+ghost use Rattle.std.specs.Prelude.{◌≡◌, ◌+◌, ◌≤◌};
 ghost use Rattle.infrastructure_texts.specs.Pieces.{Writes};
 ghost use Rattle.infrastructure_texts.specs.CacheDaemon as spec;
 
 use super::servers::{daemon_text, frees, notes};
 use infrastructure_texts::own_names::{FOUND, WHERE};
-use infrastructure_texts::pieces::{name, pair, two_names, variable};
+use infrastructure_texts::pieces::{name, pair, two_names};
 use infrastructure_texts::{Writer, Written};
-use np_syntax::{Boxed, Memory, Proc};
+use np_syntax::Memory;
 use std::alloc::Global;
 
 /// The daemon of a program of so many sites, whose main agent stands at a site: its binders are numbered from the first on.
 /// Want of numbers is answered as want of memory.
-pub fn cached_daemon(
-    alloc: Global,
-    sites: u32,
-    at: u32,
-    first_binder: u32,
-) -> Result<Boxed<Proc>, Memory>
-    ensures { IfOk result (λ p. p ≡ spec.cached_daemon sites at first_binder) }
+pub fn cached_daemon(alloc: Global, sites: u32, at: u32, first_binder: u32) -> Written
+    ensures { Writes result (spec.cached_daemon sites at first_binder) }
 {
     if first_binder > u32::MAX - 27 {
         return Err(Memory);
@@ -38,9 +33,14 @@ fn hints(writer: Writer, asking: u32, agent: u32, lock: u32, found: u32, at: u32
     requires { writer.node ≡ 0 }
     ensures { Writes result (spec.hints writer.sites asking agent lock found at) }
 {
-    let holds = writer.gives(variable(lock), variable(at));
-    let told = pair(writer.alloc, Ok(variable(agent)), Ok(variable(found)));
-    let tells = writer.sends(variable(asking), variable(at), writer.channel(FOUND), told);
+    let holds = writer.gives(writer.variable(lock), writer.variable(at));
+    let told = pair(writer.alloc, writer.variable(agent), writer.variable(found));
+    let tells = writer.sends(
+        writer.variable(asking),
+        writer.variable(at),
+        writer.channel(FOUND),
+        told,
+    );
     writer.beside(holds, tells)
 }
 
@@ -51,10 +51,10 @@ fn reads_locks(writer: Writer, first: u32) -> Written
     ensures { Writes result (spec.reads_locks writer.sites first (first + 1) (first + 3) (first + 4) (first + 5) (first + 6)) }
 {
     let hints = hints(writer, first, first + 1, first + 4, first + 5, first + 6);
-    let waits = writer.takes(variable(first + 4), name(first + 6), hints);
-    let holds = writer.gives(variable(first + 3), variable(first + 5));
+    let waits = writer.takes(writer.variable(first + 4), name(first + 6), hints);
+    let holds = writer.gives(writer.variable(first + 3), writer.variable(first + 5));
     let both = writer.beside(holds, waits);
-    writer.takes(variable(first + 3), name(first + 5), both)
+    writer.takes(writer.variable(first + 3), name(first + 5), both)
 }
 
 /// The server for agents that ask where another is.

@@ -1,6 +1,6 @@
 //! The daemon's process.
 
-ghost use Rattle.std.specs.Prelude.{◌≡◌, ◌+◌, ◌≤◌, IfOk};
+ghost use Rattle.std.specs.Prelude.{◌≡◌, ◌+◌, ◌≤◌};
 ghost use Rattle.np_syntax.specs.declared.pattern.Pat.{Pat};
 ghost use Rattle.np_syntax.specs.declared.process.Proc.{Proc};
 ghost use Rattle.infrastructure_texts.specs.Pieces as piece;
@@ -10,16 +10,16 @@ ghost use Rattle.infrastructure_texts.specs.Daemon as spec;
 use infrastructure_texts::own_names::{
     ACK, DACK, DELIVER, HERE, LOCK, MESSAGE, MIGRATED, MIGRATING, REGISTER,
 };
-use infrastructure_texts::pieces::{expression, name, pair, site, two_names, unit, variable};
+use infrastructure_texts::pieces::{expression, name, pair, two_names};
 use infrastructure_texts::{Writer, Written};
 use np_calculus::MAIN;
-use np_syntax::{ExprForm, List, Memory, Pat, Proc, Value};
+use np_syntax::{ExprForm, List, Memory, Pat, Value};
 use std::alloc::Global;
 
 /// The daemon of a program of so many sites, whose main agent stands at a site: its binders are numbered from the first on.
 /// Want of numbers is answered as want of memory.
-pub fn daemon(alloc: Global, sites: u32, at: u32, first_binder: u32) -> Result<Proc, Memory>
-    ensures { IfOk result (λ p. p ≡ spec.daemon_text sites at first_binder) }
+pub fn daemon(alloc: Global, sites: u32, at: u32, first_binder: u32) -> Written
+    ensures { Writes result (spec.daemon_text sites at first_binder) }
 {
     if first_binder > u32::MAX - 20 {
         return Err(Memory);
@@ -29,8 +29,7 @@ pub fn daemon(alloc: Global, sites: u32, at: u32, first_binder: u32) -> Result<P
         sites,
         node: 0,
     };
-    let daemon = daemon_text(writer, at, first_binder)?;
-    Ok(daemon.into_inner())
+    daemon_text(writer, at, first_binder)
 }
 
 /// The whole of the daemon.
@@ -51,7 +50,7 @@ fn moves_text(writer: Writer, at: u32, x: u32) -> Written
     requires numbers { x + 20 ≤ u32.MAX }
     ensures { Writes result (spec.moves_text writer.sites at x) }
 {
-    let here = writer.gives(writer.channel(HERE), site(at));
+    let here = writer.gives(writer.channel(HERE), writer.site(at));
     let register = register_server(writer, x, x + 1, x + 2, x + 3);
     let migrating = migrating_server(writer, x + 4, x + 5, x + 6, x + 7);
     let migrated = migrated_server(writer, x + 8, x + 9, x + 10, x + 11);
@@ -66,7 +65,7 @@ fn first_places(writer: Writer) -> Written
 {
     let mut places = List::new(writer.alloc);
     places.add((writer.own(MAIN), writer.own(HERE)))?;
-    let map = expression(ExprForm::Val(Value::Places(places)));
+    let map = expression(writer.alloc, ExprForm::Val(Value::Places(places)));
     writer.gives(writer.channel(LOCK), map)
 }
 
@@ -75,7 +74,7 @@ pub fn frees(writer: Writer, places: u32) -> Written
     requires { writer.node ≡ 0 }
     ensures { Writes result (spec.frees writer.sites places) }
 {
-    writer.gives(writer.channel(LOCK), variable(places))
+    writer.gives(writer.channel(LOCK), writer.variable(places))
 }
 
 /// A server that takes the map for what it is told.
@@ -117,10 +116,10 @@ fn acks(writer: Writer, agent: u32, at: u32) -> Written
     ensures { Writes result (spec.acks writer.sites agent at) }
 {
     writer.sends(
-        variable(agent),
-        variable(at),
+        writer.variable(agent),
+        writer.variable(at),
         writer.channel(ACK),
-        Ok(unit(writer.alloc)),
+        writer.unit(),
     )
 }
 
@@ -129,9 +128,9 @@ fn enters(writer: Writer, agent: u32, at: u32, places: u32, lock: u32) -> Writte
     requires { writer.node ≡ 0 }
     ensures { Writes result (spec.enters writer.sites agent at places lock) }
 {
-    let noted = writer.with_lock(places, agent, lock)?;
+    let noted = writer.with_lock(places, agent, lock);
     let frees = writer.gives(writer.channel(LOCK), noted);
-    let holds = writer.gives(variable(lock), variable(at));
+    let holds = writer.gives(writer.variable(lock), writer.variable(at));
     writer.beside(writer.beside(frees, holds), acks(writer, agent, at))
 }
 
@@ -156,7 +155,7 @@ fn migrating_server(writer: Writer, agent: u32, places: u32, lock: u32, at: u32)
     requires { writer.node ≡ 0 }
     ensures { Writes result (spec.migrating_server writer.sites agent places lock at) }
 {
-    let waits = writer.takes(variable(lock), name(at), acks(writer, agent, at));
+    let waits = writer.takes(writer.variable(lock), name(at), acks(writer, agent, at));
     looks_up(
         writer,
         MIGRATING,
@@ -173,7 +172,7 @@ fn migrated_server(writer: Writer, agent: u32, at: u32, places: u32, lock: u32) 
     requires { writer.node ≡ 0 }
     ensures { Writes result (spec.migrated_server writer.sites agent at places lock) }
 {
-    let holds = writer.gives(variable(lock), variable(at));
+    let holds = writer.gives(writer.variable(lock), writer.variable(at));
     let both = writer.beside(holds, acks(writer, agent, at));
     let names = two_names(writer.alloc, agent, at);
     looks_up(writer, MIGRATED, names, agent, places, lock, both)
@@ -191,14 +190,14 @@ fn message_server(
     requires { writer.node ≡ 0 }
     ensures { Writes result (spec.message_server writer.sites agent letter places lock at) }
 {
-    let carried = pair(writer.alloc, Ok(variable(letter)), Ok(variable(at)));
+    let carried = pair(writer.alloc, writer.variable(letter), writer.variable(at));
     let delivers = writer.sends(
-        variable(agent),
-        variable(at),
+        writer.variable(agent),
+        writer.variable(at),
         writer.channel(DELIVER),
         carried,
     );
-    let waits = writer.takes(variable(lock), name(at), delivers);
+    let waits = writer.takes(writer.variable(lock), name(at), delivers);
     let names = two_names(writer.alloc, agent, letter);
     looks_up(writer, MESSAGE, names, agent, places, lock, waits)
 }
@@ -208,7 +207,7 @@ fn dack_server(writer: Writer, agent: u32, at: u32, places: u32, lock: u32) -> W
     requires { writer.node ≡ 0 }
     ensures { Writes result (spec.dack_server writer.sites agent at places lock) }
 {
-    let holds = writer.gives(variable(lock), variable(at));
+    let holds = writer.gives(writer.variable(lock), writer.variable(at));
     let names = two_names(writer.alloc, agent, at);
     looks_up(writer, DACK, names, agent, places, lock, holds)
 }

@@ -10,6 +10,6 @@ mod places;
 mod texts;
 mod writer;
 
-pub use pieces::variable;
+pub use pieces::WrittenExpr;
 pub use texts::Made;
 pub use writer::{Writer, Written};

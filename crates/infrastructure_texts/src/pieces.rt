@@ -5,13 +5,16 @@ ghost use Rattle.infrastructure_texts.specs.Pieces as spec;
 ghost use Rattle.infrastructure_texts.specs.Pieces.{Writes};
 ghost use Rattle.np_syntax.specs.declared.expression.Expr as expression;
 
-use np_syntax::{Expr, ExprForm, List, Memory, Pat, PatForm, Value};
+use np_syntax::{Expr, ExprForm, List, Memory, Pat, PatForm};
 use std::alloc::Global;
 
-pub fn expression(form: ExprForm) -> Expr
-    ensures { result ≡ spec.expression form }
+/// An expression that was written out, unless memory was wanting.
+pub type WrittenExpr = Result<Expr, Memory>;
+
+pub fn expression(alloc: Global, form: ExprForm) -> WrittenExpr
+    ensures { Writes result (spec.expression form) }
 {
-    Expr { at: 0, form }
+    Expr::new(alloc, 0, form)
 }
 
 fn pattern(form: PatForm) -> Pat
@@ -20,36 +23,14 @@ fn pattern(form: PatForm) -> Pat
     Pat { at: 0, form }
 }
 
-pub fn variable(binder: u32) -> Expr
-    ensures { result ≡ spec.variable binder }
-{
-    expression(ExprForm::Var(binder))
-}
-
-pub fn site(number: u32) -> Expr
-    ensures { result ≡ spec.site number }
-{
-    expression(ExprForm::Val(Value::Site(number)))
-}
-
-pub fn unit(alloc: Global) -> Expr
-    ensures { result ≡ spec.unit }
-{
-    expression(ExprForm::Tuple(List::new(alloc)))
-}
-
 /// `[e e']`
-pub fn pair(
-    alloc: Global,
-    first: Result<Expr, Memory>,
-    second: Result<Expr, Memory>,
-) -> Result<Expr, Memory>
+pub fn pair(alloc: Global, first: WrittenExpr, second: WrittenExpr) -> WrittenExpr
     ensures { (e f : expression.Expr) → Writes first e → Writes second f → Writes result (spec.pair e f) }
 {
     let mut parts = List::new(alloc);
     parts.add(first?)?;
     parts.add(second?)?;
-    Ok(expression(ExprForm::Tuple(parts)))
+    expression(alloc, ExprForm::Tuple(parts))
 }
 
 pub fn nothing() -> Pat

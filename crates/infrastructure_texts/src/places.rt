@@ -8,9 +8,9 @@ ghost use Rattle.infrastructure_texts.specs.Pieces.{Writes};
 ghost use Rattle.infrastructure_texts.specs.Daemon as spec;
 ghost use Rattle.np_check.specs.Faults.{lock_type};
 
-use super::pieces::{expression, variable};
+use super::pieces::{WrittenExpr, expression};
 use super::writer::{Writer, Written};
-use np_syntax::{Boxed, Cap, Expr, ExprForm, Memory, ProcForm, Ty};
+use np_syntax::{Boxed, Cap, ExprForm, Memory, ProcForm, Ty};
 use std::alloc::Global;
 
 /// The type of lock channels.
@@ -22,13 +22,13 @@ fn lock_type(alloc: Global) -> Result<Ty, Memory>
 
 impl Writer {
     /// The map with the lock channel of one more agent.
-    pub fn with_lock(self, places: u32, agent: u32, lock: u32) -> Result<Expr, Memory>
-        ensures { IfOk result (λ e. e ≡ spec.with_lock places agent lock) }
+    pub fn with_lock(self, places: u32, agent: u32, lock: u32) -> WrittenExpr
+        ensures { Writes result (spec.with_lock places agent lock) }
     {
-        let places = Boxed::of(self.alloc, variable(places))?;
-        let agent = Boxed::of(self.alloc, variable(agent))?;
-        let lock = Boxed::of(self.alloc, variable(lock))?;
-        Ok(expression(ExprForm::With(places, agent, lock)))
+        let places = self.variable(places)?;
+        let agent = self.variable(agent)?;
+        let lock = self.variable(lock)?;
+        expression(self.alloc, ExprForm::With(places, agent, lock))
     }
 
     /// `new l : ^Site in P`

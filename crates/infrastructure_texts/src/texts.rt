@@ -1,6 +1,7 @@
 //! A post, a creation and main's bracket, and what the texts of agents have in common.
 
-ghost use Rattle.std.specs.Prelude.{◌≡◌, IfOk};
+ghost use Rattle.std.specs.Prelude.{◌≡◌};
+ghost use Rattle.np_syntax.specs.declared.expression.Expr.{Expr};
 ghost use Rattle.np_syntax.specs.declared.process.Proc.{Proc};
 ghost use Rattle.np_syntax.specs.declared.process.ProcForm as form;
 ghost use Rattle.np_syntax.specs.declared.process.Role.TheVariants as role;
@@ -9,47 +10,49 @@ ghost use Rattle.infrastructure_texts.specs.Pieces.{Writes};
 ghost use Rattle.infrastructure_texts.specs.Texts as spec;
 
 use super::own_names::{ACK, CURRENTLOC, DACK, DELIVER, MESSAGE, REGISTER};
-use super::pieces::{expression, name, nothing, pair, site, two_names, unit, variable};
+use super::pieces::{WrittenExpr, expression, name, nothing, pair, two_names};
 use super::writer::{Writer, Written};
 use np_calculus::{DAEMON, MAIN};
-use np_syntax::{Boxed, Expr, ExprForm, Memory, Proc, ProcForm};
+use np_syntax::{Expr, ExprForm, Proc, ProcForm, copy_pair};
 
 impl Writer {
     /// `pack(c, v)`
-    pub fn letter(self, chan: &Expr, value: &Expr) -> Result<Expr, Memory>
-        ensures { IfOk result (λ e. e ≡ spec.letter chan.now value.now) }
+    pub fn letter(self, chan: &Expr, value: &Expr) -> WrittenExpr
+        ensures { Writes result (spec.letter chan.now value.now) }
     {
-        let chan = chan.copy(self.alloc)?;
-        let value = value.copy(self.alloc)?;
-        let chan = Boxed::of(self.alloc, chan)?;
-        let value = Boxed::of(self.alloc, value)?;
-        Ok(expression(ExprForm::Pack(chan, value)))
+        let (chan, value) = copy_pair(self.alloc, chan, value)?;
+        expression(self.alloc, ExprForm::Pack(chan, value))
     }
 
     /// A post, told to the daemon.
-    pub fn post_text(self, agent: &Expr, chan: &Expr, value: &Expr) -> Result<Boxed<Proc>, Memory>
-        ensures { IfOk result (λ p. p ≡ spec.post_text self.sites self.node agent.now chan.now value.now) }
+    pub fn post_text(self, agent: &Expr, chan: &Expr, value: &Expr) -> Written
+        ensures { Writes result (spec.post_text self.sites self.node agent.now chan.now value.now) }
     {
         let letter = self.letter(chan, value);
         let told = pair(self.alloc, agent.copy(self.alloc), letter);
-        self.posts(self.agent(DAEMON), site(0), self.channel(MESSAGE), told)
+        self.posts(
+            self.agent(DAEMON),
+            self.site(0),
+            self.channel(MESSAGE),
+            told,
+        )
     }
 
     /// An agent waits for its site, and then has it.
-    pub fn settles(self, at: Expr, body: Written) -> Written
-        ensures { (p : Proc) → Writes body p → Writes result (spec.settles self.sites self.node at p) }
+    pub fn settles(self, at: WrittenExpr, body: Written) -> Written
+        ensures { (s : Expr) (p : Proc) → Writes at s → Writes body p → Writes result (spec.settles self.sites self.node s p) }
     {
         let place = self.gives(self.channel(CURRENTLOC), at);
         self.takes(self.channel(ACK), nothing(), self.beside(body, place))
     }
 
     /// What takes the letters of an agent.
-    pub fn server_text(self, agent: Expr, letter: u32, place: u32) -> Written
-        ensures { Writes result (spec.server_text self.sites self.node agent letter place) }
+    pub fn server_text(self, agent: WrittenExpr, letter: u32, place: u32) -> Written
+        ensures { (b : Expr) → Writes agent b → Writes result (spec.server_text self.sites self.node b letter place) }
     {
-        let taken = pair(self.alloc, Ok(agent), Ok(variable(place)));
+        let taken = pair(self.alloc, agent, self.variable(place));
         let answers = self.tells(self.channel(DACK), taken);
-        let opens = self.infra(ProcForm::Open(variable(letter)));
+        let opens = self.opens(self.variable(letter));
         let names = two_names(self.alloc, letter, place);
         self.serves(self.channel(DELIVER), names, self.beside(opens, answers))
     }
@@ -58,14 +61,9 @@ impl Writer {
     pub fn begins(self, parent: &Expr, at: u32, body: Written) -> Written
         ensures { (p : Proc) → Writes body p → Writes result (spec.begins self.sites self.node parent.now at p) }
     {
-        let parent = parent.copy(self.alloc)?;
-        let tells = self.sends(
-            parent,
-            variable(at),
-            self.channel(ACK),
-            Ok(unit(self.alloc)),
-        );
-        self.settles(variable(at), self.beside(body, tells))
+        let parent = parent.copy(self.alloc);
+        let tells = self.sends(parent, self.variable(at), self.channel(ACK), self.unit());
+        self.settles(self.variable(at), self.beside(body, tells))
     }
 
     /// What a new agent does.
@@ -73,8 +71,8 @@ impl Writer {
         ensures { (p : Proc) → Writes body p → Writes result (spec.child_text self.sites self.node parent.now agent made.at made.letter made.place p) }
     {
         let begins = self.begins(parent, made.at, body);
-        let server = self.server_text(variable(agent), made.letter, made.place);
-        let told = pair(self.alloc, Ok(variable(agent)), Ok(variable(made.at)));
+        let server = self.server_text(self.variable(agent), made.letter, made.place);
+        let told = pair(self.alloc, self.variable(agent), self.variable(made.at));
         let registers = self.tells(self.channel(REGISTER), told);
         self.beside(self.beside(begins, server), registers)
     }
@@ -85,13 +83,13 @@ impl Writer {
         parent: &Expr,
         agent: u32,
         made: Made,
-        body: Boxed<Proc>,
-        rest: Boxed<Proc>,
-    ) -> Result<Boxed<Proc>, Memory>
-        ensures { IfOk result (λ p. p ≡ spec.agent_text self.sites self.node parent.now agent made.at made.letter made.place body rest) }
+        body: Proc,
+        rest: Proc,
+    ) -> Written
+        ensures { Writes result (spec.agent_text self.sites self.node parent.now agent made.at made.letter made.place body rest) }
     {
         let child = self.child_text(parent, agent, made, Ok(body));
-        let rest = self.settles(variable(made.at), Ok(rest));
+        let rest = self.settles(self.variable(made.at), Ok(rest));
         let creates = self.creates(agent, child, rest);
         self.takes(self.channel(CURRENTLOC), name(made.at), creates)
     }
@@ -104,17 +102,11 @@ impl Writer {
     }
 
     /// Main's bracket, at this site.
-    pub fn main_text(
-        self,
-        at: u32,
-        letter: u32,
-        place: u32,
-        body: Boxed<Proc>,
-    ) -> Result<Boxed<Proc>, Memory>
+    pub fn main_text(self, at: u32, letter: u32, place: u32, body: Proc) -> Written
         requires { self.node ≡ 0 }
-        ensures { IfOk result (λ p. p ≡ spec.main_text self.sites at letter place body) }
+        ensures { Writes result (spec.main_text self.sites at letter place body) }
     {
-        let holds = self.gives(self.channel(CURRENTLOC), site(at));
+        let holds = self.gives(self.channel(CURRENTLOC), self.site(at));
         let server = self.server_text(self.agent(MAIN), letter, place);
         self.beside(self.beside(Ok(body), holds), server)
     }

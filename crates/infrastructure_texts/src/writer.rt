@@ -5,20 +5,21 @@ ghost use Rattle.std.specs.Prelude.{◌≡◌};
 ghost use Rattle.np_calculus.specs.Starts.{own};
 ghost use Rattle.np_syntax.specs.declared.process.Role.TheVariants as role;
 ghost use Rattle.np_syntax.specs.declared.expression.Expr.{Expr};
+ghost use Rattle.np_syntax.specs.declared.expression.ExprForm as expr;
 ghost use Rattle.np_syntax.specs.declared.pattern.Pat.{Pat};
 ghost use Rattle.np_syntax.specs.declared.process.Proc.{Proc};
 ghost use Rattle.np_syntax.specs.declared.process.ProcForm as form;
 ghost use Rattle.infrastructure_texts.specs.Pieces as spec;
 ghost use Rattle.infrastructure_texts.specs.Pieces.{Writes};
 
-use super::pieces::{expression, site, variable};
+use super::pieces::{WrittenExpr, expression};
 use np_calculus::DAEMON;
 use np_syntax::process_forms::iflocal;
-use np_syntax::{Boxed, Expr, ExprForm, Memory, Name, Pat, Proc, ProcForm, Role, Tag, Value};
+use np_syntax::{Expr, ExprForm, List, Memory, Name, Pat, Proc, ProcForm, Role, Tag, Value};
 use std::alloc::Global;
 
 /// A process that was written out, unless memory was wanting.
-pub type Written = Result<Boxed<Proc>, Memory>;
+pub type Written = Result<Proc, Memory>;
 
 /// Writes processes that stand for the source node of this number, in a program of so many sites.
 #[derive(Clone, Copy)]
@@ -39,53 +40,77 @@ impl Writer {
         }
     }
 
-    pub fn agent(self, n: u32) -> Expr
-        ensures { result ≡ spec.agent self.sites n }
+    fn value(self, value: Value) -> WrittenExpr
+        ensures { Writes result (spec.expression (expr.Val value)) }
     {
-        expression(ExprForm::Val(Value::Agent(self.own(n))))
+        expression(self.alloc, ExprForm::Val(value))
     }
 
-    pub fn channel(self, n: u32) -> Expr
-        ensures { result ≡ spec.channel self.sites n }
+    pub fn agent(self, n: u32) -> WrittenExpr
+        ensures { Writes result (spec.agent self.sites n) }
     {
-        expression(ExprForm::Val(Value::Chan(self.own(n))))
+        self.value(Value::Agent(self.own(n)))
     }
 
-    fn process(self, role: Role, form: ProcForm) -> Proc
-        ensures { result ≡ spec.process self.node role form }
+    pub fn channel(self, n: u32) -> WrittenExpr
+        ensures { Writes result (spec.channel self.sites n) }
+    {
+        self.value(Value::Chan(self.own(n)))
+    }
+
+    pub fn site(self, number: u32) -> WrittenExpr
+        ensures { Writes result (spec.site number) }
+    {
+        self.value(Value::Site(number))
+    }
+
+    pub fn variable(self, binder: u32) -> WrittenExpr
+        ensures { Writes result (spec.variable binder) }
+    {
+        expression(self.alloc, ExprForm::Var(binder))
+    }
+
+    pub fn unit(self) -> WrittenExpr
+        ensures { Writes result spec.unit }
+    {
+        expression(self.alloc, ExprForm::Tuple(List::new(self.alloc)))
+    }
+
+    fn process(self, role: Role, form: ProcForm) -> Written
+        ensures { Writes result (spec.process self.node role form) }
     {
         let tag = Tag {
             node: self.node,
             role,
         };
-        Proc { tag, at: 0, form }
-    }
-
-    pub fn boxed(self, role: Role, form: ProcForm) -> Written
-        ensures { Writes result (spec.process self.node role form) }
-    {
-        Boxed::of(self.alloc, self.process(role, form))
+        Proc::new(self.alloc, tag, 0, form)
     }
 
     /// A process that the infrastructure takes a step of its own for.
     pub fn infra(self, form: ProcForm) -> Written
         ensures { Writes result (spec.infra self.node form) }
     {
-        self.boxed(Role::Infra, form)
+        self.process(Role::Infra, form)
     }
 
     /// A process that the source's node itself takes its step by.
     pub fn plain(self, form: ProcForm) -> Written
         ensures { Writes result (spec.process self.node role.Plain form) }
     {
-        self.boxed(Role::Plain, form)
+        self.process(Role::Plain, form)
     }
 
     /// The sending of a post.
-    pub fn posts(self, agent: Expr, at: Expr, chan: Expr, value: Result<Expr, Memory>) -> Written
-        ensures { (e : Expr) → Writes value e → Writes result (spec.posts self.node agent at chan e) }
+    pub fn posts(
+        self,
+        agent: WrittenExpr,
+        at: WrittenExpr,
+        chan: WrittenExpr,
+        value: WrittenExpr,
+    ) -> Written
+        ensures { (b s c e : Expr) → Writes agent b → Writes at s → Writes chan c → Writes value e → Writes result (spec.posts self.node b s c e) }
     {
-        self.boxed(Role::Post, ProcForm::Send(agent, at, chan, value?))
+        self.process(Role::Post, ProcForm::Send(agent?, at?, chan?, value?))
     }
 
     /// `(P | Q)`
@@ -96,38 +121,51 @@ impl Writer {
     }
 
     /// `c!e`
-    pub fn gives(self, chan: Expr, value: Expr) -> Written
-        ensures { Writes result (spec.gives self.node chan value) }
+    pub fn gives(self, chan: WrittenExpr, value: WrittenExpr) -> Written
+        ensures { (c e : Expr) → Writes chan c → Writes value e → Writes result (spec.gives self.node c e) }
     {
-        self.infra(ProcForm::Out(chan, value))
+        self.infra(ProcForm::Out(chan?, value?))
     }
 
     /// `c?p -> P`
-    pub fn takes(self, chan: Expr, names: Pat, body: Written) -> Written
-        ensures { (p : Proc) → Writes body p → Writes result (spec.takes self.node chan names p) }
+    pub fn takes(self, chan: WrittenExpr, names: Pat, body: Written) -> Written
+        ensures { (c : Expr) (n : Pat) (p : Proc) → Writes chan c → names ≡ n → Writes body p → Writes result (spec.takes self.node c n p) }
     {
-        self.infra(ProcForm::Inp(chan, names, body?))
+        self.infra(ProcForm::Inp(chan?, names, body?))
     }
 
     /// `*c?p -> P`
-    pub fn serves(self, chan: Expr, names: Result<Pat, Memory>, body: Written) -> Written
-        ensures { (n : Pat) (p : Proc) → Writes names n → Writes body p → Writes result (spec.serves self.node chan n p) }
+    pub fn serves(self, chan: WrittenExpr, names: Result<Pat, Memory>, body: Written) -> Written
+        ensures { (c : Expr) (n : Pat) (p : Proc) → Writes chan c → Writes names n → Writes body p → Writes result (spec.serves self.node c n p) }
     {
-        self.infra(ProcForm::Rep(chan, names?, body?))
+        self.infra(ProcForm::Rep(chan?, names?, body?))
+    }
+
+    /// `open e`
+    pub fn opens(self, letter: WrittenExpr) -> Written
+        ensures { (e : Expr) → Writes letter e → Writes result (spec.infra self.node (form.Open e)) }
+    {
+        self.infra(ProcForm::Open(letter?))
     }
 
     /// `<b@s>c!e`
-    pub fn sends(self, agent: Expr, at: Expr, chan: Expr, value: Result<Expr, Memory>) -> Written
-        ensures { (e : Expr) → Writes value e → Writes result (spec.sends self.node agent at chan e) }
+    pub fn sends(
+        self,
+        agent: WrittenExpr,
+        at: WrittenExpr,
+        chan: WrittenExpr,
+        value: WrittenExpr,
+    ) -> Written
+        ensures { (b s c e : Expr) → Writes agent b → Writes at s → Writes chan c → Writes value e → Writes result (spec.sends self.node b s c e) }
     {
-        self.infra(ProcForm::Send(agent, at, chan, value?))
+        self.infra(ProcForm::Send(agent?, at?, chan?, value?))
     }
 
     /// `c!e`, sent to the daemon.
-    pub fn tells(self, chan: Expr, value: Result<Expr, Memory>) -> Written
-        ensures { (e : Expr) → Writes value e → Writes result (spec.tells self.sites self.node chan e) }
+    pub fn tells(self, chan: WrittenExpr, value: WrittenExpr) -> Written
+        ensures { (c e : Expr) → Writes chan c → Writes value e → Writes result (spec.tells self.sites self.node c e) }
     {
-        self.sends(self.agent(DAEMON), site(0), chan, value)
+        self.sends(self.agent(DAEMON), self.site(0), chan, value)
     }
 
     /// `lookup a in m then l -> P else 0`
@@ -135,8 +173,9 @@ impl Writer {
         ensures { (p : Proc) → Writes body p → Writes result (spec.finds self.node agent places lock p) }
     {
         let stop = self.infra(ProcForm::Stop);
-        let (agent, places) = (variable(agent), variable(places));
-        self.infra(ProcForm::Lookup(agent, places, lock, body?, stop?))
+        let agent = self.variable(agent);
+        let places = self.variable(places);
+        self.infra(ProcForm::Lookup(agent?, places?, lock, body?, stop?))
     }
 
     /// `iflocal <b>c!e then 0 else P`
@@ -149,7 +188,7 @@ impl Writer {
     }
 
     /// `migrate to e -> P`
-    pub fn goes(self, to: Result<Expr, Memory>, body: Written) -> Written
+    pub fn goes(self, to: WrittenExpr, body: Written) -> Written
         ensures { (e : Expr) (p : Proc) → Writes to e → Writes body p → Writes result (spec.process self.node role.Plain (form.Migrate e p)) }
     {
         self.plain(ProcForm::Migrate(to?, body?))
@@ -160,6 +199,6 @@ impl Writer {
         ensures { (p : Proc) → Writes body p → Writes result (spec.process self.node role.Post (form.Agent messenger p (spec.stop self.node))) }
     {
         let stop = self.infra(ProcForm::Stop);
-        self.boxed(Role::Post, ProcForm::Agent(messenger, body?, stop?))
+        self.process(Role::Post, ProcForm::Agent(messenger, body?, stop?))
     }
 }

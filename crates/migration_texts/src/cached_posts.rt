@@ -1,6 +1,6 @@
 //! A post, which goes by a messenger where the cache has a hint. It is a post from an agent to another, of a value for a channel.
 
-ghost use Rattle.std.specs.Prelude.{◌≡◌, ◌+◌, ◌≤◌, IfOk};
+ghost use Rattle.std.specs.Prelude.{◌≡◌, ◌+◌, ◌≤◌};
 ghost use Rattle.np_syntax.specs.declared.process.Proc.{Proc};
 ghost use Rattle.infrastructure_texts.specs.Pieces as piece;
 ghost use Rattle.infrastructure_texts.specs.Pieces.{Writes};
@@ -9,9 +9,9 @@ ghost use Rattle.infrastructure_texts.specs.CacheTexts as spec;
 
 use infrastructure_texts::caches::{keeps, looks};
 use infrastructure_texts::own_names::{CACHE, MESSAGE, WHERE};
-use infrastructure_texts::pieces::{name, pair, variable};
+use infrastructure_texts::pieces::{WrittenExpr, name, pair};
 use infrastructure_texts::{Writer, Written};
-use np_syntax::{Boxed, Expr, Memory, Proc, ProcForm};
+use np_syntax::{Expr, ProcForm};
 
 /// The daemon is asked where an agent is.
 fn asks(writer: Writer, from: &Expr, to: &Expr) -> Written
@@ -22,7 +22,7 @@ fn asks(writer: Writer, from: &Expr, to: &Expr) -> Written
 }
 
 /// The letter of a post, and who it is for.
-fn addressed(writer: Writer, to: &Expr, chan: &Expr, value: &Expr) -> Result<Expr, Memory>
+fn addressed(writer: Writer, to: &Expr, chan: &Expr, value: &Expr) -> WrittenExpr
     ensures { Writes result (piece.pair to.now (central.letter chan.now value.now)) }
 {
     pair(
@@ -54,7 +54,8 @@ fn messenger_text(
 {
     let unmet = hands_back(writer, from, to, chan, value);
     let tries = writer.meets(to, chan, value, unmet);
-    writer.infra(ProcForm::Migrate(variable(at), tries?))
+    let at = writer.variable(at);
+    writer.infra(ProcForm::Migrate(at?, tries?))
 }
 
 /// A messenger is made.
@@ -78,9 +79,9 @@ fn reads_hint(writer: Writer, places: u32, made: Written) -> Written
     requires { places + 3 ≤ u32.MAX }
     ensures { (p : Proc) → Writes made p → Writes result (spec.reads_hint writer.sites writer.node places p) }
 {
-    let holds = writer.gives(variable(places + 1), variable(places + 2));
+    let holds = writer.gives(writer.variable(places + 1), writer.variable(places + 2));
     let both = writer.beside(made, holds);
-    let reads = writer.takes(variable(places + 1), name(places + 2), both);
+    let reads = writer.takes(writer.variable(places + 1), name(places + 2), both);
     writer.beside(reads, keeps(writer, places))
 }
 
@@ -124,13 +125,12 @@ pub fn post_text(
     chan: &Expr,
     value: &Expr,
     first: u32,
-) -> Result<Boxed<Proc>, Memory>
+) -> Written
     requires { first + 3 ≤ u32.MAX }
-    ensures { IfOk result (λ p. p ≡ spec.post_text writer.sites writer.node from.now to.now chan.now value.now first) }
+    ensures { Writes result (spec.post_text writer.sites writer.node from.now to.now chan.now value.now first) }
 {
-    let to_copy = to.copy(writer.alloc)?;
     let met = goes_by_hint(writer, from, to, chan, value, first);
     let unmet = goes_by_daemon(writer, from, to, chan, value, first);
-    let known = looks(writer, to_copy, first, first + 1, met, unmet);
+    let known = looks(writer, to.copy(writer.alloc), first, first + 1, met, unmet);
     writer.takes(writer.channel(CACHE), name(first), known)
 }

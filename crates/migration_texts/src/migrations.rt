@@ -1,6 +1,6 @@
 //! A migration of an agent.
 
-ghost use Rattle.std.specs.Prelude.{◌≡◌, IfOk};
+ghost use Rattle.std.specs.Prelude.{◌≡◌};
 ghost use Rattle.np_syntax.specs.declared.process.Proc.{Proc};
 ghost use Rattle.infrastructure_texts.specs.Pieces as piece;
 ghost use Rattle.infrastructure_texts.specs.Pieces.{Writes};
@@ -9,7 +9,7 @@ ghost use Rattle.infrastructure_texts.specs.Texts as spec;
 use infrastructure_texts::own_names::{ACK, CURRENTLOC, MIGRATED, MIGRATING};
 use infrastructure_texts::pieces::{nothing, pair};
 use infrastructure_texts::{Writer, Written};
-use np_syntax::{Boxed, Expr, Memory, Proc};
+use np_syntax::{Expr, Proc};
 
 /// An agent tells its new site.
 fn reports(writer: Writer, agent: &Expr, at: &Expr) -> Written
@@ -27,19 +27,14 @@ fn reports(writer: Writer, agent: &Expr, at: &Expr) -> Written
 fn move_text(writer: Writer, agent: &Expr, to: &Expr, body: Written) -> Written
     ensures { (p : Proc) → Writes body p → Writes result (spec.move_text writer.sites writer.node agent.now to.now p) }
 {
-    let settled = writer.settles(to.copy(writer.alloc)?, body);
+    let settled = writer.settles(to.copy(writer.alloc), body);
     let arrived = writer.beside(settled, reports(writer, agent, to));
     writer.goes(to.copy(writer.alloc), arrived)
 }
 
 /// A migration of an agent, and what it does at the site.
-pub fn migrate_text(
-    writer: Writer,
-    agent: &Expr,
-    to: &Expr,
-    body: Boxed<Proc>,
-) -> Result<Boxed<Proc>, Memory>
-    ensures { IfOk result (λ p. p ≡ spec.migrate_text writer.sites writer.node agent.now to.now body) }
+pub fn migrate_text(writer: Writer, agent: &Expr, to: &Expr, body: Proc) -> Written
+    ensures { Writes result (spec.migrate_text writer.sites writer.node agent.now to.now body) }
 {
     let moves = move_text(writer, agent, to, Ok(body));
     let granted = writer.takes(writer.channel(ACK), nothing(), moves);

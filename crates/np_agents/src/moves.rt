@@ -39,7 +39,7 @@ fn take_form(atom: &mut Atom) -> ProcForm
     ensures agent { atom.new.agent ≡ atom.old.agent }
     ensures env { atom.new.env ≡ atom.old.env }
 {
-    std::mem::replace(&mut atom.proc.form, ProcForm::Stop)
+    atom.proc.form.replace(ProcForm::Stop)
 }
 
 /// An atom goes on as a process, under the frame that it has.

@@ -22,7 +22,7 @@ pub fn process(alloc: Global, env: &mut Env, p: &Proc) -> Result<(), CheckFail>
     ensures gives { Gives (spec.check bare p.now env.old) result }
     ensures kept { OnOk result (env.new ≡ env.old) }
 {
-    process_form(alloc, env, &p.form, p.at)
+    process_form(alloc, env, p.form.get(), p.at)
 }
 
 #[tactic(auto, using(crate::proofs::Forms::forms))]
@@ -34,38 +34,38 @@ fn process_form(alloc: Global, env: &mut Env, form: &ProcForm, at: u32) -> Resul
     match form {
         ProcForm::Stop => Ok(()),
         ProcForm::Par(left, right) => {
-            process(alloc, env, left.get())?;
-            process(alloc, env, right.get())
+            process(alloc, env, left)?;
+            process(alloc, env, right)
         }
-        ProcForm::New(chan, ty, body) => new(alloc, env, body.get(), *chan, ty, at),
+        ProcForm::New(chan, ty, body) => new(alloc, env, body, *chan, ty, at),
         ProcForm::Out(chan, value) => output(alloc, env, chan, value),
         ProcForm::Inp(chan, names, body) | ProcForm::Rep(chan, names, body) => {
-            input(alloc, env, body.get(), chan, names)
+            input(alloc, env, body, chan, names)
         }
         ProcForm::Agent(agent, body, rest) => {
-            with_binder(alloc, env, body.get(), *agent, Ty::Agent)?;
-            with_binder(alloc, env, rest.get(), *agent, Ty::Agent)
+            with_binder(alloc, env, body, *agent, Ty::Agent)?;
+            with_binder(alloc, env, rest, *agent, Ty::Agent)
         }
-        ProcForm::Migrate(to, body) => migrate(alloc, env, body.get(), to),
+        ProcForm::Migrate(to, body) => migrate(alloc, env, body, to),
         ProcForm::IfLocal(agent, chan, value, met, unmet) => {
             post(alloc, env, agent, chan, value)?;
-            process(alloc, env, met.get())?;
-            process(alloc, env, unmet.get())
+            process(alloc, env, met)?;
+            process(alloc, env, unmet)
         }
         ProcForm::Send(agent, site, chan, value) => send(alloc, env, agent, site, chan, value),
         ProcForm::Post(agent, chan, value) => post(alloc, env, agent, chan, value),
         ProcForm::If(test, met, unmet) => {
             truth(alloc, env, test)?;
-            process(alloc, env, met.get())?;
-            process(alloc, env, unmet.get())
+            process(alloc, env, met)?;
+            process(alloc, env, unmet)
         }
-        ProcForm::Let(names, value, body) => bind(alloc, env, body.get(), names, value),
+        ProcForm::Let(names, value, body) => bind(alloc, env, body, names, value),
         ProcForm::Print(value) => printable(alloc, env, value),
         ProcForm::Open(value) => letter(alloc, env, value),
         ProcForm::Lookup(agent, places, lock, met, unmet) => {
             sought(alloc, env, agent, places)?;
-            with_binder(alloc, env, met.get(), *lock, lock_type(alloc)?)?;
-            process(alloc, env, unmet.get())
+            with_binder(alloc, env, met, *lock, lock_type(alloc)?)?;
+            process(alloc, env, unmet)
         }
     }
 }

@@ -26,10 +26,10 @@ fn lay(alloc: Global, table: &mut Nodes, p: &Proc) -> Result<u32, Memory>
     ensures grows { OnOk result (Grows table.old table.new) }
     ensures size { OnOk result (length table.new ≡ length table.old + nodes p.now) }
 {
-    let (first, second) = parts(&p.form);
+    let (first, second) = parts(p.form.get());
     let first = lay_part(alloc, table, first)?;
     let second = lay_part(alloc, table, second)?;
-    let form = numbered(alloc, &p.form, first, second)?;
+    let form = numbered(alloc, p.form.get(), first, second)?;
     let id = table.len();
     table.put(Node {
         tag: p.tag,

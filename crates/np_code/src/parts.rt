@@ -30,12 +30,12 @@ pub fn parts(form: &ProcForm) -> (Option<&Proc>, Option<&Proc>)
         | ProcForm::Inp(_, _, body)
         | ProcForm::Rep(_, _, body)
         | ProcForm::Migrate(_, body)
-        | ProcForm::Let(_, _, body) => (Some(body.get()), None),
+        | ProcForm::Let(_, _, body) => (Some(body), None),
         ProcForm::Par(first, second)
         | ProcForm::Agent(_, first, second)
         | ProcForm::IfLocal(_, _, _, first, second)
         | ProcForm::If(_, first, second)
-        | ProcForm::Lookup(_, _, _, first, second) => (Some(first.get()), Some(second.get())),
+        | ProcForm::Lookup(_, _, _, first, second) => (Some(first), Some(second)),
     }
 }
 

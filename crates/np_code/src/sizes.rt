@@ -11,7 +11,7 @@ use np_syntax::{LowProgram, Proc};
 fn count(p: &Proc) -> u64
     ensures { result ≡ capped (nodes p.now) }
 {
-    let (first, second) = parts(&p.form);
+    let (first, second) = parts(p.form.get());
     let below = count_part(first).saturating_add(count_part(second));
     below.saturating_add(1)
 }

@@ -10,25 +10,18 @@ use np_syntax::process_forms::{
     bind, channel, iflocal, input, lookup, migrate, open_letter, output, post, print, replicated,
     send, test,
 };
-use np_syntax::{Boxed, LowProgram, Memory, Proc, ProcForm, copy_texts};
+use np_syntax::{LowProgram, Memory, Proc, ProcForm, copy_texts};
 use std::alloc::Global;
 
 /// The process that stands under a number.
 #[cycle(raising)]
 #[tactic(auto, using(crate::proofs::Layers::layers))]
-fn raise(alloc: Global, table: &Nodes, id: u32) -> Result<Boxed<Proc>, Memory>
+fn raise(alloc: Global, table: &Nodes, id: u32) -> Result<Proc, Memory>
     ensures { IfOk result (λ p. p ≡ nth table.now id) }
 {
     let node = table.at(id);
     let form = raise_form(alloc, table, id, &node.form)?;
-    Boxed::of(
-        alloc,
-        Proc {
-            tag: node.tag,
-            at: node.at,
-            form,
-        },
-    )
+    Proc::new(alloc, node.tag, node.at, form)
 }
 
 /// The form of the process of a node of this form, whose parts have numbers below `id`.
@@ -95,7 +88,7 @@ fn raise_two(
     id: u32,
     first: u32,
     second: u32,
-) -> Result<(Boxed<Proc>, Boxed<Proc>), Memory>
+) -> Result<(Proc, Proc), Memory>
     requires first { first < id }
     requires second { second < id }
     ensures { IfOk result (λ both. both ≡ (nth table.now first, nth table.now second)) }
@@ -115,7 +108,7 @@ pub fn unflatten(alloc: Global, code: &Code) -> Result<LowProgram, Memory>
     Ok(LowProgram {
         sites,
         at: code.at,
-        main: main.into_inner(),
-        daemon: daemon.into_inner(),
+        main,
+        daemon,
     })
 }

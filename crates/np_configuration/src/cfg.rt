@@ -173,7 +173,7 @@ impl Cfg {
         if agent != mate.agent {
             return Ok(None);
         }
-        let ProcForm::Out(on, value) = &mate.proc.form else {
+        let ProcForm::Out(on, value) = mate.proc.form.get() else {
             return Ok(None);
         };
         if chan_of(on, &mate.env) != Some(chan) {

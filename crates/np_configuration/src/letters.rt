@@ -47,7 +47,7 @@ impl Cfg {
         let Some((chan, value)) = letter_of(alloc, letter, &atom.env)? else {
             return Err(NotEnabled);
         };
-        Ok(output_in(alloc, atom.agent, chan, value, e.tag))
+        Ok(output_in(alloc, atom.agent, chan, value, e.tag)?)
     }
 
     #[tactic(auto, using(np_tables::proofs::Tables::puts))]

@@ -102,7 +102,7 @@ impl Cfg {
         let Some(value) = eval(alloc, value, &atom.env)? else {
             return Err(NotEnabled);
         };
-        Ok(output_in(alloc, agent, chan, value, e.tag))
+        Ok(output_in(alloc, agent, chan, value, e.tag)?)
     }
 
     /// A packet whose agent is at its site becomes an output there, and any other is lost.
@@ -121,12 +121,10 @@ impl Cfg {
         }
         let agent = packet.agent;
         let chan = packet.chan;
+        let made = output_in(alloc, agent, chan, packet.value.copy(alloc)?, e.tag)?;
         let comes = Errand::Gives(Meeting { agent, chan });
         file(&mut self.atoms, &mut self.work, e.actor, comes)?;
-        let Some(packet) = self.packets.take(e.actor) else {
-            unreachable!();
-        };
-        let made = output_in(alloc, agent, chan, packet.value, e.tag);
+        self.packets.remove(e.actor);
         self.atoms.put(e.actor, made);
         Ok(())
     }
@@ -186,6 +184,7 @@ impl Cfg {
         let agent = asked.agent;
         let chan = asked.chan;
         let comes = Errand::Gives(Meeting { agent, chan });
+        let made = output_in(alloc, agent, chan, asked.value, e.tag)?;
         file_two(
             &mut self.atoms,
             &mut self.born,
@@ -193,7 +192,6 @@ impl Cfg {
             (mark, comes),
             (e.actor, asked.errand),
         )?;
-        let made = output_in(alloc, agent, chan, asked.value, e.tag);
         self.atoms.put(mark, made);
         go_on(&mut self.atoms, e.actor, true);
         self.born.put(mark);

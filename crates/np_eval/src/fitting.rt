@@ -31,7 +31,7 @@ pub fn fits(p: &Pat, e: &Expr, env: &Frame) -> bool
     match &p.form {
         PatForm::Any => has_value(e, env),
         PatForm::Bind(_) => has_value(e, env),
-        PatForm::Tuple(parts) => fits_tuple(parts.as_slice(), &e.form, env),
+        PatForm::Tuple(parts) => fits_tuple(parts.as_slice(), e.form.get(), env),
     }
 }
 
@@ -124,7 +124,7 @@ fn has_value(e: &Expr, env: &Frame) -> bool
 pub fn eval_shape(e: &Expr, env: &Frame) -> Option<Shape>
     ensures { result ≡ option_map shape_of (eval e.now env.now) }
 {
-    eval_form_shape(&e.form, env)
+    eval_form_shape(e.form.get(), env)
 }
 
 #[tactic(auto, using(crate::proofs::FittingShapes::shapes))]
@@ -146,19 +146,19 @@ fn eval_form_shape(form: &ExprForm, env: &Frame) -> Option<Shape>
             }
         }
         ExprForm::Bin(op, a, b) => {
-            let x = eval_shape(a.get(), env)?;
-            let y = eval_shape(b.get(), env)?;
+            let x = eval_shape(a, env)?;
+            let y = eval_shape(b, env)?;
             operate_shape(*op, x, y)
         }
         ExprForm::Pack(chan, e) => {
-            let chan = eval_shape(chan.get(), env)?;
-            eval_shape(e.get(), env)?;
+            let chan = eval_shape(chan, env)?;
+            eval_shape(e, env)?;
             pack_shape(chan)
         }
         ExprForm::With(places, agent, lock) => {
-            let places = eval_shape(places.get(), env)?;
-            let agent = eval_shape(agent.get(), env)?;
-            let lock = eval_shape(lock.get(), env)?;
+            let places = eval_shape(places, env)?;
+            let agent = eval_shape(agent, env)?;
+            let lock = eval_shape(lock, env)?;
             with_shape(places, agent, lock)
         }
     }

@@ -9,7 +9,7 @@ use np_syntax::{Expr, Pat, Proc, ProcForm, Ty};
 pub fn as_stop(p: &Proc) -> Option<()>
     ensures { result ≡ as_stop (layer p.now) }
 {
-    match &p.form {
+    match p.form.get() {
         ProcForm::Stop => Some(()),
         _ => None,
     }
@@ -19,8 +19,8 @@ pub fn as_stop(p: &Proc) -> Option<()>
 pub fn as_par(p: &Proc) -> Option<(&Proc, &Proc)>
     ensures { option_map (λ parts. (parts.0.now, parts.1.now)) result ≡ as_par (layer p.now) }
 {
-    match &p.form {
-        ProcForm::Par(left, right) => Some((left.get(), right.get())),
+    match p.form.get() {
+        ProcForm::Par(left, right) => Some((left, right)),
         _ => None,
     }
 }
@@ -29,8 +29,8 @@ pub fn as_par(p: &Proc) -> Option<(&Proc, &Proc)>
 pub fn as_new(p: &Proc) -> Option<(u32, &Ty, &Proc)>
     ensures { option_map (λ parts. (parts.0, parts.1.now, parts.2.now)) result ≡ as_new (layer p.now) }
 {
-    match &p.form {
-        ProcForm::New(binder, ty, body) => Some((*binder, ty, body.get())),
+    match p.form.get() {
+        ProcForm::New(binder, ty, body) => Some((*binder, ty, body)),
         _ => None,
     }
 }
@@ -39,8 +39,8 @@ pub fn as_new(p: &Proc) -> Option<(u32, &Ty, &Proc)>
 pub fn as_inp(p: &Proc) -> Option<(&Expr, &Pat, &Proc)>
     ensures { option_map (λ parts. (parts.0.now, parts.1.now, parts.2.now)) result ≡ as_inp (layer p.now) }
 {
-    match &p.form {
-        ProcForm::Inp(chan, pat, body) => Some((chan, pat, body.get())),
+    match p.form.get() {
+        ProcForm::Inp(chan, pat, body) => Some((chan, pat, body)),
         _ => None,
     }
 }
@@ -49,8 +49,8 @@ pub fn as_inp(p: &Proc) -> Option<(&Expr, &Pat, &Proc)>
 pub fn as_rep(p: &Proc) -> Option<(&Expr, &Pat, &Proc)>
     ensures { option_map (λ parts. (parts.0.now, parts.1.now, parts.2.now)) result ≡ as_rep (layer p.now) }
 {
-    match &p.form {
-        ProcForm::Rep(chan, pat, body) => Some((chan, pat, body.get())),
+    match p.form.get() {
+        ProcForm::Rep(chan, pat, body) => Some((chan, pat, body)),
         _ => None,
     }
 }
@@ -59,8 +59,8 @@ pub fn as_rep(p: &Proc) -> Option<(&Expr, &Pat, &Proc)>
 pub fn as_agent_form(p: &Proc) -> Option<(u32, &Proc, &Proc)>
     ensures { option_map (λ parts. (parts.0, parts.1.now, parts.2.now)) result ≡ as_agent_form (layer p.now) }
 {
-    match &p.form {
-        ProcForm::Agent(binder, body, rest) => Some((*binder, body.get(), rest.get())),
+    match p.form.get() {
+        ProcForm::Agent(binder, body, rest) => Some((*binder, body, rest)),
         _ => None,
     }
 }
@@ -69,8 +69,8 @@ pub fn as_agent_form(p: &Proc) -> Option<(u32, &Proc, &Proc)>
 pub fn as_migrate(p: &Proc) -> Option<(&Expr, &Proc)>
     ensures { option_map (λ parts. (parts.0.now, parts.1.now)) result ≡ as_migrate (layer p.now) }
 {
-    match &p.form {
-        ProcForm::Migrate(site, body) => Some((site, body.get())),
+    match p.form.get() {
+        ProcForm::Migrate(site, body) => Some((site, body)),
         _ => None,
     }
 }
@@ -79,9 +79,9 @@ pub fn as_migrate(p: &Proc) -> Option<(&Expr, &Proc)>
 pub fn as_iflocal(p: &Proc) -> Option<(&Expr, &Expr, &Expr, &Proc, &Proc)>
     ensures { option_map (λ parts. (parts.0.now, parts.1.now, parts.2.now, parts.3.now, parts.4.now)) result ≡ as_iflocal (layer p.now) }
 {
-    match &p.form {
+    match p.form.get() {
         ProcForm::IfLocal(agent, chan, value, met, unmet) => {
-            Some((agent, chan, value, met.get(), unmet.get()))
+            Some((agent, chan, value, met, unmet))
         }
         _ => None,
     }
@@ -91,7 +91,7 @@ pub fn as_iflocal(p: &Proc) -> Option<(&Expr, &Expr, &Expr, &Proc, &Proc)>
 pub fn as_send(p: &Proc) -> Option<(&Expr, &Expr, &Expr, &Expr)>
     ensures { option_map (λ parts. (parts.0.now, parts.1.now, parts.2.now, parts.3.now)) result ≡ as_send (layer p.now) }
 {
-    match &p.form {
+    match p.form.get() {
         ProcForm::Send(agent, site, chan, value) => Some((agent, site, chan, value)),
         _ => None,
     }
@@ -101,7 +101,7 @@ pub fn as_send(p: &Proc) -> Option<(&Expr, &Expr, &Expr, &Expr)>
 pub fn as_post(p: &Proc) -> Option<(&Expr, &Expr, &Expr)>
     ensures { option_map (λ parts. (parts.0.now, parts.1.now, parts.2.now)) result ≡ as_post (layer p.now) }
 {
-    match &p.form {
+    match p.form.get() {
         ProcForm::Post(agent, chan, value) => Some((agent, chan, value)),
         _ => None,
     }
@@ -111,8 +111,8 @@ pub fn as_post(p: &Proc) -> Option<(&Expr, &Expr, &Expr)>
 pub fn as_if(p: &Proc) -> Option<(&Expr, &Proc, &Proc)>
     ensures { option_map (λ parts. (parts.0.now, parts.1.now, parts.2.now)) result ≡ as_if (layer p.now) }
 {
-    match &p.form {
-        ProcForm::If(test, met, unmet) => Some((test, met.get(), unmet.get())),
+    match p.form.get() {
+        ProcForm::If(test, met, unmet) => Some((test, met, unmet)),
         _ => None,
     }
 }
@@ -121,8 +121,8 @@ pub fn as_if(p: &Proc) -> Option<(&Expr, &Proc, &Proc)>
 pub fn as_let(p: &Proc) -> Option<(&Pat, &Expr, &Proc)>
     ensures { option_map (λ parts. (parts.0.now, parts.1.now, parts.2.now)) result ≡ as_let (layer p.now) }
 {
-    match &p.form {
-        ProcForm::Let(pat, value, body) => Some((pat, value, body.get())),
+    match p.form.get() {
+        ProcForm::Let(pat, value, body) => Some((pat, value, body)),
         _ => None,
     }
 }
@@ -131,7 +131,7 @@ pub fn as_let(p: &Proc) -> Option<(&Pat, &Expr, &Proc)>
 pub fn as_print(p: &Proc) -> Option<&Expr>
     ensures { option_map (λ e. e.now) result ≡ as_print (layer p.now) }
 {
-    match &p.form {
+    match p.form.get() {
         ProcForm::Print(e) => Some(e),
         _ => None,
     }
@@ -141,7 +141,7 @@ pub fn as_print(p: &Proc) -> Option<&Expr>
 pub fn as_open(p: &Proc) -> Option<&Expr>
     ensures { option_map (λ e. e.now) result ≡ as_open (layer p.now) }
 {
-    match &p.form {
+    match p.form.get() {
         ProcForm::Open(e) => Some(e),
         _ => None,
     }
@@ -151,9 +151,9 @@ pub fn as_open(p: &Proc) -> Option<&Expr>
 pub fn as_lookup(p: &Proc) -> Option<(&Expr, &Expr, u32, &Proc, &Proc)>
     ensures { option_map (λ parts. (parts.0.now, parts.1.now, parts.2, parts.3.now, parts.4.now)) result ≡ as_lookup (layer p.now) }
 {
-    match &p.form {
+    match p.form.get() {
         ProcForm::Lookup(agent, places, binder, met, unmet) => {
-            Some((agent, places, *binder, met.get(), unmet.get()))
+            Some((agent, places, *binder, met, unmet))
         }
         _ => None,
     }

@@ -15,7 +15,7 @@ use std::alloc::Global;
 pub fn chan_of(e: &Expr, env: &Frame) -> Option<Name>
     ensures { result ≡ chan_of e.now env.now }
 {
-    match &e.form {
+    match e.form.get() {
         ExprForm::Val(v) => as_chan(v),
         ExprForm::Var(x) => match env.get(*x) {
             Some(v) => as_chan(v),
@@ -93,7 +93,7 @@ pub fn find_place(pairs: &[(Name, Name)], agent: Name) -> Option<Name>
 pub fn errand_of(agent: Name, proc: &Proc, env: &Frame) -> Errand
     ensures { result ≡ errand_at agent env.now (layer proc.now) }
 {
-    match &proc.form {
+    match proc.form.get() {
         ProcForm::Out(chan, _) => match chan_of(chan, env) {
             Some(chan) => Errand::Gives(Meeting { agent, chan }),
             None => Errand::Stuck,

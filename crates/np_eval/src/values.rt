@@ -16,7 +16,7 @@ use std::alloc::Global;
 pub fn eval(alloc: Global, e: &Expr, env: &Frame) -> Result<Option<Value>, Memory>
     ensures { IfOk result (λ v. v ≡ eval e.now env.now) }
 {
-    eval_form(alloc, &e.form, env)
+    eval_form(alloc, e.form.get(), env)
 }
 
 #[tactic(auto, using(crate::proofs::Evals::evals))]
@@ -35,31 +35,31 @@ fn eval_form(alloc: Global, form: &ExprForm, env: &Frame) -> Result<Option<Value
             None => Ok(None),
         },
         ExprForm::Bin(op, a, b) => {
-            let Some(x) = eval(alloc, a.get(), env)? else {
+            let Some(x) = eval(alloc, a, env)? else {
                 return Ok(None);
             };
-            let Some(y) = eval(alloc, b.get(), env)? else {
+            let Some(y) = eval(alloc, b, env)? else {
                 return Ok(None);
             };
             Ok(operate(*op, &x, &y))
         }
         ExprForm::Pack(chan, e) => {
-            let Some(chan) = eval(alloc, chan.get(), env)? else {
+            let Some(chan) = eval(alloc, chan, env)? else {
                 return Ok(None);
             };
-            let Some(v) = eval(alloc, e.get(), env)? else {
+            let Some(v) = eval(alloc, e, env)? else {
                 return Ok(None);
             };
             pack(alloc, &chan, v)
         }
         ExprForm::With(places, agent, lock) => {
-            let Some(places) = eval(alloc, places.get(), env)? else {
+            let Some(places) = eval(alloc, places, env)? else {
                 return Ok(None);
             };
-            let Some(agent) = eval(alloc, agent.get(), env)? else {
+            let Some(agent) = eval(alloc, agent, env)? else {
                 return Ok(None);
             };
-            let Some(lock) = eval(alloc, lock.get(), env)? else {
+            let Some(lock) = eval(alloc, lock, env)? else {
                 return Ok(None);
             };
             with_place(alloc, &places, &agent, &lock)

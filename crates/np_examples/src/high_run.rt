@@ -1,8 +1,8 @@
 //! The run of the source that is read off a run on sites: it is made again at the high level.
 
-use cache_lift::lift_cached;
 use np_check::Checked;
 use np_configuration::{Cfg, start_high};
+use np_lift::lift_cached;
 use np_replay::{ReplayFail, follow};
 use np_run::{Record, Refusal};
 use np_syntax::{End, Event, Kind, LONGEST_SOURCE, Made, Memory, Role, Value};

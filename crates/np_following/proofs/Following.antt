@@ -17,7 +17,7 @@ use Rattle.run_merge.specs.Laws.{AreHistories, IsInOrder, IsNoLater, of_site}
 use Rattle.run_merge.specs.Merged.{comes_before, events_of, items, merged, ranked}
 use Rattle.run_merge.proofs.InOrder.{all_append, all_weaker}
 use Rattle.run_merge.proofs.Ranks.{ascending, keeps_events, keeps_histories, no_others, only}
-use Rattle.np_stamped_run.proofs.Moving.{below_or_not}
+use Rattle.np_merged_run.proofs.Moving.{below_or_not}
 use Rattle.np_site_runs.proofs.Accounts.{own-sites}
 use Rattle.np_following.specs.Following.{AreInPlace, AreNumbered, AreOf, HaveOneMore, NoneFollow, OneMoreFollows, RoomIsLeft, events_at}
 

@@ -2,3 +2,10 @@ pub mod Following
 pub mod Names
 pub mod Parts
 pub mod Resuming
+pub mod Ending
+pub mod Moving
+pub mod Lists
+pub mod TravelNames
+pub mod Trips
+pub mod Turns
+pub mod Ways

@@ -15,7 +15,7 @@ use Rattle.np_calculus.proofs.OwnNames.{not_true}
 use Rattle.np_calculus.proofs.Steps.{row-step}
 use Rattle.np_merged_run.proofs.Steps.{false_eq}
 use Rattle.run_merge.specs.Merged.{items, merged}
-use Rattle.np_holdings.specs.Holdings.{name_of}
+use Rattle.np_site_runs.specs.Holdings.{name_of}
 use Rattle.np_site_runs.proofs.Starting.{low_start_is_held}
 use Rattle.run_save.specs.Ours.{AreNext, names_by, names_of}
 use Rattle.run_save.proofs.NameLaws.{next-back, next-front}

@@ -22,11 +22,11 @@ use Rattle.np_merged_run.specs.Steps.{IsItem, IsSpread, Spread, sites}
 use Rattle.np_syntax.proofs.Reorderings.{reorder-after}
 use Rattle.np_merged_run.proofs.Joined.{every-append, reorder-joined}
 use Rattle.np_merged_run.proofs.Steps.{false_eq, not_eq, together-away, together-lodged}
-use Rattle.np_stamped_run.specs.Elements.{Occurs}
-use Rattle.np_stamped_run.proofs.Elements.{occurs-either, occurs-not}
-use Rattle.np_holdings.specs.Holdings.{Holding, IsPart, name_of}
-use Rattle.np_holdings.specs.Making.{AreNext}
-use Rattle.np_stamped_run.proofs.Resting.{place-in}
+use Rattle.np_merged_run.specs.Elements.{Occurs}
+use Rattle.np_merged_run.proofs.Elements.{occurs-either, occurs-not}
+use Rattle.np_site_runs.specs.Holdings.{Holding, IsPart, name_of}
+use Rattle.np_site_runs.specs.Making.{AreNext}
+use Rattle.np_merged_run.proofs.Resting.{place-in}
 use Rattle.np_following.specs.Parts.{EnabledInPart, EventIsOfSite}
 
 -- ---- the sites but one

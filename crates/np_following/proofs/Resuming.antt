@@ -14,7 +14,7 @@ use Rattle.run_merge.specs.Laws.{IsInOrder, IsNoLater, of_site}
 use Rattle.run_merge.specs.Merged.{events_of, merged, ranked}
 use Rattle.run_merge.proofs.InOrder.{all_append, all_filter, all_map, all_pass, all_weaker, at_cond, keeps_all, keeps_none}
 use Rattle.run_merge.proofs.Ranks.{ascending, only}
-use Rattle.np_stamped_run.proofs.Moving.{below_or_not}
+use Rattle.np_merged_run.proofs.Moving.{below_or_not}
 use Rattle.np_following.specs.Following.{AreInPlace, AreOf, HaveLater, IsResumed, ResumesWhereLater}
 use Rattle.np_following.proofs.Following.{numbered-below, of-none, of-place}
 

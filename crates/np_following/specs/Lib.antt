@@ -1,3 +1,5 @@
 pub mod Following
 pub mod Names
 pub mod Parts
+pub mod TravelLaws
+pub mod Shown

@@ -5,7 +5,7 @@ use Rattle.np_calculus.specs.Config.{Config}
 use Rattle.np_calculus.specs.NotEnabled.{by_atom}
 use Rattle.np_calculus.specs.Reductions.{apply}
 use Rattle.stamp_history.specs.Histories.{Recorded}
-use Rattle.np_holdings.specs.Making.{AreNext}
+use Rattle.np_site_runs.specs.Making.{AreNext}
 use Rattle.np_site_runs.specs.Accounts.{Accounts, SitesEnd}
 
 -- an event of an atom is one of a site

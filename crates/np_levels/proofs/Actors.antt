@@ -22,16 +22,16 @@ use Rattle.np_calculus.specs.Sight.{inside}
 use Rattle.np_calculus.specs.Reductions.{same_tag}
 use Rattle.np_calculus.proofs.Steps.{Acts}
 use Rattle.np_calculus.specs.Starts.{daemon_agent}
-use Rattle.cache_lift.specs.Lift.{stands_for}
+use Rattle.np_lift.specs.CachedLift.{stands_for}
 use Rattle.np_eval.specs.Eval.{agent_of, as_agent, chan_of, eval}
 use Rattle.np_eval.specs.Forms.{Layer, layer}
 use Rattle.np_scope.specs.Sound.{IsSoundExpr}
 use Rattle.np_scope.specs.Written.{IsLiteral}
 use Rattle.np_scope.proofs.SoundParts.{ProcParts, proc-parts}
 use Rattle.infrastructure_texts.specs.Infrastructures.{Infrastructure}
-use Rattle.np_source_values.specs.Known.{IsKnown, Knows}
-use Rattle.np_source_values.proofs.Known.{value-is-known}
-use Rattle.np_source_values.proofs.Values.{same-value}
+use Rattle.np_things.specs.Known.{IsKnown, Knows}
+use Rattle.np_things.proofs.Known.{value-is-known}
+use Rattle.np_things.proofs.Values.{same-value}
 use Rattle.np_things.specs.Acting.{begins}
 use Rattle.np_things.specs.Shapes.{Is, IsOfSource}
 use Rattle.np_things.specs.Things.{Stage, Thing, first_atom_of}

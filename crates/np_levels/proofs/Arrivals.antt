@@ -37,7 +37,7 @@ use Rattle.np_levels.proofs.Scenes.{scene_put}
 use Rattle.np_levels.proofs.Together.{together}
 use Rattle.np_levels.proofs.Caches.{by_step, reordered, same_agents}
 use Rattle.np_levels.specs.Letters.{SameLetters}
-use Rattle.cache_rule.specs.Steps.{CacheStep}
+use Rattle.np_protocol.specs.CacheSteps.{CacheStep}
 use Rattle.np_levels.proofs.Applies.{takes_nothing}
 
 -- what an Arrive does

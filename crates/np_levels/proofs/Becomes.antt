@@ -47,7 +47,7 @@ use Rattle.np_levels.proofs.Quiet.{any_kept, quiet}
 use Rattle.np_levels.proofs.Shapes.{of_actor, same_role}
 use Rattle.np_levels.proofs.Caches.{handed_on}
 use Rattle.np_levels.specs.Letters.{IsHanding, OtherLetter, SameLetters, first_letter_of}
-use Rattle.cache_rule.specs.Steps.{CacheStep}
+use Rattle.np_protocol.specs.CacheSteps.{CacheStep}
 
 -- a step without what is both taken and given
 pub cancel : {A : Type 0} {before after take give : List A} (took gave both : List A) → Step before after take give → IsPermutation take (took ++ both) → IsPermutation give (gave ++ both) → Step before after took gave

@@ -12,10 +12,10 @@ use Rattle.np_eval.specs.Eval.{Env, bind, eval}
 use Rattle.np_scope.specs.Sound.{AllBelow, Among, BindAll, Binds, IsSoundProc, NoneTwice}
 use Rattle.np_scope.proofs.SoundParts.{BodyParts, TwoParts}
 use Rattle.daemon_encode.proofs.Binders.{among-first, among-second, once-first, once-second, below-first, below-second}
-use Rattle.np_source_values.specs.Known.{IsKnown, Knows}
-use Rattle.np_source_values.specs.Sources.{Agrees, IsSource, Names}
-use Rattle.np_source_values.proofs.Known.{keeps-known}
-use Rattle.np_source_values.proofs.Values.{agent-stays, same-binding, agrees-put}
+use Rattle.np_things.specs.Known.{IsKnown, Knows}
+use Rattle.np_things.specs.Sources.{Agrees, IsSource, Names}
+use Rattle.np_things.proofs.Known.{keeps-known}
+use Rattle.np_things.proofs.Values.{agent-stays, same-binding, agrees-put}
 use Rattle.np_things.specs.Shapes.{StandsFor}
 use Rattle.np_levels.proofs.Values.{there_is, bind-one}
 use Rattle.infrastructure_texts.specs.Pieces.{name}

@@ -24,15 +24,15 @@ use Rattle.np_eval.specs.Forms.{layer}
 use Rattle.np_protocol.specs.Chips.{Chip}
 use Rattle.np_protocol.specs.Rules.{IsKnowledge, IsLearnt, Rule}
 use Rattle.np_protocol.proofs.Keeps.{keeps-protocol}
-use Rattle.cache_rule.specs.Steps.{CacheStep}
+use Rattle.np_protocol.specs.CacheSteps.{CacheStep}
 use Rattle.np_scope.proofs.SoundParts.{ProcParts, proc-parts}
 use Rattle.infrastructure_texts.specs.Pieces.{beside, daemon, gives, name, nothing, pair, site, takes, variable}
 use Rattle.infrastructure_texts.specs.Texts as central
 use Rattle.infrastructure_texts.specs.CacheTexts.{adds, asking, asks, goes_by_daemon, goes_by_hint, keeps, makes_messenger, replaces}
 use Rattle.infrastructure_texts.specs.Infrastructures.{Infrastructure}
-use Rattle.np_source_values.specs.Known.{Knows}
-use Rattle.np_source_values.proofs.Known.{value-is-known}
-use Rattle.np_source_values.proofs.Values.{same-value}
+use Rattle.np_things.specs.Known.{Knows}
+use Rattle.np_things.proofs.Known.{value-is-known}
+use Rattle.np_things.proofs.Values.{same-value}
 use Rattle.np_things.specs.Acting.{begins}
 use Rattle.np_things.specs.CacheShapes.{IsCalling, IsTelling}
 use Rattle.np_things.specs.Mail.{Mail}

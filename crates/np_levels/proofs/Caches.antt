@@ -20,11 +20,11 @@ use Rattle.np_calculus.specs.declared.config.Place.{Place}
 use Rattle.np_calculus.proofs.FrameRule.{made-unborn}
 use Rattle.np_calculus.proofs.Steps.{row-step}
 use Rattle.np_protocol.specs.Steps.{Step}
-use Rattle.cache_rule.specs.Chips.{CacheChip}
-use Rattle.cache_rule.specs.Levels.{NamesGrow}
-use Rattle.cache_rule.specs.Rule.{CacheRule}
-use Rattle.cache_rule.specs.Steps.{CacheStep}
-use Rattle.cache_rule.proofs.Keeps.{keeps-rule}
+use Rattle.np_protocol.specs.CacheChips.{CacheChip}
+use Rattle.np_protocol.specs.CacheLevels.{NamesGrow}
+use Rattle.np_protocol.specs.CacheRule.{CacheRule}
+use Rattle.np_protocol.specs.CacheSteps.{CacheStep}
+use Rattle.np_protocol.proofs.CacheKeeps.{keeps-rule}
 use Rattle.infrastructure_texts.specs.Infrastructures.{Infrastructure}
 use Rattle.np_things.specs.Things.{Thing, carried}
 use Rattle.np_levels.specs.Coupled.{IsCarrier, cache_chips, levels}

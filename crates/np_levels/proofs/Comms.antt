@@ -71,7 +71,7 @@ use Rattle.np_levels.proofs.Shapes.{of_actor, of_atom, same_role}
 use Rattle.np_levels.proofs.Values.{agent-is, bind-one, channel-is, here_is, pair-is, there_is, unit-is, variable-is, gives_two, named_is, stands_on, stands_under}
 use Rattle.np_levels.proofs.Caches.{handed_on}
 use Rattle.np_levels.specs.Letters.{SameLetters}
-use Rattle.cache_rule.specs.Steps.{CacheStep}
+use Rattle.np_protocol.specs.CacheSteps.{CacheStep}
 
 -- what a server's copy took it still has when it has the map
 took_kept : (n x : ℕ) (k : Service) (m : Mail) (env : Env) (u : Value) → Took x k m env → Took x k m (map.insert env (desk n x k).map u)

@@ -37,9 +37,9 @@ unfoldable use Rattle.np_calculus.proofs.Common.{act}
 use Rattle.np_calculus.proofs.OwnNames.{not_true}
 use Rattle.np_calculus.proofs.Rows.{parts}
 use Rattle.np_calculus.proofs.Steps.{Acts, acting-step, is-two, row-step, step-acting}
-use Rattle.cache_lift.specs.Lift.{stands_for}
-use Rattle.cache_rule.specs.Levels.{OneMore}
-use Rattle.cache_rule.specs.Steps.{CacheStep}
+use Rattle.np_lift.specs.CachedLift.{stands_for}
+use Rattle.np_protocol.specs.CacheLevels.{OneMore}
+use Rattle.np_protocol.specs.CacheSteps.{CacheStep}
 use Rattle.np_eval.specs.Eval.{Env, eval, find_place}
 use Rattle.np_eval.specs.Forms.{Layer, layer}
 use Rattle.np_protocol.specs.Chips.{Chip}
@@ -55,8 +55,8 @@ use Rattle.infrastructure_texts.specs.Texts.{begins as begins_text, server_text,
 use Rattle.infrastructure_texts.specs.Infrastructures.{Infrastructure}
 use Rattle.infrastructure_texts.specs.InfrastructureTexts.{child_of}
 use Rattle.infrastructure_texts.specs.CacheTexts.{empty_cache, found_server, registers, with_cache}
-use Rattle.np_source_values.specs.Known.{IsKnown, Knows}
-use Rattle.np_source_values.specs.Sources.{Agrees, Names}
+use Rattle.np_things.specs.Known.{IsKnown, Knows}
+use Rattle.np_things.specs.Sources.{Agrees, Names}
 use Rattle.np_things.specs.Acting.{begins}
 use Rattle.np_things.specs.Mail.{Mail}
 use Rattle.np_things.specs.Shapes.{Are, Is, IsAgents, IsMaking}
@@ -86,7 +86,7 @@ use Rattle.np_levels.proofs.Caches.{carry_put, KeepsHints, by_step}
 use Rattle.np_levels.proofs.Applies.{takes_nothing}
 use Rattle.np_calculus.proofs.Fits.{some}
 use Rattle.np_calculus.proofs.FrameRule.{not-false}
-use Rattle.np_source_values.proofs.Values.{agrees-put}
+use Rattle.np_things.proofs.Values.{agrees-put}
 use Rattle.np_levels.proofs.Bodies.{knows_put}
 
 -- what an Agent changes: the new agent at its site, its first atom, and the one that made it

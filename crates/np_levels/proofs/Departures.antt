@@ -33,8 +33,8 @@ use Rattle.np_calculus.specs.Starts.{daemon_agent, own}
 unfoldable use Rattle.np_calculus.proofs.Common.{act}
 use Rattle.np_calculus.proofs.Rows.{parts}
 use Rattle.np_calculus.proofs.Steps.{Acts, acting-step, is-none, row-step, step-acting}
-use Rattle.cache_lift.specs.Lift.{stands_for}
-use Rattle.cache_rule.specs.Steps.{CacheStep}
+use Rattle.np_lift.specs.CachedLift.{stands_for}
+use Rattle.np_protocol.specs.CacheSteps.{CacheStep}
 use Rattle.np_eval.specs.Eval.{Env, as_site, eval}
 use Rattle.np_eval.specs.Forms.{Layer, layer}
 use Rattle.np_protocol.specs.Chips.{Chip}
@@ -47,7 +47,7 @@ use Rattle.np_protocol.proofs.Keeps.{keeps-protocol}
 use Rattle.infrastructure_texts.specs.Pieces.{beside, daemon, migrated, pair, site, tells}
 use Rattle.infrastructure_texts.specs.Texts.{settles}
 use Rattle.infrastructure_texts.specs.Infrastructures.{Infrastructure}
-use Rattle.np_source_values.proofs.Values.{same-value}
+use Rattle.np_things.proofs.Values.{same-value}
 use Rattle.np_things.specs.Acting.{begins}
 use Rattle.np_things.specs.Mail.{Mail}
 use Rattle.np_things.specs.Shapes.{Are, Is, IsLeaving, StandsFor}

@@ -7,11 +7,11 @@ use Rattle.np_calculus.specs.declared.config.Atom.{Atom}
 use Rattle.np_calculus.specs.Changes.{cut, effect, still, with_made, with_said}
 use Rattle.np_calculus.specs.Config.{Config}
 use Rattle.np_calculus.specs.Reductions.{apply, becomes}
-use Rattle.cache_lift.specs.Lift.{stands_for}
+use Rattle.np_lift.specs.CachedLift.{stands_for}
 use Rattle.np_eval.specs.Eval.{Env}
 use Rattle.infrastructure_texts.specs.Infrastructures.{Infrastructure}
-use Rattle.np_source_values.specs.Known.{Knows}
-use Rattle.np_source_values.proofs.Known.{known-more}
+use Rattle.np_things.specs.Known.{Knows}
+use Rattle.np_things.proofs.Known.{known-more}
 use Rattle.np_things.specs.Shapes.{IsOfSource}
 use Rattle.np_things.specs.Things.{Thing, first_packet_of}
 use Rattle.np_levels.specs.Coupled.{Coupled, View, is_channel}

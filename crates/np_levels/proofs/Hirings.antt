@@ -33,13 +33,13 @@ use Rattle.np_protocol.specs.Protocol.{Protocol}
 use Rattle.np_protocol.specs.Rules.{IsKnowledge, IsLearnt, Rule}
 use Rattle.np_protocol.specs.Steps.{Step}
 use Rattle.np_protocol.proofs.Keeps.{keeps-protocol}
-use Rattle.cache_lift.specs.Lift.{stands_for, with_messenger, Standing}
-use Rattle.cache_lift.specs.Posts.{letter_carried, letter_given, letter_hired, letter_tried}
-use Rattle.cache_lift.proofs.Standings.{stands-as_before, stands-new}
+use Rattle.np_lift.specs.CachedLift.{stands_for, with_messenger, Standing}
+use Rattle.np_lift.specs.CachedPosts.{letter_carried, letter_given, letter_hired, letter_tried}
+use Rattle.np_lift.proofs.Standings.{stands-as_before, stands-new}
 use Rattle.infrastructure_texts.specs.Pieces.{stop, variable}
 use Rattle.infrastructure_texts.specs.CacheTexts.{hands_back, messenger_text, tries}
 use Rattle.infrastructure_texts.specs.Infrastructures.{Infrastructure}
-use Rattle.cache_rule.specs.Steps.{CacheStep}
+use Rattle.np_protocol.specs.CacheSteps.{CacheStep}
 use Rattle.np_things.specs.Acting.{begins}
 use Rattle.np_things.specs.CacheShapes.{IsHiring}
 use Rattle.np_things.specs.Mail.{Posted, as_output}

@@ -23,7 +23,7 @@ unfoldable use Rattle.np_calculus.proofs.Common.{act, away_row, here_row}
 use Rattle.np_calculus.proofs.FrameRule.{not-false}
 use Rattle.np_calculus.proofs.Rows.{parts}
 use Rattle.np_calculus.proofs.Steps.{Acts, acting-step, is-none, is-one, one-new, row-step, step-acting}
-use Rattle.cache_lift.specs.Lift.{stands_for}
+use Rattle.np_lift.specs.CachedLift.{stands_for}
 use Rattle.np_eval.specs.Eval.{agent_of, as_agent, as_chan, chan_of, eval}
 use Rattle.np_eval.specs.Forms.{layer}
 use Rattle.infrastructure_texts.specs.Infrastructures.{Infrastructure}

@@ -12,9 +12,9 @@ use Rattle.np_calculus.specs.Changes.{effect, put, still, with_made}
 use Rattle.np_calculus.specs.Config.{Config}
 use Rattle.np_calculus.specs.Reductions.{apply}
 use Rattle.np_calculus.proofs.OwnNames.{not_true}
-use Rattle.cache_lift.specs.Lift.{stands_for}
+use Rattle.np_lift.specs.CachedLift.{stands_for}
 use Rattle.infrastructure_texts.specs.Infrastructures.{Infrastructure}
-use Rattle.np_source_values.specs.Known.{Knows}
+use Rattle.np_things.specs.Known.{Knows}
 use Rattle.np_things.specs.Shapes.{Is, IsOfSource}
 use Rattle.np_things.specs.Things.{Thing, first_packet_of, high_atom, high_packet}
 use Rattle.np_levels.specs.Coupled.{Coupled, View, is_channel}

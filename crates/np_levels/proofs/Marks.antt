@@ -21,7 +21,7 @@ use Rattle.np_protocol.specs.Scenes.{Locks, Scene}
 use Rattle.np_protocol.specs.Steps.{Step}
 use Rattle.np_protocol.specs.Rules.{IsKnowledge, IsLearnt, Rule}
 use Rattle.np_protocol.proofs.Keeps.{keeps-protocol}
-use Rattle.cache_rule.specs.Steps.{CacheStep}
+use Rattle.np_protocol.specs.CacheSteps.{CacheStep}
 use Rattle.infrastructure_texts.specs.Infrastructures.{Infrastructure}
 use Rattle.np_things.specs.Things.{Thing, first_atom_of, first_packet_of, shows_caches, high_atom, high_packet, show_all, show_all_caches, shows}
 use Rattle.np_levels.specs.Coupled.{Coupled, IsCarrier, IsShaped, KnowsOnly, View, chips, is_channel, is_child_of, levels, may_know, scene, shown, cache_chips}

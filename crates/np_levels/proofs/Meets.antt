@@ -43,7 +43,7 @@ use Rattle.np_levels.proofs.Outputs.{is_output}
 use Rattle.np_levels.proofs.Quiet.{knows_more, or_cases, or_second, quiet}
 use Rattle.np_levels.proofs.Caches.{by_step, carry_cut, carry_put}
 use Rattle.np_levels.specs.Letters.{SameLetters, first_letter_of, letter_under}
-use Rattle.cache_rule.specs.Steps.{CacheStep}
+use Rattle.np_protocol.specs.CacheSteps.{CacheStep}
 use Rattle.np_levels.proofs.Values.{no_value}
 use Rattle.np_levels.proofs.Takings.{IsTaking, taking}
 

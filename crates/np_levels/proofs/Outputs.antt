@@ -26,9 +26,9 @@ use Rattle.np_eval.specs.Eval.{as_chan, chan_of, eval}
 use Rattle.np_eval.specs.Forms.{Layer, as_out, layer}
 use Rattle.infrastructure_texts.specs.Infrastructures.{Infrastructure}
 use Rattle.daemon_encode.specs.Translates.{Translates}
-use Rattle.np_source_values.specs.Known.{IsKnown, Knows}
-use Rattle.np_source_values.proofs.Known.{value-is-known}
-use Rattle.np_source_values.proofs.Values.{same-value}
+use Rattle.np_things.specs.Known.{IsKnown, Knows}
+use Rattle.np_things.proofs.Known.{value-is-known}
+use Rattle.np_things.proofs.Values.{same-value}
 use Rattle.np_things.proofs.Acting.{PostBegins, post-begins}
 use Rattle.np_things.specs.Mail.{Mail, content, on_channel, receiver}
 use Rattle.np_things.specs.Desks.{desk}
@@ -46,9 +46,9 @@ use Rattle.np_calculus.specs.Config.{Config}
 use Rattle.np_levels.specs.Coupled.{Coupled, KnowsOnly, View, chips, is_channel, is_child_of, may_know, levels, cache_chips, shown}
 use Rattle.np_levels.proofs.Lands.{output-gives}
 use Rattle.np_levels.proofs.Marks.{step_at}
-use Rattle.cache_rule.specs.Chips.{CacheChip}
-use Rattle.cache_rule.specs.Levels.{IsHidden}
-use Rattle.cache_rule.proofs.Gives.{gives-hints}
+use Rattle.np_protocol.specs.CacheChips.{CacheChip}
+use Rattle.np_protocol.specs.CacheLevels.{IsHidden}
+use Rattle.np_protocol.proofs.CacheGives.{gives-hints}
 use Rattle.np_eval.proofs.FormsByParts.{out-form}
 
 -- the parts of an output

@@ -22,7 +22,7 @@ use Rattle.np_calculus.specs.Sight.{at_site}
 use Rattle.np_calculus.specs.Starts.{daemon_agent}
 unfoldable use Rattle.np_calculus.proofs.Common.{land_row}
 use Rattle.np_calculus.proofs.Steps.{is-none, row-step}
-use Rattle.cache_lift.specs.Lift.{stands_for}
+use Rattle.np_lift.specs.CachedLift.{stands_for}
 use Rattle.np_eval.specs.Eval.{agent_of, as_agent, as_chan, as_site, chan_of, eval}
 use Rattle.np_eval.specs.Forms.{layer}
 use Rattle.infrastructure_texts.specs.Infrastructures.{Infrastructure}

@@ -30,10 +30,10 @@ use Rattle.np_scope.specs.Sound.{IsSoundExpr}
 use Rattle.np_scope.proofs.SoundParts.{ProcParts, proc-parts}
 use Rattle.infrastructure_texts.specs.Infrastructures.{Infrastructure}
 use Rattle.daemon_encode.specs.Translates.{source}
-use Rattle.np_source_values.specs.Known.{IsKnown, Knows}
-use Rattle.np_source_values.specs.Sources.{Agrees, Names}
-use Rattle.np_source_values.proofs.Known.{value-is-known}
-use Rattle.np_source_values.proofs.Values.{same-value}
+use Rattle.np_things.specs.Known.{IsKnown, Knows}
+use Rattle.np_things.specs.Sources.{Agrees, Names}
+use Rattle.np_things.proofs.Known.{value-is-known}
+use Rattle.np_things.proofs.Values.{same-value}
 use Rattle.np_things.specs.Shapes.{StandsFor}
 use Rattle.np_things.specs.Things.{Thing, high_atom, high_packet}
 use Rattle.np_things.proofs.Acting.{source-plain}
@@ -43,7 +43,7 @@ use Rattle.np_calculus.specs.Well.{Has, Ready}
 use Rattle.np_calculus.proofs.Steps.{Acts, step-acting}
 unfoldable use Rattle.np_calculus.proofs.Common.{act}
 use Rattle.np_syntax.proofs.Bools.{and-in}
-use Rattle.cache_lift.specs.Lift.{stands_for}
+use Rattle.np_lift.specs.CachedLift.{stands_for}
 use Rattle.np_protocol.specs.Chips.{Chip}
 use Rattle.np_protocol.specs.Scenes.{Locks}
 use Rattle.np_things.specs.Mail.{Posted, as_output}

@@ -36,8 +36,8 @@ use Rattle.np_things.specs.Things.{Stage, Thing, shows, shows_caches}
 use Rattle.np_things.proofs.Acting.{source-plain}
 use Rattle.np_calculus.specs.Changes.{effect, put, still, with_made}
 use Rattle.np_lift.specs.Posts.{letter_at, letter_sent}
-use Rattle.cache_lift.specs.Lift.{stands_for}
-use Rattle.cache_rule.specs.Steps.{CacheStep}
+use Rattle.np_lift.specs.CachedLift.{stands_for}
+use Rattle.np_protocol.specs.CacheSteps.{CacheStep}
 use Rattle.np_protocol.specs.Chips.{Chip}
 use Rattle.np_protocol.specs.Phases.{Phase}
 use Rattle.np_protocol.specs.Protocol.{Protocol}

@@ -11,14 +11,14 @@ use Rattle.np_tables.proofs.Tables.{same_name-itself}
 use Rattle.np_calculus.specs.Config.{Config}
 use Rattle.np_calculus.specs.Parts.{AreBorn}
 use Rattle.np_calculus.specs.Starts.{daemon_agent, main_agent, own, own_names}
-use Rattle.cache_lift.specs.Lift.{stands_for}
+use Rattle.np_lift.specs.CachedLift.{stands_for}
 use Rattle.np_protocol.specs.Chips.{Chip}
 use Rattle.np_protocol.specs.Phases.{Phase}
 use Rattle.np_protocol.specs.Protocol.{Protocol}
 use Rattle.np_protocol.specs.Scenes.{Locks}
 use Rattle.np_protocol.specs.Steps.{Step}
 use Rattle.infrastructure_texts.specs.Infrastructures.{Infrastructure}
-use Rattle.np_source_values.proofs.Known.{more_known}
+use Rattle.np_things.proofs.Known.{more_known}
 use Rattle.np_things.specs.Things.{Thing, carried, first_atom_of, first_packet_of}
 use Rattle.np_levels.specs.Coupled.{Coupled, IsCarrier, IsShaped, KnowsLetter, KnowsOnly, View, chips, is_channel, is_high, may_know, scene, whereabouts}
 use Rattle.np_levels.proofs.Caches.{KeepsHints, low_grows}

@@ -62,7 +62,7 @@ use Rattle.np_levels.proofs.Shapes.{of_actor, same_role}
 use Rattle.np_levels.proofs.Values.{channel-is, here_is, there_is, unit-is, variable-is, gives_two}
 use Rattle.np_levels.proofs.Caches.{handed_on, by_step, carry_put}
 use Rattle.np_levels.specs.Letters.{SameLetters}
-use Rattle.cache_rule.specs.Steps.{CacheStep}
+use Rattle.np_protocol.specs.CacheSteps.{CacheStep}
 use Rattle.np_levels.proofs.Naming.{IsNaming, naming}
 
 new_parts : (x y : ℕ) (t u : Ty) (p q : Proc) → ◌≡◌ {A = Layer} (ProcForm-F.New x t p) (ProcForm-F.New y u q) → (p ≡ q) × (x ≡ y)

@@ -16,7 +16,7 @@ use Rattle.np_calculus.specs.declared.config.Packet.{Packet}
 use Rattle.np_calculus.specs.Config.{Config}
 use Rattle.np_calculus.proofs.OwnNames.{not_true}
 use Rattle.np_protocol.specs.Steps.{Step}
-use Rattle.cache_lift.specs.Lift.{stands_for, Standing}
+use Rattle.np_lift.specs.CachedLift.{stands_for, Standing}
 use Rattle.infrastructure_texts.specs.Infrastructures.{Infrastructure}
 use Rattle.np_things.specs.Shapes.{Are}
 use Rattle.np_things.specs.Things.{Thing, first_atom_of, first_packet_of, high_atom, shows, shows_caches, carried, high_packet, show_all, show_all_caches}

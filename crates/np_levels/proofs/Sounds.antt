@@ -13,8 +13,8 @@ use Rattle.np_scope.specs.Sound.{Among, AllBelow, IsSoundExpr, NoneTwice}
 use Rattle.np_scope.proofs.SoundParts.{ProcParts, proc-parts}
 use Rattle.infrastructure_texts.specs.Pieces.{variable}
 use Rattle.daemon_encode.proofs.Binders.{among-first, among-second, once-first, once-second, below-first, below-second}
-use Rattle.np_source_values.specs.Sources.{Agrees, IsSource, Names}
-use Rattle.np_source_values.proofs.Values.{agent-stays}
+use Rattle.np_things.specs.Sources.{Agrees, IsSource, Names}
+use Rattle.np_things.proofs.Values.{agent-stays}
 use Rattle.np_things.proofs.Starts.{constant-is}
 use Rattle.np_levels.proofs.Values.{there_is, variable-is}
 use Rattle.np_levels.proofs.Bodies.{named_part}

@@ -9,7 +9,7 @@ use Rattle.np_calculus.specs.Begins.{begun_by}
 use Rattle.np_calculus.specs.Changes.{effect, put, still}
 use Rattle.np_calculus.specs.Config.{Config}
 use Rattle.np_calculus.specs.Reductions.{apply, goes, row}
-use Rattle.cache_lift.specs.Lift.{stands_for}
+use Rattle.np_lift.specs.CachedLift.{stands_for}
 use Rattle.np_eval.specs.Forms.{layer}
 use Rattle.infrastructure_texts.specs.Infrastructures.{Infrastructure}
 use Rattle.daemon_encode.specs.Translates.{Translates}

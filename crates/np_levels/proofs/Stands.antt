@@ -44,8 +44,8 @@ use Rattle.np_calculus.specs.Changes.{rewritten, with_made}
 use Rattle.np_calculus.specs.Config.{Config}
 use Rattle.np_calculus.specs.Reductions.{apply}
 use Rattle.np_calculus.specs.Starts.{daemon_agent}
-use Rattle.cache_lift.specs.Lift.{stands_for}
-use Rattle.cache_rule.specs.Steps.{CacheStep}
+use Rattle.np_lift.specs.CachedLift.{stands_for}
+use Rattle.np_protocol.specs.CacheSteps.{CacheStep}
 use Rattle.np_protocol.specs.Phases.{Phase}
 use Rattle.np_protocol.specs.Protocol.{Protocol}
 use Rattle.infrastructure_texts.specs.Infrastructures.{Infrastructure}

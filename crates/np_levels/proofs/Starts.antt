@@ -24,13 +24,13 @@ use Rattle.np_calculus.specs.Parts.{IsMark}
 use Rattle.np_calculus.specs.Sight.{inside}
 use Rattle.np_calculus.specs.Starts.{daemon_agent, daemon_mark, first_atom, main_agent, main_mark, names_alone, own, own_names, start_high, start_low, with_agent}
 use Rattle.np_calculus.proofs.OwnNames.{daemon_mark-born, mark-born, with_all-keeps}
-use Rattle.cache_lift.specs.Lift.{at_first}
-use Rattle.cache_lift.proofs.Standings.{stands-itself}
-use Rattle.cache_rule.specs.Chips.{CacheChip}
-use Rattle.cache_rule.specs.Levels.{Levels}
-use Rattle.cache_rule.specs.Rule.{CacheRule}
-use Rattle.cache_rule.specs.Steps.{CacheStep}
-use Rattle.cache_rule.proofs.Keeps.{keeps-rule, starts-by-rule}
+use Rattle.np_lift.specs.CachedLift.{at_first}
+use Rattle.np_lift.proofs.Standings.{stands-itself}
+use Rattle.np_protocol.specs.CacheChips.{CacheChip}
+use Rattle.np_protocol.specs.CacheLevels.{Levels}
+use Rattle.np_protocol.specs.CacheRule.{CacheRule}
+use Rattle.np_protocol.specs.CacheSteps.{CacheStep}
+use Rattle.np_protocol.proofs.CacheKeeps.{keeps-rule, starts-by-rule}
 use Rattle.np_protocol.specs.Chips.{Chip, Service}
 use Rattle.np_protocol.specs.Phases.{Phase}
 use Rattle.np_protocol.specs.Protocol.{Protocol}

@@ -16,7 +16,7 @@ use Rattle.np_calculus.specs.Sight.{inside, sight}
 unfoldable use Rattle.np_calculus.proofs.Common.{act}
 use Rattle.np_calculus.proofs.Rows.{parts}
 use Rattle.np_calculus.proofs.Steps.{Acts, acting-step, is-none, row-step, step-acting}
-use Rattle.cache_lift.specs.Lift.{stands_for}
+use Rattle.np_lift.specs.CachedLift.{stands_for}
 use Rattle.np_eval.specs.Forms.{layer}
 use Rattle.infrastructure_texts.specs.Infrastructures.{Infrastructure}
 use Rattle.np_levels.specs.Coupled.{Coupled, View}

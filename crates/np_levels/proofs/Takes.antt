@@ -23,14 +23,14 @@ use Rattle.np_calculus.specs.Reductions.{apply, goes_under, row, sends}
 use Rattle.np_calculus.specs.Starts.{daemon_agent}
 use Rattle.np_calculus.proofs.OwnNames.{not_true}
 use Rattle.np_calculus.proofs.Steps.{Offers}
-use Rattle.cache_lift.specs.Lift.{stands_for}
+use Rattle.np_lift.specs.CachedLift.{stands_for}
 use Rattle.np_eval.specs.Eval.{Env, as_chan, bind, chan_of, eval}
 use Rattle.np_eval.specs.Forms.{layer}
 use Rattle.np_scope.specs.Sound.{IsSoundExpr}
 use Rattle.np_scope.proofs.SoundParts.{BodyParts, ProcParts, proc-parts}
-use Rattle.np_source_values.specs.Known.{IsKnown, Knows}
-use Rattle.np_source_values.proofs.Known.{value-is-known}
-use Rattle.np_source_values.proofs.Values.{same-value}
+use Rattle.np_things.specs.Known.{IsKnown, Knows}
+use Rattle.np_things.proofs.Known.{value-is-known}
+use Rattle.np_things.proofs.Values.{same-value}
 use Rattle.infrastructure_texts.specs.Infrastructures.{Infrastructure}
 use Rattle.daemon_encode.specs.Translates.{Translates}
 use Rattle.np_things.specs.Mail.{Posted, as_output}

@@ -32,8 +32,8 @@ use Rattle.np_protocol.specs.Protocol.{IsTrueOf, Protocol}
 use Rattle.np_protocol.specs.Rules.{IsKnowledge, IsLearnt, Rule}
 use Rattle.np_protocol.proofs.Keeps.{keeps-protocol}
 use Rattle.np_protocol.proofs.Steps.{all_taken}
-use Rattle.cache_lift.specs.Lift.{Standing, stands_for, with_mark}
-use Rattle.cache_lift.proofs.Standings.{stands-as_before, stands-new}
+use Rattle.np_lift.specs.CachedLift.{Standing, stands_for, with_mark}
+use Rattle.np_lift.proofs.Standings.{stands-as_before, stands-new}
 use Rattle.infrastructure_texts.specs.Texts.{letter}
 use Rattle.infrastructure_texts.specs.Pieces.{daemon, message, pair, site, stop, tells}
 use Rattle.infrastructure_texts.specs.CacheTexts.{asking, asks, hands_back}

@@ -24,7 +24,7 @@ use Rattle.np_calculus.specs.Reductions.{sends, goes_under}
 use Rattle.np_calculus.specs.declared.config.Atom.{Atom}
 use Rattle.infrastructure_texts.specs.Pieces.{expression, name, pair, two_names, variable, gives, channel}
 use Rattle.infrastructure_texts.specs.Texts.{letter}
-use Rattle.np_source_values.specs.Sources.{Names}
+use Rattle.np_things.specs.Sources.{Names}
 use Rattle.np_things.proofs.Starts.{constant-is}
 use Rattle.np_things.specs.Shapes.{StandsFor}
 

@@ -15,16 +15,16 @@ use Rattle.np_calculus.specs.declared.config.Place.TheVariants as place
 use Rattle.np_calculus.specs.Config.{Config}
 use Rattle.np_calculus.specs.Parts.{AreBorn}
 use Rattle.np_calculus.specs.Starts.{daemon_agent, main_agent, own, own_names}
-use Rattle.cache_lift.specs.Lift.{Standing, stands_for}
-use Rattle.cache_rule.specs.Chips.{CacheChip}
-use Rattle.cache_rule.specs.Levels.{Levels}
-use Rattle.cache_rule.specs.Rule.{CacheRule}
+use Rattle.np_lift.specs.CachedLift.{Standing, stands_for}
+use Rattle.np_protocol.specs.CacheChips.{CacheChip}
+use Rattle.np_protocol.specs.CacheLevels.{Levels}
+use Rattle.np_protocol.specs.CacheRule.{CacheRule}
 use Rattle.np_protocol.specs.Chips.{Chip}
 use Rattle.np_protocol.specs.Phases.{Phase}
 use Rattle.np_protocol.specs.Protocol.{Protocol}
 use Rattle.np_protocol.specs.Scenes.{Locks, Scene, Whereabouts}
 use Rattle.infrastructure_texts.specs.Infrastructures.{Infrastructure}
-use Rattle.np_source_values.specs.Known.{IsKnown, Knows}
+use Rattle.np_things.specs.Known.{IsKnown, Knows}
 use Rattle.np_things.specs.Mail.{Posted}
 use Rattle.np_things.specs.Shapes.{Are, IsUnderWay}
 use Rattle.np_things.specs.Things.{Thing, carried, first_atom_of, first_packet_of, IsHeaded, shows, shows_caches}

@@ -13,7 +13,7 @@ use Rattle.np_calculus.specs.Sight.{inside}
 use Rattle.np_calculus.specs.Well.{Well}
 use Rattle.np_syntax.specs.declared.event.Kind.TheVariants as kind
 use Rattle.np_syntax.specs.declared.process.Role.TheVariants as role
-use Rattle.cache_lift.specs.Lift.{at_first, posted, renamed}
+use Rattle.np_lift.specs.CachedLift.{at_first, posted, renamed}
 use Rattle.np_calculus.specs.Starts.{start_high, start_low}
 use Rattle.np_scope.specs.Sound.{IsSound}
 use Rattle.infrastructure_texts.specs.Infrastructures.{Infrastructure}

@@ -14,8 +14,8 @@ use Rattle.np_tables.specs.Names.{NameMap, same_name}
 use Rattle.np_calculus.specs.Config.{Config}
 use Rattle.np_calculus.specs.Reductions.{output_in}
 use Rattle.np_lift.specs.Posts.{Letter, letter_at}
-use Rattle.cache_lift.specs.Lift.{stands_for, with_mark, with_messenger}
-use Rattle.cache_lift.specs.Posts.{letter_hired}
+use Rattle.np_lift.specs.CachedLift.{stands_for, with_mark, with_messenger}
+use Rattle.np_lift.specs.CachedPosts.{letter_hired}
 use Rattle.np_things.specs.Mail.{Posted, as_output}
 use Rattle.np_things.specs.Things.{Thing, carried}
 use Rattle.np_levels.specs.Coupled.{View}

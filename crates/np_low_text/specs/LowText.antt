@@ -7,13 +7,13 @@ use Rattle.np_syntax.specs.declared.value.Name.{Name}
 use Rattle.np_syntax.specs.declared.value.Value.{Value}
 use Rattle.np_syntax.specs.declared.value.Value as value
 use Rattle.np_syntax.specs.declared.expression.Expr.{Expr}
-use Rattle.np_syntax.specs.declared.expression.ExprForm.{ExprForm, Row_of-Expr, end_of-Expr, more_of-Expr}
+use Rattle.np_syntax.specs.declared.expression.ExprForm.{ExprForm, Row_of-Expr, end_of-Expr, more_of-Expr, Row_of-ExprForm, end_of-ExprForm, more_of-ExprForm}
 use Rattle.np_syntax.specs.declared.expression.ExprForm as expr
 use Rattle.np_syntax.specs.declared.pattern.Pat.{Pat}
 use Rattle.np_syntax.specs.declared.pattern.PatForm.{PatForm, Row_of-Pat, end_of-Pat, more_of-Pat}
 use Rattle.np_syntax.specs.declared.pattern.PatForm as pat
 use Rattle.np_syntax.specs.declared.process.Proc.{Proc}
-use Rattle.np_syntax.specs.declared.process.ProcForm.{ProcForm, Row_of-Proc, end_of-Proc, more_of-Proc}
+use Rattle.np_syntax.specs.declared.process.ProcForm.{ProcForm, Row_of-ProcForm, end_of-ProcForm, more_of-ProcForm}
 use Rattle.np_syntax.specs.declared.process.ProcForm as form
 use Rattle.np_syntax.specs.declared.program.LowProgram.{LowProgram}
 use Rattle.np_show.specs.Shown.{squared, bracketed, type_text, strength, left, right, joined}
@@ -79,18 +79,18 @@ abbrev mutual
   expr_form_text sites level (expr.Val v) = constant_text sites v
   expr_form_text sites level (expr.Var x) = binder_text x
   expr_form_text sites level (expr.Tuple' shape xs) = squared (expr_texts sites xs)
-  expr_form_text sites level (expr.Bin' o a x b y) = bracketed (nat_lt (strength o) level) (joined o (part_text sites (left o) x) (part_text sites (right o) y))
-  expr_form_text sites level (expr.Pack' a c b v) = codes "pack(" ++ part_text sites 0 c ++ codes ", " ++ part_text sites 0 v ++ codes ")"
-  expr_form_text sites level (expr.With' a m b x c l) =
+  expr_form_text sites level (expr.Bin' o _ a x _ b y) = bracketed (nat_lt (strength o) level) (joined o (part_text sites (left o) x) (part_text sites (right o) y))
+  expr_form_text sites level (expr.Pack' _ a c _ b v) = codes "pack(" ++ part_text sites 0 c ++ codes ", " ++ part_text sites 0 v ++ codes ")"
+  expr_form_text sites level (expr.With' _ a m _ b x _ c l) =
       codes "(" ++ part_text sites 0 m ++ codes " with " ++ part_text sites 0 x ++ codes " -> " ++ part_text sites 0 l ++ codes ")"
 
-  pub part_text : Sites → ℕ → {m : _} → Row_of-Expr m → List ℕ
-  part_text sites level end_of-Expr = []
-  part_text sites level (more_of-Expr at x xs) = expr_form_text sites level x
+  pub part_text : Sites → ℕ → {m : _} → Row_of-ExprForm m → List ℕ
+  part_text sites level end_of-ExprForm = []
+  part_text sites level (more_of-ExprForm x xs) = expr_form_text sites level x
 
   pub expr_texts : Sites → {m : _} → Row_of-Expr m → List (List ℕ)
   expr_texts sites end_of-Expr = []
-  expr_texts sites (more_of-Expr at x xs) = expr_form_text sites 0 x ∷ expr_texts sites xs
+  expr_texts sites (more_of-Expr at a x xs) = part_text sites 0 x ∷ expr_texts sites xs
 
 abbrev pub expr_text : Sites → ℕ → Expr → List ℕ
 expr_text sites level x = expr_form_text sites level x.form
@@ -105,29 +105,29 @@ abbrev mutual
   -- the text of a process. A composition has its bracket, but not where it is the left part of another.
   pub proc_form_text : Sites → Bool → ProcForm → List ℕ
   proc_form_text sites bracket form.Stop = codes "0"
-  proc_form_text sites bracket (form.Par' a p b q) = bracketed bracket (inner_text sites false p ++ codes " | " ++ inner_text sites true q)
-  proc_form_text sites bracket (form.New' c t a p) = codes "new " ++ binder_text c ++ codes " : " ++ type_text t ++ codes " in " ++ inner_text sites true p
+  proc_form_text sites bracket (form.Par' _ _ a p _ _ b q) = bracketed bracket (inner_text sites false p ++ codes " | " ++ inner_text sites true q)
+  proc_form_text sites bracket (form.New' c t _ _ a p) = codes "new " ++ binder_text c ++ codes " : " ++ type_text t ++ codes " in " ++ inner_text sites true p
   proc_form_text sites bracket (form.Out c x) = message_text sites c x
-  proc_form_text sites bracket (form.Inp' c q a p) = expr_text sites 3 c ++ codes "?" ++ pat_text q ++ codes " -> " ++ inner_text sites true p
-  proc_form_text sites bracket (form.Rep' c q a p) = codes "*" ++ expr_text sites 3 c ++ codes "?" ++ pat_text q ++ codes " -> " ++ inner_text sites true p
-  proc_form_text sites bracket (form.Agent' c a p b q) =
+  proc_form_text sites bracket (form.Inp' c q _ _ a p) = expr_text sites 3 c ++ codes "?" ++ pat_text q ++ codes " -> " ++ inner_text sites true p
+  proc_form_text sites bracket (form.Rep' c q _ _ a p) = codes "*" ++ expr_text sites 3 c ++ codes "?" ++ pat_text q ++ codes " -> " ++ inner_text sites true p
+  proc_form_text sites bracket (form.Agent' c _ _ a p _ _ b q) =
       codes "agent " ++ binder_text c ++ codes " = " ++ inner_text sites true p ++ codes " in " ++ inner_text sites true q
-  proc_form_text sites bracket (form.Migrate' x a p) = codes "migrate to " ++ expr_text sites 0 x ++ codes " -> " ++ inner_text sites true p
-  proc_form_text sites bracket (form.IfLocal' x c z a p b q) =
+  proc_form_text sites bracket (form.Migrate' x _ _ a p) = codes "migrate to " ++ expr_text sites 0 x ++ codes " -> " ++ inner_text sites true p
+  proc_form_text sites bracket (form.IfLocal' x c z _ _ a p _ _ b q) =
       codes "iflocal <" ++ expr_text sites 3 x ++ codes ">" ++ message_text sites c z ++ codes " then " ++ inner_text sites true p ++ codes " else " ++ inner_text sites true q
   proc_form_text sites bracket (form.Send x y c z) = codes "<" ++ expr_text sites 3 x ++ codes "@" ++ expr_text sites 3 y ++ codes ">" ++ message_text sites c z
   proc_form_text sites bracket (form.Post x c z) = codes "<" ++ expr_text sites 3 x ++ codes "@?>" ++ message_text sites c z
-  proc_form_text sites bracket (form.If' x a p b q) =
+  proc_form_text sites bracket (form.If' x _ _ a p _ _ b q) =
       codes "if " ++ expr_text sites 0 x ++ codes " then " ++ inner_text sites true p ++ codes " else " ++ inner_text sites true q
-  proc_form_text sites bracket (form.Let' q x a p) = codes "let " ++ pat_text q ++ codes " = " ++ expr_text sites 0 x ++ codes " in " ++ inner_text sites true p
+  proc_form_text sites bracket (form.Let' q x _ _ a p) = codes "let " ++ pat_text q ++ codes " = " ++ expr_text sites 0 x ++ codes " in " ++ inner_text sites true p
   proc_form_text sites bracket (form.Print x) = codes "print " ++ expr_text sites 0 x
   proc_form_text sites bracket (form.Open x) = codes "open " ++ expr_text sites 0 x
-  proc_form_text sites bracket (form.Lookup' x m c a p b q) =
+  proc_form_text sites bracket (form.Lookup' x m c _ _ a p _ _ b q) =
       codes "lookup " ++ expr_text sites 0 x ++ codes " in " ++ expr_text sites 0 m ++ codes " then " ++ binder_text c ++ codes " -> " ++ inner_text sites true p ++ codes " else " ++ inner_text sites true q
 
-  pub inner_text : Sites → Bool → {m : _} → Row_of-Proc m → List ℕ
-  inner_text sites bracket end_of-Proc = []
-  inner_text sites bracket (more_of-Proc tag at p ps) = proc_form_text sites bracket p
+  pub inner_text : Sites → Bool → {m : _} → Row_of-ProcForm m → List ℕ
+  inner_text sites bracket end_of-ProcForm = []
+  inner_text sites bracket (more_of-ProcForm p ps) = proc_form_text sites bracket p
 
 abbrev pub proc_text : Sites → Bool → Proc → List ℕ
 proc_text sites bracket p = proc_form_text sites bracket p.form

@@ -7,7 +7,7 @@ ghost use Rattle.np_low_text.specs.LowText as spec;
 
 use super::names::{put_binder, put_value};
 use np_show::{close_round, left, open_round, put_op, right, strength};
-use np_syntax::{Boxed, Expr, ExprForm, List, Memory, Text};
+use np_syntax::{Expr, ExprForm, List, Memory, Text};
 use std::alloc::Global;
 
 fn put_words(text: &mut Text, words: &[u8]) -> Result<(), Memory>
@@ -27,48 +27,35 @@ pub fn put_expr(
 ) -> Result<(), Memory>
     ensures { OnOk result (text.new ≡ text.old ++ spec.expr_text sites.now level x.now) }
 {
-    match &x.form {
+    match x.form.get() {
         ExprForm::Val(value) => put_value(alloc, text, sites, value),
         ExprForm::Var(binder) => put_binder(text, *binder),
         ExprForm::Tuple(parts) => put_tuple(alloc, text, sites, parts.as_slice()),
         ExprForm::Bin(op, x, y) => {
             let round = strength(*op) < level;
             open_round(text, round)?;
-            put_operand(alloc, text, sites, left(*op), x)?;
+            put_expr(alloc, text, sites, left(*op), x)?;
             put_op(text, *op)?;
-            put_operand(alloc, text, sites, right(*op), y)?;
+            put_expr(alloc, text, sites, right(*op), y)?;
             close_round(text, round)
         }
         ExprForm::Pack(chan, value) => {
             put_words(text, b"pack(")?;
-            put_operand(alloc, text, sites, 0, chan)?;
+            put_expr(alloc, text, sites, 0, chan)?;
             put_words(text, b", ")?;
-            put_operand(alloc, text, sites, 0, value)?;
+            put_expr(alloc, text, sites, 0, value)?;
             put_words(text, b")")
         }
         ExprForm::With(places, agent, lock) => {
             put_words(text, b"(")?;
-            put_operand(alloc, text, sites, 0, places)?;
+            put_expr(alloc, text, sites, 0, places)?;
             put_words(text, b" with ")?;
-            put_operand(alloc, text, sites, 0, agent)?;
+            put_expr(alloc, text, sites, 0, agent)?;
             put_words(text, b" -> ")?;
-            put_operand(alloc, text, sites, 0, lock)?;
+            put_expr(alloc, text, sites, 0, lock)?;
             put_words(text, b")")
         }
     }
-}
-
-#[cycle(expr)]
-fn put_operand(
-    alloc: Global,
-    text: &mut Text,
-    sites: &List<Text>,
-    level: u32,
-    x: &Boxed<Expr>,
-) -> Result<(), Memory>
-    ensures { OnOk result (text.new ≡ text.old ++ spec.expr_text sites.now level x.now) }
-{
-    put_expr(alloc, text, sites, level, x.get())
 }
 
 #[cycle(expr)]

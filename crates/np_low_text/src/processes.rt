@@ -8,7 +8,7 @@ use super::expressions::put_expr;
 use super::names::put_binder;
 use super::patterns::put_pat;
 use np_show::{close_round, open_round, put_type};
-use np_syntax::{Boxed, Expr, List, Memory, Pat, Proc, ProcForm, Text, Ty};
+use np_syntax::{Expr, List, Memory, Pat, Proc, ProcForm, Text, Ty};
 use std::alloc::Global;
 
 /// `c!e`
@@ -161,12 +161,12 @@ pub fn put_proc(
     ensures { OnOk result (text.new ≡ text.old ++ proc_text sites.now bracket p.now) }
 {
     use ProcForm as Form;
-    match &p.form {
+    match p.form.get() {
         Form::Stop => text.append(b"0"),
         Form::Par(p, q) => {
             open_round(text, bracket)?;
             put_left(alloc, text, sites, false, p, b" | ")?;
-            put_part(alloc, text, sites, q)?;
+            put_proc(alloc, text, sites, true, q)?;
             close_round(text, bracket)
         }
         Form::New(c, ty, p) => put_new(alloc, text, sites, p, *c, ty),
@@ -176,20 +176,20 @@ pub fn put_proc(
         Form::Agent(b, p, q) => {
             put_agent(text, *b)?;
             put_left(alloc, text, sites, true, p, b" in ")?;
-            put_part(alloc, text, sites, q)
+            put_proc(alloc, text, sites, true, q)
         }
         Form::Migrate(site, p) => put_migrate(alloc, text, sites, p, site),
         Form::IfLocal(b, c, x, p, q) => {
             put_iflocal(alloc, text, sites, b, c, x)?;
             put_left(alloc, text, sites, true, p, b" else ")?;
-            put_part(alloc, text, sites, q)
+            put_proc(alloc, text, sites, true, q)
         }
         Form::Send(b, s, c, x) => put_send(alloc, text, sites, b, s, c, x),
         Form::Post(b, c, x) => put_post(alloc, text, sites, b, c, x),
         Form::If(test, p, q) => {
             put_if(alloc, text, sites, test)?;
             put_left(alloc, text, sites, true, p, b" else ")?;
-            put_part(alloc, text, sites, q)
+            put_proc(alloc, text, sites, true, q)
         }
         Form::Let(pat, x, p) => put_let(alloc, text, sites, p, pat, x),
         Form::Print(x) => put_print(alloc, text, sites, x),
@@ -197,7 +197,7 @@ pub fn put_proc(
         Form::Lookup(who, places, found, p, q) => {
             put_lookup(alloc, text, sites, who, places, *found)?;
             put_left(alloc, text, sites, true, p, b" else ")?;
-            put_part(alloc, text, sites, q)
+            put_proc(alloc, text, sites, true, q)
         }
     }
 }
@@ -208,7 +208,7 @@ fn put_new(
     alloc: Global,
     text: &mut Text,
     sites: &List<Text>,
-    p: &Boxed<Proc>,
+    p: &Proc,
     c: u32,
     ty: &Ty,
 ) -> Result<(), Memory>
@@ -219,7 +219,7 @@ fn put_new(
     text.append(b" : ")?;
     put_type(text, ty)?;
     text.append(b" in ")?;
-    put_part(alloc, text, sites, p)
+    put_proc(alloc, text, sites, true, p)
 }
 
 /// `c?p -> P`
@@ -228,14 +228,14 @@ fn put_input(
     alloc: Global,
     text: &mut Text,
     sites: &List<Text>,
-    p: &Boxed<Proc>,
+    p: &Proc,
     c: &Expr,
     pat: &Pat,
 ) -> Result<(), Memory>
     ensures { OnOk result (text.new ≡ text.old ++ expr_text sites.now 3 c.now ++ codes "?" ++ pat_text pat.now ++ codes " -> " ++ proc_text sites.now true p.now) }
 {
     put_taking(alloc, text, sites, c, pat)?;
-    put_part(alloc, text, sites, p)
+    put_proc(alloc, text, sites, true, p)
 }
 
 /// `*c?p -> P`
@@ -244,7 +244,7 @@ fn put_always(
     alloc: Global,
     text: &mut Text,
     sites: &List<Text>,
-    p: &Boxed<Proc>,
+    p: &Proc,
     c: &Expr,
     pat: &Pat,
 ) -> Result<(), Memory>
@@ -252,7 +252,7 @@ fn put_always(
 {
     text.append(b"*")?;
     put_taking(alloc, text, sites, c, pat)?;
-    put_part(alloc, text, sites, p)
+    put_proc(alloc, text, sites, true, p)
 }
 
 /// `migrate to e -> P`
@@ -261,7 +261,7 @@ fn put_migrate(
     alloc: Global,
     text: &mut Text,
     sites: &List<Text>,
-    p: &Boxed<Proc>,
+    p: &Proc,
     site: &Expr,
 ) -> Result<(), Memory>
     ensures { OnOk result (text.new ≡ text.old ++ codes "migrate to " ++ expr_text sites.now 0 site.now ++ codes " -> " ++ proc_text sites.now true p.now) }
@@ -269,7 +269,7 @@ fn put_migrate(
     text.append(b"migrate to ")?;
     put_expr(alloc, text, sites, 0, site)?;
     text.append(b" -> ")?;
-    put_part(alloc, text, sites, p)
+    put_proc(alloc, text, sites, true, p)
 }
 
 /// `let p = e in P`
@@ -278,7 +278,7 @@ fn put_let(
     alloc: Global,
     text: &mut Text,
     sites: &List<Text>,
-    p: &Boxed<Proc>,
+    p: &Proc,
     pat: &Pat,
     x: &Expr,
 ) -> Result<(), Memory>
@@ -289,19 +289,7 @@ fn put_let(
     text.append(b" = ")?;
     put_expr(alloc, text, sites, 0, x)?;
     text.append(b" in ")?;
-    put_part(alloc, text, sites, p)
-}
-
-#[cycle(process)]
-fn put_part(
-    alloc: Global,
-    text: &mut Text,
-    sites: &List<Text>,
-    p: &Boxed<Proc>,
-) -> Result<(), Memory>
-    ensures { OnOk result (text.new ≡ text.old ++ proc_text sites.now true p.now) }
-{
-    put_proc(alloc, text, sites, true, p.get())
+    put_proc(alloc, text, sites, true, p)
 }
 
 /// A part, and what stands behind it.
@@ -311,11 +299,11 @@ fn put_left(
     text: &mut Text,
     sites: &List<Text>,
     bracket: bool,
-    p: &Boxed<Proc>,
+    p: &Proc,
     behind: &[u8],
 ) -> Result<(), Memory>
     ensures { OnOk result (text.new ≡ text.old ++ proc_text sites.now bracket p.now ++ behind.now) }
 {
-    put_proc(alloc, text, sites, bracket, p.get())?;
+    put_proc(alloc, text, sites, bracket, p)?;
     text.append(behind)
 }

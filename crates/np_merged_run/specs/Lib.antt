@@ -3,3 +3,11 @@ pub mod Items
 pub mod Joined
 pub mod Links
 pub mod Steps
+pub mod Deeds
+pub mod Elements
+pub mod Growing
+pub mod StampedLaws
+pub mod Passing
+pub mod Resting
+pub mod Starting
+pub mod Turns

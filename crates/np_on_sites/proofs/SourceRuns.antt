@@ -14,9 +14,9 @@ use Rattle.daemon_encode.specs.Encoded.{encoded}
 use Rattle.infrastructure_texts.specs.Infrastructures.{Infrastructure as Encoding}
 use Rattle.daemon_encode.specs.Translates as translates
 use Rattle.daemon_encode.specs.Typed.{EncodesRunsWell}
-use Rattle.cache_lift.specs.Lift.{Standing}
-use Rattle.np_posts.specs.Laws.{CachedPostsArePaired, CachedRestsAllHanded, PostsArePaired, RestsAllHanded}
-use Rattle.np_rest.specs.Laws.{RestsTogether}
+use Rattle.np_lift.specs.CachedLift.{Standing}
+use Rattle.np_simulation.specs.PostLaws.{CachedPostsArePaired, CachedRestsAllHanded, PostsArePaired, RestsAllHanded}
+use Rattle.np_simulation.specs.RestLaws.{RestsTogether}
 use Rattle.np_simulation.specs.Laws.{CentralRunsAreLifted, LeadsAbove, RunsAreLifted}
 use Rattle.stamp_history.specs.Histories.{Recorded}
 use Rattle.np_words.specs.declared.modes.Infrastructure.{Infrastructure}

@@ -9,8 +9,8 @@ use Rattle.daemon_encode.specs.Encoded.{encoded}
 use Rattle.cache_encode.specs.Encoded.{encoded_cached}
 use Rattle.np_lift.specs.Lift.{lift}
 use Rattle.np_lift.specs.Posts.{IsAllHanded, IsPaired}
-use Rattle.cache_lift.specs.Lift.{lift_cached}
-use Rattle.cache_lift.specs.Posts.{IsAllHandedCached, IsPairedCached}
+use Rattle.np_lift.specs.CachedLift.{lift_cached}
+use Rattle.np_lift.specs.CachedPosts.{IsAllHandedCached, IsPairedCached}
 use Rattle.np_words.specs.declared.modes.Infrastructure.{Infrastructure}
 use Rattle.np_words.specs.declared.modes.Infrastructure.TheVariants.{Cache, Central}
 

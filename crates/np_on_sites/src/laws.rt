@@ -2,9 +2,9 @@ ghost use Rattle.np_on_sites.specs.SourceRuns.{SitesRunsAreSourceRuns};
 
 use cache_encode::{law_cached_runs_well, law_cached_translates};
 use daemon_encode::{law_low_runs_well, law_translates};
-use np_posts::{law_all_handed, law_posts_are_paired};
-use np_rest::law_rest;
-use np_simulation::{law_cached_runs_are_lifted, law_runs_are_lifted};
+use np_simulation::{
+    law_all_handed, law_cached_runs_are_lifted, law_posts_are_paired, law_rest, law_runs_are_lifted,
+};
 
 /// By each infrastructure: in the merged histories of a run of the low program of an accepted source no value of a wrong type
 /// is met. The events that are read off them are a run of the source that prints the same, and where the low level is at rest,

@@ -40,12 +40,17 @@ fn no_expr(tokens: &Cursor<'_>) -> Result<(RawExpr, u32), ParseFail>
     }
 }
 
-fn leaf(tokens: &mut Cursor<'_>, form: RawExprForm) -> Result<(RawExpr, u32), ParseFail>
+fn leaf(
+    alloc: Global,
+    tokens: &mut Cursor<'_>,
+    form: RawExprForm,
+) -> Result<(RawExpr, u32), ParseFail>
     ensures reads { Reads (spec.leaf form tokens.old) result tokens.new }
     ensures within { IfOk result (λ x. x.1 ≡ 1) }
 {
     let at = tokens.take()?;
-    Ok((RawExpr { at, form }, 1))
+    let expression = RawExpr::new(alloc, at, form)?;
+    Ok((expression, 1))
 }
 
 #[tactic(auto, unfolding(crate::specs::Read::Expressions::variable))]
@@ -55,8 +60,8 @@ fn variable(alloc: Global, tokens: &mut Cursor<'_>) -> Result<(RawExpr, u32), Pa
 {
     let name = tokens.name(alloc)?;
     let at = name.at;
-    let form = RawExprForm::Var(name);
-    Ok((RawExpr { at, form }, 1))
+    let expression = RawExpr::new(alloc, at, RawExprForm::Var(name))?;
+    Ok((expression, 1))
 }
 
 // ---- atoms
@@ -98,8 +103,8 @@ fn tuple(alloc: Global, tokens: &mut Cursor<'_>, below: u32) -> Result<(RawExpr,
     let at = tokens.take()?;
     let mut items = List::new(alloc);
     let depth = expr_parts(alloc, tokens, below, &mut items)?;
-    let form = RawExprForm::Tuple(items);
-    Ok((RawExpr { at, form }, depth + 1))
+    let expression = RawExpr::new(alloc, at, RawExprForm::Tuple(items))?;
+    Ok((expression, depth + 1))
 }
 
 /// An expression between round brackets, which count as a level.
@@ -128,15 +133,15 @@ fn atom_in(alloc: Global, tokens: &mut Cursor<'_>, below: u32) -> Result<(RawExp
     ensures within { IfOk result (λ x. x.1 ≤ below + 1) }
 {
     match tokens.peek()? {
-        What::Number(number) => leaf(tokens, RawExprForm::Val(Value::Int(*number))),
+        What::Number(number) => leaf(alloc, tokens, RawExprForm::Val(Value::Int(*number))),
         What::Str(text) => {
             let text = text.copy(alloc)?;
-            leaf(tokens, RawExprForm::Val(Value::Str(text)))
+            leaf(alloc, tokens, RawExprForm::Val(Value::Str(text)))
         }
         What::Ident(_) => variable(alloc, tokens),
-        What::Word(Key::True) => leaf(tokens, RawExprForm::Val(Value::Truth(true))),
-        What::Word(Key::False) => leaf(tokens, RawExprForm::Val(Value::Truth(false))),
-        What::Word(Key::Main) => leaf(tokens, RawExprForm::Main),
+        What::Word(Key::True) => leaf(alloc, tokens, RawExprForm::Val(Value::Truth(true))),
+        What::Word(Key::False) => leaf(alloc, tokens, RawExprForm::Val(Value::Truth(false))),
+        What::Word(Key::Main) => leaf(alloc, tokens, RawExprForm::Main),
         What::Sign(Sign::RoundOpen) => round(alloc, tokens, below),
         What::Sign(Sign::SquareOpen) => tuple(alloc, tokens, below),
         _ => Err(tokens.syntax()),

@@ -13,15 +13,19 @@ use np_tree::{Ident, RawExpr, RawProc, RawProcForm};
 use std::alloc::Global;
 
 /// The process `0`, where a number comes next.
-pub fn stop(tokens: &mut Cursor<'_>, number: i64) -> Result<(RawProc, u32), ParseFail>
+pub fn stop(
+    alloc: Global,
+    tokens: &mut Cursor<'_>,
+    number: i64,
+) -> Result<(RawProc, u32), ParseFail>
     ensures reads { Reads (spec.stop_by number tokens.old) result tokens.new }
     ensures within { IfOk result (λ x. x.1 ≡ 1) }
 {
     match number {
         0 => {
             let at = tokens.take()?;
-            let form = RawProcForm::Stop;
-            Ok((RawProc { at, form }, 1))
+            let process = RawProc::new(alloc, at, RawProcForm::Stop)?;
+            Ok((process, 1))
         }
         _ => Err(tokens.syntax()),
     }
@@ -34,8 +38,8 @@ pub fn print(alloc: Global, tokens: &mut Cursor<'_>) -> Result<(RawProc, u32), P
 {
     let at = tokens.take()?;
     let (value, _) = expr(alloc, tokens, DEEPEST)?;
-    let form = RawProcForm::Print(value);
-    Ok((RawProc { at, form }, 1))
+    let process = RawProc::new(alloc, at, RawProcForm::Print(value))?;
+    Ok((process, 1))
 }
 
 /// An output, behind the channel's name.
@@ -51,8 +55,8 @@ pub fn output(
     tokens.take()?;
     let (value, _) = expr(alloc, tokens, DEEPEST)?;
     let at = channel.at;
-    let form = RawProcForm::Out(channel, value);
-    Ok((RawProc { at, form }, 1))
+    let process = RawProc::new(alloc, at, RawProcForm::Out(channel, value))?;
+    Ok((process, 1))
 }
 
 /// The channel and the value of a message to an agent.
@@ -80,8 +84,8 @@ fn post(
     tokens.take()?;
     tokens.expect_sign(Sign::Greater)?;
     let (channel, value) = message(alloc, tokens)?;
-    let form = RawProcForm::Post(agent, channel, value);
-    Ok((RawProc { at, form }, 1))
+    let process = RawProc::new(alloc, at, RawProcForm::Post(agent, channel, value))?;
+    Ok((process, 1))
 }
 
 /// Behind `@`, to the agent at a site.
@@ -98,8 +102,8 @@ fn send(
     let (site, _) = atom(alloc, tokens, DEEPEST)?;
     tokens.expect_sign(Sign::Greater)?;
     let (channel, value) = message(alloc, tokens)?;
-    let form = RawProcForm::Send(agent, site, channel, value);
-    Ok((RawProc { at, form }, 1))
+    let process = RawProc::new(alloc, at, RawProcForm::Send(agent, site, channel, value))?;
+    Ok((process, 1))
 }
 
 /// A message to an agent, from `<` on.

@@ -7,7 +7,7 @@ ghost use Rattle.np_parse.specs.Read.Expressions as spec;
 use super::cursor::Cursor;
 use super::fail::ParseFail;
 use np_lex::{Sign, What};
-use np_syntax::{Boxed, DEEPEST, Memory, Op};
+use np_syntax::{DEEPEST, Memory, Op};
 use np_tree::{RawExpr, RawExprForm};
 use std::alloc::Global;
 
@@ -93,8 +93,6 @@ pub fn operation(
     let (left, deep) = left;
     let (right, depth) = right;
     let at = left.at;
-    let left = Boxed::of(alloc, left)?;
-    let right = Boxed::of(alloc, right)?;
-    let form = RawExprForm::Bin(op, left, right);
-    Ok((RawExpr { at, form }, deep.max(depth) + 1))
+    let both = RawExpr::new(alloc, at, RawExprForm::Bin(op, left, right))?;
+    Ok((both, deep.max(depth) + 1))
 }

@@ -13,12 +13,12 @@ use super::head::{
     let_head, migrate_head, new_head, replicated_head,
 };
 use np_lex::{Key, Sign, What};
-use np_syntax::{Boxed, DEEPEST, Memory};
+use np_syntax::{DEEPEST, Memory};
 use np_tree::{RawProc, RawProcForm};
 use std::alloc::Global;
 
 /// The form with this process in it.
-fn single_form(head: SingleForm, inner: Boxed<RawProc>) -> RawProcForm
+fn single_form(head: SingleForm, inner: RawProc) -> RawProcForm
     ensures { result ≡ single_form head inner }
 {
     match head {
@@ -31,7 +31,7 @@ fn single_form(head: SingleForm, inner: Boxed<RawProc>) -> RawProcForm
 }
 
 /// The form with these processes in it.
-fn double_form(head: DoubleForm, first: Boxed<RawProc>, second: Boxed<RawProc>) -> RawProcForm
+fn double_form(head: DoubleForm, first: RawProc, second: RawProc) -> RawProcForm
     ensures { result ≡ double_form head first second }
 {
     match head {
@@ -72,31 +72,20 @@ fn bar(tokens: &mut Cursor<'_>, below: u32, depth: u32) -> Result<Option<u32>, P
 }
 
 /// The composition of both, with its depth.
-fn both(at: u32, left: (Boxed<RawProc>, u32), right: (Boxed<RawProc>, u32)) -> (RawProc, u32)
-    requires left { left.1 < DEEPEST }
-    requires right { right.1 < DEEPEST }
-    ensures { result ≡ spec.both at left right }
-{
-    let (left, deep) = left;
-    let (right, depth) = right;
-    let form = RawProcForm::Par(left, right);
-    (RawProc { at, form }, deep.max(depth) + 1)
-}
-
-/// The composition of what stands so far with one process more.
-fn longer(
+fn both(
     alloc: Global,
     at: u32,
     left: (RawProc, u32),
-    right: (Boxed<RawProc>, u32),
+    right: (RawProc, u32),
 ) -> Result<(RawProc, u32), Memory>
     requires left { left.1 < DEEPEST }
     requires right { right.1 < DEEPEST }
     ensures { IfOk result (λ x. x ≡ spec.both at left right) }
 {
     let (left, deep) = left;
-    let left = Boxed::of(alloc, left)?;
-    Ok(both(at, (left, deep), right))
+    let (right, depth) = right;
+    let both = RawProc::new(alloc, at, RawProcForm::Par(left, right))?;
+    Ok((both, deep.max(depth) + 1))
 }
 
 /// A form with one process in it, behind what stands before it.
@@ -114,8 +103,8 @@ fn single(
 {
     let Single { at, form } = head;
     let (inner, depth) = proc(alloc, tokens, below)?;
-    let form = single_form(form, inner);
-    Ok((RawProc { at, form }, depth + 1))
+    let whole = RawProc::new(alloc, at, single_form(form, inner))?;
+    Ok((whole, depth + 1))
 }
 
 /// The two processes of a form, and the keyword between them.
@@ -126,7 +115,7 @@ fn two(
     tokens: &mut Cursor<'_>,
     below: u32,
     form: &DoubleForm,
-) -> Result<((Boxed<RawProc>, u32), (Boxed<RawProc>, u32)), ParseFail>
+) -> Result<((RawProc, u32), (RawProc, u32)), ParseFail>
     requires { below < DEEPEST }
     ensures reads { Reads (spec.two (spec.proc DEEPEST below) form.now tokens.old) result tokens.new }
     ensures first { IfOk result (λ x. x.0.1 ≤ below) }
@@ -153,8 +142,8 @@ fn double(
 {
     let Double { at, form } = head;
     let ((first, deep), (second, depth)) = two(alloc, tokens, below, &form)?;
-    let form = double_form(form, first, second);
-    Ok((RawProc { at, form }, deep.max(depth) + 1))
+    let whole = RawProc::new(alloc, at, double_form(form, first, second))?;
+    Ok((whole, deep.max(depth) + 1))
 }
 
 /// An output or an input, from the channel's name on.
@@ -204,7 +193,7 @@ fn others(
     tokens: &mut Cursor<'_>,
     below: u32,
     at: u32,
-    first: (Boxed<RawProc>, u32),
+    first: (RawProc, u32),
 ) -> Result<(RawProc, u32), ParseFail>
     requires levels { below < DEEPEST }
     requires first { first.1 ≤ below }
@@ -212,7 +201,7 @@ fn others(
     ensures within { IfOk result (λ x. x.1 ≤ below + 1) }
 {
     let second = proc(alloc, tokens, below)?;
-    let left = both(at, first, second);
+    let left = both(alloc, at, first, second)?;
     more(alloc, tokens, below, at, left)
 }
 
@@ -237,7 +226,7 @@ fn more(
             return Ok(left);
         };
         let right = proc(alloc, tokens, below)?;
-        left = longer(alloc, at, left, right)?;
+        left = both(alloc, at, left, right)?;
     }
     Err(tokens.too_deep())
 }
@@ -251,7 +240,7 @@ fn proc_in(alloc: Global, tokens: &mut Cursor<'_>, below: u32) -> Result<(RawPro
     ensures within { IfOk result (λ x. x.1 ≤ below + 1) }
 {
     match tokens.peek()? {
-        What::Number(number) => stop(tokens, *number),
+        What::Number(number) => stop(alloc, tokens, *number),
         What::Ident(_) => on_channel(alloc, tokens, below),
         What::Word(Key::New) => {
             let head = new_head(alloc, tokens, below)?;
@@ -295,7 +284,7 @@ pub fn proc(
     alloc: Global,
     tokens: &mut Cursor<'_>,
     levels: u32,
-) -> Result<(Boxed<RawProc>, u32), ParseFail>
+) -> Result<(RawProc, u32), ParseFail>
     requires { levels ≤ DEEPEST }
     ensures reads { Reads (spec.proc DEEPEST levels tokens.old) result tokens.new }
     ensures within { IfOk result (λ x. x.1 ≤ levels) }
@@ -303,7 +292,6 @@ pub fn proc(
     if levels == 0 {
         Err(tokens.too_deep())
     } else {
-        let (process, depth) = proc_in(alloc, tokens, levels - 1)?;
-        Ok((Boxed::of(alloc, process)?, depth))
+        proc_in(alloc, tokens, levels - 1)
     }
 }

@@ -61,11 +61,7 @@ fn program(alloc: Global, tokens: &mut Cursor<'_>) -> Result<Tree, ParseFail>
     let (sites, at) = program_head(alloc, tokens)?;
     let (main, _) = proc(alloc, tokens, DEEPEST)?;
     tokens.expect_end()?;
-    Ok(Tree {
-        sites,
-        at,
-        main: main.into_inner(),
-    })
+    Ok(Tree { sites, at, main })
 }
 
 /// The tree of the tokens.

@@ -9,3 +9,5 @@ pub mod Scenes
 pub mod Starts
 pub mod Steps
 pub mod Tallies
+pub mod CacheGives
+pub mod CacheKeeps

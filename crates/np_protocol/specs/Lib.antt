@@ -7,3 +7,8 @@ pub mod Rules
 pub mod Scenes
 pub mod Starts
 pub mod Steps
+pub mod CacheChips
+pub mod CacheLaws
+pub mod CacheLevels
+pub mod CacheRule
+pub mod CacheSteps

@@ -1,7 +1,5 @@
 //! Expressions and their names.
 
-ghost use Rattle.std.specs.Prelude.{◌≡◌, IfOk};
-ghost use Rattle.np_syntax.specs.declared.expression.ExprForm as expr;
 ghost use Rattle.np_scope.specs.Naming.{meant, use_of};
 ghost use Rattle.np_scope.specs.Outcomes.{Gives};
 ghost use Rattle.np_scope.specs.Resolved as spec;
@@ -9,7 +7,7 @@ ghost use Rattle.np_scope.specs.Resolved as spec;
 use super::fail::ScopeFail;
 use super::resolver::Resolver;
 use super::scope::{Meaning, Scope};
-use np_syntax::{Boxed, Expr, ExprForm, List, Memory, Op, Value};
+use np_syntax::{Expr, ExprForm, List, Value};
 use np_tree::{Ident, RawExpr, RawExprForm};
 use std::alloc::Global;
 
@@ -25,20 +23,11 @@ fn meant(scope: &Scope<'_>, name: &Ident) -> Result<ExprForm, ScopeFail>
 }
 
 /// A name that stands for a channel.
-pub fn use_of(scope: &Scope<'_>, name: &Ident) -> Result<Expr, ScopeFail>
+pub fn use_of(alloc: Global, scope: &Scope<'_>, name: &Ident) -> Result<Expr, ScopeFail>
     ensures { Gives (use_of scope.now name.now) result }
 {
     let form = meant(scope, name)?;
-    Ok(Expr { at: name.at, form })
-}
-
-/// An operation on two expressions.
-fn operation(alloc: Global, op: Op, left: Expr, right: Expr) -> Result<ExprForm, Memory>
-    ensures { IfOk result (λ form. form ≡ expr.Bin op left right) }
-{
-    let left = Boxed::of(alloc, left)?;
-    let right = Boxed::of(alloc, right)?;
-    Ok(ExprForm::Bin(op, left, right))
+    Ok(Expr::new(alloc, name.at, form)?)
 }
 
 impl Resolver {
@@ -47,7 +36,7 @@ impl Resolver {
     pub fn expr(self, scope: &Scope<'_>, e: &RawExpr) -> Result<Expr, ScopeFail>
         ensures { Gives (spec.expr_of self.sites e.now scope.now) result }
     {
-        self.expr_form(scope, e.at, &e.form)
+        self.expr_form(scope, e.at, e.form.get())
     }
 
     #[cycle(expr)]
@@ -61,12 +50,12 @@ impl Resolver {
             RawExprForm::Var(name) => meant(scope, name)?,
             RawExprForm::Tuple(parts) => ExprForm::Tuple(self.exprs(scope, parts.as_slice())?),
             RawExprForm::Bin(op, left, right) => {
-                let left = self.expr(scope, left.get())?;
-                let right = self.expr(scope, right.get())?;
-                operation(self.alloc, *op, left, right)?
+                let left = self.expr(scope, left)?;
+                let right = self.expr(scope, right)?;
+                ExprForm::Bin(*op, left, right)
             }
         };
-        Ok(Expr { at, form })
+        Ok(Expr::new(self.alloc, at, form)?)
     }
 
     #[cycle(expr)]

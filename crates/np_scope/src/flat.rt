@@ -24,7 +24,7 @@ impl Resolver {
     ) -> Result<(Expr, Expr), ScopeFail>
         ensures { Gives (spec.message self.sites chan.now value.now scope.now) result }
     {
-        let chan = use_of(scope, chan)?;
+        let chan = use_of(self.alloc, scope, chan)?;
         let value = self.expr(scope, value)?;
         Ok((chan, value))
     }

@@ -4,7 +4,7 @@ ghost use Rattle.std.specs.Prelude.{◌≡◌, IfOk};
 ghost use Rattle.np_scope.specs.Counting.{Fits};
 ghost use Rattle.np_scope.specs.Resolved.{next_node, next_both, placed};
 
-use np_syntax::{Boxed, Memory, Proc, ProcForm, Role, Tag};
+use np_syntax::{Memory, Proc, ProcForm, Role, Tag};
 use std::alloc::Global;
 
 /// The numbers of the next process node and of the next binder.
@@ -17,7 +17,7 @@ pub struct Numbers {
 /// A process, and the numbers behind it.
 #[derive(Drop)]
 pub struct Placed {
-    pub proc: Boxed<Proc>,
+    pub proc: Proc,
     pub next: Numbers,
 }
 
@@ -58,7 +58,7 @@ impl Numbers {
             node: self.node,
             role: Role::Plain,
         };
-        let proc = Boxed::of(alloc, Proc { tag, at, form })?;
+        let proc = Proc::new(alloc, tag, at, form)?;
         Ok(Placed { proc, next })
     }
 }

@@ -13,7 +13,7 @@ use super::numbers::{Numbers, Placed};
 use super::patterns::pat;
 use super::resolver::Resolver;
 use super::scope::{Meaning, Scope};
-use np_syntax::{Boxed, Pat, Proc, ProcForm, Ty};
+use np_syntax::{Pat, Proc, ProcForm, Ty};
 use np_tree::{Ident, RawExpr, RawPat, RawProc, RawProcForm};
 
 impl Resolver {
@@ -31,7 +31,7 @@ impl Resolver {
         ensures scope { OnOk result (scope.new ≡ scope.old) }
         ensures behind { IfOk result (λ placed. IsBehindProc next p.now placed.next) }
     {
-        let (form, after) = self.proc_form(scope, next, &p.form)?;
+        let (form, after) = self.proc_form(scope, next, p.form.get())?;
         Ok(next.place(self.alloc, p.at, form, after)?)
     }
 
@@ -51,28 +51,24 @@ impl Resolver {
     {
         match form {
             RawProcForm::Stop => Ok((ProcForm::Stop, next.next_node())),
-            RawProcForm::Par(left, right) => self.parallel(scope, next, left.get(), right.get()),
-            RawProcForm::New(name, ty, body) => self.channel(scope, next, name, ty, body.get()),
+            RawProcForm::Par(left, right) => self.parallel(scope, next, left, right),
+            RawProcForm::New(name, ty, body) => self.channel(scope, next, name, ty, body),
             RawProcForm::Out(chan, value) => self.output(scope, next, chan, value),
-            RawProcForm::Inp(chan, names, body) => self.input(scope, next, chan, names, body.get()),
+            RawProcForm::Inp(chan, names, body) => self.input(scope, next, chan, names, body),
             RawProcForm::Rep(chan, names, body) => {
-                self.replicated(scope, next, chan, names, body.get())
+                self.replicated(scope, next, chan, names, body)
             }
-            RawProcForm::Agent(agent, body, rest) => {
-                self.agent(scope, next, agent, body.get(), rest.get())
-            }
-            RawProcForm::Migrate(site, body) => self.migrate(scope, next, site, body.get()),
+            RawProcForm::Agent(agent, body, rest) => { self.agent(scope, next, agent, body, rest) }
+            RawProcForm::Migrate(site, body) => self.migrate(scope, next, site, body),
             RawProcForm::IfLocal(agent, chan, value, met, unmet) => {
-                self.iflocal(scope, next, agent, chan, value, met.get(), unmet.get())
+                self.iflocal(scope, next, agent, chan, value, met, unmet)
             }
             RawProcForm::Send(agent, site, chan, value) => {
                 self.send(scope, next, agent, site, chan, value)
             }
             RawProcForm::Post(agent, chan, value) => self.post(scope, next, agent, chan, value),
-            RawProcForm::If(e, met, unmet) => self.test(scope, next, e, met.get(), unmet.get()),
-            RawProcForm::Let(names, value, body) => {
-                self.bind(scope, next, names, value, body.get())
-            }
+            RawProcForm::If(e, met, unmet) => self.test(scope, next, e, met, unmet),
+            RawProcForm::Let(names, value, body) => { self.bind(scope, next, names, value, body) }
             RawProcForm::Print(value) => self.print(scope, next, value),
         }
     }
@@ -86,7 +82,7 @@ impl Resolver {
         next: Numbers,
         first: &'a RawProc,
         second: &'a RawProc,
-    ) -> Result<(Boxed<Proc>, Boxed<Proc>, Numbers), ScopeFail>
+    ) -> Result<(Proc, Proc, Numbers), ScopeFail>
         requires { TwoFit next first.now second.now }
         ensures gives { Gives (spec.two (spec.proc_of self.sites first.now) (spec.proc_of self.sites second.now) scope.old next) result }
         ensures scope { OnOk result (scope.new ≡ scope.old) }
@@ -106,7 +102,7 @@ impl Resolver {
         next: Numbers,
         names: &'a RawPat,
         body: &'a RawProc,
-    ) -> Result<(Pat, Boxed<Proc>, Numbers), ScopeFail>
+    ) -> Result<(Pat, Proc, Numbers), ScopeFail>
         requires { BodyFits next names.now body.now }
         ensures gives { Gives (spec.under names.now (spec.proc_of self.sites body.now) scope.old next) result }
         ensures scope { OnOk result (scope.new ≡ scope.old) }
@@ -181,7 +177,7 @@ impl Resolver {
         ensures scope { OnOk result (scope.new ≡ scope.old) }
         ensures behind { IfOk result (λ r. IsBehindForm next (raw.Inp chan.now names.now body.now) r.1) }
     {
-        let chan = use_of(scope, chan)?;
+        let chan = use_of(self.alloc, scope, chan)?;
         let (names, body, after) = self.under(scope, next.next_node(), names, body)?;
         Ok((ProcForm::Inp(chan, names, body), after))
     }
@@ -202,7 +198,7 @@ impl Resolver {
         ensures scope { OnOk result (scope.new ≡ scope.old) }
         ensures behind { IfOk result (λ r. IsBehindForm next (raw.Rep chan.now names.now body.now) r.1) }
     {
-        let chan = use_of(scope, chan)?;
+        let chan = use_of(self.alloc, scope, chan)?;
         let (names, body, after) = self.under(scope, next.next_node(), names, body)?;
         Ok((ProcForm::Rep(chan, names, body), after))
     }

@@ -65,7 +65,7 @@ pub fn resolve(alloc: Global, tree: &Tree) -> Result<Program, ScopeFail>
     Ok(Program {
         sites,
         at,
-        main: main.proc.into_inner(),
+        main: main.proc,
         binders: main.next.binder,
     })
 }

@@ -119,7 +119,7 @@ fn taken_by(ready: Ready) -> Option<Name>
 fn begun_by(p: &Proc) -> Option<Kind>
     ensures { result ≡ begun_by (layer p.now) }
 {
-    match &p.form {
+    match p.form.get() {
         ProcForm::Stop => Some(Kind::Stop),
         ProcForm::Par(_, _) => Some(Kind::Fork),
         ProcForm::New(_, _, _) => Some(Kind::New),
@@ -162,7 +162,7 @@ fn made_by(
 ) -> Result<Made, Memory>
     ensures { IfOk result (λ made. made ≡ made_by c.now site atom.now.env (layer atom.now.proc) first second) }
 {
-    match &atom.proc.form {
+    match atom.proc.form.get() {
         ProcForm::Par(_, _) => Ok(Made::One(first)),
         ProcForm::New(_, _, _) => Ok(Made::One(first)),
         ProcForm::Agent(_, _, _) => Ok(Made::Two(first, second)),

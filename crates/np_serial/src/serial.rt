@@ -12,14 +12,15 @@ ghost use Rattle.np_serial.specs.Serial.{Advances, AreFresh, IsReached, IsSerial
 
 use super::events::event_of;
 use np_configuration::{ApplyFail, Cfg, Step, apply, start_high, start_low};
-use np_syntax::{End, Event, List, LowProgram, MOST_SITES, Memory, Name, Program};
+use np_syntax::{Boxed, End, Event, List, LowProgram, MOST_SITES, Memory, Name, Program};
 use std::alloc::Global;
 
-/// A run: its events in order, the configuration that they lead to, and how it ended.
+/// A run: its events in order, the configuration that they lead to, and how it ended. The configuration stands on the heap, so what
+/// holds a run is small.
 #[derive(Drop)]
 pub struct SerialRun {
     pub events: List<Event>,
-    pub last: Cfg,
+    pub last: Boxed<Cfg>,
     pub end: End,
 }
 
@@ -54,7 +55,10 @@ fn run_from(alloc: Global, start: Cfg, at: u32, budget: u32) -> Result<SerialRun
     let mut last = start;
     let mut events = List::new(alloc);
     match run_on(alloc, &mut last, &mut events, at, budget) {
-        Ok(end) => Ok(SerialRun { events, last, end }),
+        Ok(end) => {
+            let last = Boxed::of(alloc, last)?;
+            Ok(SerialRun { events, last, end })
+        }
         Err(memory) => {
             drop(last);
             drop(events);

@@ -1,5 +1,5 @@
 -- The canonical text of an expression is read as the expression, but for offsets.
-use Rattle.std.proofs.Common.{◌≡◌, ℕ, suc, ◌+◌, ◌≤◌, true, false, nat_lt, List, [], ◌∷◌, ◌++◌, length, map, refl, ap, ◌∙◌, arith, append_assoc, append-nil}
+use Rattle.std.proofs.Common.{◌≡◌, ℕ, suc, ◌+◌, ◌≤◌, true, false, nat_lt, List, [], ◌∷◌, ◌++◌, length, map, refl, sym, ap, ◌∙◌, arith, append_assoc, append-nil}
 use Rattle.std.specs.Prelude.{codes}
 use Rattle.np_syntax.specs.Printed.{spaced}
 use Rattle.np_syntax.specs.declared.expression.Op.{Op}
@@ -36,7 +36,7 @@ abbrev MoreAs : (d at : ℕ) (bytes rest : List ℕ) (us : List Token) (ys xs : 
 MoreAs d at bytes rest us ys = ReadAs (λ ts trees. AreExprs MOST_PARTS d (us ++ ts) (ys ++ trees)) (map erased_expr) at bytes rest
 
 same_bin : (o : Op) (x y u v : RawExpr) → erased_expr x ≡ erased_expr u → erased_expr y ≡ erased_expr v → erased_expr_form (expr.Bin o x y) ≡ erased_expr_form (expr.Bin o u v)
-same_bin o x y u v h k = rw (erased-bin o x y, erased-bin o u v, h, k)
+same_bin o x y u v h k = erased-bin o x y ∙ (λ i. expr.Bin o (h i) (k i)) ∙ sym (erased-bin o u v)
 
 same_tuple : (xs ys : List RawExpr) → map erased_expr xs ≡ map erased_expr ys → erased_expr_form (expr.Tuple xs) ≡ erased_expr_form (expr.Tuple ys)
 same_tuple xs ys h = rw (erased-tuple xs, erased-tuple ys, h)

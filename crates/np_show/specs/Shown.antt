@@ -11,13 +11,13 @@ use Rattle.np_lex.specs.Tokens.{sign_text}
 use Rattle.np_tree.specs.declared.tree.Ident.{Ident}
 use Rattle.np_tree.specs.declared.tree.Tree.{Tree}
 use Rattle.np_tree.specs.declared.tree.RawExpr.{RawExpr}
-use Rattle.np_tree.specs.declared.tree.RawExprForm.{RawExprForm, Row_of-RawExpr, end_of-RawExpr, more_of-RawExpr}
+use Rattle.np_tree.specs.declared.tree.RawExprForm.{RawExprForm, Row_of-RawExpr, end_of-RawExpr, more_of-RawExpr, Row_of-RawExprForm, end_of-RawExprForm, more_of-RawExprForm}
 use Rattle.np_tree.specs.declared.tree.RawExprForm as expr
 use Rattle.np_tree.specs.declared.tree.RawPat.{RawPat}
 use Rattle.np_tree.specs.declared.tree.RawPatForm.{RawPatForm, Row_of-RawPat, end_of-RawPat, more_of-RawPat}
 use Rattle.np_tree.specs.declared.tree.RawPatForm as pat
 use Rattle.np_tree.specs.declared.tree.RawProc.{RawProc}
-use Rattle.np_tree.specs.declared.tree.RawProcForm.{RawProcForm, Row_of-RawProc, end_of-RawProc, more_of-RawProc}
+use Rattle.np_tree.specs.declared.tree.RawProcForm.{RawProcForm, Row_of-RawProcForm, end_of-RawProcForm, more_of-RawProcForm}
 use Rattle.np_tree.specs.declared.tree.RawProcForm as form
 use Rattle.np_tree.specs.Grammar.{cap_sign}
 
@@ -113,15 +113,15 @@ abbrev mutual
   expr_form_text level expr.Main = codes "main"
   expr_form_text level (expr.Var name) = name.text
   expr_form_text level (expr.Tuple' shape xs) = squared (expr_texts xs)
-  expr_form_text level (expr.Bin' o a x b y) = bracketed (nat_lt (strength o) level) (joined o (operand_text (left o) x) (operand_text (right o) y))
+  expr_form_text level (expr.Bin' o _ a x _ b y) = bracketed (nat_lt (strength o) level) (joined o (operand_text (left o) x) (operand_text (right o) y))
 
-  pub operand_text : ℕ → {m : _} → Row_of-RawExpr m → List ℕ
-  operand_text level end_of-RawExpr = []
-  operand_text level (more_of-RawExpr at x xs) = expr_form_text level x
+  pub operand_text : ℕ → {m : _} → Row_of-RawExprForm m → List ℕ
+  operand_text level end_of-RawExprForm = []
+  operand_text level (more_of-RawExprForm x xs) = expr_form_text level x
 
   pub expr_texts : {m : _} → Row_of-RawExpr m → List (List ℕ)
   expr_texts end_of-RawExpr = []
-  expr_texts (more_of-RawExpr at x xs) = expr_form_text 0 x ∷ expr_texts xs
+  expr_texts (more_of-RawExpr at a x xs) = operand_text 0 x ∷ expr_texts xs
 
 abbrev pub expr_text : ℕ → RawExpr → List ℕ
 expr_text level x = expr_form_text level x.form
@@ -136,24 +136,24 @@ abbrev mutual
   -- the text of a process. A composition has its bracket, but not where it is the left part of another.
   pub proc_form_text : Bool → RawProcForm → List ℕ
   proc_form_text bracket form.Stop = codes "0"
-  proc_form_text bracket (form.Par' a p b q) = bracketed bracket (part_text false p ++ codes " | " ++ part_text true q)
-  proc_form_text bracket (form.New' c t a p) = codes "new " ++ c.text ++ codes " : " ++ type_text t ++ codes " in " ++ part_text true p
+  proc_form_text bracket (form.Par' _ a p _ b q) = bracketed bracket (part_text false p ++ codes " | " ++ part_text true q)
+  proc_form_text bracket (form.New' c t _ a p) = codes "new " ++ c.text ++ codes " : " ++ type_text t ++ codes " in " ++ part_text true p
   proc_form_text bracket (form.Out c x) = message_text c x
-  proc_form_text bracket (form.Inp' c q a p) = c.text ++ codes "?" ++ pat_text q ++ codes " -> " ++ part_text true p
-  proc_form_text bracket (form.Rep' c q a p) = codes "*" ++ c.text ++ codes "?" ++ pat_text q ++ codes " -> " ++ part_text true p
-  proc_form_text bracket (form.Agent' c a p b q) = codes "agent " ++ c.text ++ codes " = " ++ part_text true p ++ codes " in " ++ part_text true q
-  proc_form_text bracket (form.Migrate' x a p) = codes "migrate to " ++ expr_text 0 x ++ codes " -> " ++ part_text true p
-  proc_form_text bracket (form.IfLocal' x c z a p b q) =
+  proc_form_text bracket (form.Inp' c q _ a p) = c.text ++ codes "?" ++ pat_text q ++ codes " -> " ++ part_text true p
+  proc_form_text bracket (form.Rep' c q _ a p) = codes "*" ++ c.text ++ codes "?" ++ pat_text q ++ codes " -> " ++ part_text true p
+  proc_form_text bracket (form.Agent' c _ a p _ b q) = codes "agent " ++ c.text ++ codes " = " ++ part_text true p ++ codes " in " ++ part_text true q
+  proc_form_text bracket (form.Migrate' x _ a p) = codes "migrate to " ++ expr_text 0 x ++ codes " -> " ++ part_text true p
+  proc_form_text bracket (form.IfLocal' x c z _ a p _ b q) =
       codes "iflocal <" ++ expr_text 3 x ++ codes ">" ++ message_text c z ++ codes " then " ++ part_text true p ++ codes " else " ++ part_text true q
   proc_form_text bracket (form.Send x y c z) = codes "<" ++ expr_text 3 x ++ codes "@" ++ expr_text 3 y ++ codes ">" ++ message_text c z
   proc_form_text bracket (form.Post x c z) = codes "<" ++ expr_text 3 x ++ codes "@?>" ++ message_text c z
-  proc_form_text bracket (form.If' x a p b q) = codes "if " ++ expr_text 0 x ++ codes " then " ++ part_text true p ++ codes " else " ++ part_text true q
-  proc_form_text bracket (form.Let' q x a p) = codes "let " ++ pat_text q ++ codes " = " ++ expr_text 0 x ++ codes " in " ++ part_text true p
+  proc_form_text bracket (form.If' x _ a p _ b q) = codes "if " ++ expr_text 0 x ++ codes " then " ++ part_text true p ++ codes " else " ++ part_text true q
+  proc_form_text bracket (form.Let' q x _ a p) = codes "let " ++ pat_text q ++ codes " = " ++ expr_text 0 x ++ codes " in " ++ part_text true p
   proc_form_text bracket (form.Print x) = codes "print " ++ expr_text 0 x
 
-  pub part_text : Bool → {m : _} → Row_of-RawProc m → List ℕ
-  part_text bracket end_of-RawProc = []
-  part_text bracket (more_of-RawProc at p ps) = proc_form_text bracket p
+  pub part_text : Bool → {m : _} → Row_of-RawProcForm m → List ℕ
+  part_text bracket end_of-RawProcForm = []
+  part_text bracket (more_of-RawProcForm p ps) = proc_form_text bracket p
 
 abbrev pub proc_text : Bool → RawProc → List ℕ
 proc_text bracket p = proc_form_text bracket p.form

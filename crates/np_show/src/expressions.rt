@@ -5,7 +5,7 @@ ghost use Rattle.np_syntax.specs.Printed.{spaced, value_text};
 ghost use Rattle.np_lex.specs.Tokens.{sign_text};
 ghost use Rattle.np_show.specs.Shown as spec;
 
-use np_syntax::{Boxed, List, Memory, Op, Text, Value, print_value};
+use np_syntax::{List, Memory, Op, Text, Value, print_value};
 use np_tree::{RawExpr, RawExprForm};
 use std::alloc::Global;
 
@@ -79,7 +79,7 @@ fn put_value(alloc: Global, text: &mut Text, value: &Value) -> Result<(), Memory
 pub fn put_expr(alloc: Global, text: &mut Text, level: u32, x: &RawExpr) -> Result<(), Memory>
     ensures { OnOk result (text.new ≡ text.old ++ spec.expr_text level x.now) }
 {
-    match &x.form {
+    match x.form.get() {
         RawExprForm::Val(value) => put_value(alloc, text, value),
         RawExprForm::Main => text.append(b"main"),
         RawExprForm::Var(name) => text.append(name.text.as_slice()),
@@ -87,19 +87,12 @@ pub fn put_expr(alloc: Global, text: &mut Text, level: u32, x: &RawExpr) -> Resu
         RawExprForm::Bin(op, x, y) => {
             let round = strength(*op) < level;
             open_round(text, round)?;
-            put_operand(alloc, text, left(*op), x)?;
+            put_expr(alloc, text, left(*op), x)?;
             put_op(text, *op)?;
-            put_operand(alloc, text, right(*op), y)?;
+            put_expr(alloc, text, right(*op), y)?;
             close_round(text, round)
         }
     }
-}
-
-#[cycle(expr)]
-fn put_operand(alloc: Global, text: &mut Text, level: u32, x: &Boxed<RawExpr>) -> Result<(), Memory>
-    ensures { OnOk result (text.new ≡ text.old ++ spec.expr_text level x.now) }
-{
-    put_expr(alloc, text, level, x.get())
 }
 
 #[cycle(expr)]

@@ -6,7 +6,7 @@ ghost use Rattle.np_show.specs.Shown.{type_text, pat_text, expr_text, message_te
 use super::expressions::{close_round, open_round, put_expr};
 use super::patterns::put_pat;
 use super::types::put_type;
-use np_syntax::{Boxed, Memory, Text, Ty};
+use np_syntax::{Memory, Text, Ty};
 use np_tree::{Ident, RawExpr, RawPat, RawProc, RawProcForm};
 use std::alloc::Global;
 
@@ -118,12 +118,12 @@ pub fn put_proc(alloc: Global, text: &mut Text, bracket: bool, p: &RawProc) -> R
     ensures { OnOk result (text.new ≡ text.old ++ proc_text bracket p.now) }
 {
     use RawProcForm as Form;
-    match &p.form {
+    match p.form.get() {
         Form::Stop => text.append(b"0"),
         Form::Par(p, q) => {
             open_round(text, bracket)?;
             put_left(alloc, text, false, p, b" | ")?;
-            put_part(alloc, text, q)?;
+            put_proc(alloc, text, true, q)?;
             close_round(text, bracket)
         }
         Form::New(c, ty, p) => put_new(alloc, text, p, c, ty),
@@ -133,20 +133,20 @@ pub fn put_proc(alloc: Global, text: &mut Text, bracket: bool, p: &RawProc) -> R
         Form::Agent(b, p, q) => {
             put_agent(text, b)?;
             put_left(alloc, text, true, p, b" in ")?;
-            put_part(alloc, text, q)
+            put_proc(alloc, text, true, q)
         }
         Form::Migrate(site, p) => put_migrate(alloc, text, p, site),
         Form::IfLocal(b, c, x, p, q) => {
             put_iflocal(alloc, text, b, c, x)?;
             put_left(alloc, text, true, p, b" else ")?;
-            put_part(alloc, text, q)
+            put_proc(alloc, text, true, q)
         }
         Form::Send(b, s, c, x) => put_send(alloc, text, b, s, c, x),
         Form::Post(b, c, x) => put_post(alloc, text, b, c, x),
         Form::If(test, p, q) => {
             put_if(alloc, text, test)?;
             put_left(alloc, text, true, p, b" else ")?;
-            put_part(alloc, text, q)
+            put_proc(alloc, text, true, q)
         }
         Form::Let(pat, x, p) => put_let(alloc, text, p, pat, x),
         Form::Print(x) => put_print(alloc, text, x),
@@ -155,13 +155,7 @@ pub fn put_proc(alloc: Global, text: &mut Text, bracket: bool, p: &RawProc) -> R
 
 /// `new c : ^Int in P`
 #[cycle(process)]
-fn put_new(
-    alloc: Global,
-    text: &mut Text,
-    p: &Boxed<RawProc>,
-    c: &Ident,
-    ty: &Ty,
-) -> Result<(), Memory>
+fn put_new(alloc: Global, text: &mut Text, p: &RawProc, c: &Ident, ty: &Ty) -> Result<(), Memory>
     ensures { OnOk result (text.new ≡ text.old ++ codes "new " ++ c.now.text ++ codes " : " ++ type_text ty.now ++ codes " in " ++ proc_text true p.now) }
 {
     text.append(b"new ")?;
@@ -169,7 +163,7 @@ fn put_new(
     text.append(b" : ")?;
     put_type(text, ty)?;
     text.append(b" in ")?;
-    put_part(alloc, text, p)
+    put_proc(alloc, text, true, p)
 }
 
 /// `c?p -> P`
@@ -177,14 +171,14 @@ fn put_new(
 fn put_input(
     alloc: Global,
     text: &mut Text,
-    p: &Boxed<RawProc>,
+    p: &RawProc,
     c: &Ident,
     pat: &RawPat,
 ) -> Result<(), Memory>
     ensures { OnOk result (text.new ≡ text.old ++ c.now.text ++ codes "?" ++ pat_text pat.now ++ codes " -> " ++ proc_text true p.now) }
 {
     put_taking(text, c, pat)?;
-    put_part(alloc, text, p)
+    put_proc(alloc, text, true, p)
 }
 
 /// `*c?p -> P`
@@ -192,7 +186,7 @@ fn put_input(
 fn put_always(
     alloc: Global,
     text: &mut Text,
-    p: &Boxed<RawProc>,
+    p: &RawProc,
     c: &Ident,
     pat: &RawPat,
 ) -> Result<(), Memory>
@@ -200,23 +194,18 @@ fn put_always(
 {
     text.append(b"*")?;
     put_taking(text, c, pat)?;
-    put_part(alloc, text, p)
+    put_proc(alloc, text, true, p)
 }
 
 /// `migrate to e -> P`
 #[cycle(process)]
-fn put_migrate(
-    alloc: Global,
-    text: &mut Text,
-    p: &Boxed<RawProc>,
-    site: &RawExpr,
-) -> Result<(), Memory>
+fn put_migrate(alloc: Global, text: &mut Text, p: &RawProc, site: &RawExpr) -> Result<(), Memory>
     ensures { OnOk result (text.new ≡ text.old ++ codes "migrate to " ++ expr_text 0 site.now ++ codes " -> " ++ proc_text true p.now) }
 {
     text.append(b"migrate to ")?;
     put_expr(alloc, text, 0, site)?;
     text.append(b" -> ")?;
-    put_part(alloc, text, p)
+    put_proc(alloc, text, true, p)
 }
 
 /// `let p = e in P`
@@ -224,7 +213,7 @@ fn put_migrate(
 fn put_let(
     alloc: Global,
     text: &mut Text,
-    p: &Boxed<RawProc>,
+    p: &RawProc,
     pat: &RawPat,
     x: &RawExpr,
 ) -> Result<(), Memory>
@@ -235,14 +224,7 @@ fn put_let(
     text.append(b" = ")?;
     put_expr(alloc, text, 0, x)?;
     text.append(b" in ")?;
-    put_part(alloc, text, p)
-}
-
-#[cycle(process)]
-fn put_part(alloc: Global, text: &mut Text, p: &Boxed<RawProc>) -> Result<(), Memory>
-    ensures { OnOk result (text.new ≡ text.old ++ proc_text true p.now) }
-{
-    put_proc(alloc, text, true, p.get())
+    put_proc(alloc, text, true, p)
 }
 
 /// A part, and what stands behind it.
@@ -251,11 +233,11 @@ fn put_left(
     alloc: Global,
     text: &mut Text,
     bracket: bool,
-    p: &Boxed<RawProc>,
+    p: &RawProc,
     behind: &[u8],
 ) -> Result<(), Memory>
     ensures { OnOk result (text.new ≡ text.old ++ proc_text bracket p.now ++ behind.now) }
 {
-    put_proc(alloc, text, bracket, p.get())?;
+    put_proc(alloc, text, bracket, p)?;
     text.append(behind)
 }

@@ -20,8 +20,8 @@ use Rattle.np_calculus.proofs.FrameRule.{made-unborn}
 use Rattle.np_calculus.proofs.OwnNames.{not_true}
 use Rattle.np_calculus.proofs.Steps.{row-step}
 use Rattle.np_calculus.proofs.Writes.{agent-changed, inside-effect}
-use Rattle.cache_lift.specs.Lift.{Standing, at_first, renamed, stands_for, with_mark, with_messenger}
-use Rattle.cache_lift.proofs.Standings.{stands-as_before, stands-itself}
+use Rattle.np_lift.specs.CachedLift.{Standing, at_first, renamed, stands_for, with_mark, with_messenger}
+use Rattle.np_lift.proofs.Standings.{stands-as_before, stands-itself}
 use Rattle.infrastructure_texts.specs.Infrastructures.{Infrastructure}
 use Rattle.np_levels.specs.Coupled.{Coupled, View}
 use Rattle.np_levels.proofs.Arrivals.{arriving}

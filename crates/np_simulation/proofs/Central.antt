@@ -13,8 +13,8 @@ use Rattle.np_syntax.specs.declared.program.LowProgram.{LowProgram}
 use Rattle.np_calculus.specs.Config.{Config}
 use Rattle.np_calculus.specs.Reductions.{run}
 use Rattle.np_calculus.specs.Starts.{start_high, start_low}
-use Rattle.cache_lift.specs.Laws.{AddsNoMark, adds_mark}
-use Rattle.cache_lift.proofs.WithoutMessengers.{lift-without-messengers, standing-without-messengers}
+use Rattle.np_lift.specs.CachedLaws.{AddsNoMark, adds_mark}
+use Rattle.np_lift.proofs.WithoutMessengers.{lift-without-messengers, standing-without-messengers}
 use Rattle.np_check.specs.Faults.{IsAccepted}
 use Rattle.infrastructure_texts.specs.Infrastructures.{Infrastructure}
 use Rattle.daemon_encode.specs.Translates.{IsLowOf}

@@ -11,7 +11,7 @@ use Rattle.np_calculus.specs.Well.{Well}
 use Rattle.np_calculus.specs.Parts.{IsLodged}
 use Rattle.np_calculus.specs.Sight.{inside}
 use Rattle.np_lift.specs.Posts.{prepended}
-use Rattle.cache_lift.specs.Lift.{Standing, at_first, lift_from, lifted, standing_after}
+use Rattle.np_lift.specs.CachedLift.{Standing, at_first, lift_from, lifted, standing_after}
 use Rattle.np_check.specs.Faults.{IsAccepted}
 use Rattle.infrastructure_texts.specs.Infrastructures.{Infrastructure}
 use Rattle.daemon_encode.specs.Translates.{IsLowOf}

@@ -15,9 +15,9 @@ use Rattle.np_calculus.specs.Well.{Well}
 use Rattle.np_calculus.specs.Parts.{IsLodged}
 use Rattle.np_calculus.specs.Sight.{inside}
 use Rattle.np_lift.specs.Posts.{prepended}
-use Rattle.cache_lift.specs.Lift.{Standing, lifted}
-use Rattle.cache_lift.specs.Laws.{adds_mark, becomes, nothing}
-use Rattle.cache_lift.proofs.Table.{lifted-by-table}
+use Rattle.np_lift.specs.CachedLift.{Standing, lifted}
+use Rattle.np_lift.specs.CachedLaws.{adds_mark, becomes, nothing}
+use Rattle.np_lift.proofs.Table.{lifted-by-table}
 use Rattle.infrastructure_texts.specs.Infrastructures.{Infrastructure}
 use Rattle.np_levels.specs.Coupled.{Coupled, View}
 use Rattle.np_levels.specs.Laws.{IsEvent, event_of, post_of}

@@ -9,7 +9,7 @@ use Rattle.np_calculus.specs.Reductions.{run}
 use Rattle.np_calculus.specs.Sight.{inside}
 use Rattle.np_calculus.specs.Starts.{start_high, start_low}
 use Rattle.np_lift.specs.Lift.{lift}
-use Rattle.cache_lift.specs.Lift.{Standing, at_first, lift_cached, standing_after}
+use Rattle.np_lift.specs.CachedLift.{Standing, at_first, lift_cached, standing_after}
 use Rattle.np_check.specs.Faults.{IsAccepted}
 use Rattle.infrastructure_texts.specs.Infrastructures.{Infrastructure}
 use Rattle.daemon_encode.specs.Translates.{IsLowOf}

@@ -11,10 +11,10 @@ use Rattle.np_merged_run.specs.Steps.{IsSpread}
 use Rattle.stamp_history.specs.Histories.{IsHistory, Recorded, without_events}
 use Rattle.run_merge.specs.Laws.{HaveOwnSites}
 use Rattle.run_merge.proofs.InOrder.{all_append, all_filter, all_weaker, filter_alike, filter_map_back}
-use Rattle.np_stamped_run.specs.Deeds.{Deed, IsDeedOf, StampedItem, put_for, taken_from}
-use Rattle.np_stamped_run.proofs.Linking.{all_first}
-use Rattle.np_stamped_run.proofs.Moving.{below_or_not}
-use Rattle.np_holdings.specs.Holdings.{Holding, IsPart}
+use Rattle.np_merged_run.specs.Deeds.{Deed, IsDeedOf, StampedItem, put_for, taken_from}
+use Rattle.np_merged_run.proofs.Linking.{all_first}
+use Rattle.np_merged_run.proofs.Moving.{below_or_not}
+use Rattle.np_site_runs.specs.Holdings.{Holding, IsPart}
 use Rattle.np_site_runs.specs.Accounts.{AccountGrows, AccountStarts, Accounts, AreSettled, AreTheirs, Came, CameFollows, IsItsHistory, LowSitesEnd, SendsLoad, SettledAreRuns, came_on, held_runs, taken_on}
 use Rattle.np_site_runs.specs.Ending.{AreKept, HasPrinted, IsLoad, IsStill}
 use Rattle.np_site_runs.specs.SiteRuns.{IsHeldRun}

@@ -3,3 +3,16 @@ pub mod Acting
 pub mod Ending
 pub mod Running
 pub mod Starting
+pub mod HoldingActs
+pub mod Holds
+pub mod Showing
+pub mod Parts
+pub mod Within
+pub mod Inversions
+pub mod Leaving
+pub mod Coming
+pub mod Telling
+pub mod Resting
+pub mod Making
+pub mod Loads
+pub mod Enabled

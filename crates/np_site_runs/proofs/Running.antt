@@ -7,15 +7,15 @@ use Rattle.np_merged_run.specs.Steps.{IsSpread, IsStep}
 use Rattle.np_merged_run.proofs.Steps.{false_eq, with-site-same}
 use Rattle.std.proofs.lemmas.Bool.{eq-eqb}
 use Rattle.run_merge.proofs.InOrder.{all_append}
-use Rattle.np_stamped_run.specs.Deeds.{Deed, Leads, plain}
-use Rattle.np_stamped_run.specs.Turns.{AreClocked, AreInTurn, Flows, GoesOn, IsAmong, IsTurn, WaitsOn, Waiting, moved, none_waits, own}
-use Rattle.np_stamped_run.proofs.Flowing.{each_site, own-here, own-there}
-use Rattle.np_stamped_run.proofs.Growing.{ticks-on}
-use Rattle.np_stamped_run.proofs.Moving.{with-site-other}
-use Rattle.np_stamped_run.proofs.Running.{begins}
-use Rattle.np_stamped_run.proofs.Turning.{have_turns, turn_goes_on, turn_is_apart}
-use Rattle.np_holdings.specs.Holdings.{AreMade, Does, DoesAll, Holding, IsPart}
-use Rattle.np_holdings.proofs.Making.{made_in_spread}
+use Rattle.np_merged_run.specs.Deeds.{Deed, Leads, plain}
+use Rattle.np_merged_run.specs.Turns.{AreClocked, AreInTurn, Flows, GoesOn, IsAmong, IsTurn, WaitsOn, Waiting, moved, none_waits, own}
+use Rattle.np_merged_run.proofs.Flowing.{each_site, own-here, own-there}
+use Rattle.np_merged_run.proofs.Growing.{ticks-on}
+use Rattle.np_merged_run.proofs.Moving.{with-site-other}
+use Rattle.np_merged_run.proofs.Running.{begins}
+use Rattle.np_merged_run.proofs.Turning.{have_turns, turn_goes_on, turn_is_apart}
+use Rattle.np_site_runs.specs.Holdings.{AreMade, Does, DoesAll, Holding, IsPart}
+use Rattle.np_site_runs.proofs.Making.{made_in_spread}
 use Rattle.np_site_runs.specs.SiteRuns.{AreHeldRuns, ArePartsOf, HeldRunGrows, HeldRunStarts, HeldRuns, HeldRunsAreRuns, by_configs}
 
 -- ---- one event more

@@ -11,8 +11,8 @@ use Rattle.np_merged_run.specs.Links.{spread}
 use Rattle.np_merged_run.specs.Steps.{IsSpread}
 use Rattle.stamp_history.specs.Histories.{IsHistory, Recorded}
 use Rattle.run_merge.specs.Merged.{items, merged, said}
-use Rattle.np_stamped_run.specs.Deeds.{Deed, StampedItem, put_for}
-use Rattle.np_holdings.specs.Holdings.{Holding, IsPart}
+use Rattle.np_merged_run.specs.Deeds.{Deed, StampedItem, put_for}
+use Rattle.np_site_runs.specs.Holdings.{Holding, IsPart}
 use Rattle.np_site_runs.specs.SiteRuns.{AreHeldRuns, HeldRuns, IsHeldRun, IsNextDeed}
 use Rattle.np_site_runs.specs.Starting.{start_holding}
 use Rattle.np_site_runs.specs.Ending.{HasPrinted, IsLoad, IsStill, PutLoads}

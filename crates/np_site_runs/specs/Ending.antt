@@ -12,8 +12,8 @@ use Rattle.np_merged_run.specs.Steps.{IsSpread}
 use Rattle.stamp_history.specs.Histories.{Recorded}
 use Rattle.run_merge.specs.Laws.{AreHistories}
 use Rattle.run_merge.specs.Merged.{items, merged, said}
-use Rattle.np_stamped_run.specs.Resting.{Brings}
-use Rattle.np_holdings.specs.Holdings.{Holding, IsPart}
+use Rattle.np_merged_run.specs.Resting.{Brings}
+use Rattle.np_site_runs.specs.Holdings.{Holding, IsPart}
 use Rattle.np_site_runs.specs.SiteRuns.{AreHeldRuns, ArePartsOf, HeldRuns}
 use Rattle.np_site_runs.specs.Starting.{start_holding}
 

@@ -3,3 +3,13 @@ pub mod Acting
 pub mod Ending
 pub mod SiteRuns
 pub mod Starting
+pub mod Coming
+pub mod Enabled
+pub mod Going
+pub mod Holdings
+pub mod HoldingLaws
+pub mod Leaving
+pub mod Loads
+pub mod Making
+pub mod Resting
+pub mod Within

@@ -89,7 +89,13 @@ fn report_of(
 {
     let between = high_part(alloc, high, checked, made.events.as_slice())?;
     let sites = &checked.program().sites;
-    report(alloc, sites, made.last.said(), between.as_slice(), made.end)
+    report(
+        alloc,
+        sites,
+        made.last.get().said(),
+        between.as_slice(),
+        made.end,
+    )
 }
 
 /// Runs the low program of a source in one thread, one event after another, for at most so many events, and makes the
@@ -131,7 +137,7 @@ fn with_low_report(
 ) -> Result<(SerialRun, Text), Memory>
     ensures { IfOk result (λ both. (both.0 ≡ made) × (both.1 ≡ report_text low.now.sites made.last.said [] made.end)) }
 {
-    match report(alloc, &low.sites, made.last.said(), b"", made.end) {
+    match report(alloc, &low.sites, made.last.get().said(), b"", made.end) {
         Ok(text) => Ok((made, text)),
         Err(memory) => {
             drop(made);

@@ -15,9 +15,9 @@ ghost use Rattle.np_sources.specs.Makes.{KeepsRun, KeepsSites, RunsOnSites, high
 use super::high::{checked_for, high_part};
 use super::job::Job;
 use super::lowering::{Lowered, low_with_code};
-use cache_lift::lift_cached;
 use history_text::write_in;
 use np_check::Checked;
+use np_lift::lift_cached;
 use np_on_sites::{Gate, Record, law_source_runs, run_on_sites};
 use np_report::{load_report, report};
 use np_syntax::{Event, LARGEST_BUDGET, LONGEST_SOURCE, List, MOST_EVENTS, Memory, Text};

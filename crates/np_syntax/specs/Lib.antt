@@ -1,5 +1,6 @@
 pub mod Escapes
 pub mod Events
+pub mod Nodes
 pub mod Numerals
 pub mod Options
 pub mod Parts

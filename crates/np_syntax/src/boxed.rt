@@ -41,6 +41,14 @@ impl<T> Boxed<T> {
         &self.inner
     }
 
+    /// Puts a value in the place of the one that stands there, and gives that back.
+    pub fn replace(&mut self, value: T) -> T
+        ensures before { result ≡ self.old }
+        ensures after { self.new ≡ value }
+    {
+        std::mem::replace(&mut self.inner, value)
+    }
+
     pub fn into_inner(self) -> T
         ensures { result ≡ self }
     {

@@ -1,4 +1,5 @@
 ghost use Rattle.std.specs.Prelude.{◌≡◌, IfOk};
+ghost use Rattle.np_syntax.specs.Nodes.{expr_at};
 
 use super::boxed::Boxed;
 use super::list::List;
@@ -15,11 +16,11 @@ pub enum Op {
     Equal,
 }
 
-/// An expression with its offset in the source, in bytes.
+/// An expression with its offset in the source, in bytes. Its form stands on the heap, so what holds an expression is small.
 #[cycle(expr)]
 pub struct Expr {
     pub at: u32,
-    pub form: ExprForm,
+    pub form: Boxed<ExprForm>,
 }
 
 impl Drop for Expr {
@@ -36,9 +37,9 @@ pub enum ExprForm {
     Val(Value),
     Var(u32),
     Tuple(List<Expr>),
-    Bin(Op, Boxed<Expr>, Boxed<Expr>),
-    Pack(Boxed<Expr>, Boxed<Expr>),
-    With(Boxed<Expr>, Boxed<Expr>, Boxed<Expr>),
+    Bin(Op, Expr, Expr),
+    Pack(Expr, Expr),
+    With(Expr, Expr, Expr),
 }
 
 impl Drop for ExprForm {
@@ -56,12 +57,20 @@ impl Drop for ExprForm {
 }
 
 impl Expr {
+    /// An expression of that form, which stands on the heap from now on.
+    pub fn new(alloc: Global, at: u32, form: ExprForm) -> Result<Expr, Memory>
+        ensures { IfOk result (λ expr. expr ≡ expr_at at form) }
+    {
+        let form = Boxed::of(alloc, form)?;
+        Ok(Expr { at, form })
+    }
+
     #[cycle(expr_copy)]
     pub fn copy(&self, alloc: Global) -> Result<Expr, Memory>
         ensures { IfOk result (λ copied. copied ≡ self.now) }
     {
-        let form = self.form.copy(alloc)?;
-        Ok(Expr { at: self.at, form })
+        let form = self.form.get().copy(alloc)?;
+        Expr::new(alloc, self.at, form)
     }
 }
 
@@ -75,19 +84,19 @@ impl ExprForm {
             ExprForm::Var(binder) => Ok(ExprForm::Var(*binder)),
             ExprForm::Tuple(parts) => Ok(ExprForm::Tuple(copy_exprs(alloc, parts.as_slice())?)),
             ExprForm::Bin(op, left, right) => {
-                let left = copy_boxed(alloc, left)?;
-                let right = copy_boxed(alloc, right)?;
+                let left = left.copy(alloc)?;
+                let right = right.copy(alloc)?;
                 Ok(ExprForm::Bin(*op, left, right))
             }
             ExprForm::Pack(chan, value) => {
-                let chan = copy_boxed(alloc, chan)?;
-                let value = copy_boxed(alloc, value)?;
+                let chan = chan.copy(alloc)?;
+                let value = value.copy(alloc)?;
                 Ok(ExprForm::Pack(chan, value))
             }
             ExprForm::With(places, agent, lock) => {
-                let places = copy_boxed(alloc, places)?;
-                let agent = copy_boxed(alloc, agent)?;
-                let lock = copy_boxed(alloc, lock)?;
+                let places = places.copy(alloc)?;
+                let agent = agent.copy(alloc)?;
+                let lock = lock.copy(alloc)?;
                 Ok(ExprForm::With(places, agent, lock))
             }
         }
@@ -103,12 +112,4 @@ fn copy_exprs(alloc: Global, exprs: &[Expr]) -> Result<List<Expr>, Memory>
         copies.add(expr.copy(alloc)?)?;
     }
     Ok(copies)
-}
-
-#[cycle(expr_copy)]
-fn copy_boxed(alloc: Global, expr: &Boxed<Expr>) -> Result<Boxed<Expr>, Memory>
-    ensures { IfOk result (λ copied. copied ≡ expr.now) }
-{
-    let copied = expr.get().copy(alloc)?;
-    Boxed::of(alloc, copied)
 }

@@ -1,4 +1,5 @@
 ghost use Rattle.std.specs.Prelude.{◌≡◌, cond, IfOk};
+ghost use Rattle.np_syntax.specs.Nodes.{proc_at};
 ghost use Rattle.np_syntax.specs.ProcessParts.{as_agent_form, as_par, body_at, way_at};
 ghost use Rattle.np_syntax.specs.declared.process.ProcForm.{out-ProcForm};
 
@@ -29,12 +30,12 @@ pub struct Tag {
     pub role: Role,
 }
 
-/// A process with its offset in the source, in bytes.
+/// A process with its offset in the source, in bytes. Its form stands on the heap, so what holds a process is small.
 #[cycle(process)]
 pub struct Proc {
     pub tag: Tag,
     pub at: u32,
-    pub form: ProcForm,
+    pub form: Boxed<ProcForm>,
 }
 
 impl Drop for Proc {
@@ -53,21 +54,21 @@ impl Drop for Proc {
 #[cycle(process)]
 pub enum ProcForm {
     Stop,
-    Par(Boxed<Proc>, Boxed<Proc>),
-    New(u32, Ty, Boxed<Proc>),
+    Par(Proc, Proc),
+    New(u32, Ty, Proc),
     Out(Expr, Expr),
-    Inp(Expr, Pat, Boxed<Proc>),
-    Rep(Expr, Pat, Boxed<Proc>),
-    Agent(u32, Boxed<Proc>, Boxed<Proc>),
-    Migrate(Expr, Boxed<Proc>),
-    IfLocal(Expr, Expr, Expr, Boxed<Proc>, Boxed<Proc>),
+    Inp(Expr, Pat, Proc),
+    Rep(Expr, Pat, Proc),
+    Agent(u32, Proc, Proc),
+    Migrate(Expr, Proc),
+    IfLocal(Expr, Expr, Expr, Proc, Proc),
     Send(Expr, Expr, Expr, Expr),
     Post(Expr, Expr, Expr),
-    If(Expr, Boxed<Proc>, Boxed<Proc>),
-    Let(Pat, Expr, Boxed<Proc>),
+    If(Expr, Proc, Proc),
+    Let(Pat, Expr, Proc),
     Print(Expr),
     Open(Expr),
-    Lookup(Expr, Expr, u32, Boxed<Proc>, Boxed<Proc>),
+    Lookup(Expr, Expr, u32, Proc, Proc),
 }
 
 impl Drop for ProcForm {
@@ -104,28 +105,24 @@ impl Proc {
             at: _,
             form,
         } = self;
-        form
+        form.into_inner()
+    }
+
+    /// A process of that form, which stands on the heap from now on.
+    pub fn new(alloc: Global, tag: Tag, at: u32, form: ProcForm) -> Result<Proc, Memory>
+        ensures { IfOk result (λ proc. proc ≡ proc_at tag at form) }
+    {
+        let form = Boxed::of(alloc, form)?;
+        Ok(Proc { tag, at, form })
     }
 
     #[cycle(proc_copy)]
     pub fn copy(&self, alloc: Global) -> Result<Proc, Memory>
         ensures { IfOk result (λ copied. copied ≡ self.now) }
     {
-        let form = self.form.copy(alloc)?;
-        Ok(Proc {
-            tag: self.tag,
-            at: self.at,
-            form,
-        })
+        let form = self.form.get().copy(alloc)?;
+        Proc::new(alloc, self.tag, self.at, form)
     }
-}
-
-#[cycle(proc_copy)]
-fn copy_boxed(alloc: Global, proc: &Boxed<Proc>) -> Result<Boxed<Proc>, Memory>
-    ensures { IfOk result (λ copied. copied ≡ proc.now) }
-{
-    let copied = proc.get().copy(alloc)?;
-    Boxed::of(alloc, copied)
 }
 
 impl ProcForm {
@@ -134,7 +131,7 @@ impl ProcForm {
         ensures { result ≡ as_par (out-ProcForm self) }
     {
         match self {
-            ProcForm::Par(left, right) => Some((left.into_inner(), right.into_inner())),
+            ProcForm::Par(left, right) => Some((left, right)),
             other => {
                 drop(other);
                 None
@@ -147,11 +144,7 @@ impl ProcForm {
         ensures { result ≡ as_agent_form (out-ProcForm self) }
     {
         match self {
-            ProcForm::Agent(binder, body, rest) => Some((
-                binder,
-                body.into_inner(),
-                rest.into_inner(),
-            )),
+            ProcForm::Agent(binder, body, rest) => Some((binder, body, rest)),
             other => {
                 drop(other);
                 None
@@ -164,10 +157,10 @@ impl ProcForm {
         ensures { result ≡ body_at (out-ProcForm self) }
     {
         match self {
-            ProcForm::New(_binder, _ty, body) => Some(body.into_inner()),
-            ProcForm::Inp(_chan, _pat, body) => Some(body.into_inner()),
-            ProcForm::Let(_pat, _value, body) => Some(body.into_inner()),
-            ProcForm::Migrate(_site, body) => Some(body.into_inner()),
+            ProcForm::New(_binder, _ty, body) => Some(body),
+            ProcForm::Inp(_chan, _pat, body) => Some(body),
+            ProcForm::Let(_pat, _value, body) => Some(body),
+            ProcForm::Migrate(_site, body) => Some(body),
             other => {
                 drop(other);
                 None
@@ -180,7 +173,7 @@ impl ProcForm {
         ensures { result ≡ way_at (out-ProcForm self) first }
     {
         match self {
-            ProcForm::Migrate(_site, body) => Some(body.into_inner()),
+            ProcForm::Migrate(_site, body) => Some(body),
             ProcForm::If(_test, met, unmet) => Some(either(met, unmet, first)),
             ProcForm::IfLocal(_agent, _chan, _value, met, unmet) => Some(either(met, unmet, first)),
             ProcForm::Lookup(_agent, _places, _binder, met, unmet) => Some(either(
@@ -200,40 +193,38 @@ impl ProcForm {
         match self {
             ProcForm::Stop => Ok(ProcForm::Stop),
             ProcForm::Par(left, right) => {
-                let left = copy_boxed(alloc, left)?;
-                let right = copy_boxed(alloc, right)?;
+                let left = left.copy(alloc)?;
+                let right = right.copy(alloc)?;
                 Ok(ProcForm::Par(left, right))
             }
-            ProcForm::New(chan, ty, body) => channel(alloc, *chan, ty, copy_boxed(alloc, body)?),
+            ProcForm::New(chan, ty, body) => channel(alloc, *chan, ty, body.copy(alloc)?),
             ProcForm::Out(chan, value) => output(alloc, chan, value),
-            ProcForm::Inp(chan, pat, body) => input(alloc, chan, pat, copy_boxed(alloc, body)?),
-            ProcForm::Rep(chan, pat, body) => {
-                replicated(alloc, chan, pat, copy_boxed(alloc, body)?)
-            }
+            ProcForm::Inp(chan, pat, body) => input(alloc, chan, pat, body.copy(alloc)?),
+            ProcForm::Rep(chan, pat, body) => { replicated(alloc, chan, pat, body.copy(alloc)?) }
             ProcForm::Agent(agent, body, rest) => {
-                let body = copy_boxed(alloc, body)?;
-                let rest = copy_boxed(alloc, rest)?;
+                let body = body.copy(alloc)?;
+                let rest = rest.copy(alloc)?;
                 Ok(ProcForm::Agent(*agent, body, rest))
             }
-            ProcForm::Migrate(site, body) => migrate(alloc, site, copy_boxed(alloc, body)?),
+            ProcForm::Migrate(site, body) => migrate(alloc, site, body.copy(alloc)?),
             ProcForm::IfLocal(agent, chan, value, met, unmet) => {
-                let met = copy_boxed(alloc, met)?;
-                let unmet = copy_boxed(alloc, unmet)?;
+                let met = met.copy(alloc)?;
+                let unmet = unmet.copy(alloc)?;
                 iflocal(alloc, agent, chan, value, met, unmet)
             }
             ProcForm::Send(agent, site, chan, value) => send(alloc, agent, site, chan, value),
             ProcForm::Post(agent, chan, value) => post(alloc, agent, chan, value),
             ProcForm::If(condition, met, unmet) => {
-                let met = copy_boxed(alloc, met)?;
-                let unmet = copy_boxed(alloc, unmet)?;
+                let met = met.copy(alloc)?;
+                let unmet = unmet.copy(alloc)?;
                 test(alloc, condition, met, unmet)
             }
-            ProcForm::Let(pat, value, body) => { bind(alloc, pat, value, copy_boxed(alloc, body)?) }
+            ProcForm::Let(pat, value, body) => { bind(alloc, pat, value, body.copy(alloc)?) }
             ProcForm::Print(value) => print(alloc, value),
             ProcForm::Open(letter) => open_letter(alloc, letter),
             ProcForm::Lookup(agent, places, found, met, unmet) => {
-                let met = copy_boxed(alloc, met)?;
-                let unmet = copy_boxed(alloc, unmet)?;
+                let met = met.copy(alloc)?;
+                let unmet = unmet.copy(alloc)?;
                 lookup(alloc, agent, places, *found, met, unmet)
             }
         }
@@ -241,12 +232,8 @@ impl ProcForm {
 }
 
 /// The first or the second of two processes.
-fn either(met: Boxed<Proc>, unmet: Boxed<Proc>, first: bool) -> Proc
+fn either(met: Proc, unmet: Proc, first: bool) -> Proc
     ensures { result ≡ cond first met unmet }
 {
-    if first {
-        met.into_inner()
-    } else {
-        unmet.into_inner()
-    }
+    if first { met } else { unmet }
 }

@@ -3,7 +3,6 @@
 ghost use Rattle.std.specs.Prelude.{◌≡◌, IfOk};
 ghost use Rattle.np_syntax.specs.declared.process.ProcForm as shape;
 
-use super::boxed::Boxed;
 use super::copies::{copy_bound, copy_pair};
 use super::expression::Expr;
 use super::memory::Memory;
@@ -12,7 +11,7 @@ use super::process::{Proc, ProcForm};
 use super::types::Ty;
 use std::alloc::Global;
 
-pub fn channel(alloc: Global, chan: u32, ty: &Ty, body: Boxed<Proc>) -> Result<ProcForm, Memory>
+pub fn channel(alloc: Global, chan: u32, ty: &Ty, body: Proc) -> Result<ProcForm, Memory>
     ensures { IfOk result (λ form. form ≡ shape.New chan ty.now body) }
 {
     let ty = ty.copy(alloc)?;
@@ -26,26 +25,21 @@ pub fn output(alloc: Global, chan: &Expr, value: &Expr) -> Result<ProcForm, Memo
     Ok(ProcForm::Out(chan, value))
 }
 
-pub fn input(alloc: Global, chan: &Expr, names: &Pat, body: Boxed<Proc>) -> Result<ProcForm, Memory>
+pub fn input(alloc: Global, chan: &Expr, names: &Pat, body: Proc) -> Result<ProcForm, Memory>
     ensures { IfOk result (λ form. form ≡ shape.Inp chan.now names.now body) }
 {
     let (chan, names) = copy_bound(alloc, chan, names)?;
     Ok(ProcForm::Inp(chan, names, body))
 }
 
-pub fn replicated(
-    alloc: Global,
-    chan: &Expr,
-    names: &Pat,
-    body: Boxed<Proc>,
-) -> Result<ProcForm, Memory>
+pub fn replicated(alloc: Global, chan: &Expr, names: &Pat, body: Proc) -> Result<ProcForm, Memory>
     ensures { IfOk result (λ form. form ≡ shape.Rep chan.now names.now body) }
 {
     let (chan, names) = copy_bound(alloc, chan, names)?;
     Ok(ProcForm::Rep(chan, names, body))
 }
 
-pub fn migrate(alloc: Global, site: &Expr, body: Boxed<Proc>) -> Result<ProcForm, Memory>
+pub fn migrate(alloc: Global, site: &Expr, body: Proc) -> Result<ProcForm, Memory>
     ensures { IfOk result (λ form. form ≡ shape.Migrate site.now body) }
 {
     let site = site.copy(alloc)?;
@@ -57,8 +51,8 @@ pub fn iflocal(
     agent: &Expr,
     chan: &Expr,
     value: &Expr,
-    met: Boxed<Proc>,
-    unmet: Boxed<Proc>,
+    met: Proc,
+    unmet: Proc,
 ) -> Result<ProcForm, Memory>
     ensures { IfOk result (λ form. form ≡ shape.IfLocal agent.now chan.now value.now met unmet) }
 {
@@ -89,19 +83,14 @@ pub fn post(alloc: Global, agent: &Expr, chan: &Expr, value: &Expr) -> Result<Pr
     Ok(ProcForm::Post(agent, chan, value))
 }
 
-pub fn test(
-    alloc: Global,
-    condition: &Expr,
-    met: Boxed<Proc>,
-    unmet: Boxed<Proc>,
-) -> Result<ProcForm, Memory>
+pub fn test(alloc: Global, condition: &Expr, met: Proc, unmet: Proc) -> Result<ProcForm, Memory>
     ensures { IfOk result (λ form. form ≡ shape.If condition.now met unmet) }
 {
     let condition = condition.copy(alloc)?;
     Ok(ProcForm::If(condition, met, unmet))
 }
 
-pub fn bind(alloc: Global, names: &Pat, value: &Expr, body: Boxed<Proc>) -> Result<ProcForm, Memory>
+pub fn bind(alloc: Global, names: &Pat, value: &Expr, body: Proc) -> Result<ProcForm, Memory>
     ensures { IfOk result (λ form. form ≡ shape.Let names.now value.now body) }
 {
     let (value, names) = copy_bound(alloc, value, names)?;
@@ -127,8 +116,8 @@ pub fn lookup(
     agent: &Expr,
     places: &Expr,
     found: u32,
-    met: Boxed<Proc>,
-    unmet: Boxed<Proc>,
+    met: Proc,
+    unmet: Proc,
 ) -> Result<ProcForm, Memory>
     ensures { IfOk result (λ form. form ≡ shape.Lookup agent.now places.now found met unmet) }
 {

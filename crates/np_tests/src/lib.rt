@@ -21,8 +21,6 @@ mod numbers;
 #[cfg(test)]
 mod sources;
 #[cfg(test)]
-mod tables;
-#[cfg(test)]
 mod trees;
 #[cfg(test)]
-mod waiting;
+mod work_lists;

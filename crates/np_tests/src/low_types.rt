@@ -13,13 +13,13 @@ enum Leaf {
     Var(u32),
 }
 
-fn operand(at: u32, leaf: Leaf) -> Expr {
+fn operand(alloc: Global, at: u32, leaf: Leaf) -> Result<Expr, Memory> {
     let form = match leaf {
         Leaf::Number => ExprForm::Val(Value::Int(7)),
         Leaf::Truth => ExprForm::Val(Value::Truth(true)),
         Leaf::Var(binder) => ExprForm::Var(binder),
     };
-    Expr { at, form }
+    Expr::new(alloc, at, form)
 }
 
 fn chan(alloc: Global, cap: Cap, ty: Ty) -> Result<Ty, Memory> {
@@ -58,14 +58,14 @@ fn fault_under(alloc: Global, env: &mut Env, expr: &Expr) -> Result<Option<(u32,
     fault_in(alloc, env, expr)
 }
 
-fn whole(alloc: Global, form: ExprForm) -> Result<Boxed<Expr>, Memory> {
-    Boxed::of(alloc, Expr { at: 1, form })
+fn whole(alloc: Global, form: ExprForm) -> Result<Expr, Memory> {
+    Expr::new(alloc, 1, form)
 }
 
 /// `pack(c, e)` has the faults of the output `c!e`.
-fn letter(alloc: Global, chan: Leaf, value: Leaf) -> Result<Boxed<Expr>, Memory> {
-    let chan = Boxed::of(alloc, operand(2, chan))?;
-    let value = Boxed::of(alloc, operand(3, value))?;
+fn letter(alloc: Global, chan: Leaf, value: Leaf) -> Result<Expr, Memory> {
+    let chan = operand(alloc, 2, chan)?;
+    let value = operand(alloc, 3, value)?;
     whole(alloc, ExprForm::Pack(chan, value))
 }
 
@@ -78,7 +78,7 @@ fn letters(rt: HostRuntime) -> Result<(), Fail> {
         (Leaf::Var(0), Leaf::Number, None),
     ] {
         let letter = letter(rt.alloc(), chan, value)?;
-        let found = fault_of(rt.alloc(), letter.get());
+        let found = fault_of(rt.alloc(), &letter);
         drop(letter);
         assert_eq!(rt; found, Ok(fault));
     }
@@ -86,10 +86,10 @@ fn letters(rt: HostRuntime) -> Result<(), Fail> {
 }
 
 /// `m with a -> c`.
-fn places(alloc: Global, map: Leaf, agent: Leaf, lock: Leaf) -> Result<Boxed<Expr>, Memory> {
-    let map = Boxed::of(alloc, operand(2, map))?;
-    let agent = Boxed::of(alloc, operand(3, agent))?;
-    let lock = Boxed::of(alloc, operand(4, lock))?;
+fn places(alloc: Global, map: Leaf, agent: Leaf, lock: Leaf) -> Result<Expr, Memory> {
+    let map = operand(alloc, 2, map)?;
+    let agent = operand(alloc, 3, agent)?;
+    let lock = operand(alloc, 4, lock)?;
     whole(alloc, ExprForm::With(map, agent, lock))
 }
 
@@ -117,7 +117,7 @@ fn maps_of_places(rt: HostRuntime) -> Result<(), Fail> {
         (Leaf::Var(4), Leaf::Var(3), Leaf::Var(2), None),
     ] {
         let places = places(rt.alloc(), map, agent, lock)?;
-        let found = fault_of(rt.alloc(), places.get());
+        let found = fault_of(rt.alloc(), &places);
         drop(places);
         assert_eq!(rt; found, Ok(fault));
     }

@@ -80,25 +80,3 @@ fn prints_values(rt: HostRuntime) -> Result<(), Fail> {
     assert_eq!(rt; least.as_slice(), b"-9223372036854775808".as_slice());
     Ok(())
 }
-
-/// Puts four numbers, and another in the place of the first.
-fn put_four(list: &mut List<u8>) -> Result<(), Memory> {
-    list.reserve(2)?;
-    list.add(1)?;
-    if list.push(2).is_err() {
-        return Err(Memory);
-    }
-    list.append([3, 4].as_slice())?;
-    list.set(0, 9);
-    Ok(())
-}
-
-#[test]
-fn lists_hold_what_was_put(rt: HostRuntime) -> Result<(), Fail> {
-    let alloc = rt.alloc();
-    let mut list = List::new(alloc);
-    put_four(&mut list)?;
-    assert_eq!(rt; list.pop(), Some(4));
-    assert_eq!(rt; list.copy(alloc)?.as_slice(), [9u8, 2, 3].as_slice());
-    Ok(())
-}

@@ -12,7 +12,7 @@ use std::test::Fail;
 
 /// A number, a use of a binder as `v` and its number, of a site as `s` and its number.
 fn expr(alloc: Global, expr: &Expr) -> Result<String, AllocError> {
-    match &expr.form {
+    match expr.form.get() {
         ExprForm::Val(Value::Int(number)) => format!(in alloc; "{number}"),
         ExprForm::Val(Value::Site(site)) => format!(in alloc; "s{site}"),
         ExprForm::Var(binder) => format!(in alloc; "v{binder}"),
@@ -60,15 +60,15 @@ fn head(alloc: Global, form: &ProcForm) -> Result<String, AllocError> {
 
 /// Adds the number and the head of each node.
 fn note(alloc: Global, notes: &mut String, proc: &Proc) -> Result<(), AllocError> {
-    let text = format!(in alloc; " {} {}", proc.tag.node, head(alloc, &proc.form)?)?;
+    let text = format!(in alloc; " {} {}", proc.tag.node, head(alloc, proc.form.get())?)?;
     notes.push_str(text.as_str())?;
-    match &proc.form {
+    match proc.form.get() {
         ProcForm::Par(left, right) | ProcForm::Agent(_, left, right) => {
-            note(alloc, notes, left.get())?;
-            note(alloc, notes, right.get())
+            note(alloc, notes, left)?;
+            note(alloc, notes, right)
         }
         ProcForm::New(_, _, body) | ProcForm::Inp(_, _, body) | ProcForm::Let(_, _, body) => {
-            note(alloc, notes, body.get())
+            note(alloc, notes, body)
         }
         _ => Ok(()),
     }

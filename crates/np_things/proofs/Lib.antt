@@ -1,2 +1,5 @@
 pub mod Acting
 pub mod Starts
+pub mod Known
+pub mod Sources
+pub mod Values

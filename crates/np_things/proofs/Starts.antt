@@ -27,8 +27,8 @@ use Rattle.infrastructure_texts.specs.Infrastructures.{Infrastructure}
 use Rattle.infrastructure_texts.specs.InfrastructureTexts.{main_of, daemon_of}
 use Rattle.daemon_encode.specs.Translates.{IsLowOf}
 use Rattle.infrastructure_texts.specs.CacheTexts.{empty_cache, found_server}
-use Rattle.np_source_values.specs.Sources.{Names}
-use Rattle.np_source_values.proofs.Sources.{sound-is-source}
+use Rattle.np_things.specs.Sources.{Names}
+use Rattle.np_things.proofs.Sources.{sound-is-source}
 use Rattle.np_things.specs.Desks.{desk, server}
 use Rattle.np_things.specs.Laws.{StartsWithThings}
 use Rattle.np_things.specs.Shapes.{Are, Gives, IsAgents, IsLetters, IsOfSource}

@@ -6,3 +6,6 @@ pub mod CacheShapes
 pub mod Shapes
 pub mod Starts
 pub mod Things
+pub mod Known
+pub mod ValueLaws
+pub mod Sources

@@ -26,7 +26,7 @@ use Rattle.infrastructure_texts.specs.Daemon.{acks}
 use Rattle.infrastructure_texts.specs.Infrastructures.{Infrastructure}
 use Rattle.infrastructure_texts.specs.InfrastructureTexts.{child_of}
 use Rattle.daemon_encode.specs.Translates.{Translates, source}
-use Rattle.np_source_values.specs.Sources.{Agrees, IsSource, Names}
+use Rattle.np_things.specs.Sources.{Agrees, IsSource, Names}
 use Rattle.np_things.specs.CacheShapes.{IsAdding, IsCalling, IsCarrying, IsEnded, IsHiring, IsHoping, IsKeeping, IsLookingBack, IsPassing, IsReading, IsReadingBack, IsReplacing, IsTelling, IsTold, IsTrying}
 use Rattle.np_things.specs.Desks.{Took, desk, server, takes_map}
 use Rattle.np_things.specs.Mail.{Mail, Posted, content, on_channel, packet_of, receiver as receiver_of, to_site}

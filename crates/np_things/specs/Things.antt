@@ -9,7 +9,7 @@ use Rattle.np_calculus.specs.declared.config.Atom.{Atom}
 use Rattle.np_calculus.specs.declared.config.Packet.{Packet}
 use Rattle.np_eval.specs.Eval.{find_place}
 use Rattle.np_protocol.specs.Chips.{Chip, Service}
-use Rattle.cache_rule.specs.Chips.{CacheChip}
+use Rattle.np_protocol.specs.CacheChips.{CacheChip}
 use Rattle.np_things.specs.Mail.{Mail, Posted, as_output}
 
 -- where mail is: about to be sent from an agent, on its way, and there as an output

@@ -17,8 +17,8 @@ use denote.Hole.Carrier as carrier
 
 -- ---- expressions
 
-exprs_is : (xs : List RawExpr) → erased_exprs (expr_block.hidden-the_row-RawExpr-0 xs) ≡ map erased_expr xs
-unfolding expr_block.hidden-the_row-RawExpr-0 carrier.hidden
+exprs_is : (xs : List RawExpr) → erased_exprs (expr_block.hidden-the_row-RawExpr-1 xs) ≡ map erased_expr xs
+unfolding expr_block.hidden-the_row-RawExpr-1 expr_block.hidden-the_row-RawExprForm-0 carrier.hidden
 exprs_is [] = refl
 exprs_is (x ∷ xs) = ap (λ l. erased_expr x ∷ l) (exprs_is xs)
 
@@ -26,7 +26,7 @@ pub erased-tuple : (xs : List RawExpr) → erased_expr_form (expr.Tuple xs) ≡ 
 erased-tuple xs = ap expr.Tuple (exprs_is xs)
 
 pub erased-bin : (op : Op) (x y : RawExpr) → erased_expr_form (expr.Bin op x y) ≡ expr.Bin op (erased_expr x) (erased_expr y)
-unfolding expr_block.hidden-the_row-RawExpr-1 carrier.hidden
+unfolding expr_block.hidden-the_row-RawExprForm-0 carrier.hidden
 erased-bin op x y = refl
 
 -- ---- patterns
@@ -42,38 +42,38 @@ erased-tuple_pat ps = ap pat.Tuple (pats_is ps)
 -- ---- processes
 
 pub erased-par : (p q : RawProc) → erased_proc_form (form.Par p q) ≡ form.Par (erased_proc p) (erased_proc q)
-unfolding block.hidden-the_row-RawProc-0 carrier.hidden
+unfolding block.hidden-the_row-RawProcForm-0 carrier.hidden
 erased-par p q = refl
 
 pub erased-new : (c : Ident) (t : Ty) (p : RawProc) → erased_proc_form (form.New c t p) ≡ form.New (erased_ident c) t (erased_proc p)
-unfolding block.hidden-the_row-RawProc-0 carrier.hidden
+unfolding block.hidden-the_row-RawProcForm-0 carrier.hidden
 erased-new c t p = refl
 
 pub erased-inp : (c : Ident) (q : RawPat) (p : RawProc) → erased_proc_form (form.Inp c q p) ≡ form.Inp (erased_ident c) (erased_pat q) (erased_proc p)
-unfolding block.hidden-the_row-RawProc-0 carrier.hidden
+unfolding block.hidden-the_row-RawProcForm-0 carrier.hidden
 erased-inp c q p = refl
 
 pub erased-rep : (c : Ident) (q : RawPat) (p : RawProc) → erased_proc_form (form.Rep c q p) ≡ form.Rep (erased_ident c) (erased_pat q) (erased_proc p)
-unfolding block.hidden-the_row-RawProc-0 carrier.hidden
+unfolding block.hidden-the_row-RawProcForm-0 carrier.hidden
 erased-rep c q p = refl
 
 pub erased-agent : (b : Ident) (p q : RawProc) → erased_proc_form (form.Agent b p q) ≡ form.Agent (erased_ident b) (erased_proc p) (erased_proc q)
-unfolding block.hidden-the_row-RawProc-0 carrier.hidden
+unfolding block.hidden-the_row-RawProcForm-0 carrier.hidden
 erased-agent b p q = refl
 
 pub erased-migrate : (x : RawExpr) (p : RawProc) → erased_proc_form (form.Migrate x p) ≡ form.Migrate (erased_expr x) (erased_proc p)
-unfolding block.hidden-the_row-RawProc-0 carrier.hidden
+unfolding block.hidden-the_row-RawProcForm-0 carrier.hidden
 erased-migrate x p = refl
 
 pub erased-iflocal : (x : RawExpr) (c : Ident) (z : RawExpr) (p q : RawProc)
     → erased_proc_form (form.IfLocal x c z p q) ≡ form.IfLocal (erased_expr x) (erased_ident c) (erased_expr z) (erased_proc p) (erased_proc q)
-unfolding block.hidden-the_row-RawProc-0 carrier.hidden
+unfolding block.hidden-the_row-RawProcForm-0 carrier.hidden
 erased-iflocal x c z p q = refl
 
 pub erased-if : (x : RawExpr) (p q : RawProc) → erased_proc_form (form.If x p q) ≡ form.If (erased_expr x) (erased_proc p) (erased_proc q)
-unfolding block.hidden-the_row-RawProc-0 carrier.hidden
+unfolding block.hidden-the_row-RawProcForm-0 carrier.hidden
 erased-if x p q = refl
 
 pub erased-let : (q : RawPat) (x : RawExpr) (p : RawProc) → erased_proc_form (form.Let q x p) ≡ form.Let (erased_pat q) (erased_expr x) (erased_proc p)
-unfolding block.hidden-the_row-RawProc-0 carrier.hidden
+unfolding block.hidden-the_row-RawProcForm-0 carrier.hidden
 erased-let q x p = refl

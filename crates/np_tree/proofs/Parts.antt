@@ -11,7 +11,7 @@ use Rattle.np_tree.specs.declared.tree.RawPat.{RawPat}
 use Rattle.np_tree.specs.declared.tree.RawPatForm.{RawPatForm, out-RawPatForm}
 use Rattle.np_tree.specs.declared.tree.RawPatForm as pat
 use Rattle.np_tree.specs.declared.tree.RawProc.{RawProc}
-use Rattle.np_tree.specs.declared.tree.RawProcForm.{RawProcForm, out-RawProcForm}
+use Rattle.np_tree.specs.declared.tree.RawProcForm.{RawProcForm, RawProcForm-F, out-RawProcForm, roll-RawProcForm, roll-out-RawProcForm}
 use Rattle.np_tree.specs.declared.tree.RawProcForm as form
 use Rattle.np_tree.specs.Grammar.{expression, pattern, process}
 use Rattle.np_tree.specs.Erased.{erased_ident, erased_expr_form, erased_expr, erased_pat_form, erased_pat, erased_proc_form, erased_proc}
@@ -207,3 +207,47 @@ bind f g m n x y p u ef eg =
     let first = ap erased_proc_form ef ∙ erased-let m x p in
     let second = ap erased_proc_form eg ∙ erased-let n y u in
     record { parts = λ h. lets _ _ _ _ _ _ (inner f g first second h); whole = λ a b. outer f g first second (λ i. form.Let (a.0 i) (a.1 i) (b i)) }
+
+-- ---- forms of two kinds are never the same
+
+abbrev Layer : Type 0
+Layer = RawProcForm-F RawProcForm RawProc
+
+-- the place of a form in the list of forms
+abbrev kind : Layer → ℕ
+kind RawProcForm-F.Stop = 0
+kind (RawProcForm-F.Par p q) = 1
+kind (RawProcForm-F.New c t p) = 2
+kind (RawProcForm-F.Out c x) = 3
+kind (RawProcForm-F.Inp c m p) = 4
+kind (RawProcForm-F.Rep c m p) = 5
+kind (RawProcForm-F.Agent c p q) = 6
+kind (RawProcForm-F.Migrate x p) = 7
+kind (RawProcForm-F.IfLocal x c z p q) = 8
+kind (RawProcForm-F.Send x y c z) = 9
+kind (RawProcForm-F.Post x c z) = 10
+kind (RawProcForm-F.If x p q) = 11
+kind (RawProcForm-F.Let m x p) = 12
+kind (RawProcForm-F.Print x) = 13
+
+abbrev kind_of : RawProcForm → ℕ
+kind_of f = kind (out-RawProcForm f)
+
+of_layer : (f : RawProcForm) (y : Layer) → out-RawProcForm f ≡ y → kind_of (erased_proc_form f) ≡ kind y
+of_layer f RawProcForm-F.Stop is = ap kind_of (ap erased_proc_form (sym (roll-out-RawProcForm f) ∙ ap roll-RawProcForm is ∙ form.TheVariants.rolls-Stop)) ∙ ap kind (form.TheVariants.outs-Stop)
+of_layer f (RawProcForm-F.Par p q) is = ap kind_of (ap erased_proc_form (sym (roll-out-RawProcForm f) ∙ ap roll-RawProcForm is ∙ form.TheVariants.rolls-Par p q) ∙ erased-par p q) ∙ ap kind (form.TheVariants.outs-Par _ _)
+of_layer f (RawProcForm-F.New c t p) is = ap kind_of (ap erased_proc_form (sym (roll-out-RawProcForm f) ∙ ap roll-RawProcForm is ∙ form.TheVariants.rolls-New c t p) ∙ erased-new c t p) ∙ ap kind (form.TheVariants.outs-New _ _ _)
+of_layer f (RawProcForm-F.Out c x) is = ap kind_of (ap erased_proc_form (sym (roll-out-RawProcForm f) ∙ ap roll-RawProcForm is ∙ form.TheVariants.rolls-Out c x)) ∙ ap kind (form.TheVariants.outs-Out _ _)
+of_layer f (RawProcForm-F.Inp c m p) is = ap kind_of (ap erased_proc_form (sym (roll-out-RawProcForm f) ∙ ap roll-RawProcForm is ∙ form.TheVariants.rolls-Inp c m p) ∙ erased-inp c m p) ∙ ap kind (form.TheVariants.outs-Inp _ _ _)
+of_layer f (RawProcForm-F.Rep c m p) is = ap kind_of (ap erased_proc_form (sym (roll-out-RawProcForm f) ∙ ap roll-RawProcForm is ∙ form.TheVariants.rolls-Rep c m p) ∙ erased-rep c m p) ∙ ap kind (form.TheVariants.outs-Rep _ _ _)
+of_layer f (RawProcForm-F.Agent c p q) is = ap kind_of (ap erased_proc_form (sym (roll-out-RawProcForm f) ∙ ap roll-RawProcForm is ∙ form.TheVariants.rolls-Agent c p q) ∙ erased-agent c p q) ∙ ap kind (form.TheVariants.outs-Agent _ _ _)
+of_layer f (RawProcForm-F.Migrate x p) is = ap kind_of (ap erased_proc_form (sym (roll-out-RawProcForm f) ∙ ap roll-RawProcForm is ∙ form.TheVariants.rolls-Migrate x p) ∙ erased-migrate x p) ∙ ap kind (form.TheVariants.outs-Migrate _ _)
+of_layer f (RawProcForm-F.IfLocal x c z p q) is = ap kind_of (ap erased_proc_form (sym (roll-out-RawProcForm f) ∙ ap roll-RawProcForm is ∙ form.TheVariants.rolls-IfLocal x c z p q) ∙ erased-iflocal x c z p q) ∙ ap kind (form.TheVariants.outs-IfLocal _ _ _ _ _)
+of_layer f (RawProcForm-F.Send x y c z) is = ap kind_of (ap erased_proc_form (sym (roll-out-RawProcForm f) ∙ ap roll-RawProcForm is ∙ form.TheVariants.rolls-Send x y c z)) ∙ ap kind (form.TheVariants.outs-Send _ _ _ _)
+of_layer f (RawProcForm-F.Post x c z) is = ap kind_of (ap erased_proc_form (sym (roll-out-RawProcForm f) ∙ ap roll-RawProcForm is ∙ form.TheVariants.rolls-Post x c z)) ∙ ap kind (form.TheVariants.outs-Post _ _ _)
+of_layer f (RawProcForm-F.If x p q) is = ap kind_of (ap erased_proc_form (sym (roll-out-RawProcForm f) ∙ ap roll-RawProcForm is ∙ form.TheVariants.rolls-If x p q) ∙ erased-if x p q) ∙ ap kind (form.TheVariants.outs-If _ _ _)
+of_layer f (RawProcForm-F.Let m x p) is = ap kind_of (ap erased_proc_form (sym (roll-out-RawProcForm f) ∙ ap roll-RawProcForm is ∙ form.TheVariants.rolls-Let m x p) ∙ erased-let m x p) ∙ ap kind (form.TheVariants.outs-Let _ _ _)
+of_layer f (RawProcForm-F.Print x) is = ap kind_of (ap erased_proc_form (sym (roll-out-RawProcForm f) ∙ ap roll-RawProcForm is ∙ form.TheVariants.rolls-Print x)) ∙ ap kind (form.TheVariants.outs-Print _)
+
+pub alike : (f g : RawProcForm) → Same f g → kind_of f ≡ kind_of g
+alike f g same = sym (of_layer f (out-RawProcForm f) refl) ∙ ap (λ (p : RawProc). kind_of p.form) same ∙ of_layer g (out-RawProcForm g) refl

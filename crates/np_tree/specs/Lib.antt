@@ -1,3 +1,4 @@
 pub mod Erased
 pub mod Grammar
+pub mod Nodes
 pub mod Sizes

@@ -1,10 +1,11 @@
 //! Trees but for their offsets.
 
 ghost use Rattle.std.specs.Prelude.{◌≡◌, ◌↔◌, IsTrue, map};
-ghost use Rattle.np_tree.specs.Erased.{erased_ident, erased_expr, erased_pat, erased_proc, erased};
+ghost use Rattle.np_tree.specs.Erased.{erased_ident, erased_expr, erased_pat, erased_proc, erased_proc_form, erased};
+ghost use Rattle.np_tree.specs.Grammar.{process};
 
 use super::tree::{Ident, RawExpr, RawExprForm, RawPat, RawPatForm, RawProc, RawProcForm, Tree};
-use np_syntax::{Boxed, Ty};
+use np_syntax::Ty;
 
 /// Whether the trees are equal but for their offsets.
 pub fn same_tree(a: &Tree, b: &Tree) -> bool
@@ -38,7 +39,7 @@ fn same_idents(a: &[Ident], b: &[Ident]) -> bool
 fn same_expr(a: &RawExpr, b: &RawExpr) -> bool
     ensures { IsTrue result ↔ (erased_expr a.now ≡ erased_expr b.now) }
 {
-    match (&a.form, &b.form) {
+    match (a.form.get(), b.form.get()) {
         (RawExprForm::Val(v), RawExprForm::Val(w)) => v.same(w),
         (RawExprForm::Main, RawExprForm::Main) => true,
         (RawExprForm::Var(x), RawExprForm::Var(y)) => same_ident(x, y),
@@ -46,17 +47,10 @@ fn same_expr(a: &RawExpr, b: &RawExpr) -> bool
             same_exprs(xs.as_slice(), ys.as_slice())
         }
         (RawExprForm::Bin(o, x, y), RawExprForm::Bin(p, u, v)) => {
-            *o == *p && (same_operand(x, u) && same_operand(y, v))
+            *o == *p && (same_expr(x, u) && same_expr(y, v))
         }
         _ => false,
     }
-}
-
-#[cycle(expr)]
-fn same_operand(a: &Boxed<RawExpr>, b: &Boxed<RawExpr>) -> bool
-    ensures { IsTrue result ↔ (erased_expr a.now ≡ erased_expr b.now) }
-{
-    same_expr(a.get(), b.get())
 }
 
 #[cycle(expr)]
@@ -135,37 +129,37 @@ fn same_binding(p: &RawPat, x: &RawExpr, q: &RawPat, y: &RawExpr) -> bool
 fn same_proc(a: &RawProc, b: &RawProc) -> bool
     ensures { IsTrue result ↔ (erased_proc a.now ≡ erased_proc b.now) }
 {
+    same_form(a.form.get(), b.form.get())
+}
+
+#[cycle(process)]
+fn same_form(a: &RawProcForm, b: &RawProcForm) -> bool
+    ensures { IsTrue result ↔ (process 0 (erased_proc_form a.now) ≡ process 0 (erased_proc_form b.now)) }
+{
     use RawProcForm as Form;
-    match (&a.form, &b.form) {
+    match (a, b) {
         (Form::Stop, Form::Stop) => true,
-        (Form::Par(x, y), Form::Par(u, v)) => same_part(x, u) && same_part(y, v),
-        (Form::New(c, t, x), Form::New(d, u, y)) => same_channel(c, t, d, u) && same_part(x, y),
+        (Form::Par(x, y), Form::Par(u, v)) => same_proc(x, u) && same_proc(y, v),
+        (Form::New(c, t, x), Form::New(d, u, y)) => same_channel(c, t, d, u) && same_proc(x, y),
         (Form::Out(c, x), Form::Out(d, y)) => same_message(c, x, d, y),
-        (Form::Inp(c, p, x), Form::Inp(d, q, y)) => same_taking(c, p, d, q) && same_part(x, y),
-        (Form::Rep(c, p, x), Form::Rep(d, q, y)) => same_taking(c, p, d, q) && same_part(x, y),
+        (Form::Inp(c, p, x), Form::Inp(d, q, y)) => same_taking(c, p, d, q) && same_proc(x, y),
+        (Form::Rep(c, p, x), Form::Rep(d, q, y)) => same_taking(c, p, d, q) && same_proc(x, y),
         (Form::Agent(b, x, y), Form::Agent(c, u, v)) => {
-            same_ident(b, c) && (same_part(x, u) && same_part(y, v))
+            same_ident(b, c) && (same_proc(x, u) && same_proc(y, v))
         }
-        (Form::Migrate(s, x), Form::Migrate(t, y)) => same_expr(s, t) && same_part(x, y),
+        (Form::Migrate(s, x), Form::Migrate(t, y)) => same_expr(s, t) && same_proc(x, y),
         (Form::IfLocal(b, c, e, x, y), Form::IfLocal(a, d, f, u, v)) => {
-            same_errand(b, c, e, a, d, f) && (same_part(x, u) && same_part(y, v))
+            same_errand(b, c, e, a, d, f) && (same_proc(x, u) && same_proc(y, v))
         }
         (Form::Send(b, s, c, e), Form::Send(a, t, d, f)) => {
             same_expr(s, t) && same_errand(b, c, e, a, d, f)
         }
         (Form::Post(b, c, e), Form::Post(a, d, f)) => same_errand(b, c, e, a, d, f),
         (Form::If(e, x, y), Form::If(f, u, v)) => {
-            same_expr(e, f) && (same_part(x, u) && same_part(y, v))
+            same_expr(e, f) && (same_proc(x, u) && same_proc(y, v))
         }
-        (Form::Let(p, e, x), Form::Let(q, f, y)) => same_binding(p, e, q, f) && same_part(x, y),
+        (Form::Let(p, e, x), Form::Let(q, f, y)) => same_binding(p, e, q, f) && same_proc(x, y),
         (Form::Print(x), Form::Print(y)) => same_expr(x, y),
         _ => false,
     }
-}
-
-#[cycle(process)]
-fn same_part(a: &Boxed<RawProc>, b: &Boxed<RawProc>) -> bool
-    ensures { IsTrue result ↔ (erased_proc a.now ≡ erased_proc b.now) }
-{
-    same_proc(a.get(), b.get())
 }

@@ -1,4 +1,8 @@
-use np_syntax::{Boxed, List, Op, Text, Ty, Value};
+ghost use Rattle.std.specs.Prelude.{◌≡◌, IfOk};
+ghost use Rattle.np_tree.specs.Nodes.{expr_at, proc_at};
+
+use np_syntax::{Boxed, List, Memory, Op, Text, Ty, Value};
+use std::alloc::Global;
 
 /// A name with its offset in the source, in bytes.
 #[derive(Drop)]
@@ -15,11 +19,22 @@ pub struct Tree {
     pub main: RawProc,
 }
 
-/// An expression with the offset, in bytes, of its first token that is no round bracket.
+/// An expression with the offset, in bytes, of its first token that is no round bracket. Its form stands on the heap, so what holds
+/// an expression is small.
 #[cycle(expr)]
 pub struct RawExpr {
     pub at: u32,
-    pub form: RawExprForm,
+    pub form: Boxed<RawExprForm>,
+}
+
+impl RawExpr {
+    /// An expression of that form, which stands on the heap from now on.
+    pub fn new(alloc: Global, at: u32, form: RawExprForm) -> Result<RawExpr, Memory>
+        ensures { IfOk result (λ expr. expr ≡ expr_at at form) }
+    {
+        let form = Boxed::of(alloc, form)?;
+        Ok(RawExpr { at, form })
+    }
 }
 
 // Each tree is given up by a function of its own: where one may be given up, there stands a call.
@@ -39,7 +54,7 @@ pub enum RawExprForm {
     Main,
     Var(Ident),
     Tuple(List<RawExpr>),
-    Bin(Op, Boxed<RawExpr>, Boxed<RawExpr>),
+    Bin(Op, RawExpr, RawExpr),
 }
 
 impl Drop for RawExprForm {
@@ -88,11 +103,21 @@ impl Drop for RawPatForm {
 }
 
 /// A process with the offset of its first token, in bytes. The compositions of one bracket all have the
-/// offset of the bracket.
+/// offset of the bracket. Its form stands on the heap.
 #[cycle(process)]
 pub struct RawProc {
     pub at: u32,
-    pub form: RawProcForm,
+    pub form: Boxed<RawProcForm>,
+}
+
+impl RawProc {
+    /// A process of that form, which stands on the heap from now on.
+    pub fn new(alloc: Global, at: u32, form: RawProcForm) -> Result<RawProc, Memory>
+        ensures { IfOk result (λ proc. proc ≡ proc_at at form) }
+    {
+        let form = Boxed::of(alloc, form)?;
+        Ok(RawProc { at, form })
+    }
 }
 
 impl Drop for RawProc {
@@ -107,18 +132,18 @@ impl Drop for RawProc {
 #[cycle(process)]
 pub enum RawProcForm {
     Stop,
-    Par(Boxed<RawProc>, Boxed<RawProc>),
-    New(Ident, Ty, Boxed<RawProc>),
+    Par(RawProc, RawProc),
+    New(Ident, Ty, RawProc),
     Out(Ident, RawExpr),
-    Inp(Ident, RawPat, Boxed<RawProc>),
-    Rep(Ident, RawPat, Boxed<RawProc>),
-    Agent(Ident, Boxed<RawProc>, Boxed<RawProc>),
-    Migrate(RawExpr, Boxed<RawProc>),
-    IfLocal(RawExpr, Ident, RawExpr, Boxed<RawProc>, Boxed<RawProc>),
+    Inp(Ident, RawPat, RawProc),
+    Rep(Ident, RawPat, RawProc),
+    Agent(Ident, RawProc, RawProc),
+    Migrate(RawExpr, RawProc),
+    IfLocal(RawExpr, Ident, RawExpr, RawProc, RawProc),
     Send(RawExpr, RawExpr, Ident, RawExpr),
     Post(RawExpr, Ident, RawExpr),
-    If(RawExpr, Boxed<RawProc>, Boxed<RawProc>),
-    Let(RawPat, RawExpr, Boxed<RawProc>),
+    If(RawExpr, RawProc, RawProc),
+    Let(RawPat, RawExpr, RawProc),
     Print(RawExpr),
 }
 

@@ -23,7 +23,7 @@ use std::alloc::Global;
 pub fn least(alloc: Global, env: &Env, e: &Expr) -> Result<Ty, LeastFail>
     ensures { Told result (least bare env.now e.now) }
 {
-    least_form(alloc, env, &e.form, e.at)
+    least_form(alloc, env, e.form.get(), e.at)
 }
 
 #[tactic(auto, using(crate::proofs::Leasts::least_types))]
@@ -36,19 +36,16 @@ fn least_form(alloc: Global, env: &Env, form: &ExprForm, at: u32) -> Result<Ty, 
         ExprForm::Var(binder) => binder_type(alloc, env, *binder, at),
         ExprForm::Tuple(parts) => tuple_type(leasts(alloc, env, parts.as_slice())?, at),
         ExprForm::Bin(op, left, right) => {
-            let (left, right) = (left.get(), right.get());
             let first = first_operand(*op, least(alloc, env, left)?, left.at)?;
             let second = least(alloc, env, right)?;
             operated(*op, first, second, right.at)
         }
         ExprForm::Pack(chan, value) => {
-            let (chan, value) = (chan.get(), value.get());
             let carried = written_on(least(alloc, env, chan)?, chan.at)?;
             let given = least(alloc, env, value)?;
             letter(given, carried, value.at)
         }
         ExprForm::With(places, agent, lock) => {
-            let (places, agent, lock) = (places.get(), agent.get(), lock.get());
             ensure_places(least(alloc, env, places)?, places.at)?;
             ensure_agent(least(alloc, env, agent)?, agent.at)?;
             with_lock(least(alloc, env, lock)?, lock.at)

@@ -12,7 +12,7 @@ use std::alloc::Global;
 use thiserror::Error;
 
 /// Why np did not do what the command line asks for. An offset counts the bytes of the source from
-/// 0.
+/// 0. The message of an error names the cause alone; `line` has the place too.
 #[derive(Clone, Copy, Debug, Error)]
 pub enum Refusal {
     #[error("out of memory")]
@@ -25,34 +25,34 @@ pub enum Refusal {
     /// The source has more than 1,048,576 bytes.
     #[error("the source is too long")]
     TooLong,
-    #[error("no token begins at {0}")]
+    #[error("a byte begins no token")]
     BadChar(u32),
-    #[error("no string begins at {0}")]
+    #[error("a string is faulty")]
     BadString(u32),
-    #[error("the number at {0} is too large")]
+    #[error("a number is too large")]
     BigNumber(u32),
     /// No program begins with the tokens up to and including the one at this offset.
-    #[error("no program begins with the tokens up to the one at {0}")]
+    #[error("no program begins with the tokens")]
     Syntax(u32),
     /// Only programs that are too deep begin with the tokens up to and including the one at this
     /// offset.
-    #[error("the source is too deep at {0}")]
+    #[error("the source is too deep")]
     TooDeep(u32),
-    #[error("no site and no binder in scope has the name at {0}")]
+    #[error("no site and no binder in scope has the name")]
     Unbound(u32),
-    #[error("the site at {0} stands earlier in the list")]
+    #[error("a site stands twice in the list")]
     SiteTwice(u32),
-    #[error("the site at {0} is one too many")]
+    #[error("a site is one too many")]
     TooManySites(u32),
-    #[error("no site has the name at {0}")]
+    #[error("no site has the name")]
     NotASite(u32),
     #[error("the source is not well typed")]
     TypeFault(TypeFault),
     /// The source tests a location, which a run with migration in one step cannot have.
-    #[error("the source tests a location at {0}")]
+    #[error("the source tests a location")]
     LocationTest(u32),
     /// The low program has more than 65,536 process nodes: so many, at most the greatest `u64`.
-    #[error("the low program has {0} process nodes")]
+    #[error("the low program has too many process nodes")]
     TooManyNodes(u64),
     /// The sites could make more than 6,400,000 events within the budget.
     #[error("the sites could make too many events")]
@@ -61,20 +61,20 @@ pub enum Refusal {
     #[error("the history is too long")]
     HistoryTooLong,
     /// The number of the line counts from 1.
-    #[error("no history goes on with line {0}")]
+    #[error("no history goes on with the line")]
     HistSyntax(u32),
     /// The index counts the events from 0.
-    #[error("the events are no run at {0}")]
+    #[error("the events are no run")]
     NotARun(u32),
     /// So many values were printed, and the line that was asked for is none of them.
-    #[error("only {0} values were printed")]
+    #[error("fewer values were printed")]
     NoLine(u32),
     /// The sites do not make such a run by themselves. The index is that of the event at which it stops being one, counted
     /// from 0.
-    #[error("the sites make no such run at {0}")]
+    #[error("the sites make no such run")]
     NotOurs(u32),
     /// A site has more events in the history than the budget. It is the first such site.
-    #[error("the site {0} has more events than the budget")]
+    #[error("a site has more events than the budget")]
     BudgetPast(u32),
 }
 

@@ -19,20 +19,20 @@ pub fn first_test(p: &Checked) -> Option<u32>
 fn first_in(p: &Proc) -> Option<u32>
     ensures { result ≡ slice_get (tests p.now) 0 }
 {
-    match &p.form {
+    match p.form.get() {
         ProcForm::IfLocal(_, _, _, _, _) | ProcForm::Send(_, _, _, _) => Some(p.at),
         ProcForm::Par(first, second)
         | ProcForm::Agent(_, first, second)
         | ProcForm::If(_, first, second)
-        | ProcForm::Lookup(_, _, _, first, second) => match first_in(first.get()) {
+        | ProcForm::Lookup(_, _, _, first, second) => match first_in(first) {
             Some(at) => Some(at),
-            None => first_in(second.get()),
+            None => first_in(second),
         },
         ProcForm::New(_, _, body)
         | ProcForm::Inp(_, _, body)
         | ProcForm::Rep(_, _, body)
         | ProcForm::Migrate(_, body)
-        | ProcForm::Let(_, _, body) => first_in(body.get()),
+        | ProcForm::Let(_, _, body) => first_in(body),
         ProcForm::Stop
         | ProcForm::Out(_, _)
         | ProcForm::Post(_, _, _)

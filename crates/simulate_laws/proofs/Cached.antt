@@ -13,10 +13,10 @@ use Rattle.infrastructure_texts.specs.Infrastructures.{Infrastructure}
 use Rattle.daemon_encode.specs.Translates.{IsLowOf}
 use Rattle.cache_encode.specs.Encoded.{encoded_cached}
 use Rattle.cache_encode.proofs.CachedRelated.{cached-encodes-itself}
-use Rattle.cache_lift.specs.Lift.{lift_cached}
-use Rattle.np_posts.proofs.Posts.{cached-letters-in-place, cached-posts-are-paired, cached-rests-all-handed}
-use Rattle.np_rest.specs.Laws.{HasCacheRest}
-use Rattle.np_rest.proofs.Highs.{rests-together}
+use Rattle.np_lift.specs.CachedLift.{lift_cached}
+use Rattle.np_simulation.proofs.Posts.{cached-letters-in-place, cached-posts-are-paired, cached-rests-all-handed}
+use Rattle.np_simulation.specs.RestLaws.{HasCacheRest}
+use Rattle.np_simulation.proofs.Highs.{rests-together}
 use Rattle.np_simulation.proofs.Lodged.{runs-are-lodged}
 use Rattle.np_simulation.proofs.Runs.{runs-are-lifted, stays-well}
 use Rattle.simulate_laws.specs.Cached.{ShowsCached}

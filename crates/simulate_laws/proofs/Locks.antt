@@ -14,9 +14,9 @@ use Rattle.np_protocol.specs.Protocol.{one_if}
 use Rattle.infrastructure_texts.specs.Infrastructures.{Infrastructure}
 use Rattle.np_things.specs.Things.{Thing, shows}
 use Rattle.np_levels.specs.Coupled.{Coupled, View, chips}
-use Rattle.np_rest.specs.Laws.{HasRest}
-use Rattle.np_rest.proofs.Anys.{any_counted, one_truth}
-use Rattle.np_rest.proofs.Resting.{MayRest, rester}
+use Rattle.np_simulation.specs.RestLaws.{HasRest}
+use Rattle.np_simulation.proofs.Anys.{any_counted, one_truth}
+use Rattle.np_simulation.proofs.Resting.{MayRest, rester}
 
 -- of what may wait for good only a free lock counts for an agent's
 is_free : (a l : Name) (t : Thing) → MayRest t → list_any (has_lock (Some l) a) (shows t) ≡ true → (s : ℕ) × (t ≡ Thing.free l s)

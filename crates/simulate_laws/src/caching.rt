@@ -8,9 +8,9 @@ ghost use Rattle.cache_encode.specs.Encoded.{encoded_cached};
 ghost use Rattle.simulate_laws.specs.Cached.{ShowsCached};
 
 use super::following::follow;
-use cache_lift::lift_cached;
 use np_check::Checked;
 use np_configuration::{Cfg, start_high};
+use np_lift::lift_cached;
 use np_syntax::{Event, Memory};
 use std::alloc::Global;
 

@@ -31,10 +31,10 @@ use Rattle.run_merge.specs.Laws.{HasOwnSite}
 use Rattle.run_merge.specs.Merged.{items, merged}
 use Rattle.run_merge.proofs.InOrder.{all_map, all_weaker}
 use Rattle.site_links.specs.declared.port.Port as Port
-use Rattle.np_stamped_run.specs.Deeds.{Deed, IsDeedOf}
+use Rattle.np_merged_run.specs.Deeds.{Deed, IsDeedOf}
 use Rattle.np_syntax.proofs.Options.{there-is}
-use Rattle.np_holdings.specs.Holdings.{Holding, IsPart}
-use Rattle.np_holdings.specs.Making as holding
+use Rattle.np_site_runs.specs.Holdings.{Holding, IsPart}
+use Rattle.np_site_runs.specs.Making as holding
 use Rattle.np_site_runs.specs.Accounts.{SitesEnd}
 use Rattle.np_site_runs.proofs.Acting.{only_sites_can}
 use Rattle.np_code.specs.Programs.{ProgramTable, program}

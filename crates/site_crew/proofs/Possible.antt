@@ -17,8 +17,8 @@ use Rattle.np_calculus.specs.Config.{Config}
 use Rattle.np_calculus.specs.Reductions.{same_tag}
 use Rattle.np_calculus.specs.Rows.{asked_of, change_in, made_of}
 use Rattle.np_syntax.proofs.Options.{there-is}
-use Rattle.np_holdings.specs.Holdings.{IsPart, name_of}
-use Rattle.np_holdings.specs.Making.{AreNext}
+use Rattle.np_site_runs.specs.Holdings.{IsPart, name_of}
+use Rattle.np_site_runs.specs.Making.{AreNext}
 use Rattle.np_code.specs.Programs.{ProgramTable}
 use Rattle.agent_pool.specs.declared.ready.Ready.{Ready}
 use Rattle.agent_pool.specs.Pools.{Pool, atoms_of}

@@ -7,7 +7,7 @@ use Rattle.std.proofs.lemmas.Option.{slice_get_within, slice_get-get_or, get_or_
 use Rattle.stamp_history.specs.Histories.{IsHistory}
 use Rattle.site_links.specs.declared.port.Port as Port
 use Rattle.site_links.proofs.Rows.{get-set_same, get-set_other}
-use Rattle.np_holdings.specs.Holdings.{Holding}
+use Rattle.np_site_runs.specs.Holdings.{Holding}
 use Rattle.np_code.specs.Programs.{ProgramTable}
 use Rattle.agent_move.specs.declared.item.Item.{Item}
 use Rattle.site_state.specs.Standings.{Standing, with_clock}

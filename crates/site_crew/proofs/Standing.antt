@@ -6,7 +6,7 @@ use Rattle.stamp_history.specs.Histories.{IsHistory, without_events}
 use Rattle.site_links.specs.Words.{Begins, IsFullMake, IsUnused}
 use Rattle.site_links.specs.declared.port.Port as Port
 use Rattle.site_links.proofs.Kept.{Begins-empty}
-use Rattle.np_holdings.specs.Holdings.{Holding}
+use Rattle.np_site_runs.specs.Holdings.{Holding}
 use Rattle.np_site_runs.specs.Accounts.{IsAccount, came_on}
 use Rattle.np_site_runs.specs.Starting.{start_holding}
 use Rattle.np_site_runs.proofs.Accounts.{account_starts}

@@ -6,8 +6,8 @@ use Rattle.std.proofs.lemmas.Option.{slice_get_within}
 use Rattle.np_calculus.specs.Idle.{Idle}
 use Rattle.np_calculus.specs.Starts.{start_low}
 use Rattle.site_links.specs.declared.port.Port as Port
-use Rattle.np_stamped_run.proofs.Moving.{below_or_not}
-use Rattle.np_holdings.specs.Holdings.{Holding, IsPart}
+use Rattle.np_merged_run.proofs.Moving.{below_or_not}
+use Rattle.np_site_runs.specs.Holdings.{Holding, IsPart}
 use Rattle.np_site_runs.specs.Accounts.{Came, SitesEnd, came_on}
 use Rattle.np_site_runs.specs.Ending.{IsStill}
 use Rattle.np_code.specs.Programs.{ProgramTable, program}

@@ -3,7 +3,7 @@ use denote.Param.Send.{IsSend, sendable}
 use Rattle.np_syntax.proofs.value.Name.TheSendSync as name_laws
 use Rattle.agent_move.specs.contracts.item.Item as item
 use Rattle.agent_move.specs.contracts.load.Load as load
-use Rattle.np_crossing.proofs.Agents.{agent_send, packet_field_send}
+use Rattle.site_crossing.proofs.Agents.{agent_send, packet_field_send}
 
 load_field_send : IsSend (load.the_field).row
 load_field_send = search (sendable, agent_send, packet_field_send, name_laws.the_field_send) depth 40

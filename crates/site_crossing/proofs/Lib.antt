@@ -3,3 +3,8 @@ pub mod Standings
 pub mod Sites
 pub mod Seats
 pub mod Ports
+pub mod Values
+pub mod Frames
+pub mod Agents
+pub mod Histories
+pub mod Codes

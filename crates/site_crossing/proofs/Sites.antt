@@ -7,7 +7,7 @@ use Rattle.site_state.specs.contracts.outgoing.Outgoing as outgoing
 use Rattle.site_state.specs.contracts.site.Site as site
 use Rattle.site_state.specs.contracts.site.Site.TheInside as inside
 use Rattle.stamp_history.proofs.clock.Clock.TheSendSync as clock_laws
-use Rattle.np_crossing.proofs.Histories.{history_send}
+use Rattle.site_crossing.proofs.Histories.{history_send}
 use Rattle.site_crossing.proofs.Items.{item_send}
 use Rattle.site_crossing.proofs.Standings.{agents_send}
 

@@ -6,7 +6,7 @@ use Rattle.site_agents.specs.contracts.agents.Agents.TheInside as inside
 use Rattle.site_agents.specs.contracts.seat.Seat as seat
 use Rattle.site_agents.proofs.queue.Queue.TheSendSync as queue_laws
 use Rattle.np_tables.proofs.table.Table.TheSendSync as table_laws
-use Rattle.np_crossing.proofs.Agents.{agent_send}
+use Rattle.site_crossing.proofs.Agents.{agent_send}
 
 pub seat_send : IsSend seat.the_row
 seat_send = search (sendable, agent_send) depth 40

@@ -13,7 +13,7 @@ use Rattle.np_calculus.specs.Changes.{Write, put, still}
 use Rattle.np_calculus.specs.Reductions.{site_in}
 use Rattle.np_calculus.specs.Rows.{change_in}
 use Rattle.np_calculus.proofs.Rows.{parts}
-use Rattle.np_holdings.proofs.Parts.{below}
+use Rattle.np_site_runs.proofs.Parts.{below}
 use Rattle.np_code.specs.Programs.{ProgramTable}
 use Rattle.agent_pool.specs.declared.ready.Ready.{Ready}
 use Rattle.agent_pool.specs.Pools.{Pool}

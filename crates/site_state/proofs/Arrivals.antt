@@ -19,9 +19,9 @@ use Rattle.np_calculus.specs.Reductions.{output_in}
 use Rattle.np_calculus.specs.Rows.{output_of}
 use Rattle.stamp_history.specs.declared.stamped.Stamped.{Stamped}
 use Rattle.stamp_history.specs.Histories.{Recorded}
-use Rattle.np_holdings.specs.Coming.{Arrives, IsLost, Lands, taking}
-use Rattle.np_holdings.specs.Holdings.{Does, Holding}
-use Rattle.np_holdings.specs.Making.{next_after}
+use Rattle.np_site_runs.specs.Coming.{Arrives, IsLost, Lands, taking}
+use Rattle.np_site_runs.specs.Holdings.{Does, Holding}
+use Rattle.np_site_runs.specs.Making.{next_after}
 use Rattle.np_code.specs.Programs.{ProgramTable}
 use Rattle.agent_index.specs.Shelves.{Kept}
 use Rattle.agent_index.specs.declared.wait.Wait.TheVariants as wait

@@ -11,10 +11,10 @@ use Rattle.np_calculus.specs.declared.config.Place.TheVariants as place
 use Rattle.np_calculus.specs.Changes.{put, still}
 use Rattle.stamp_history.specs.declared.stamped.Stamped.{Stamped}
 use Rattle.stamp_history.specs.Histories.{Recorded}
-use Rattle.np_holdings.specs.Going.{GoesPast}
-use Rattle.np_holdings.specs.Holdings.{Does, name_of}
-use Rattle.np_holdings.specs.Making.{next_after}
-use Rattle.np_holdings.specs.Within.{Makes, given, gone_on, inner}
+use Rattle.np_site_runs.specs.Going.{GoesPast}
+use Rattle.np_site_runs.specs.Holdings.{Does, name_of}
+use Rattle.np_site_runs.specs.Making.{next_after}
+use Rattle.np_site_runs.specs.Within.{Makes, given, gone_on, inner}
 use Rattle.np_code.specs.Programs.{ProgramTable}
 use Rattle.agent_pool.specs.declared.ready.Ready.{Ready}
 use Rattle.agent_pool.specs.Held.{atom_of, wait_of}

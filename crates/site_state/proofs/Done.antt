@@ -13,9 +13,9 @@ use Rattle.np_calculus.specs.Changes.{still}
 use Rattle.np_calculus.specs.Rows.{made_of}
 use Rattle.stamp_history.specs.declared.stamped.Stamped.{Stamped}
 use Rattle.stamp_history.specs.Histories.{Recorded}
-use Rattle.np_holdings.specs.Holdings.{Does, name_of}
-use Rattle.np_holdings.specs.Making.{AreNext, next_after}
-use Rattle.np_holdings.specs.Within.{GoesOn, gone_on, inner, with_value}
+use Rattle.np_site_runs.specs.Holdings.{Does, name_of}
+use Rattle.np_site_runs.specs.Making.{AreNext, next_after}
+use Rattle.np_site_runs.specs.Within.{GoesOn, gone_on, inner, with_value}
 use Rattle.np_code.specs.Programs.{ProgramTable}
 use Rattle.agent_pool.specs.declared.ready.Ready.{Ready}
 use Rattle.agent_pool.specs.Pools.{atoms_of}

@@ -10,10 +10,10 @@ use Rattle.np_calculus.specs.declared.config.Place.TheVariants as place
 use Rattle.np_calculus.specs.Changes.{put, still}
 use Rattle.stamp_history.specs.declared.stamped.Stamped.{Stamped}
 use Rattle.stamp_history.specs.Histories.{Recorded, with_event}
-use Rattle.np_holdings.specs.Holdings.{Does}
-use Rattle.np_holdings.specs.Leaving.{Leaves, Sends, putting, without}
-use Rattle.np_holdings.specs.Loads.{agent_load}
-use Rattle.np_holdings.specs.Within.{gone_on}
+use Rattle.np_site_runs.specs.Holdings.{Does}
+use Rattle.np_site_runs.specs.Leaving.{Leaves, Sends, putting, without}
+use Rattle.np_site_runs.specs.Loads.{agent_load}
+use Rattle.np_site_runs.specs.Within.{gone_on}
 use Rattle.np_code.specs.Programs.{ProgramTable}
 use Rattle.agent_pool.specs.declared.ready.Ready.{Ready}
 use Rattle.agent_pool.specs.Pools.{Pool, atoms_of}

@@ -6,8 +6,8 @@ use Rattle.np_syntax.specs.declared.event.Kind.{Kind}
 use Rattle.np_syntax.specs.declared.event.Kind.TheVariants as kind
 use Rattle.np_syntax.specs.declared.value.Name.{Name}
 use Rattle.np_tables.specs.Names.{NameMap}
-use Rattle.np_holdings.specs.Holdings.{Holding, name_of}
-use Rattle.np_holdings.specs.Making.{AreNext}
+use Rattle.np_site_runs.specs.Holdings.{Holding, name_of}
+use Rattle.np_site_runs.specs.Making.{AreNext}
 use Rattle.np_code.specs.Programs.{ProgramTable}
 use Rattle.agent_pool.specs.declared.ready.Ready.{Ready}
 use Rattle.agent_pool.specs.Pools.{Pool, atoms_of}

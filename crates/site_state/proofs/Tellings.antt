@@ -21,10 +21,10 @@ use Rattle.np_calculus.specs.Rows.{asked_of, change_in, made_of, output_of, outs
 use Rattle.np_calculus.specs.Sight.{Sight}
 use Rattle.stamp_history.specs.declared.stamped.Stamped.{Stamped}
 use Rattle.stamp_history.specs.Histories.{Recorded}
-use Rattle.np_holdings.specs.Holdings.{Does, name_of}
-use Rattle.np_holdings.specs.Making.{next_after}
-use Rattle.np_holdings.specs.Within.{GoesOnAlone, Tells, given, gone_on, inner}
-use Rattle.np_holdings.proofs.Inversions as inverted
+use Rattle.np_site_runs.specs.Holdings.{Does, name_of}
+use Rattle.np_site_runs.specs.Making.{next_after}
+use Rattle.np_site_runs.specs.Within.{GoesOnAlone, Tells, given, gone_on, inner}
+use Rattle.np_site_runs.proofs.Inversions as inverted
 use Rattle.np_code.specs.Programs.{ProgramTable}
 use Rattle.agent_index.specs.Shelves.{Kept}
 use Rattle.agent_pool.specs.declared.held.Held.{Held}

@@ -12,7 +12,7 @@ use Rattle.np_tables.specs.Names.{NameMap}
 use Rattle.np_calculus.specs.declared.config.Packet.{Packet}
 use Rattle.np_calculus.specs.declared.config.Place.TheVariants as place
 use Rattle.np_calculus.specs.Changes.{Change, put, still}
-use Rattle.np_holdings.specs.Making.{next_after}
+use Rattle.np_site_runs.specs.Making.{next_after}
 use Rattle.np_code.specs.Programs.{ProgramTable}
 use Rattle.agent_pool.specs.declared.ready.Ready.{Ready}
 use Rattle.agent_pool.specs.Moves.{Births, IsTarget, LocalLeaves}

@@ -8,7 +8,7 @@ use Rattle.np_syntax.specs.contracts.value.Name as name
 use Rattle.np_tables.specs.Names.{NameMap}
 use Rattle.np_tables.specs.Mapped.{mapped}
 use Rattle.stamp_history.specs.Histories.{IsAboveLast, Recorded, recorded_code, without_events}
-use Rattle.np_holdings.specs.Holdings.{Holding}
+use Rattle.np_site_runs.specs.Holdings.{Holding}
 use Rattle.np_code.specs.Programs.{ProgramTable}
 use Rattle.agent_pool.specs.Pools.{Pool, pool_code, atoms_of, without_room}
 use Rattle.agent_move.specs.declared.item.Item.{Item}

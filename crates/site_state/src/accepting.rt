@@ -6,7 +6,7 @@ ghost use Rattle.site_state.specs.Standings.{StaysForAll};
 use super::coming::{room_for, take_in};
 use super::site::Site;
 use agent_move::{Item, unpack};
-use np_holdings::law_coming;
+use np_site_runs::law_coming;
 use np_syntax::Memory;
 
 impl Site {

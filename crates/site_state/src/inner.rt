@@ -1,7 +1,7 @@
 ghost use Rattle.std.specs.Prelude.{◌≡◌, true, false, length, OnOk, OnErr};
 ghost use Rattle.np_calculus.specs.Changes.{still};
 ghost use Rattle.np_calculus.specs.Rows.{made_of};
-ghost use Rattle.np_holdings.specs.Holdings.{name_of};
+ghost use Rattle.np_site_runs.specs.Holdings.{name_of};
 ghost use Rattle.site_state.specs.Doing.{HasDoneEvent, HasRoom, event_at};
 ghost use Rattle.site_state.specs.Parts.{HasReduced, is_inner};
 ghost use Rattle.site_agents.specs.Standings.{CanDo};
@@ -11,7 +11,7 @@ use super::site::Site;
 use super::within::{go_on, made_of};
 use agent_pool::Ready;
 use np_code::Code;
-use np_holdings::law_own_events;
+use np_site_runs::law_own_events;
 use np_syntax::{Memory, Name};
 use std::alloc::Global;
 

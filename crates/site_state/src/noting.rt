@@ -4,7 +4,7 @@ ghost use Rattle.np_syntax.specs.declared.event.Kind.TheVariants as kind;
 ghost use Rattle.agent_pool.specs.Rows.{event_of};
 ghost use Rattle.site_state.specs.Doing.{HasRoom};
 ghost use Rattle.site_state.specs.Parts.{IsNoted, names_in};
-ghost use Rattle.np_holdings.specs.Holdings.{name_of};
+ghost use Rattle.np_site_runs.specs.Holdings.{name_of};
 
 use super::site::Site;
 use agent_pool::Ready;

@@ -10,7 +10,7 @@ use super::site::Site;
 use agent_move::{pack_agent, pack_packet};
 use agent_pool::Ready;
 use np_code::Code;
-use np_holdings::{law_leaving, law_own_events};
+use np_site_runs::{law_leaving, law_own_events};
 use np_syntax::{Made, Memory, Name};
 use std::alloc::Global;
 

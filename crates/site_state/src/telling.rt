@@ -18,7 +18,7 @@ use super::site::Site;
 use agent_pool::{Agent, Ready};
 use np_calculus::Packet;
 use np_code::Code;
-use np_holdings::law_own_events;
+use np_site_runs::law_own_events;
 use np_syntax::{Made, Memory, Name};
 use site_agents::Agents;
 use std::alloc::Global;

@@ -51,6 +51,19 @@ fn send_one<R, P: Port<R, Item>>(rt: &R, _code: &Code, seat: &mut Seat<P>, to: u
     if seat.site.has_none_for(to) {
         return false;
     }
+    put_first(rt, _code, seat, to)
+}
+
+/// The same where an item may be outgoing. It stands by itself since a function pays at its entry for the items that it may hold, and
+/// for most sites none is outgoing.
+fn put_first<R, P: Port<R, Item>>(rt: &R, _code: &Code, seat: &mut Seat<P>, to: u32) -> bool
+    requires seated { Seated P.Port _code.now seat.old }
+    requires to { to < length _code.now.sites }
+    ensures turned { Turned P.Port _code.now seat.old seat.new }
+    ensures only { OnlySends P.Port _code.now seat.old seat.new }
+    ensures yes { result ≡ true → Sends P.Port _code.now to seat.old seat.new }
+    ensures no { result ≡ false → SendsNone P.Port _code.now to seat.old seat.new }
+{
     match seat.site.next_out(to) {
         Some(item) => match seat.port.put(rt, to, item) {
             Ok(()) => true,

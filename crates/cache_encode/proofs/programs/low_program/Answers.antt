@@ -4,5 +4,5 @@ use Rattle.cache_encode.proofs.programs.low_program.Goals as goal
 
 pub returns : goal.returns
 returns c =
-    made_of c.args.p.now c.len-count.result c.into_inner.result c.in_ok-main.main c.into_inner-2.result c.in_ok-main.next c.in_ok-sites.sites
-    c.len-count.ensures c.into_inner.ensures c.in_ok-main.ensures (c.into_inner-2.ensures ∙ c.in_ok-daemon.ensures) (c.in_ok-sites.ensures ∙ c.as_slice.ensures)
+    made_of c.args.p.now c.len-count.result c.in_ok-main.main c.in_ok-daemon.daemon c.in_ok-main.next c.in_ok-sites.sites
+    c.len-count.ensures c.in_ok-main.ensures c.in_ok-daemon.ensures (c.in_ok-sites.ensures ∙ c.as_slice.ensures)

@@ -1,6 +1,3 @@
-use Rattle.std.proofs.Common.{◌+◌, ◌∙◌, ap}
-use Rattle.infrastructure_texts.specs.Pieces.{variable}
-use Rattle.cache_encode.specs.Encoded.{cached}
 use Rattle.cache_encode.proofs.Given.{post_form, agent_form}
 use Rattle.cache_encode.proofs.translator.+translate.Goals as goal
 
@@ -10,6 +7,4 @@ form-returns-in-Post t c = post_form c.args.forms.sites c.args.form.now c.args.t
 pub form-returns-in_ok-rest-in-Agent : goal.form-returns-in_ok-rest-in-Agent
 form-returns-in_ok-rest-in-Agent t c =
     let sites = c.args.forms.sites in let child = c.in-Agent.child in let body = c.in_ok-body-in-Agent.body in
-    let first = c.in_ok-body-in-Agent.ensures ∙ ap (λ p. cached sites p (variable child) (c.args.next + 1)) c.get-in-Agent.ensures in
-    let second = c.in_ok-rest-in-Agent.ensures ∙ ap (λ q. cached sites q c.args.agent.now (body.next + 7)) c.get-in-Agent-2.ensures in
-    agent_form sites c.args.form.now c.args.tag c.args.at c.args.agent.now c.args.next child c.in-Agent.body c.in-Agent.rest body c.in_ok-rest-in-Agent.rest c.creation.result c.in-Agent.is first second c.creation.ensures
+    agent_form sites c.args.form.now c.args.tag c.args.at c.args.agent.now c.args.next child c.in-Agent.body c.in-Agent.rest body c.in_ok-rest-in-Agent.rest c.creation.result c.in-Agent.is c.in_ok-body-in-Agent.ensures c.in_ok-rest-in-Agent.ensures c.creation.ensures

@@ -65,8 +65,8 @@ proc_in-returns-in-Sign-RoundOpen-clause-reads t c = grind (arith, common_steps)
 pub more-returns-in_err-left-clause-reads : goal.more-returns-in_err-left-clause-reads
 more-returns-in_err-left-clause-reads t c = grind (arith, common_steps, mores)
 
-pub more-longer-requires-clause-right : goal.more-longer-requires-clause-right
-more-longer-requires-clause-right t c = grind (arith, common_steps, mores)
+pub more-both-requires-clause-right : goal.more-both-requires-clause-right
+more-both-requires-clause-right t c = grind (arith, common_steps, mores)
 
 pub more-returns-in_err-right-clause-reads : goal.more-returns-in_err-right-clause-reads
 more-returns-in_err-right-clause-reads t c = grind (arith, common_steps, mores)
@@ -74,8 +74,8 @@ more-returns-in_err-right-clause-reads t c = grind (arith, common_steps, mores)
 pub more-returns-in_default-clause-within : goal.more-returns-in_default-clause-within
 more-returns-in_default-clause-within t c = grind (arith, common_steps, mores)
 
-pub more-longer-requires-clause-left : goal.more-longer-requires-clause-left
-more-longer-requires-clause-left t c = grind (arith, common_steps, mores)
+pub more-both-requires-clause-left : goal.more-both-requires-clause-left
+more-both-requires-clause-left t c = grind (arith, common_steps, mores)
 
 pub double-returns-in_err-first-clause-reads : goal.double-returns-in_err-first-clause-reads
 double-returns-in_err-first-clause-reads t c = grind (arith, common_steps, double_two)

@@ -8,8 +8,8 @@ use Rattle.np_scope.proofs.programs.resolve.Goals as goal
 pub returns-clause-numbered : goal.returns-clause-numbered
 unfolding resolved
 returns-clause-numbered c =
-    let program : Program = record { sites = c.in_ok-sites.sites; at = c.in_ok-at.at; main = c.into_inner.result; binders = c.in_ok-at.main.next.binder } in
-    let is : resolved c.args.tree.now ≡ Ok program = rw (c.in_ok-at.ensures.gives, c.in_ok-sites.ensures, c.as_slice.ensures, c.into_inner.ensures) refl in
+    let program : Program = record { sites = c.in_ok-sites.sites; at = c.in_ok-at.at; main = c.in_ok-at.main.proc; binders = c.in_ok-at.main.next.binder } in
+    let is : resolved c.args.tree.now ≡ Ok program = rw (c.in_ok-at.ensures.gives, c.in_ok-sites.ensures, c.as_slice.ensures) refl in
     numbered_where_resolved c.args.tree.now program c.requires.nodes c.requires.binders c.requires.written is
 
 pub returns-clause-sound : goal.returns-clause-sound

@@ -23,15 +23,15 @@ same_expr-returns-in-Tuple-Tuple t c =
     let is = c.in-Tuple-Tuple in
     let first : c.as_slice.result.now ≡ is.xs = c.as_slice.ensures in
     let second : c.as_slice-in-Tuple-Tuple.result.now ≡ is.ys = c.as_slice-in-Tuple-Tuple.ensures in
-    let same = tuple_same _ _ is.xs is.ys is.is-0 is.is-1 in
+    let same = tuple_same _ _ is.xs is.ys (sym c.get.ensures ∙ is.is-0) (sym c.get-2.ensures ∙ is.is-1) in
     (λ h. same.0 (rw (← first, ← second) (c.same_exprs.ensures.0 h)), λ h. c.same_exprs.ensures.1 (rw (first, second) (same.1 h)))
 
-pub same_expr-returns-then-same_operand : goal.same_expr-returns-then-same_operand
-same_expr-returns-then-same_operand t c =
+pub same_expr-returns-then-same_expr : goal.same_expr-returns-then-same_expr
+same_expr-returns-then-same_expr t c =
     let is = c.in-Bin-Bin in
-    both (under (bin _ _ _ _ _ _ _ _ is.is-0 is.is-1) (search rules)) (c.same_operand.ensures.0 (search rules)) c.same_operand-then-same_operand.ensures
+    both (under (bin _ _ _ _ _ _ _ _ (sym c.get.ensures ∙ is.is-0) (sym c.get-2.ensures ∙ is.is-1)) (search rules)) (c.same_expr.ensures.0 (search rules)) c.same_expr-then-same_expr.ensures
 
-pub same_expr-returns-else-same_operand : goal.same_expr-returns-else-same_operand
-same_expr-returns-else-same_operand t c =
+pub same_expr-returns-else-same_expr : goal.same_expr-returns-else-same_expr
+same_expr-returns-else-same_expr t c =
     let is = c.in-Bin-Bin in
-    fails (under (bin _ _ _ _ _ _ _ _ is.is-0 is.is-1) (search rules)) c.same_operand.ensures (search rules)
+    fails (under (bin _ _ _ _ _ _ _ _ (sym c.get.ensures ∙ is.is-0) (sym c.get-2.ensures ∙ is.is-1)) (search rules)) c.same_expr.ensures (search rules)

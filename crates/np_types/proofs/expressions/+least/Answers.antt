@@ -18,71 +18,71 @@ least_form-returns-in_ok-leasts-in-Tuple t c =
 pub least_form-returns-in_err-least-in-Bin : goal.least_form-returns-in_err-least-in-Bin
 least_form-returns-in_err-least-in-Bin t c =
     handed_on _ _ _ c.from_residual-in_err-least-in-Bin.ensures
-    (rw (c.in-Bin.is, ← c.get-left.ensures, ← c.get-right.ensures) (bin-1 bare _ _ _ _ _ _ c.in_err-least-in-Bin.ensures))
+    (rw c.in-Bin.is (bin-1 bare _ _ _ _ _ _ c.in_err-least-in-Bin.ensures))
 
 pub least_form-returns-in_err-first-in-Bin : goal.least_form-returns-in_err-first-in-Bin
 least_form-returns-in_err-first-in-Bin t c =
     handed_on _ _ _ c.from_residual-in_err-first-in-Bin.ensures
-    (rw (c.in-Bin.is, ← c.get-left.ensures, ← c.get-right.ensures) (bin-2 bare _ _ _ _ _ _ _ c.in_ok-least-in-Bin.ensures c.in_err-first-in-Bin.ensures))
+    (rw c.in-Bin.is (bin-2 bare _ _ _ _ _ _ _ c.in_ok-least-in-Bin.ensures c.in_err-first-in-Bin.ensures))
 
 pub least_form-returns-in_err-second-in-Bin : goal.least_form-returns-in_err-second-in-Bin
 least_form-returns-in_err-second-in-Bin t c =
     handed_on _ _ _ c.from_residual-in_err-second-in-Bin.ensures
-    (rw (c.in-Bin.is, ← c.get-left.ensures, ← c.get-right.ensures) (bin-3 bare _ _ _ _ _ _ _ _ c.in_ok-least-in-Bin.ensures c.in_ok-first-in-Bin.ensures c.in_err-second-in-Bin.ensures))
+    (rw c.in-Bin.is (bin-3 bare _ _ _ _ _ _ _ _ c.in_ok-least-in-Bin.ensures c.in_ok-first-in-Bin.ensures c.in_err-second-in-Bin.ensures))
 
 pub least_form-returns-in_ok-second-in-Bin : goal.least_form-returns-in_ok-second-in-Bin
 least_form-returns-in_ok-second-in-Bin t c =
-    rw (c.in-Bin.is, ← c.get-left.ensures, ← c.get-right.ensures)
+    rw c.in-Bin.is
     (bin-4 bare _ _ _ _ _ _ _ _ _ c.in_ok-least-in-Bin.ensures c.in_ok-first-in-Bin.ensures c.in_ok-second-in-Bin.ensures c.operated.ensures)
 
 pub least_form-returns-in_err-least-in-Pack : goal.least_form-returns-in_err-least-in-Pack
 least_form-returns-in_err-least-in-Pack t c =
     handed_on _ _ _ c.from_residual-in_err-least-in-Pack.ensures
-    (rw (c.in-Pack.is, ← c.get-chan.ensures, ← c.get-value.ensures) (pack-1 bare _ _ _ _ _ c.in_err-least-in-Pack.ensures))
+    (rw c.in-Pack.is (pack-1 bare _ _ _ _ _ c.in_err-least-in-Pack.ensures))
 
 pub least_form-returns-in_err-carried-in-Pack : goal.least_form-returns-in_err-carried-in-Pack
 least_form-returns-in_err-carried-in-Pack t c =
     handed_on _ _ _ c.from_residual-in_err-carried-in-Pack.ensures
-    (rw (c.in-Pack.is, ← c.get-chan.ensures, ← c.get-value.ensures) (pack-2 bare _ _ _ _ _ _ c.in_ok-least-in-Pack.ensures c.in_err-carried-in-Pack.ensures))
+    (rw c.in-Pack.is (pack-2 bare _ _ _ _ _ _ c.in_ok-least-in-Pack.ensures c.in_err-carried-in-Pack.ensures))
 
 pub least_form-returns-in_err-given-in-Pack : goal.least_form-returns-in_err-given-in-Pack
 least_form-returns-in_err-given-in-Pack t c =
     handed_on _ _ _ c.from_residual-in_err-given-in-Pack.ensures
-    (rw (c.in-Pack.is, ← c.get-chan.ensures, ← c.get-value.ensures) (pack-3 bare _ _ _ _ _ _ _ c.in_ok-least-in-Pack.ensures c.in_ok-carried-in-Pack.ensures c.in_err-given-in-Pack.ensures))
+    (rw c.in-Pack.is (pack-3 bare _ _ _ _ _ _ _ c.in_ok-least-in-Pack.ensures c.in_ok-carried-in-Pack.ensures c.in_err-given-in-Pack.ensures))
 
 pub least_form-returns-in_ok-given-in-Pack : goal.least_form-returns-in_ok-given-in-Pack
 least_form-returns-in_ok-given-in-Pack t c =
-    rw (c.in-Pack.is, ← c.get-chan.ensures, ← c.get-value.ensures)
+    rw c.in-Pack.is
     (pack-4 bare _ _ _ _ _ _ _ _ c.in_ok-least-in-Pack.ensures c.in_ok-carried-in-Pack.ensures c.in_ok-given-in-Pack.ensures c.letter.ensures)
 
 pub least_form-returns-in_err-least-in-With : goal.least_form-returns-in_err-least-in-With
 least_form-returns-in_err-least-in-With t c =
     handed_on _ _ _ c.from_residual-in_err-least-in-With.ensures
-    (rw (c.in-With.is, ← c.get-places.ensures, ← c.get-agent.ensures, ← c.get-lock.ensures) (with-1 bare _ _ _ _ _ _ c.in_err-least-in-With.ensures))
+    (rw c.in-With.is (with-1 bare _ _ _ _ _ _ c.in_err-least-in-With.ensures))
 
 pub least_form-returns-in_err-ensure_places-in-With : goal.least_form-returns-in_err-ensure_places-in-With
 least_form-returns-in_err-ensure_places-in-With t c =
     handed_on _ _ _ c.from_residual-in_err-ensure_places-in-With.ensures
-    (rw (c.in-With.is, ← c.get-places.ensures, ← c.get-agent.ensures, ← c.get-lock.ensures) (with-2 bare _ _ _ _ _ _ _ c.in_ok-least-in-With.ensures c.in_err-ensure_places-in-With.ensures))
+    (rw c.in-With.is (with-2 bare _ _ _ _ _ _ _ c.in_ok-least-in-With.ensures c.in_err-ensure_places-in-With.ensures))
 
 pub least_form-returns-in_err-least-in-With-2 : goal.least_form-returns-in_err-least-in-With-2
 least_form-returns-in_err-least-in-With-2 t c =
     handed_on _ _ _ c.from_residual-in_err-least-in-With-2.ensures
-    (rw (c.in-With.is, ← c.get-places.ensures, ← c.get-agent.ensures, ← c.get-lock.ensures) (with-3 bare _ _ _ _ _ _ _ c.in_ok-least-in-With.ensures c.in_ok-ensure_places-in-With.ensures c.in_err-least-in-With-2.ensures))
+    (rw c.in-With.is (with-3 bare _ _ _ _ _ _ _ c.in_ok-least-in-With.ensures c.in_ok-ensure_places-in-With.ensures c.in_err-least-in-With-2.ensures))
 
 pub least_form-returns-in_err-ensure_agent-in-With : goal.least_form-returns-in_err-ensure_agent-in-With
 least_form-returns-in_err-ensure_agent-in-With t c =
     handed_on _ _ _ c.from_residual-in_err-ensure_agent-in-With.ensures
-    (rw (c.in-With.is, ← c.get-places.ensures, ← c.get-agent.ensures, ← c.get-lock.ensures) (with-4 bare _ _ _ _ _ _ _ _ c.in_ok-least-in-With.ensures c.in_ok-ensure_places-in-With.ensures c.in_ok-least-in-With-2.ensures c.in_err-ensure_agent-in-With.ensures))
+    (rw c.in-With.is (with-4 bare _ _ _ _ _ _ _ _ c.in_ok-least-in-With.ensures c.in_ok-ensure_places-in-With.ensures c.in_ok-least-in-With-2.ensures c.in_err-ensure_agent-in-With.ensures))
 
 pub least_form-returns-in_err-least-in-With-3 : goal.least_form-returns-in_err-least-in-With-3
 least_form-returns-in_err-least-in-With-3 t c =
     handed_on _ _ _ c.from_residual-in_err-least-in-With-3.ensures
-    (rw (c.in-With.is, ← c.get-places.ensures, ← c.get-agent.ensures, ← c.get-lock.ensures) (with-5 bare _ _ _ _ _ _ _ _ c.in_ok-least-in-With.ensures c.in_ok-ensure_places-in-With.ensures c.in_ok-least-in-With-2.ensures c.in_ok-ensure_agent-in-With.ensures c.in_err-least-in-With-3.ensures))
+    (rw c.in-With.is (with-5 bare _ _ _ _ _ _ _ _ c.in_ok-least-in-With.ensures c.in_ok-ensure_places-in-With.ensures c.in_ok-least-in-With-2.ensures c.in_ok-ensure_agent-in-With.ensures c.in_err-least-in-With-3.ensures))
 
 pub least_form-returns-in_ok-least-in-With-3 : goal.least_form-returns-in_ok-least-in-With-3
 least_form-returns-in_ok-least-in-With-3 t c =
-    rw (c.in-With.is, ← c.get-places.ensures, ← c.get-agent.ensures, ← c.get-lock.ensures)
+    rw c.in-With.is
     (with-6 bare _ _ _ _ _ _ _ _ _ c.in_ok-least-in-With.ensures c.in_ok-ensure_places-in-With.ensures c.in_ok-least-in-With-2.ensures c.in_ok-ensure_agent-in-With.ensures c.in_ok-least-in-With-3.ensures c.with_lock.ensures)
 
 pub leasts-loop-part-preserved : goal.leasts-loop-part-preserved

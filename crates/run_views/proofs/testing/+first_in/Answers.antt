@@ -19,17 +19,14 @@ pub returns-in-IfLocal : goal.returns-in-IfLocal
 returns-in-IfLocal t c = ⊎_elim
     (λ h. sym (ap (λ l. slice_get l 0) (local-tests c.args.p.now h.3 h.4 h.0 h.1 h.2 h.5)))
     (λ h. sym (ap (λ l. slice_get l 0) (send-tests c.args.p.now h.0 h.1 h.2 h.3 h.4)))
-    c.in-IfLocal.is
+    (rw c.get.ensures at c.in-IfLocal.is)
 
 pub returns-in-Some : goal.returns-in-Some
 returns-in-Some t c =
-    let first = c.in-Some.ensures ∙ ap (λ p. slice_get (tests p) 0) c.get-in-Par.ensures in
-    let both = two-tests c.args.p.now c.in-Par.first c.in-Par.second c.in-Par.is in
-    sym (ap (λ l. slice_get l 0) both ∙ first-front (tests c.in-Par.first) (tests c.in-Par.second) c.in-Some.at first)
+    let both = two-tests c.args.p.now c.in-Par.first c.in-Par.second (rw c.get.ensures at c.in-Par.is) in
+    sym (ap (λ l. slice_get l 0) both ∙ first-front (tests c.in-Par.first) (tests c.in-Par.second) c.in-Some.at c.in-Some.ensures)
 
 pub returns-in-None : goal.returns-in-None
 returns-in-None t c =
-    let none = c.in-None.ensures ∙ ap (λ p. slice_get (tests p) 0) c.get-in-Par.ensures in
-    let both = two-tests c.args.p.now c.in-Par.first c.in-Par.second c.in-Par.is in
-    let later = c.first_in-in-None.ensures ∙ ap (λ p. slice_get (tests p) 0) c.get-in-None.ensures in
-    later ∙ sym (ap (λ l. slice_get l 0) both ∙ first-back (tests c.in-Par.first) (tests c.in-Par.second) none)
+    let both = two-tests c.args.p.now c.in-Par.first c.in-Par.second (rw c.get.ensures at c.in-Par.is) in
+    c.first_in-in-None.ensures ∙ sym (ap (λ l. slice_get l 0) both ∙ first-back (tests c.in-Par.first) (tests c.in-Par.second) c.in-None.ensures)

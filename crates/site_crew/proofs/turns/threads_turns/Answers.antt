@@ -16,7 +16,7 @@ use Rattle.np_code.specs.contracts.code.Code as code
 use Rattle.site_turn.specs.contracts.effort.Effort as effort
 use Rattle.site_turn.specs.declared.seat.Seat.{Seat}
 use Rattle.site_turn.specs.Turns.{Seated}
-use Rattle.np_crossing.proofs.Codes.{code_sync}
+use Rattle.site_crossing.proofs.Codes.{code_sync}
 use Rattle.site_crossing.proofs.Seats.{seat_send}
 use Rattle.site_crew.proofs.turns.threads_turns.Goals as goal
 

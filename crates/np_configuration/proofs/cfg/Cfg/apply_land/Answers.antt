@@ -11,15 +11,12 @@ invariant_of-self c = rw (c.remove.ensures.items) (kept-landed c.self.invariant 
 pub invariant_of-self-2 : goal.invariant_of-self-2
 invariant_of-self-2 c =
     let flies : map.get c.self.inside.packets.items c.args.e.now.actor ≡ Some c.in_ok-packet.packet.now = search rules in
-    rw (c.in_ok-file.ensures.ok, c.put.ensures.items, c.in_ok-file.ensures.atoms, c.take.ensures.items, c.output_in-made.ensures)
+    rw (c.in_ok-file.ensures.ok, c.put.ensures.items, c.in_ok-file.ensures.atoms, c.remove-2.ensures.items, c.in_ok-made.ensures, c.in_ok-copy.ensures)
     (kept-output (kept-landed c.self.invariant c.args.e.now.actor) c.args.e.now.actor c.in_ok-packet.packet.now.agent c.in_ok-packet.packet.now.chan
-    c.in-Some.packet.value c.args.e.now.tag (kept-flight c.self.invariant c.args.e.now.actor c.in_ok-packet.packet.now flies))
+    c.in_ok-packet.packet.now.value c.args.e.now.tag (kept-flight c.self.invariant c.args.e.now.actor c.in_ok-packet.packet.now flies))
 
 pub put-requires : goal.put-requires
 put-requires c = grind (arith, common_steps)
-
-pub unreachable-requires : goal.unreachable-requires
-unreachable-requires c = grind (arith, common_steps)
 
 pub invariant_of-self-in_err-file : goal.invariant_of-self-in_err-file
 invariant_of-self-in_err-file c = grind (arith, common_steps)

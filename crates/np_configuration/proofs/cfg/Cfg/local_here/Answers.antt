@@ -17,8 +17,8 @@ go_on-requires c =
     let s = c.requires.can in
     let there : map.get c.self.inside.atoms.items c.args.e.now.actor ≡ Some s.atom =
     ap (λ (d : Config). map.get d.atoms c.args.e.now.actor) c.self.view_is ∙ s.there in
-    let stays : map.get (map.insert c.self.inside.atoms.items c.in_ok-mark.mark c.output_in-made.result) c.args.e.now.actor ≡ Some s.atom =
-    kept-passes c.self.invariant c.args.e.now.actor c.in_ok-mark.mark s.atom c.output_in-made.result there (search rules) in
+    let stays : map.get (map.insert c.self.inside.atoms.items c.in_ok-mark.mark c.in_ok-made.made) c.args.e.now.actor ≡ Some s.atom =
+    kept-passes c.self.invariant c.args.e.now.actor c.in_ok-mark.mark s.atom c.in_ok-made.made there (search rules) in
     rw (c.put.ensures.items, c.in_ok-file_two.ensures.atoms, stays, s.form) (record { whole = refl })
 
 there : (c : goal.After-put-2) → map.get c.self.inside.atoms.items c.args.e.now.actor ≡ Some c.requires.can.atom
@@ -31,8 +31,8 @@ output c = output_in c.args.asked.agent c.args.asked.chan c.args.asked.value c.a
 put : (c : goal.After-put-2) → c.put.new.self.items ≡ map.insert c.self.inside.atoms.items c.in_ok-mark.mark (output c)
 put c =
     c.put.ensures.items
-    ∙ ap (λ (x : NameMap Atom). map.insert x c.in_ok-mark.mark c.output_in-made.result) c.in_ok-file_two.ensures.atoms
-    ∙ ap (map.insert c.self.inside.atoms.items c.in_ok-mark.mark) c.output_in-made.ensures
+    ∙ ap (λ (x : NameMap Atom). map.insert x c.in_ok-mark.mark c.in_ok-made.made) c.in_ok-file_two.ensures.atoms
+    ∙ ap (map.insert c.self.inside.atoms.items c.in_ok-mark.mark) c.in_ok-made.ensures
 
 atoms : (c : goal.After-put-2) → c.go_on.new.atoms.items
     ≡ map.insert (map.insert c.self.inside.atoms.items c.in_ok-mark.mark (output c)) c.args.e.now.actor (goes c.requires.can.atom c.requires.can.next)

@@ -8,5 +8,5 @@ returns-then-ne c = grind (arith, common_steps)
 pub returns-in_default : goal.returns-in_default
 returns-in_default c = grind (arith, common_steps)
 
-pub returns-in_default-form : goal.returns-in_default-form
-returns-in_default-form c = grind (arith, common_steps)
+pub returns-in_default-get : goal.returns-in_default-get
+returns-in_default-get c = grind (arith, common_steps)

@@ -2,7 +2,7 @@ use Rattle.std.proofs.Common.{◌≡◌, ◌+◌, false, None, refl, sym, subst}
 use Rattle.std.specs.FinMap as map
 use Rattle.np_syntax.specs.declared.event.Kind.TheVariants as kind
 use Rattle.np_syntax.specs.declared.event.Made.TheVariants as made
-use Rattle.np_holdings.specs.Holdings.{name_of}
+use Rattle.np_site_runs.specs.Holdings.{name_of}
 use Rattle.site_state.specs.Parts.{Asks}
 use Rattle.site_state.specs.Standings.{Standing}
 use Rattle.site_state.proofs.Done.{done_as, same_quiet}

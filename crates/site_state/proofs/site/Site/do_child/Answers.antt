@@ -2,7 +2,7 @@ use Rattle.std.proofs.lemmas.Grind.{common_steps}
 use Rattle.std.proofs.Common.{◌+◌, refl, arith}
 use Rattle.np_syntax.specs.declared.event.Kind.TheVariants as kind
 use Rattle.np_syntax.specs.declared.event.Made.TheVariants as made
-use Rattle.np_holdings.specs.Holdings.{name_of}
+use Rattle.np_site_runs.specs.Holdings.{name_of}
 use Rattle.site_state.specs.Standings.{Standing}
 use Rattle.site_state.proofs.Births.{has_born}
 use Rattle.site_state.proofs.Done.{done_as, same_quiet}

@@ -1,6 +1,6 @@
 use Rattle.std.proofs.Common.{◌+◌, false, None, refl, sym, ap, subst, ◌∙◌}
 use Rattle.np_syntax.specs.declared.event.Kind.TheVariants as kind
-use Rattle.np_holdings.specs.Holdings.{name_of}
+use Rattle.np_site_runs.specs.Holdings.{name_of}
 use Rattle.np_calculus.specs.Rows.{made_of}
 use Rattle.agent_pool.specs.Rows.{event_of}
 use Rattle.site_state.specs.Doing.{finds}

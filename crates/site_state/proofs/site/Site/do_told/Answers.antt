@@ -3,7 +3,7 @@ use Rattle.std.proofs.Common.{◌≡◌, ◌+◌, true, is_some, refl, sym, subs
 use Rattle.std.specs.FinMap as map
 use Rattle.np_syntax.specs.declared.event.Kind.TheVariants as kind
 use Rattle.np_syntax.specs.declared.event.Made.TheVariants as made
-use Rattle.np_holdings.specs.Holdings.{name_of}
+use Rattle.np_site_runs.specs.Holdings.{name_of}
 use Rattle.site_state.specs.Parts.{Asks}
 use Rattle.site_agents.specs.Standings.{CanDo}
 use Rattle.site_state.specs.Standings.{Standing}

@@ -1,5 +1,0 @@
-pub mod Examples
-pub mod Parts
-pub mod Standings
-pub mod Table
-pub mod WithoutMessengers

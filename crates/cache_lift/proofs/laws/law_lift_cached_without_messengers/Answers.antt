@@ -1,5 +1,0 @@
-use Rattle.cache_lift.proofs.WithoutMessengers.{lift-without-messengers}
-use Rattle.cache_lift.proofs.laws.law_lift_cached_without_messengers.Goals as goal
-
-pub returns : goal.returns
-returns c = lift-without-messengers
