@@ -16,18 +16,10 @@ pub if_ok : {A E : Type 0} {P Q : A → Type 0} (r : Result A E) → ((x : A) �
 if_ok (Ok x) f h = f x h
 if_ok (Err e) f h = h
 
-pub chained_operands : (a : App) {b c d : App} → b ≡ with_rule a (operand (codes "mode")) → c ≡ with_rule b (operand (codes "file")) → d ≡ with_rule c (further (codes "second"))
-    → d ≡ with_rules a operands
-chained_operands a b c d = rw (d, c, b) refl
-
-pub chained_options : (a : App) {b c d e f g : App} → b ≡ with_rule a (valued (codes "budget")) → c ≡ with_rule b (flag (codes "history")) → d ≡ with_rule c (flag (codes "high"))
-    → e ≡ with_rule d (flag (codes "serial")) → f ≡ with_rule e (valued (codes "links")) → g ≡ with_rule f (valued (codes "infra")) → g ≡ with_rules a run_options
-chained_options a b c d e f g = rw (g, f, e, d, c, b) refl
-
-pub chained : {a b c d e : App} → a ≡ start → b ≡ with_rules a operands → c ≡ with_rules b run_options → d ≡ with_rule c (valued (codes "line"))
-    → e ≡ with_rule d (flag (codes "one")) → e ≡ command
+-- the command line is what its parts put together
+pub whole : with_rule (with_rule (with_rules (with_rules start operands) run_options) (valued (codes "line"))) (flag (codes "one")) ≡ command
 unfolding command
-chained a b c d e = rw (e, d, c, b, a) refl
+whole = refl
 
 pub simple : is_simple command ≡ true
 unfolding command clap_on_literals

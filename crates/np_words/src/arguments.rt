@@ -1,7 +1,7 @@
 //! The command line as one simple command of clap, and what the words give for its arguments.
 
 ghost use Rattle.std.specs.Prelude.{◌≡◌, option_map, IfOk};
-ghost use Rattle.clap.specs.Words.{app_of, with_rule, found_of, rows_of, first_of};
+ghost use Rattle.clap.specs.Words.{App, app_of, with_rule, found_of, rows_of, first_of};
 ghost use Rattle.np_words.specs.Arguments as spec;
 
 use clap::{Arg, ArgAction, ArgMatches, Command};
@@ -10,45 +10,45 @@ use std::alloc::{AllocError, Global};
 /// A word that has to stand there, in its place.
 fn with_operand<'a>(
     alloc: Global,
-    command: Command<'a>,
+    command: Result<Command<'a>, AllocError>,
     id: &'a str,
 ) -> Result<Command<'a>, AllocError>
-    ensures { IfOk result (λ longer. app_of longer ≡ with_rule (app_of command.entry) (spec.operand id.entry.now)) }
+    ensures { (app : App) → IfOk command.entry (λ shorter. app_of shorter ≡ app) → IfOk result (λ longer. app_of longer ≡ with_rule app (spec.operand id.entry.now)) }
 {
-    command.arg(Arg::new(alloc, id).required(true))
+    command?.arg(Arg::new(alloc, id).required(true))
 }
 
 /// A word that may stand there, in its place.
 fn with_further<'a>(
     alloc: Global,
-    command: Command<'a>,
+    command: Result<Command<'a>, AllocError>,
     id: &'a str,
 ) -> Result<Command<'a>, AllocError>
-    ensures { IfOk result (λ longer. app_of longer ≡ with_rule (app_of command.entry) (spec.further id.entry.now)) }
+    ensures { (app : App) → IfOk command.entry (λ shorter. app_of shorter ≡ app) → IfOk result (λ longer. app_of longer ≡ with_rule app (spec.further id.entry.now)) }
 {
-    command.arg(Arg::new(alloc, id))
+    command?.arg(Arg::new(alloc, id))
 }
 
 /// An option with a value in the next word.
 fn with_valued<'a>(
     alloc: Global,
-    command: Command<'a>,
+    command: Result<Command<'a>, AllocError>,
     id: &'a str,
 ) -> Result<Command<'a>, AllocError>
-    ensures { IfOk result (λ longer. app_of longer ≡ with_rule (app_of command.entry) (spec.valued id.entry.now)) }
+    ensures { (app : App) → IfOk command.entry (λ shorter. app_of shorter ≡ app) → IfOk result (λ longer. app_of longer ≡ with_rule app (spec.valued id.entry.now)) }
 {
-    command.arg(Arg::new(alloc, id).long(id))
+    command?.arg(Arg::new(alloc, id).long(id))
 }
 
 /// An option without a value.
 fn with_flag<'a>(
     alloc: Global,
-    command: Command<'a>,
+    command: Result<Command<'a>, AllocError>,
     id: &'a str,
 ) -> Result<Command<'a>, AllocError>
-    ensures { IfOk result (λ longer. app_of longer ≡ with_rule (app_of command.entry) (spec.flag id.entry.now)) }
+    ensures { (app : App) → IfOk command.entry (λ shorter. app_of shorter ≡ app) → IfOk result (λ longer. app_of longer ≡ with_rule app (spec.flag id.entry.now)) }
 {
-    command.arg(Arg::new(alloc, id).long(id).action(ArgAction::SetTrue))
+    command?.arg(Arg::new(alloc, id).long(id).action(ArgAction::SetTrue))
 }
 
 /// The command line without its arguments. The words leave out the program's name.
@@ -59,23 +59,29 @@ fn start<'a>(alloc: Global) -> Command<'a>
 }
 
 /// With the mode and the files.
-fn with_operands<'a>(alloc: Global, command: Command<'a>) -> Result<Command<'a>, AllocError>
-    ensures { IfOk result (λ longer. app_of longer ≡ spec.with_rules (app_of command.entry) spec.operands) }
+fn with_operands<'a>(
+    alloc: Global,
+    command: Result<Command<'a>, AllocError>,
+) -> Result<Command<'a>, AllocError>
+    ensures { (app : App) → IfOk command.entry (λ shorter. app_of shorter ≡ app) → IfOk result (λ longer. app_of longer ≡ spec.with_rules app spec.operands) }
 {
-    let command = with_operand(alloc, command, "mode")?;
-    let command = with_operand(alloc, command, "file")?;
+    let command = with_operand(alloc, command, "mode");
+    let command = with_operand(alloc, command, "file");
     with_further(alloc, command, "second")
 }
 
 /// With the options that say how a run is made, and what is written of it.
-fn with_run_options<'a>(alloc: Global, command: Command<'a>) -> Result<Command<'a>, AllocError>
-    ensures { IfOk result (λ longer. app_of longer ≡ spec.with_rules (app_of command.entry) spec.run_options) }
+fn with_run_options<'a>(
+    alloc: Global,
+    command: Result<Command<'a>, AllocError>,
+) -> Result<Command<'a>, AllocError>
+    ensures { (app : App) → IfOk command.entry (λ shorter. app_of shorter ≡ app) → IfOk result (λ longer. app_of longer ≡ spec.with_rules app spec.run_options) }
 {
-    let command = with_valued(alloc, command, "budget")?;
-    let command = with_flag(alloc, command, "history")?;
-    let command = with_flag(alloc, command, "high")?;
-    let command = with_flag(alloc, command, "serial")?;
-    let command = with_valued(alloc, command, "links")?;
+    let command = with_valued(alloc, command, "budget");
+    let command = with_flag(alloc, command, "history");
+    let command = with_flag(alloc, command, "high");
+    let command = with_flag(alloc, command, "serial");
+    let command = with_valued(alloc, command, "links");
     with_valued(alloc, command, "infra")
 }
 
@@ -83,9 +89,9 @@ fn with_run_options<'a>(alloc: Global, command: Command<'a>) -> Result<Command<'
 pub fn command<'a>(alloc: Global) -> Result<Command<'a>, AllocError>
     ensures { IfOk result (λ command. app_of command ≡ spec.command) }
 {
-    let command = with_operands(alloc, start(alloc))?;
-    let command = with_run_options(alloc, command)?;
-    let command = with_valued(alloc, command, "line")?;
+    let command = with_operands(alloc, Ok(start(alloc)));
+    let command = with_run_options(alloc, command);
+    let command = with_valued(alloc, command, "line");
     with_flag(alloc, command, "one")
 }
 
