@@ -37,13 +37,13 @@ pub record Said : Type 0 where
   pub events : Option ℕ
   pub opens : Option ℕ
   pub lines : Option ℕ
-  pub outcome : List (List ℕ) × List ℕ
-  pub others : List (List (List ℕ) × List ℕ)
+  pub outcome : List ℕ × List ℕ
+  pub others : List (List ℕ × List ℕ)
   pub err : List ℕ
 
 -- the lines that may come in any order, and those that come then
-abbrev pub outcome_said : Outcome → List (List ℕ) × List ℕ
-outcome_said outcome = (map (λ line. string_bytes line) outcome.unordered.items, string_bytes outcome.ordered)
+abbrev pub outcome_said : Outcome → List ℕ × List ℕ
+outcome_said outcome = (string_bytes outcome.unordered, string_bytes outcome.ordered)
 
 -- the name of a text, and its bytes
 abbrev pub text_said : NamedText → List ℕ × List ℕ
@@ -203,7 +203,7 @@ followed key.Events rest s = count_of rest >>= (λ count. Some (record s { event
 followed key.Opens rest s = count_of rest >>= (λ count. Some (record s { opens = Some count }))
 followed key.Lines rest s = count_of rest >>= (λ count. Some (record s { lines = Some count }))
 followed key.Out rest s = Some (record s { outcome = (s.outcome.0, s.outcome.1 ++ (rest ++ 10 ∷ [])) })
-followed key.Unordered rest s = Some (record s { outcome = (s.outcome.0 ++ rest ∷ [], s.outcome.1) })
+followed key.Unordered rest s = Some (record s { outcome = (s.outcome.0 ++ (rest ++ 10 ∷ []), s.outcome.1) })
 followed key.Err rest s = Some (record s { err = s.err ++ (rest ++ 10 ∷ []) })
 followed key.Or rest s = Some (record s { outcome = ([], []); others = s.others ++ s.outcome ∷ [] })
 

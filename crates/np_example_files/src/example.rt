@@ -12,10 +12,10 @@ pub struct NamedText {
     pub bytes: Vec<u8>,
 }
 
-/// What may come on out: these lines in any order, and then these in theirs.
+/// What may come on out: these lines in any order, and then these in theirs, each with its line feed.
 #[derive(Drop)]
 pub struct Outcome {
-    pub unordered: Vec<String>,
+    pub unordered: String,
     pub ordered: String,
 }
 
@@ -25,7 +25,7 @@ impl Outcome {
         ensures { outcome_said result ≡ ([], []) }
     {
         Outcome {
-            unordered: Vec::new(alloc),
+            unordered: String::new(alloc),
             ordered: String::new(alloc),
         }
     }

@@ -36,7 +36,7 @@ pub fn read_key(
         Key::Resumes => read_resumed(example, rest, number),
         Key::Fail => read_fail(example, rest, number),
         Key::Out => add_line(&mut example.outcome.ordered, rest),
-        Key::Unordered => add_text(alloc, &mut example.outcome.unordered, rest),
+        Key::Unordered => add_line(&mut example.outcome.unordered, rest),
         Key::Err => add_line(&mut example.err, rest),
         Key::Or => read_other(alloc, example),
         Key::Piece => read_piece_size(example, rest, number),

@@ -2,5 +2,11 @@ use np_syntax::{Event, Kind};
 
 /// How many of the events are of a kind.
 pub(crate) fn count_of(events: &[Event], kind: Kind) -> usize {
-    events.iter().filter(|event| event.kind == kind).count()
+    let mut count = 0usize;
+    for event in events {
+        if event.kind == kind {
+            count = count.saturating_add(1);
+        }
+    }
+    count
 }

@@ -3,8 +3,8 @@
 use np_check::Checked;
 use np_configuration::{Cfg, start_high};
 use np_lift::lift_cached;
-use np_replay::{ReplayFail, follow};
 use np_run::{Record, Refusal};
+use np_serial::{ReplayFail, follow};
 use np_syntax::{End, Event, Kind, LONGEST_SOURCE, Made, Memory, Role, Value};
 use np_verdict::checked_source;
 use run_merge::{merge, said};
@@ -63,9 +63,15 @@ fn letters_in(events: &[Event]) -> Letters {
 
 /// Whether values were printed at the same sites.
 fn same_values(ours: &[(u32, Value)], theirs: &[(u32, Value)]) -> bool {
-    ours.len() == theirs.len()
-        && ours.iter().zip(theirs.iter()).all(|(ours, theirs)| ours.0 == theirs.0
-            && ours.1.same(&theirs.1))
+    if ours.len() != theirs.len() {
+        return false;
+    }
+    for at in 0..ours.len() {
+        if ours[at].0 != theirs[at].0 || !ours[at].1.same(&theirs[at].1) {
+            return false;
+        }
+    }
+    true
 }
 
 /// The program of a source that was run.

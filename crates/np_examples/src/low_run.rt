@@ -1,12 +1,11 @@
 //! The low program of a source, run one event after another.
 
+use super::case::Case;
 use super::counting::count_of;
-use super::trial::{Call, Came, sink_of, source_of};
+use super::trial::Came;
 use history_text::write_history;
-use np_example_files::{Example, ExampleFail};
-use np_io::{MemSink, write_all};
-use np_run::{BUDGET_SPENT, DONE, Infrastructure, Refusal, line, run_low, status};
-use np_serial::SerialRun;
+use np_example_files::ExampleFail;
+use np_run::{BUDGET_SPENT, DONE, Infrastructure, MadeRun, Refusal, line, run_low, status};
 use np_syntax::{End, Event, Kind, LARGEST_BUDGET, LONGEST_SOURCE, List, Memory, Text};
 use std::alloc::Global;
 use std::fs;
@@ -18,14 +17,29 @@ pub(crate) struct LowMade {
     status: u8,
     /// Those of the run; none where the source is refused.
     pub events: List<Event>,
-    pub out: Text,
+    out: Text,
     err: Text,
 }
 
+impl LowMade {
+    /// What came of it. Each letter that was opened is a message that was handed over.
+    pub fn came(&self) -> Came<'_> {
+        let events = self.events.as_slice();
+        let is_run = self.err.as_slice().is_empty();
+        Came {
+            status: self.status,
+            events: is_run.then_some(events.len()),
+            opens: is_run.then_some(count_of(events, Kind::Open)),
+            reads_off: None,
+            out: self.out.as_slice(),
+            err: self.err.as_slice(),
+        }
+    }
+}
+
 /// A run that was made.
-fn ended(alloc: Global, made: SerialRun, out: Text) -> LowMade {
-    let SerialRun { events, last, end } = made;
-    drop(last);
+fn ended(alloc: Global, made: MadeRun, out: Text) -> LowMade {
+    let MadeRun { events, end } = made;
     let status = match end {
         End::Rest => DONE,
         End::Spent => BUDGET_SPENT,
@@ -49,47 +63,6 @@ fn refused(alloc: Global, refusal: Refusal) -> Result<LowMade, Memory> {
     })
 }
 
-/// The infrastructure of the low programs of an example.
-pub(crate) fn infrastructure_of(example: &Example) -> Infrastructure {
-    if example.with_caches {
-        Infrastructure::Cache
-    } else {
-        Infrastructure::Central
-    }
-}
-
-/// The words that say so, behind those of a call.
-pub(crate) fn option_of(example: &Example) -> &'static str {
-    if example.with_caches {
-        " --infra cache"
-    } else {
-        ""
-    }
-}
-
-/// The call that replays a history, with the source of another call.
-pub(crate) fn replay_call<'a>(call: &Call<'a>, history: &'a [u8]) -> Call<'a> {
-    let words = if call.example.with_caches {
-        "replay a h --infra cache"
-    } else {
-        "replay a h"
-    };
-    Call {
-        words,
-        history: Some(history),
-        ..*call
-    }
-}
-
-/// The first line of the histories that `run` and `past` write of such a low program.
-pub(crate) fn first_line_of(example: &Example) -> &'static str {
-    if example.with_caches {
-        "history 1\n"
-    } else {
-        "history 2\n"
-    }
-}
-
 /// Runs the low program of a source within the greatest budget.
 fn run_of(alloc: Global, infrastructure: Infrastructure, source: &[u8]) -> Result<LowMade, Memory> {
     if source.len() > LONGEST_SOURCE {
@@ -102,45 +75,10 @@ fn run_of(alloc: Global, infrastructure: Infrastructure, source: &[u8]) -> Resul
     }
 }
 
-/// The run of the low program of the source of a call.
-pub(crate) fn run_of_low(alloc: Global, call: &Call<'_>) -> Result<LowMade, Memory> {
-    let source = source_of(call).unwrap_or(b"");
-    run_of(alloc, infrastructure_of(call.example), source)
-}
-
-/// What comes of that run.
-pub(crate) fn came_of_low(alloc: Global, call: &Call<'_>) -> Result<Came, ExampleFail> {
-    let run = run_of_low(alloc, call)?;
-    let came = came_of_run(alloc, call.example, &run);
-    drop(run);
-    came
-}
-
-/// The same of a run that was made. Each letter that was opened is a message that was handed over.
-fn came_of_run(alloc: Global, example: &Example, run: &LowMade) -> Result<Came, ExampleFail> {
-    let out = sink_with(alloc, example, run.out.as_slice())?;
-    let err = sink_with(alloc, example, run.err.as_slice())?;
-    let (events, opens) = if run.err.as_slice().is_empty() {
-        let opens = count_of(run.events.as_slice(), Kind::Open);
-        (Some(run.events.len()), Some(opens))
-    } else {
-        (None, None)
-    };
-    Ok(Came {
-        status: run.status,
-        events,
-        opens,
-        reads_off: None,
-        out,
-        err,
-    })
-}
-
-/// A sink to which this was written.
-fn sink_with(alloc: Global, example: &Example, bytes: &[u8]) -> Result<MemSink, ExampleFail> {
-    let mut sink = sink_of(alloc, example.devices.piece, &[])?;
-    let _ = write_all(&mut sink, bytes);
-    Ok(sink)
+/// The run of the low program of the source of a case.
+pub(crate) fn run_of_low(alloc: Global, case: &Case<'_>) -> Result<LowMade, Memory> {
+    let source = case.source_bytes().unwrap_or(b"");
+    run_of(alloc, case.infrastructure(), source)
 }
 
 /// Prints the history of the run of the low program of the source in a file.

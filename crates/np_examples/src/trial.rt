@@ -1,44 +1,119 @@
-//! A call of np over texts and sinks in memory.
+//! The calls of np that are tried, and what is wanted of each.
 
-use super::high_run::{Reading, reading_of};
-use np_example_files::{Change, Example, ExampleFail};
-use np_io::{MemSink, MemTexts, Word};
-use np_run::{Record, Told, np};
-use np_syntax::{List, Memory};
-use std::alloc::Global;
-use std::sync::Wait;
-use std::thread::Threads;
-
-/// How many bytes may be written to a sink.
-const ROOM: usize = 2_097_152;
+use np_example_files::{Change, ExampleFail};
+use np_run::{BAD_HISTORY, DONE};
+use np_syntax::Text;
+use std::alloc::{AllocError, Global};
 
 /// Which check of an example a call belongs to.
 #[derive(Clone, Copy)]
-pub enum Check<'a> {
-    /// Of what the lines of the example say.
-    Said,
-    /// Of `replays itself`, after the call with these words.
-    Itself(&'a str),
+pub(crate) enum Check {
+    /// Of what the lines of the example say, by the words of that index.
+    Words(usize),
+    /// Of `low run`.
+    Low,
+    /// Of `replays itself`, after the call with the words of that index.
+    Itself(usize),
     /// Of a change at a place: of the line of that number where pasts are asked for, and with that budget where a run is resumed.
     Changed(Change, usize),
 }
 
-/// A call of np for an example of a file.
+/// Just what has to come.
+#[derive(Drop)]
+pub(crate) struct Expected {
+    pub status: u8,
+    pub out: String,
+    pub err: String,
+}
+
+impl Expected {
+    /// So many events are a run, behind these lines.
+    pub fn run(alloc: Global, lines: &str, count: usize) -> Result<Expected, ExampleFail> {
+        Ok(Expected {
+            status: DONE,
+            out: run_text(alloc, lines, count)?,
+            err: String::new(alloc),
+        })
+    }
+
+    /// The history is refused so, at this index.
+    pub fn refused(alloc: Global, refusal: &str, at: usize) -> Result<Expected, ExampleFail> {
+        Ok(Expected {
+            status: BAD_HISTORY,
+            out: String::new(alloc),
+            err: format!(in alloc; "np: {refusal} at {at}\n")?,
+        })
+    }
+}
+
+/// What is written of a run of so many events that prints these lines.
+pub(crate) fn run_text(alloc: Global, lines: &str, count: usize) -> Result<String, AllocError> {
+    format!(in alloc; "{lines}a run of {count} events\n")
+}
+
+/// What is wanted of a call.
+#[derive(Drop)]
+pub(crate) enum Wanted {
+    /// What its example says.
+    Said,
+    /// The lines of the low program's run, in any order.
+    Lines,
+    Exactly(Expected),
+    /// Any lines, and then that so many events are a run; or that the history is refused at this index or behind it.
+    RunOrStop(usize, usize),
+    /// The printed line of that number, counted from 1, then the history of what led to it, and then how many events that has.
+    Past(usize),
+    /// A run on sites which begins with the lines and the events of the history that the call reads, if it reads one. It is cut off or at rest.
+    Sites,
+    /// Such a run at rest, with the lines of the low program's run, in any order, and with as many events.
+    WholeSites,
+}
+
+/// How a run on sites is cut off: over which kind of links, and by which budget.
 #[derive(Clone, Copy)]
-pub struct Call<'a> {
-    pub file: &'a str,
-    pub example: &'a Example,
-    pub check: Check<'a>,
-    pub words: &'a str,
-    /// The text `a`, where it is none of the example's texts.
-    pub source: Option<&'a str>,
+pub(crate) struct Way {
+    pub links: &'static str,
+    pub budget: usize,
+}
+
+/// What follows a call that gives what is wanted.
+#[derive(Clone, Copy)]
+pub(crate) enum Then {
+    Nothing,
+    /// The history that it wrote is replayed.
+    Replay,
+    /// Where it was refused, so many of the first events are replayed, and one more.
+    Stop,
+    /// The run that it wrote is resumed to its end, and with a few events more.
+    Resume(Way),
+    /// The run that it wrote is resumed to its end.
+    End(Way),
+}
+
+/// A call of np.
+#[derive(Drop)]
+pub(crate) struct Trial {
+    pub check: Check,
+    pub words: String,
     /// The text `h`, where it is none of the example's texts.
-    pub history: Option<&'a [u8]>,
+    pub history: Option<Text>,
+    pub wanted: Wanted,
+    pub then: Then,
+}
+
+impl Trial {
+    /// The history that the call reads, if it is a text of its own.
+    pub fn saved(&self) -> &str {
+        match &self.history {
+            Some(history) => std::str::from_utf8(history.as_slice()).unwrap_or(""),
+            None => "",
+        }
+    }
 }
 
 /// What came of a call.
-#[derive(Drop)]
-pub struct Came {
+#[derive(Clone, Copy)]
+pub(crate) struct Came<'a> {
     pub status: u8,
     /// How many events the run has that the answer keeps, if it keeps one.
     pub events: Option<usize>,
@@ -46,156 +121,17 @@ pub struct Came {
     pub opens: Option<usize>,
     /// Whether what is read off it is a run of the source, if it is a run on sites of a text of the call.
     pub reads_off: Option<bool>,
-    pub out: MemSink,
-    pub err: MemSink,
+    pub out: &'a [u8],
+    pub err: &'a [u8],
 }
 
-impl Came {
+impl<'a> Came<'a> {
+    pub fn is_text(&self) -> bool {
+        std::str::from_utf8(self.out).is_ok()
+    }
+
     /// What stands on out; nothing where it is no text.
-    pub(crate) fn out(&self) -> &str {
-        std::str::from_utf8(self.out.bytes()).unwrap_or("")
-    }
-}
-
-/// The words of a call: `""` is the empty one.
-fn words_of(alloc: Global, line: &str) -> Result<List<Word>, ExampleFail> {
-    let mut words = List::new(alloc);
-    for word in line.split_whitespace() {
-        let word = if word == "\"\"" { "" } else { word };
-        words.add(Word::new(alloc, word)?)?;
-    }
-    Ok(words)
-}
-
-/// Puts a text under a name.
-fn hold(alloc: Global, texts: &mut MemTexts, name: &str, bytes: &[u8]) -> Result<(), Memory> {
-    let name = Word::new(alloc, name)?;
-    let bytes = List::from_slice(alloc, bytes)?;
-    texts.add(name, bytes)
-}
-
-/// The texts of an example and of a call.
-fn hold_all(alloc: Global, texts: &mut MemTexts, call: &Call<'_>) -> Result<(), Memory> {
-    for text in call.example.texts.iter() {
-        hold(alloc, texts, text.name.as_str(), text.bytes.as_slice())?;
-    }
-    if let Some(source) = call.source {
-        hold(alloc, texts, "a", source.as_bytes())?;
-    }
-    if let Some(history) = call.history {
-        hold(alloc, texts, "h", history)?;
-    }
-    for failing in call.example.devices.texts.iter() {
-        texts.fail(*failing)?;
-    }
-    Ok(())
-}
-
-/// A sink that takes so many bytes a call, at least one, and fails at these calls.
-pub(crate) fn sink_of(
-    alloc: Global,
-    piece: usize,
-    failing: &[u64],
-) -> Result<MemSink, ExampleFail> {
-    let mut sink = MemSink::new(alloc, piece.max(1));
-    sink.reserve(ROOM)?;
-    for call in failing {
-        sink.fail(*call)?;
-    }
-    Ok(sink)
-}
-
-/// The source that a call reads, if it is one of its texts.
-pub(crate) fn source_of<'a>(call: &Call<'a>) -> Option<&'a [u8]> {
-    match call.source {
-        Some(source) => Some(source.as_bytes()),
-        None => call.example.text("a"),
-    }
-}
-
-/// What is seen of a run on the sites of this source, if there is both.
-fn reading_in(
-    alloc: Global,
-    source: Option<&[u8]>,
-    kept: &Option<Record>,
-) -> Result<Option<Reading>, ExampleFail> {
-    match (source, kept) {
-        (Some(source), Some(record)) => Ok(Some(reading_of(alloc, source, record)?)),
-        _ => Ok(None),
-    }
-}
-
-/// The texts of a call.
-fn texts_of(alloc: Global, call: &Call<'_>) -> Result<MemTexts, Memory> {
-    let mut texts = MemTexts::new(alloc);
-    hold_all(alloc, &mut texts, call)?;
-    Ok(texts)
-}
-
-/// Standard output and standard error of a call.
-fn sinks_of(alloc: Global, example: &Example) -> Result<(MemSink, MemSink), ExampleFail> {
-    let devices = &example.devices;
-    let out = sink_of(alloc, devices.piece, devices.out.as_slice())?;
-    let err = sink_of(alloc, devices.piece, devices.err.as_slice())?;
-    Ok((out, err))
-}
-
-/// What np tells of its answer, and what is seen of the run that it keeps.
-fn seen_of<R: Threads + Wait + Sync>(
-    rt: &R,
-    alloc: Global,
-    words: &[Word],
-    texts: &mut MemTexts,
-    out: &mut MemSink,
-    err: &mut MemSink,
-    source: Option<&[u8]>,
-) -> Result<(Told, Option<Reading>), ExampleFail> {
-    let answer = np(rt, alloc, words, texts, out, err);
-    let reading = reading_in(alloc, source, &answer.kept);
-    let told = answer.told();
-    Ok((told, reading?))
-}
-
-/// What is seen of a call that writes to these sinks.
-fn seen_into<R: Threads + Wait + Sync>(
-    rt: &R,
-    alloc: Global,
-    call: &Call<'_>,
-    out: &mut MemSink,
-    err: &mut MemSink,
-) -> Result<(Told, Option<Reading>), ExampleFail> {
-    let words = words_of(alloc, call.words)?;
-    let mut texts = texts_of(alloc, call)?;
-    let source = source_of(call);
-    seen_of(rt, alloc, words.as_slice(), &mut texts, out, err, source)
-}
-
-/// What comes of a call.
-pub(crate) fn came_of<R: Threads + Wait + Sync>(
-    rt: &R,
-    alloc: Global,
-    call: &Call<'_>,
-) -> Result<Came, ExampleFail> {
-    let (mut out, mut err) = sinks_of(alloc, call.example)?;
-    match seen_into(rt, alloc, call, &mut out, &mut err) {
-        Ok((told, reading)) => Ok(came_with(told, reading, out, err)),
-        Err(fail) => {
-            drop(out);
-            drop(err);
-            Err(fail)
-        }
-    }
-}
-
-/// What has come of a call: what is told and seen of it, and what it wrote.
-fn came_with(told: Told, reading: Option<Reading>, out: MemSink, err: MemSink) -> Came {
-    let Told { status, events } = told;
-    Came {
-        status,
-        events: events.map(|count| count as usize),
-        opens: reading.map(|reading| reading.opens),
-        reads_off: reading.map(|reading| reading.is_run),
-        out,
-        err,
+    pub fn text(&self) -> &'a str {
+        std::str::from_utf8(self.out).unwrap_or("")
     }
 }
