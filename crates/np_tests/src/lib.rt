@@ -17,10 +17,6 @@ mod low_values;
 #[cfg(test)]
 mod nodes;
 #[cfg(test)]
-mod numbers;
-#[cfg(test)]
 mod sources;
-#[cfg(test)]
-mod trees;
 #[cfg(test)]
 mod work_lists;

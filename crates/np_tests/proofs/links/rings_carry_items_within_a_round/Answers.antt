@@ -1,6 +1,6 @@
 use denote.Exit.{no}
 use denote.Param.Send.{arg_send, param_send}
-use Rattle.site_crossing.proofs.Ports.{rings_send}
+use Rattle.site_turn.proofs.Crossing.Ports.{rings_send}
 use Rattle.np_tests.proofs.links.rings_carry_items_within_a_round.Goals as goal
 
 pub goes_within_a_round-requires-send-P : goal.goes_within_a_round-requires-send-P
