@@ -6,7 +6,7 @@ use Rattle.np_tables.specs.Names.{same_name}
 use Rattle.np_tables.proofs.Tables.{same_name-itself}
 use Rattle.np_calculus.specs.declared.config.Packet.{Packet}
 use Rattle.np_calculus.specs.declared.config.Place.TheVariants as place
-use Rattle.np_merged_run.specs.Steps.{IsItem}
+use Rattle.np_site_runs.specs.merged.Steps.{IsItem}
 use Rattle.np_site_runs.specs.Loads.{agent_load, packet_load}
 use Rattle.agent_pool.specs.Pools.{Pool, atoms_of}
 use Rattle.agent_pool.proofs.Maps.{own-agent}

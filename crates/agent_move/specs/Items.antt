@@ -2,7 +2,7 @@
 use Rattle.std.specs.Prelude.{ℕ, List}
 use Rattle.np_syntax.specs.declared.process.Proc.{Proc}
 use Rattle.np_calculus.specs.Sight.{Contents}
-use Rattle.np_merged_run.specs.Deeds.{StampedItem}
+use Rattle.np_site_runs.specs.merged.Deeds.{StampedItem}
 use Rattle.np_site_runs.specs.Loads.{agent_load, packet_load}
 use Rattle.np_code.specs.Programs.{ProgramTable}
 use Rattle.agent_pool.specs.Pools.{atoms_of}

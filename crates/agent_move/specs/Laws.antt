@@ -3,7 +3,7 @@ use Rattle.std.specs.Prelude.{ℕ, List, ◌⊎◌, IsSome}
 use Rattle.np_syntax.specs.declared.value.Name.{Name}
 use Rattle.np_syntax.specs.declared.process.Proc.{Proc}
 use Rattle.np_calculus.specs.Sight.{Contents}
-use Rattle.np_merged_run.specs.Steps.{IsItem}
+use Rattle.np_site_runs.specs.merged.Steps.{IsItem}
 use Rattle.agent_move.specs.declared.load.Load.{Load}
 use Rattle.agent_move.specs.Items.{contents_of}
 

@@ -11,7 +11,7 @@ use Rattle.np_tables.proofs.Mapped.{get-mapped, mapped-empty, mapped-put}
 use Rattle.np_tables.proofs.Tables.{get-none, get-put, same_name-is}
 use Rattle.np_eval.specs.Eval.{Env}
 use Rattle.np_calculus.specs.Starts.{daemon_agent, daemon_mark, main_agent, main_mark}
-use Rattle.np_merged_run.proofs.Steps.{false_eq}
+use Rattle.np_site_runs.proofs.merged.Steps.{false_eq}
 use Rattle.site_links.proofs.Rows.{get-push_old, get-push_at, get-push_cases}
 use Rattle.np_site_runs.specs.Starting.{alone, with_if}
 use Rattle.np_code.specs.Programs.{ProgramTable}

@@ -5,7 +5,7 @@ use Rattle.std.proofs.Crossing.{crosses}
 use Rattle.np_syntax.proofs.value.Name.TheSendSync as name_laws
 use Rattle.agent_move.specs.contracts.item.Item as item
 use Rattle.agent_move.specs.contracts.load.Load as load
-use Rattle.site_crossing.proofs.Agents.{agent_send, packet_field_send}
+use Rattle.site_turn.proofs.Crossing.Agents.{agent_send, packet_field_send}
 use Rattle.site_inboxes.proofs.ends.Inbox.TheSendSync as inbox_laws
 use Rattle.site_inboxes.proofs.ends.Outlet.TheSendSync as outlet_laws
 use Rattle.crew_inboxes.specs.contracts.inboxes.Inboxes as port

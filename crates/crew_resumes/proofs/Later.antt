@@ -4,7 +4,7 @@ use Rattle.std.specs.List.{AllByRecursion}
 use Rattle.std.proofs.lemmas.Option.{slice_get_within, get_or_from_slice_get}
 use Rattle.stamp_history.specs.declared.stamped.Stamped.{Stamped}
 use Rattle.stamp_history.specs.Histories.{IsHistory, Recorded}
-use Rattle.np_following.specs.Following.{AreInPlace, HaveLater}
+use Rattle.run_save.specs.following.Following.{AreInPlace, HaveLater}
 use Rattle.site_crew.specs.Crews.{AddsLater, CrewState}
 use Rattle.site_crew.specs.Runs.{AreHistoriesOf}
 

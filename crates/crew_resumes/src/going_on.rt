@@ -4,7 +4,7 @@ ghost use Rattle.std.specs.Prelude.{◌≡◌, false, length, IfErr, IfOk, IfSom
 ghost use Rattle.np_code.specs.Programs.{program};
 ghost use Rattle.np_calculus.specs.Reductions.{run};
 ghost use Rattle.np_calculus.specs.Starts.{start_low};
-ghost use Rattle.np_following.specs.Following.{IsResumed};
+ghost use Rattle.run_save.specs.following.Following.{IsResumed};
 ghost use Rattle.run_save.specs.Ours.{IsOurs};
 ghost use Rattle.site_crew.specs.Crews.{HasEnded};
 ghost use Rattle.site_crew.specs.Lists.{AreWithin, IsRefused};
@@ -12,8 +12,8 @@ ghost use Rattle.site_crew.specs.Seats.{event_count};
 ghost use Rattle.crew_resumes.specs.ToGoOn.{IsToGoOn};
 
 use agent_move::Item;
-use np_following::law_resumes;
 use np_syntax::{End, Event, LowProgram, Memory};
+use run_save::following::law_resumes;
 use site_crew::{Crew, FollowFail};
 use site_links::Port;
 use site_turn::Gate;

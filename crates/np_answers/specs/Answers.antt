@@ -6,7 +6,7 @@ use Rattle.np_syntax.specs.declared.event.End.TheVariants.{Rest, Spent}
 use Rattle.stamp_history.specs.Histories.{Stored}
 use Rattle.np_io.specs.Causes.{Rose}
 use Rattle.np_io.specs.Bytes.{AppendsPrefix}
-use Rattle.np_serial.specs.declared.serial.SerialRun.{SerialRun}
+use Rattle.np_sources.specs.declared.job.MadeRun.{MadeRun}
 use Rattle.np_on_sites.specs.declared.record.Record.{Record}
 use Rattle.np_sources.specs.declared.job.Job.{Job}
 use Rattle.np_verdict.specs.Lines.{line_of, status_of}
@@ -30,7 +30,7 @@ end_status Rest = DONE
 end_status Spent = BUDGET_SPENT
 
 -- the status of what was made, where its text was written: it tells how a run has ended, if it is one
-abbrev pub status_at : Option Record → Option SerialRun → ℕ
+abbrev pub status_at : Option Record → Option MadeRun → ℕ
 status_at (Some made) high = end_status made.end
 status_at None (Some made) = end_status made.end
 status_at None None = DONE
@@ -85,7 +85,7 @@ abbrev pub events_of : List Stored → ℕ
 events_of histories = min (sum_by (λ s. length s.history.events) histories) (2 ^ 64 - 1)
 
 -- how many events the run has
-abbrev pub events_in : Option Record → Option SerialRun → Option ℕ
+abbrev pub events_in : Option Record → Option MadeRun → Option ℕ
 events_in (Some made) high = Some (events_of made.histories)
 events_in None (Some made) = Some (length made.events)
 events_in None None = None

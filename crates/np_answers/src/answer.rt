@@ -2,7 +2,7 @@ ghost use Rattle.std.specs.Prelude.{◌≡◌};
 ghost use Rattle.np_answers.specs.Answers.{events_in, events_of, told_of};
 
 use np_on_sites::Record;
-use np_serial::SerialRun;
+use np_sources::MadeRun;
 use stamp_history::History;
 
 /// The exit status, and the run if there was one: `kept` in the modes `run` and `load`, `high` in the mode `high`.
@@ -10,7 +10,7 @@ use stamp_history::History;
 pub struct Answer {
     pub status: u8,
     pub kept: Option<Record>,
-    pub high: Option<SerialRun>,
+    pub high: Option<MadeRun>,
 }
 
 /// What a program tells of an answer: the exit status, and how many events the run has, if there was one.
@@ -34,7 +34,7 @@ impl Answer {
 }
 
 /// How many events the run has that is kept, if one is.
-fn events_in(kept: &Option<Record>, high: &Option<SerialRun>) -> Option<u64>
+fn events_in(kept: &Option<Record>, high: &Option<MadeRun>) -> Option<u64>
     ensures { result ≡ events_in kept.now high.now }
 {
     match (kept, high) {

@@ -4,8 +4,7 @@ ghost use Rattle.np_answers.specs.Answers.{Answers, end_status, without_run, sta
 use super::answer::Answer;
 use np_io::{Sink, write_all};
 use np_on_sites::Record;
-use np_serial::SerialRun;
-use np_sources::Job;
+use np_sources::{Job, MadeRun};
 use np_syntax::End;
 use np_verdict::{BUDGET_SPENT, DONE, NO_MEMORY, Refusal, WRITE_FAILED, line, status};
 use std::alloc::Global;
@@ -54,7 +53,7 @@ pub fn answer_of<O: Sink, E: Sink>(
 }
 
 /// The exit status once the whole text was written: 1 for a run whose budget is spent, otherwise 0.
-fn status_at(kept: &Option<Record>, high: &Option<SerialRun>) -> u8
+fn status_at(kept: &Option<Record>, high: &Option<MadeRun>) -> u8
     ensures { result ≡ status_at kept.now high.now }
 {
     match (kept, high) {

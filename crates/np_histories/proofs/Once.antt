@@ -8,7 +8,7 @@ use Rattle.np_calculus.specs.Reductions.{run}
 use Rattle.np_calculus.specs.Starts.{start_low}
 use Rattle.history_text.specs.Laws.{IsSomeHistory, IsSomewhereRefused}
 use Rattle.history_text.proofs.Found.{one_reading}
-use Rattle.np_replay.proofs.Runs.{one-end}
+use Rattle.np_serial.proofs.Runs.{one-end}
 use Rattle.np_verdict.specs.Lines.{status_of}
 use Rattle.np_verdict.specs.declared.refusal.Refusal.{Refusal}
 use Rattle.np_verdict.specs.declared.refusal.Refusal.TheVariants.{HistSyntax, NotARun, NoLine}

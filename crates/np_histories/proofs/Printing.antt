@@ -1,8 +1,8 @@
 -- How many of the first events of a list print a value.
 use Rattle.std.proofs.Common.{◌≡◌, ◌+◌, ◌<◌, ℕ, zero, suc, Bool, true, false, cond, List, [], ◌∷◌, length, take, refl, sym, arith, get_or}
 use Rattle.np_syntax.specs.declared.event.Event.{Event}
-use Rattle.np_views.specs.Past.{is_print}
-use Rattle.np_views.specs.Saying.{prints}
+use Rattle.run_views.specs.Past.{is_print}
+use Rattle.run_views.specs.Saying.{prints}
 
 next : (n : ℕ) → n + 1 ≡ suc n
 next n = omega arith

@@ -7,10 +7,10 @@ use Rattle.np_syntax.specs.declared.memory.Memory.{Memory as Want}
 use Rattle.np_syntax.specs.declared.program.LowProgram.{LowProgram}
 use Rattle.np_syntax.specs.declared.value.Value.{Value}
 use Rattle.np_calculus.specs.Starts.{start_low}
-use Rattle.np_views.specs.Saying.{LowSaidByPrints, prints}
+use Rattle.run_views.specs.Saying.{LowSaidByPrints, prints}
 use Rattle.history_text.specs.declared.format.Format.{Format}
 use Rattle.history_text.specs.Spelling.{history_text}
-use Rattle.np_report.specs.Report.{past_text}
+use Rattle.np_verdict.specs.Report.{past_text}
 use Rattle.np_verdict.specs.declared.refusal.Refusal.{Refusal}
 use Rattle.np_verdict.specs.declared.refusal.Refusal.TheVariants.{Memory}
 use Rattle.np_histories.specs.Histories.{Stops}

@@ -12,10 +12,10 @@ use Rattle.history_text.specs.declared.format.Format.{Format}
 use Rattle.history_text.specs.declared.format.Format.TheVariants.{Second}
 use Rattle.history_text.specs.Spelling.{history_text}
 use Rattle.history_text.specs.Histories.{IsHistory, IsRefused}
-use Rattle.np_replay.specs.declared.fail.ReplayFail.{ReplayFail}
-use Rattle.np_replay.specs.declared.fail.ReplayFail.TheVariants as replay
-use Rattle.np_replay.specs.Replays.{StopsAt}
-use Rattle.np_report.specs.Report.{replay_text}
+use Rattle.np_serial.specs.declared.fail.ReplayFail.{ReplayFail}
+use Rattle.np_serial.specs.declared.fail.ReplayFail.TheVariants as replay
+use Rattle.np_serial.specs.Replays.{StopsAt}
+use Rattle.np_verdict.specs.Report.{replay_text}
 use Rattle.np_words.specs.Formats.{format_for}
 use Rattle.np_words.specs.declared.modes.Infrastructure.{Infrastructure}
 use Rattle.np_words.specs.declared.planning.View.{View}

@@ -6,11 +6,11 @@ use Rattle.np_syntax.specs.declared.value.Value.{Value}
 use Rattle.np_calculus.specs.Config.{Config}
 use Rattle.np_calculus.specs.Reductions.{run}
 use Rattle.np_calculus.specs.Starts.{start_low}
-use Rattle.np_views.specs.Saying.{prints}
+use Rattle.run_views.specs.Saying.{prints}
 use Rattle.run_views.specs.Pasts.{IsPastRun, IsPrint}
 use Rattle.history_text.specs.declared.format.Format.{Format}
 use Rattle.history_text.specs.Spelling.{history_text}
-use Rattle.np_report.specs.Report.{past_text}
+use Rattle.np_verdict.specs.Report.{past_text}
 use Rattle.np_verdict.specs.declared.refusal.Refusal.{Refusal}
 use Rattle.np_verdict.specs.declared.refusal.Refusal.TheVariants.{NoLine}
 

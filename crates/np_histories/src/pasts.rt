@@ -4,19 +4,17 @@ ghost use Rattle.std.specs.Prelude.{◌≡◌, ◌≢◌, ◌<◌, ◌≤◌, �
 ghost use Rattle.np_calculus.specs.Config.{Config};
 ghost use Rattle.np_calculus.specs.Starts.{start_low};
 ghost use Rattle.history_text.specs.Spelling.{history_text};
-ghost use Rattle.np_report.specs.Report.{past_text};
-ghost use Rattle.np_views.specs.Past.{is_print};
-ghost use Rattle.np_views.specs.Saying.{prints};
+ghost use Rattle.np_verdict.specs.Report.{past_text};
+ghost use Rattle.run_views.specs.Past.{is_print};
+ghost use Rattle.run_views.specs.Saying.{prints};
 ghost use Rattle.np_histories.specs.Histories.{Stops};
 ghost use Rattle.np_histories.specs.Pasts.{HasPrinted, IsLine, IsPrintOf, IsPastOfLine, LacksLine, PrintsLine, TellsPast};
 
 use super::replaying::end_of;
 use history_text::{Format, write_in};
-use np_report::past_report;
 use np_syntax::{Event, Kind, List, LowProgram, Memory, Text, Value};
-use np_verdict::Refusal;
-use np_views::law_said_by_prints;
-use run_views::past;
+use np_verdict::{Refusal, past_report};
+use run_views::{law_said_by_prints, past};
 use std::alloc::Global;
 
 /// Whether an event prints a value.

@@ -3,7 +3,7 @@
 ghost use Rattle.std.specs.Prelude.{◌≡◌, ◌≢◌, ◌<◌, ◌≤◌, ◌⊎◌, ◌^◌, length, Some, IsSome, IfOk, IfErr, OnOk};
 ghost use Rattle.np_calculus.specs.Reductions.{run};
 ghost use Rattle.np_calculus.specs.Starts.{start_low};
-ghost use Rattle.np_report.specs.Report.{replay_text};
+ghost use Rattle.np_verdict.specs.Report.{replay_text};
 ghost use Rattle.np_words.specs.Plans.{HasLine};
 ghost use Rattle.np_histories.specs.Histories.{Replays, Ends, Lacks, Shows, Stops, IsFaulty, of_replay};
 
@@ -11,10 +11,9 @@ use super::events::events_of;
 use super::limits::LONGEST_HISTORY;
 use super::pasts::past_told;
 use np_configuration::Cfg;
-use np_replay::{ReplayFail, replay};
-use np_report::replay_report;
+use np_serial::{ReplayFail, replay};
 use np_syntax::{Event, LowProgram, Memory, Text};
-use np_verdict::Refusal;
+use np_verdict::{Refusal, replay_report};
 use np_words::{Infrastructure, View, format_for};
 use std::alloc::Global;
 

@@ -6,7 +6,7 @@ use Rattle.np_syntax.specs.declared.program.LowProgram.{LowProgram}
 use Rattle.np_calculus.specs.Config.{Config}
 use Rattle.np_calculus.specs.Reductions.{run}
 use Rattle.np_calculus.specs.Starts.{start_low}
-use Rattle.np_serial.specs.declared.serial.SerialRun.{SerialRun}
+use Rattle.np_sources.specs.declared.job.MadeRun.{MadeRun}
 use Rattle.np_generate.specs.Generated.{generated}
 use Rattle.np_histories.specs.Histories.{HasNoEvents, IsFaulty, Replays, Stops, Upgrades}
 use Rattle.np_histories.specs.Histories as histories
@@ -31,13 +31,13 @@ use Rattle.np_on_sites.specs.declared.record.Record.{Record}
 -- ---- what is made
 
 -- the source was read, and this was made of it
-pub record OfSource (texts : Reading) (file : List ℕ) (task : Task) (kept : Option Record) (high : Option SerialRun) (text : List ℕ) : Type 0 where
+pub record OfSource (texts : Reading) (file : List ℕ) (task : Task) (kept : Option Record) (high : Option MadeRun) (text : List ℕ) : Type 0 where
   pub bytes : List ℕ
   pub read : IsRead texts file LONGEST_SOURCE bytes
   pub does : DoesTask task bytes kept high text
 
 -- the history was read and replayed, and this is the report of what is shown of it
-pub record OfRun (texts : Reading) (history : List ℕ) (infrastructure : Infrastructure) (low : LowProgram) (view : View) (kept : Option Record) (high : Option SerialRun) (text : List ℕ) : Type 0 where
+pub record OfRun (texts : Reading) (history : List ℕ) (infrastructure : Infrastructure) (low : LowProgram) (view : View) (kept : Option Record) (high : Option MadeRun) (text : List ℕ) : Type 0 where
   pub bytes : List ℕ
   pub read : IsRead texts history LONGEST_HISTORY bytes
   pub replays : Replays infrastructure low view bytes text
@@ -51,34 +51,34 @@ pub record IsLowered (texts : Reading) (source : List ℕ) (infrastructure : Inf
   pub lowers : IsLowOf infrastructure bytes low
 
 -- both were read, and the history was replayed
-pub record OfReplay (texts : Reading) (source history : List ℕ) (infrastructure : Infrastructure) (view : View) (kept : Option Record) (high : Option SerialRun) (text : List ℕ) : Type 0 where
+pub record OfReplay (texts : Reading) (source history : List ℕ) (infrastructure : Infrastructure) (view : View) (kept : Option Record) (high : Option MadeRun) (text : List ℕ) : Type 0 where
   pub low : LowProgram
   pub lowered : IsLowered texts source infrastructure low
   pub run : OfRun texts history infrastructure low view kept high text
 
 -- the bytes are a history, and the run of the source of those bytes goes on from its events
 pub record GoesOnFrom (infrastructure : Infrastructure) (budget : ℕ) (how : Shown) (source bytes : List ℕ)
-    (kept : Option Record) (high : Option SerialRun) (text : List ℕ) : Type 0 where
+    (kept : Option Record) (high : Option MadeRun) (text : List ℕ) : Type 0 where
   pub events : List Event
   pub history : histories.IsRead bytes events
   pub keeps : KeepsResumed infrastructure budget how source events kept high text
 
 -- the history was read, and the run goes on from it
 pub record OfSaved (texts : Reading) (saved : List ℕ) (infrastructure : Infrastructure) (budget : ℕ) (how : Shown) (source : List ℕ)
-    (kept : Option Record) (high : Option SerialRun) (text : List ℕ) : Type 0 where
+    (kept : Option Record) (high : Option MadeRun) (text : List ℕ) : Type 0 where
   pub bytes : List ℕ
   pub read : IsRead texts saved LONGEST_HISTORY bytes
   pub goes_on : GoesOnFrom infrastructure budget how source bytes kept high text
 
 -- both were read, and the run of the source goes on from the history
 pub record OfResume (texts : Reading) (source saved : List ℕ) (infrastructure : Infrastructure) (budget : ℕ) (how : Shown)
-    (kept : Option Record) (high : Option SerialRun) (text : List ℕ) : Type 0 where
+    (kept : Option Record) (high : Option MadeRun) (text : List ℕ) : Type 0 where
   pub bytes : List ℕ
   pub read : IsText texts source LONGEST_SOURCE bytes
   pub run : OfSaved texts saved infrastructure budget how bytes kept high text
 
 -- the history was read, and this is its text in the second format
-pub record OfUpgrade (texts : Reading) (history : List ℕ) (kept : Option Record) (high : Option SerialRun) (text : List ℕ) : Type 0 where
+pub record OfUpgrade (texts : Reading) (history : List ℕ) (kept : Option Record) (high : Option MadeRun) (text : List ℕ) : Type 0 where
   pub bytes : List ℕ
   pub read : IsRead texts history LONGEST_HISTORY bytes
   pub upgrades : Upgrades bytes text
@@ -86,17 +86,17 @@ pub record OfUpgrade (texts : Reading) (history : List ℕ) (kept : Option Recor
   pub is_high : high ≡ None
 
 -- this is the generated source
-pub record OfNumber (agents : ℕ) (kept : Option Record) (high : Option SerialRun) (text : List ℕ) : Type 0 where
+pub record OfNumber (agents : ℕ) (kept : Option Record) (high : Option MadeRun) (text : List ℕ) : Type 0 where
   pub generates : text ≡ generated agents
   pub is_kept : kept ≡ None
   pub is_high : high ≡ None
 
 -- the generated source, which is no longer than a source may be, was run
-pub record OfLoad (infrastructure : Infrastructure) (agents : ℕ) (kept : Option Record) (high : Option SerialRun) (text : List ℕ) : Type 0 where
+pub record OfLoad (infrastructure : Infrastructure) (agents : ℕ) (kept : Option Record) (high : Option MadeRun) (text : List ℕ) : Type 0 where
   pub short : length (generated agents) ≤ LONGEST_SOURCE
   pub does : DoesLoad infrastructure agents kept high text
 
-abbrev pub Does : Reading → Plan → Option Record → Option SerialRun → List ℕ → Type 0
+abbrev pub Does : Reading → Plan → Option Record → Option MadeRun → List ℕ → Type 0
 Does texts (plans.Source file task) kept high text = OfSource texts file task kept high text
 Does texts (plans.Replay source history infrastructure view) kept high text = OfReplay texts source history infrastructure view kept high text
 Does texts (plans.Resume source saved budget history shows serial links infrastructure) kept high text =
@@ -106,7 +106,7 @@ Does texts (plans.Generate agents) kept high text = OfNumber agents kept high te
 Does texts (plans.Load agents serial links infrastructure) kept high text = OfLoad infrastructure agents kept high text
 
 -- the words ask for this, and it was made
-pub record HasMade (words : List (List ℕ)) (texts : Reading) (kept : Option Record) (high : Option SerialRun) (text : List ℕ) : Type 0 where
+pub record HasMade (words : List (List ℕ)) (texts : Reading) (kept : Option Record) (high : Option MadeRun) (text : List ℕ) : Type 0 where
   pub asked : Plan
   pub planned : plan words ≡ Some asked
   pub does : Does texts asked kept high text

@@ -15,9 +15,9 @@ use Rattle.infrastructure_texts.specs.Infrastructures.{Infrastructure as Encodin
 use Rattle.daemon_encode.specs.Translates as translates
 use Rattle.daemon_encode.specs.Typed.{EncodesRunsWell}
 use Rattle.np_lift.specs.CachedLift.{Standing}
-use Rattle.np_simulation.specs.PostLaws.{CachedPostsArePaired, CachedRestsAllHanded, PostsArePaired, RestsAllHanded}
-use Rattle.np_simulation.specs.RestLaws.{RestsTogether}
-use Rattle.np_simulation.specs.Laws.{CentralRunsAreLifted, LeadsAbove, RunsAreLifted}
+use Rattle.simulate_laws.specs.simulation.PostLaws.{CachedPostsArePaired, CachedRestsAllHanded, PostsArePaired, RestsAllHanded}
+use Rattle.simulate_laws.specs.simulation.RestLaws.{RestsTogether}
+use Rattle.simulate_laws.specs.simulation.Laws.{CentralRunsAreLifted, LeadsAbove, RunsAreLifted}
 use Rattle.stamp_history.specs.Histories.{Recorded}
 use Rattle.np_words.specs.declared.modes.Infrastructure.{Infrastructure}
 use Rattle.np_words.specs.declared.modes.Infrastructure.TheVariants.{Cache, Central}

@@ -6,7 +6,7 @@ use Rattle.np_calculus.specs.Reductions.{run}
 use Rattle.np_calculus.specs.Starts.{start_low}
 use Rattle.stamp_history.specs.Histories.{Recorded}
 use Rattle.run_save.specs.Ours.{IsOurs}
-use Rattle.np_following.specs.Following.{IsResumed}
+use Rattle.run_save.specs.following.Following.{IsResumed}
 use Rattle.site_crew.specs.Lists.{AreWithin, IsRefused}
 use Rattle.site_crew.specs.declared.follow_fail.FollowFail.{FollowFail}
 use Rattle.crew_resumes.specs.ToGoOn.{IsToGoOn}

@@ -2,7 +2,7 @@ ghost use Rattle.np_on_sites.specs.SourceRuns.{SitesRunsAreSourceRuns};
 
 use cache_encode::{law_cached_runs_well, law_cached_translates};
 use daemon_encode::{law_low_runs_well, law_translates};
-use np_simulation::{
+use simulate_laws::simulation::{
     law_all_handed, law_cached_runs_are_lifted, law_posts_are_paired, law_rest, law_runs_are_lifted,
 };
 

@@ -6,7 +6,7 @@ ghost use Rattle.np_code.specs.Programs.{program};
 ghost use Rattle.np_calculus.specs.Reductions.{run};
 ghost use Rattle.np_calculus.specs.Starts.{start_low};
 ghost use Rattle.run_merge.specs.Merged.{past};
-ghost use Rattle.np_following.specs.Following.{IsResumed};
+ghost use Rattle.run_save.specs.following.Following.{IsResumed};
 ghost use Rattle.run_save.specs.Ours.{IsOurs};
 ghost use Rattle.site_crew.specs.Lists.{AreWithin, IsRefused};
 ghost use Rattle.crew_resumes.specs.ToGoOn.{IsToGoOn};

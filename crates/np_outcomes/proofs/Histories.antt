@@ -13,7 +13,7 @@ use Rattle.np_words.specs.declared.modes.Infrastructure.{Infrastructure}
 use Rattle.np_words.specs.declared.planning.Plan.{Plan}
 use Rattle.np_words.specs.declared.planning.View.{View}
 use Rattle.np_words.specs.declared.planning.View.TheVariants as views
-use Rattle.np_serial.specs.declared.serial.SerialRun.{SerialRun}
+use Rattle.np_sources.specs.declared.job.MadeRun.{MadeRun}
 use Rattle.np_verdict.specs.Lines.{status_of}
 use Rattle.np_verdict.specs.declared.refusal.Refusal.{Refusal}
 use Rattle.np_verdict.specs.declared.refusal.Refusal.TheVariants.{HistoryTooLong, TooManyEvents}
@@ -177,7 +177,7 @@ has_run infra low (views.Past line) bytes text r =
     has_line said line item all some its is = let within = slice_get_within said (line - 1) item its in let same = ap length is in omega arith
 
 -- a run that went on from a history could go on from it
-is_fit : (call : Call) (source saved : List ℕ) (infra : Infrastructure) (budget : ℕ) (how : Shown) (kept : Option Record) (high : Option SerialRun) (text : List ℕ)
+is_fit : (call : Call) (source saved : List ℕ) (infra : Infrastructure) (budget : ℕ) (how : Shown) (kept : Option Record) (high : Option MadeRun) (text : List ℕ)
     (d : OfResume call.texts source saved infra budget how kept high text) → IsFit budget d.run.goes_on.keeps.keeps.promises.low d.run.bytes
 is_fit call source saved infra budget how kept high text d =
     let from = d.run.goes_on in
@@ -185,7 +185,7 @@ is_fit call source saved infra budget how kept high text d =
     record { events = from.events; history = from.history; last = runs.0; reaches = runs.1; can = from.keeps.can }
 
 module _ (sources : source_laws.HaveOneAnswer) where
-  made_plan : (call : Call) (asked : Plan) (history : List ℕ) (purpose : Purpose) (bytes : List ℕ) (kept : Option Record) (high : Option SerialRun) (text : List ℕ)
+  made_plan : (call : Call) (asked : Plan) (history : List ℕ) (purpose : Purpose) (bytes : List ℕ) (kept : Option Record) (high : Option MadeRun) (text : List ℕ)
       → ReadsHistory call asked history purpose → IsTold call history bytes → Does call.texts asked kept high text → IsTaken purpose bytes
   made_plan call asked history purpose bytes kept high text (ReadsHistory.alone h) t d =
       subst (λ (b : List ℕ). IsTaken Purpose.events b) (same_text call h bytes d.bytes LONGEST_HISTORY t d.read.text)
@@ -204,7 +204,7 @@ module _ (sources : source_laws.HaveOneAnswer) where
       subst (λ (q : LowProgram). IsTaken (Purpose.resume q budget) bytes) (sources.same_low infra b promises.low one_low typed lowered) taken
 
   -- what is made is made of an accepted history
-  pub made_accepts : (call : Call) (purpose : Purpose) (bytes : List ℕ) (kept : Option Record) (high : Option SerialRun) (text : List ℕ) → Follows call purpose bytes
+  pub made_accepts : (call : Call) (purpose : Purpose) (bytes : List ℕ) (kept : Option Record) (high : Option MadeRun) (text : List ℕ) → Follows call purpose bytes
       → HasMade call.words call.texts kept high text → (length bytes ≤ LONGEST_HISTORY) × AcceptedHistory purpose bytes
   made_accepts call purpose bytes kept high text f h =
       made_plan call f.asked f.history purpose bytes kept high text f.reads f.told

@@ -7,7 +7,7 @@ use Rattle.np_words.specs.declared.planning.View.{View}
 use Rattle.np_words.specs.declared.planning.View.TheVariants as views
 use Rattle.np_words.specs.declared.planning.Task.{Task}
 use Rattle.np_words.specs.declared.planning.Task.TheVariants as task
-use Rattle.np_serial.specs.declared.serial.SerialRun.{SerialRun}
+use Rattle.np_sources.specs.declared.job.MadeRun.{MadeRun}
 use Rattle.np_verdict.specs.Lines.{status_of}
 use Rattle.np_verdict.specs.declared.refusal.Refusal.{Refusal}
 use Rattle.np_verdict.specs.declared.refusal.Refusal.TheVariants.{ReadFault, TooLong, TooManyEvents}
@@ -93,7 +93,7 @@ module _ (sources : source_laws.HaveOneAnswer) (histories : history_laws.HaveOne
 
 -- ---- what is made
 
-pub does_accept : (task : Task) (bytes : List ℕ) (kept : Option Record) (high : Option SerialRun) (text : List ℕ) → DoesTask task bytes kept high text
+pub does_accept : (task : Task) (bytes : List ℕ) (kept : Option Record) (high : Option MadeRun) (text : List ℕ) → DoesTask task bytes kept high text
     → TakenTo (reach_of task) bytes
 does_accept (task.Run budget history high serial links infrastructure) bytes kept made text d =
     (d.free, record { low = d.promises.low; lowered = d.promises.lowered; few = d.promises.few })
@@ -105,7 +105,7 @@ does_accept (task.Low infrastructure) bytes kept made text d = (d.low, d.lowered
 abbrev IsTaken : Reach → List ℕ → Type 0
 IsTaken reach bytes = (length bytes ≤ LONGEST_SOURCE) × TakenTo reach bytes
 
-made_plan : (call : Call) (asked : Plan) (reach : Reach) (bytes : List ℕ) (kept : Option Record) (high : Option SerialRun) (text : List ℕ)
+made_plan : (call : Call) (asked : Plan) (reach : Reach) (bytes : List ℕ) (kept : Option Record) (high : Option MadeRun) (text : List ℕ)
     → HasSource call asked reach bytes → Does call.texts asked kept high text → IsTaken reach bytes
 made_plan call asked reach bytes kept high text (HasSource.alone f b task t) d =
     subst (λ (x : List ℕ). IsTaken (reach_of task) x) (same_text call f b d.bytes LONGEST_SOURCE t d.read.text)
@@ -120,7 +120,7 @@ made_plan call asked reach bytes kept high text (HasSource.made agents serial li
     (d.short, record { low = d.does.promises.low; lowered = d.does.promises.lowered; few = d.does.promises.few })
 
 -- what is made is made of an accepted source
-pub made_accepts : (call : Call) (asked : Plan) (reach : Reach) (bytes : List ℕ) (kept : Option Record) (high : Option SerialRun) (text : List ℕ)
+pub made_accepts : (call : Call) (asked : Plan) (reach : Reach) (bytes : List ℕ) (kept : Option Record) (high : Option MadeRun) (text : List ℕ)
     → Reads call asked reach bytes → HasMade call.words call.texts kept high text → (length bytes ≤ LONGEST_SOURCE) × TakenTo reach bytes
 made_accepts call asked reach bytes kept high text r h =
     made_plan call asked reach bytes kept high text r.source

@@ -5,7 +5,7 @@ use Rattle.std.proofs.Math.Facts.{eqb_no}
 use Rattle.std.specs.Io.KnownBytes.{Appends, Keeps}
 use Rattle.np_syntax.specs.declared.event.End.{End}
 use Rattle.np_syntax.specs.declared.event.End.TheVariants.{Rest, Spent}
-use Rattle.np_serial.specs.declared.serial.SerialRun.{SerialRun}
+use Rattle.np_sources.specs.declared.job.MadeRun.{MadeRun}
 use Rattle.np_words.specs.Plans.{plan}
 use Rattle.np_verdict.specs.Lines.{line_of, status_of}
 use Rattle.np_sources.specs.declared.job.Job.{Job}
@@ -145,7 +145,7 @@ ended Rest = inl refl
 ended Spent = inr refl
 
 -- the status is 0, or 1 where a run has spent its budget
-made_status : (kept : Option Record) (high : Option SerialRun) → (status_at kept high ≡ 0) ⊎ (status_at kept high ≡ 1)
+made_status : (kept : Option Record) (high : Option MadeRun) → (status_at kept high ≡ 0) ⊎ (status_at kept high ≡ 1)
 made_status (Some made) high = ended made.end
 made_status None (Some made) = ended made.end
 made_status None None = inl refl

@@ -2,7 +2,7 @@
 use Rattle.std.proofs.Common.{◌≡◌, ℕ, List, Option, None, Some, sym, subst, ◌∙◌}
 use Rattle.np_generate.specs.Generated.{generated}
 use Rattle.np_syntax.specs.declared.program.Program.{Program}
-use Rattle.np_serial.specs.declared.serial.SerialRun.{SerialRun}
+use Rattle.np_sources.specs.declared.job.MadeRun.{MadeRun}
 use Rattle.np_words.specs.Plans.{plan}
 use Rattle.np_words.specs.declared.modes.Infrastructure.{Infrastructure}
 use Rattle.np_words.specs.declared.planning.Plan.{Plan}
@@ -45,7 +45,7 @@ module _ (words : List (List ℕ)) (texts : Reading) (kept : Record) where
   not_kept : {X : Type 0} (o : Option Record) → o ≡ Some kept → o ≡ None → X
   not_kept o some none = absurd cc
 
-  of_task : (name : List ℕ) (asked : Task) (o : Option Record) (high : Option SerialRun) (text : List ℕ) → o ≡ Some kept → plan words ≡ Some (plans.Source name asked)
+  of_task : (name : List ℕ) (asked : Task) (o : Option Record) (high : Option MadeRun) (text : List ℕ) → o ≡ Some kept → plan words ≡ Some (plans.Source name asked)
       → OfSource texts name asked o high text → Headline words texts kept text
   of_task name (task.Run budget history high serial links infra) o made text is planned d =
       of_sites infra budget (run_report infra history high) d.bytes o d.does.made text is d.does.is_kept
@@ -55,7 +55,7 @@ module _ (words : List (List ℕ)) (texts : Reading) (kept : Record) where
   of_task name task.Check o made text is planned d = not_kept o is d.does.is_kept
   of_task name (task.Low infra) o made text is planned d = not_kept o is d.does.is_kept
 
-  of_plan : (asked : Plan) (o : Option Record) (high : Option SerialRun) (text : List ℕ) → o ≡ Some kept → plan words ≡ Some asked → Does texts asked o high text
+  of_plan : (asked : Plan) (o : Option Record) (high : Option MadeRun) (text : List ℕ) → o ≡ Some kept → plan words ≡ Some asked → Does texts asked o high text
       → Headline words texts kept text
   of_plan (plans.Source name asked) o high text is planned d = of_task name asked o high text is planned d
   of_plan (plans.Replay source history infra view) o high text is planned d = not_kept o is d.run.is_kept
@@ -69,6 +69,6 @@ module _ (words : List (List ℕ)) (texts : Reading) (kept : Record) where
       of_sites infra LOAD_BUDGET (load_report agents) (generated agents) o d.does.made text is d.does.is_kept (AsksForRun.loaded agents serial links infra planned)
       d.does.promises
 
-pub headline : (words : List (List ℕ)) (texts : Reading) (o : Option Record) (high : Option SerialRun) (text : List ℕ) → HasMade words texts o high text
+pub headline : (words : List (List ℕ)) (texts : Reading) (o : Option Record) (high : Option MadeRun) (text : List ℕ) → HasMade words texts o high text
     → (kept : Record) → o ≡ Some kept → Headline words texts kept text
 headline words texts o high text made kept is = of_plan words texts kept made.asked o high text is made.planned made.does

@@ -5,7 +5,7 @@ mod top;
 
 pub use np_answers::{Answer, Told};
 pub use np_on_sites::{Free, Gate, Record};
-pub use np_sources::run_low;
+pub use np_sources::{MadeRun, run_low};
 pub use np_verdict::{
     BAD_HISTORY, BAD_SOURCE, BAD_USAGE, BUDGET_SPENT, DONE, NO_MEMORY, READ_FAILED, Refusal,
     WRITE_FAILED, line, status,

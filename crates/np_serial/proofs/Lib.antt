@@ -1,1 +1,2 @@
 pub mod SerialEvents
+pub mod Runs

@@ -6,14 +6,14 @@ use Rattle.std.proofs.lemmas.Grind.{flat_map-append}
 use Rattle.std.proofs.lemmas.List.{map-append}
 use Rattle.std.proofs.lemmas.List.Elements.{All-from_recursion, filter-append, recursion_from_All}
 use Rattle.std.specs.List.{AllByRecursion}
-use Rattle.np_merged_run.specs.Links.{air, over}
-use Rattle.np_merged_run.specs.Steps.{IsSpread}
+use Rattle.np_site_runs.specs.merged.Links.{air, over}
+use Rattle.np_site_runs.specs.merged.Steps.{IsSpread}
 use Rattle.stamp_history.specs.Histories.{IsHistory, Recorded, without_events}
 use Rattle.run_merge.specs.Laws.{HaveOwnSites}
 use Rattle.run_merge.proofs.InOrder.{all_append, all_filter, all_weaker, filter_alike, filter_map_back}
-use Rattle.np_merged_run.specs.Deeds.{Deed, IsDeedOf, StampedItem, put_for, taken_from}
-use Rattle.np_merged_run.proofs.Linking.{all_first}
-use Rattle.np_merged_run.proofs.Moving.{below_or_not}
+use Rattle.np_site_runs.specs.merged.Deeds.{Deed, IsDeedOf, StampedItem, put_for, taken_from}
+use Rattle.np_site_runs.proofs.merged.Linking.{all_first}
+use Rattle.np_site_runs.proofs.merged.Moving.{below_or_not}
 use Rattle.np_site_runs.specs.Holdings.{Holding, IsPart}
 use Rattle.np_site_runs.specs.Accounts.{AccountGrows, AccountStarts, Accounts, AreSettled, AreTheirs, Came, CameFollows, IsItsHistory, LowSitesEnd, SendsLoad, SettledAreRuns, came_on, held_runs, taken_on}
 use Rattle.np_site_runs.specs.Ending.{AreKept, HasPrinted, IsLoad, IsStill}

@@ -7,10 +7,10 @@ use Rattle.np_calculus.specs.declared.config.Place.{Place}
 use Rattle.np_calculus.specs.declared.config.Place.TheVariants as place
 use Rattle.np_calculus.specs.Config.{Config}
 use Rattle.np_calculus.specs.Idle.{Can}
-use Rattle.np_merged_run.specs.Deeds.{StampedItem}
-use Rattle.np_merged_run.specs.Elements.{Occurs}
-use Rattle.np_merged_run.specs.Resting.{Brings}
-use Rattle.np_merged_run.proofs.Resting.{can_in_parts}
+use Rattle.np_site_runs.specs.merged.Deeds.{StampedItem}
+use Rattle.np_site_runs.specs.merged.Elements.{Occurs}
+use Rattle.np_site_runs.specs.merged.Resting.{Brings}
+use Rattle.np_site_runs.proofs.merged.Resting.{can_in_parts}
 use Rattle.np_site_runs.specs.Holdings.{Holding, IsPart}
 use Rattle.np_site_runs.specs.Acting.{LeadsTo, OnlySitesCan, SiteIsStill}
 

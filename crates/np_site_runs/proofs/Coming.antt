@@ -18,11 +18,11 @@ use Rattle.np_syntax.proofs.Options.{none_of}
 use Rattle.np_calculus.proofs.FrameRule.{none-some}
 use Rattle.np_calculus.proofs.Steps.{same_site}
 use Rattle.np_calculus.proofs.Writes.{either-none}
-use Rattle.np_merged_run.specs.Joined.{AreApart, IsJoined}
-use Rattle.np_merged_run.specs.Steps.{IsItem, IsStep}
-use Rattle.np_merged_run.proofs.Items.{item_comes}
+use Rattle.np_site_runs.specs.merged.Joined.{AreApart, IsJoined}
+use Rattle.np_site_runs.specs.merged.Steps.{IsItem, IsStep}
+use Rattle.np_site_runs.proofs.merged.Items.{item_comes}
 use Rattle.stamp_history.specs.declared.stamped.Stamped.{Stamped}
-use Rattle.np_merged_run.specs.Deeds.{StampedItem}
+use Rattle.np_site_runs.specs.merged.Deeds.{StampedItem}
 use Rattle.np_calculus.proofs.Enabled.{tag-itself}
 use Rattle.np_site_runs.specs.Holdings.{Holding, IsPart}
 use Rattle.np_site_runs.specs.Coming.{Arrives, IsLost, Lands}

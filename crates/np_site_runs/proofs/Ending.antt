@@ -9,15 +9,15 @@ use Rattle.np_calculus.specs.Idle.{Can}
 use Rattle.np_calculus.specs.Starts.{start_low}
 use Rattle.stamp_history.specs.Histories.{Recorded}
 use Rattle.run_merge.proofs.InOrder.{all_filter, all_flat_map, all_weaker}
-use Rattle.np_merged_run.specs.Deeds.{Deed, StampedItem, taken_from}
-use Rattle.np_merged_run.specs.Elements.{Occurs}
-use Rattle.np_merged_run.specs.StampedLaws.{AreRecorded, IsSaid}
-use Rattle.np_merged_run.specs.Resting.{Brings}
-use Rattle.np_merged_run.proofs.Acting.{acts_along}
-use Rattle.np_merged_run.proofs.Linking.{all_second}
-use Rattle.np_merged_run.proofs.Resting.{idle_in_parts}
-use Rattle.np_merged_run.proofs.Running.{merged_is_run}
-use Rattle.np_merged_run.proofs.Saying.{said_in_order}
+use Rattle.np_site_runs.specs.merged.Deeds.{Deed, StampedItem, taken_from}
+use Rattle.np_site_runs.specs.merged.Elements.{Occurs}
+use Rattle.np_site_runs.specs.merged.StampedLaws.{AreRecorded, IsSaid}
+use Rattle.np_site_runs.specs.merged.Resting.{Brings}
+use Rattle.np_site_runs.proofs.merged.Acting.{acts_along}
+use Rattle.np_site_runs.proofs.merged.Linking.{all_second}
+use Rattle.np_site_runs.proofs.merged.Resting.{idle_in_parts}
+use Rattle.np_site_runs.proofs.merged.Running.{merged_is_run}
+use Rattle.np_site_runs.proofs.merged.Saying.{said_in_order}
 use Rattle.np_site_runs.specs.Holdings.{Holding, IsPart}
 use Rattle.np_site_runs.specs.Ending.{HasPrinted, HeldRunsEnd, IsLoad, LowRunsEnd, PutLoads, RestsInHoldings, StillByOne, ending}
 use Rattle.np_site_runs.specs.SiteRuns.{AreHeldRuns, HeldRuns, by_configs}

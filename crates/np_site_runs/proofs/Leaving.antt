@@ -14,9 +14,9 @@ use Rattle.np_calculus.specs.FrameRule.{Every}
 use Rattle.np_calculus.specs.Rows.{change_in}
 use Rattle.np_calculus.proofs.Fits.{some}
 use Rattle.np_syntax.proofs.Options.{none_of}
-use Rattle.np_merged_run.specs.Items.{IsOwn, of_agent, of_packet}
-use Rattle.np_merged_run.specs.Steps.{IsStep}
-use Rattle.np_merged_run.proofs.Items.{agent_leaves, packet_leaves}
+use Rattle.np_site_runs.specs.merged.Items.{IsOwn, of_agent, of_packet}
+use Rattle.np_site_runs.specs.merged.Steps.{IsStep}
+use Rattle.np_site_runs.proofs.merged.Items.{agent_leaves, packet_leaves}
 use Rattle.stamp_history.specs.declared.stamped.Stamped.{Stamped}
 use Rattle.np_site_runs.specs.Holdings.{Holding, IsPart}
 use Rattle.np_site_runs.specs.Going.{Goes, own_sight}

@@ -6,11 +6,11 @@ use Rattle.np_calculus.proofs.Common.{Config, Contents, inside}
 use Rattle.np_calculus.specs.declared.config.Atom.{Atom}
 use Rattle.np_calculus.specs.declared.config.Place.TheVariants as place
 use Rattle.np_calculus.proofs.Fits.{some}
-use Rattle.np_merged_run.specs.Steps.{IsSpread, Spread, sites}
-use Rattle.np_merged_run.specs.Elements.{Occurs}
+use Rattle.np_site_runs.specs.merged.Steps.{IsSpread, Spread, sites}
+use Rattle.np_site_runs.specs.merged.Elements.{Occurs}
 use Rattle.np_syntax.proofs.Options.{there-is}
-use Rattle.np_merged_run.proofs.Elements.{occurs-first}
-use Rattle.np_merged_run.proofs.Resting.{atom-out, in_sites, place-out}
+use Rattle.np_site_runs.proofs.merged.Elements.{occurs-first}
+use Rattle.np_site_runs.proofs.merged.Resting.{atom-out, in_sites, place-out}
 use Rattle.np_site_runs.specs.Holdings.{Holding, IsHeld, IsPart, name_of}
 use Rattle.np_site_runs.specs.Making.{MadeInSpread}
 use Rattle.np_site_runs.proofs.Parts.{below, place-of}

@@ -2,18 +2,18 @@
 use Rattle.std.proofs.Common.{◌≡◌, ◌<◌, ℕ, cond, nat_eq, List, [], ◌∷◌, ◌++◌, refl, sym, ap, subst, subst₂, ◌∙◌}
 use Rattle.std.specs.List.{AllByRecursion}
 use Rattle.np_calculus.specs.Config.{Config}
-use Rattle.np_merged_run.specs.Links.{Linked, loads, spread}
-use Rattle.np_merged_run.specs.Steps.{IsSpread, IsStep}
-use Rattle.np_merged_run.proofs.Steps.{false_eq, with-site-same}
+use Rattle.np_site_runs.specs.merged.Links.{Linked, loads, spread}
+use Rattle.np_site_runs.specs.merged.Steps.{IsSpread, IsStep}
+use Rattle.np_site_runs.proofs.merged.Steps.{false_eq, with-site-same}
 use Rattle.std.proofs.lemmas.Bool.{eq-eqb}
 use Rattle.run_merge.proofs.InOrder.{all_append}
-use Rattle.np_merged_run.specs.Deeds.{Deed, Leads, plain}
-use Rattle.np_merged_run.specs.Turns.{AreClocked, AreInTurn, Flows, GoesOn, IsAmong, IsTurn, WaitsOn, Waiting, moved, none_waits, own}
-use Rattle.np_merged_run.proofs.Flowing.{each_site, own-here, own-there}
-use Rattle.np_merged_run.proofs.Growing.{ticks-on}
-use Rattle.np_merged_run.proofs.Moving.{with-site-other}
-use Rattle.np_merged_run.proofs.Running.{begins}
-use Rattle.np_merged_run.proofs.Turning.{have_turns, turn_goes_on, turn_is_apart}
+use Rattle.np_site_runs.specs.merged.Deeds.{Deed, Leads, plain}
+use Rattle.np_site_runs.specs.merged.Turns.{AreClocked, AreInTurn, Flows, GoesOn, IsAmong, IsTurn, WaitsOn, Waiting, moved, none_waits, own}
+use Rattle.np_site_runs.proofs.merged.Flowing.{each_site, own-here, own-there}
+use Rattle.np_site_runs.proofs.merged.Growing.{ticks-on}
+use Rattle.np_site_runs.proofs.merged.Moving.{with-site-other}
+use Rattle.np_site_runs.proofs.merged.Running.{begins}
+use Rattle.np_site_runs.proofs.merged.Turning.{have_turns, turn_goes_on, turn_is_apart}
 use Rattle.np_site_runs.specs.Holdings.{AreMade, Does, DoesAll, Holding, IsPart}
 use Rattle.np_site_runs.proofs.Making.{made_in_spread}
 use Rattle.np_site_runs.specs.SiteRuns.{AreHeldRuns, ArePartsOf, HeldRunGrows, HeldRunStarts, HeldRuns, HeldRunsAreRuns, by_configs}

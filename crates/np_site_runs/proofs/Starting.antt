@@ -15,9 +15,9 @@ use Rattle.np_calculus.specs.declared.config.Place.{Place}
 use Rattle.np_calculus.specs.declared.config.Place.TheVariants as place
 use Rattle.np_calculus.specs.Starts.{daemon_agent, daemon_mark, first_atom, main_agent, main_mark, own, own_names, own_numbers, start_low, with_all}
 use Rattle.np_calculus.proofs.OwnNames.{not_true, own_names-lacks}
-use Rattle.np_merged_run.specs.Starting.{part_at}
-use Rattle.np_merged_run.proofs.LowStart.{low_start_is_settled}
-use Rattle.np_merged_run.proofs.Starting.{spread_by_sites}
+use Rattle.np_site_runs.specs.merged.Starting.{part_at}
+use Rattle.np_site_runs.proofs.merged.LowStart.{low_start_is_settled}
+use Rattle.np_site_runs.proofs.merged.Starting.{spread_by_sites}
 use Rattle.np_site_runs.specs.Holdings.{Holding, IsHeld, IsPart, name_of}
 use Rattle.np_site_runs.specs.Starting.{LowStartIsHeld, alone, with_if}
 

@@ -16,7 +16,7 @@ use Rattle.np_calculus.proofs.Fits.{some}
 use Rattle.np_calculus.proofs.OwnNames.{not_true}
 use Rattle.np_calculus.proofs.Steps.{same_site}
 use Rattle.np_calculus.proofs.Writes.{either-none}
-use Rattle.np_merged_run.proofs.Items.{inner_step}
+use Rattle.np_site_runs.proofs.merged.Items.{inner_step}
 use Rattle.stamp_history.specs.declared.stamped.Stamped.{Stamped}
 use Rattle.np_site_runs.specs.Holdings.{Holding, IsPart, AreMade}
 use Rattle.np_site_runs.specs.Going.{GoesPast, own_sight}

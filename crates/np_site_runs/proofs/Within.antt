@@ -13,7 +13,7 @@ use Rattle.np_calculus.proofs.Rows.{asked, parts}
 use Rattle.np_calculus.proofs.Writes.{every-map}
 use Rattle.np_eval.specs.FormParts.{as_iflocal}
 use Rattle.stamp_history.specs.declared.stamped.Stamped.{Stamped}
-use Rattle.np_merged_run.proofs.Items.{inner_step}
+use Rattle.np_site_runs.proofs.merged.Items.{inner_step}
 use Rattle.np_site_runs.specs.Holdings.{Holding, IsPart, AreMade, StepsOn}
 use Rattle.np_site_runs.specs.Going.{Goes, own_sight}
 use Rattle.np_site_runs.specs.Making.{AreNext, next_after}

@@ -7,11 +7,11 @@ use Rattle.np_calculus.specs.Config.{Config}
 use Rattle.np_calculus.specs.Idle.{Idle}
 use Rattle.np_calculus.specs.Reductions.{run}
 use Rattle.np_calculus.specs.Starts.{start_low}
-use Rattle.np_merged_run.specs.Links.{spread}
-use Rattle.np_merged_run.specs.Steps.{IsSpread}
+use Rattle.np_site_runs.specs.merged.Links.{spread}
+use Rattle.np_site_runs.specs.merged.Steps.{IsSpread}
 use Rattle.stamp_history.specs.Histories.{IsHistory, Recorded}
 use Rattle.run_merge.specs.Merged.{items, merged, said}
-use Rattle.np_merged_run.specs.Deeds.{Deed, StampedItem, put_for}
+use Rattle.np_site_runs.specs.merged.Deeds.{Deed, StampedItem, put_for}
 use Rattle.np_site_runs.specs.Holdings.{Holding, IsPart}
 use Rattle.np_site_runs.specs.SiteRuns.{AreHeldRuns, HeldRuns, IsHeldRun, IsNextDeed}
 use Rattle.np_site_runs.specs.Starting.{start_holding}

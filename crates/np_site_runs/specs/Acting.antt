@@ -4,8 +4,8 @@ use Rattle.std.specs.List.{AllByRecursion}
 use Rattle.np_calculus.specs.Config.{Config}
 use Rattle.np_calculus.specs.Idle.{Can}
 use Rattle.stamp_history.specs.Histories.{Recorded}
-use Rattle.np_merged_run.specs.Deeds.{StampedItem}
-use Rattle.np_merged_run.specs.Resting.{Brings}
+use Rattle.np_site_runs.specs.merged.Deeds.{StampedItem}
+use Rattle.np_site_runs.specs.merged.Resting.{Brings}
 use Rattle.np_site_runs.specs.Accounts.{Accounts, SitesEnd}
 use Rattle.np_site_runs.specs.Ending.{IsStill}
 

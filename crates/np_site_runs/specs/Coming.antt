@@ -8,7 +8,7 @@ use Rattle.np_calculus.specs.declared.config.Packet.{Packet}
 use Rattle.np_calculus.specs.Begins.{arrival, landing}
 use Rattle.np_calculus.specs.Rows.{output_of}
 use Rattle.stamp_history.specs.declared.stamped.Stamped.{Stamped}
-use Rattle.np_merged_run.specs.Deeds.{Deed, StampedItem}
+use Rattle.np_site_runs.specs.merged.Deeds.{Deed, StampedItem}
 use Rattle.np_site_runs.specs.Holdings.{Does, Holding}
 use Rattle.np_site_runs.specs.Loads.{agent_load, packet_load}
 use Rattle.np_site_runs.specs.Within.{given}

@@ -7,12 +7,12 @@ use Rattle.np_calculus.specs.Idle.{Idle}
 use Rattle.np_calculus.specs.Reductions.{run}
 use Rattle.np_calculus.specs.Sight.{Contents}
 use Rattle.np_calculus.specs.Starts.{start_low}
-use Rattle.np_merged_run.specs.Links.{Linked, spread}
-use Rattle.np_merged_run.specs.Steps.{IsSpread}
+use Rattle.np_site_runs.specs.merged.Links.{Linked, spread}
+use Rattle.np_site_runs.specs.merged.Steps.{IsSpread}
 use Rattle.stamp_history.specs.Histories.{Recorded}
 use Rattle.run_merge.specs.Laws.{AreHistories}
 use Rattle.run_merge.specs.Merged.{items, merged, said}
-use Rattle.np_merged_run.specs.Resting.{Brings}
+use Rattle.np_site_runs.specs.merged.Resting.{Brings}
 use Rattle.np_site_runs.specs.Holdings.{Holding, IsPart}
 use Rattle.np_site_runs.specs.SiteRuns.{AreHeldRuns, ArePartsOf, HeldRuns}
 use Rattle.np_site_runs.specs.Starting.{start_holding}

@@ -12,10 +12,10 @@ use Rattle.np_calculus.specs.declared.config.Place.TheVariants as place
 use Rattle.np_calculus.specs.Config.{Config}
 use Rattle.np_calculus.specs.FrameRule.{Every}
 use Rattle.np_calculus.specs.Sight.{inside}
-use Rattle.np_merged_run.specs.Joined.{AreApart}
-use Rattle.np_merged_run.specs.Links.{loads}
-use Rattle.np_merged_run.specs.Steps.{IsItem, IsStep}
-use Rattle.np_merged_run.specs.Deeds.{Deed, plain}
+use Rattle.np_site_runs.specs.merged.Joined.{AreApart}
+use Rattle.np_site_runs.specs.merged.Links.{loads}
+use Rattle.np_site_runs.specs.merged.Steps.{IsItem, IsStep}
+use Rattle.np_site_runs.specs.merged.Deeds.{Deed, plain}
 
 pub record Holding : Type 0 where
   pub site : ℕ

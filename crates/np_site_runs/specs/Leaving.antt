@@ -9,7 +9,7 @@ use Rattle.np_calculus.specs.declared.config.Packet.{Packet}
 use Rattle.np_calculus.specs.declared.config.Place.TheVariants as place
 use Rattle.np_calculus.specs.Changes.{put, still}
 use Rattle.stamp_history.specs.declared.stamped.Stamped.{Stamped}
-use Rattle.np_merged_run.specs.Deeds.{Deed, StampedItem}
+use Rattle.np_site_runs.specs.merged.Deeds.{Deed, StampedItem}
 use Rattle.np_site_runs.specs.Holdings.{Does, Holding}
 use Rattle.np_site_runs.specs.Going.{Goes}
 use Rattle.np_site_runs.specs.Loads.{agent_load, packet_load}

@@ -13,3 +13,4 @@ pub mod Loads
 pub mod Making
 pub mod Resting
 pub mod Within
+pub mod merged

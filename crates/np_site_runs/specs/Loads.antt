@@ -7,8 +7,8 @@ use Rattle.np_calculus.specs.declared.config.Atom.{Atom}
 use Rattle.np_calculus.specs.declared.config.Packet.{Packet}
 use Rattle.np_calculus.specs.declared.config.Place.TheVariants as place
 use Rattle.np_calculus.specs.Sight.{Contents}
-use Rattle.np_merged_run.specs.Steps.{IsItem}
-use Rattle.np_merged_run.specs.Resting.{Brings}
+use Rattle.np_site_runs.specs.merged.Steps.{IsItem}
+use Rattle.np_site_runs.specs.merged.Resting.{Brings}
 
 -- an agent under way to a site, with its atoms
 abbrev pub agent_load : Name → NameMap Atom → ℕ → Contents

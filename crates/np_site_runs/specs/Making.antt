@@ -3,7 +3,7 @@ use Rattle.std.specs.Prelude.{◌≡◌, ◌<◌, ◌+◌, ℕ}
 use Rattle.np_syntax.specs.declared.event.Made.{Made}
 use Rattle.np_syntax.specs.declared.event.Made.TheVariants as made
 use Rattle.np_calculus.specs.Config.{Config}
-use Rattle.np_merged_run.specs.Steps.{IsSpread, Spread}
+use Rattle.np_site_runs.specs.merged.Steps.{IsSpread, Spread}
 use Rattle.np_site_runs.specs.Holdings.{AreMade, Holding, IsPart, name_of}
 
 -- the names that are made are the next ones of the site

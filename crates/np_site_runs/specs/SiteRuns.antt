@@ -2,8 +2,8 @@
 use Rattle.std.specs.Prelude.{◌≡◌, ◌≤◌, ℕ, List, [], ◌∷◌, ◌++◌}
 use Rattle.std.specs.List.{AllByRecursion}
 use Rattle.np_calculus.specs.Config.{Config}
-use Rattle.np_merged_run.specs.Steps.{IsSpread}
-use Rattle.np_merged_run.specs.Deeds.{AreSiteRuns, Deed, HasStamps, IsDeedOf, SiteRuns, StampedItem, Ticks, clock_after, put_for, taken_from}
+use Rattle.np_site_runs.specs.merged.Steps.{IsSpread}
+use Rattle.np_site_runs.specs.merged.Deeds.{AreSiteRuns, Deed, HasStamps, IsDeedOf, SiteRuns, StampedItem, Ticks, clock_after, put_for, taken_from}
 use Rattle.np_site_runs.specs.Holdings.{Does, DoesAll, Holding, IsPart}
 
 -- what a site, one of n, did alone, from one holding on to another and from a clock that is 0

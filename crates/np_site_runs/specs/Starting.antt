@@ -8,7 +8,7 @@ use Rattle.np_tables.specs.Names.{NameMap}
 use Rattle.np_calculus.specs.declared.config.Atom.{Atom}
 use Rattle.np_calculus.specs.Config.{Config}
 use Rattle.np_calculus.specs.Starts.{daemon_agent, daemon_mark, first_atom, main_agent, main_mark, own_numbers, start_low}
-use Rattle.np_merged_run.specs.Steps.{IsSpread}
+use Rattle.np_site_runs.specs.merged.Steps.{IsSpread}
 use Rattle.np_site_runs.specs.Holdings.{Holding}
 use Rattle.np_site_runs.specs.SiteRuns.{ArePartsOf}
 

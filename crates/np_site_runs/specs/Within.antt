@@ -13,7 +13,7 @@ use Rattle.np_calculus.specs.declared.config.Place.TheVariants as place
 use Rattle.np_calculus.specs.Changes.{put, still}
 use Rattle.np_calculus.specs.Rows.{output_of}
 use Rattle.stamp_history.specs.declared.stamped.Stamped.{Stamped}
-use Rattle.np_merged_run.specs.Deeds.{Deed}
+use Rattle.np_site_runs.specs.merged.Deeds.{Deed}
 use Rattle.np_site_runs.specs.Holdings.{Does, Holding}
 use Rattle.np_site_runs.specs.Going.{AsksFor, Goes, GoesPast}
 use Rattle.np_site_runs.specs.Making.{AreNext, next_after}

@@ -4,6 +4,7 @@
 
 mod holding_laws;
 mod laws;
+pub mod merged;
 
 pub use holding_laws::{
     law_coming, law_enabled, law_leaving, law_loads, law_names_made, law_nothing_done,

@@ -14,7 +14,7 @@ use Rattle.np_verdict.proofs.Verdicts.{not_both, well_typed_once}
 use Rattle.np_words.specs.declared.modes.HighText.{HighText}
 use Rattle.np_words.specs.declared.modes.HighText.TheVariants.{Absent}
 use Rattle.np_words.specs.declared.modes.Infrastructure.{Infrastructure}
-use Rattle.np_following.specs.Following.{IsResumed}
+use Rattle.run_save.specs.following.Following.{IsResumed}
 use Rattle.np_on_sites.specs.ByInfrastructure.{lift_by}
 use Rattle.np_on_sites.specs.SourceRuns.{SitesRunsAreSourceRuns}
 use Rattle.np_on_sites.specs.declared.record.Record.{Record}

@@ -13,14 +13,14 @@ use Rattle.np_calculus.specs.Reductions.{run}
 use Rattle.np_calculus.specs.Starts.{start_high, start_low}
 use Rattle.np_calculus.specs.Well.{WellAlong}
 use Rattle.history_text.specs.Spelling.{high_text, history_text}
-use Rattle.np_views.specs.OneStep.{one_step}
+use Rattle.run_views.specs.OneStep.{one_step}
 use Rattle.run_views.specs.Stepped.{IsStepped}
 use Rattle.run_merge.specs.Merged as histories
 use Rattle.np_words.specs.Formats.{format_for}
 use Rattle.np_words.specs.declared.modes.Infrastructure.{Infrastructure}
 use Rattle.np_words.specs.declared.modes.HighText.{HighText}
 use Rattle.np_words.specs.declared.modes.HighText.TheVariants.{Absent, TwoSteps, OneStep}
-use Rattle.np_report.specs.Report.{load_text, report_text}
+use Rattle.np_verdict.specs.Report.{load_text, report_text}
 use Rattle.np_on_sites.specs.ByInfrastructure.{IsAllHandedBy, IsPairedBy, lift_by}
 use Rattle.np_on_sites.specs.SitesRuns.{IsSitesRun, events_of}
 use Rattle.np_on_sites.specs.declared.record.Record.{Record}

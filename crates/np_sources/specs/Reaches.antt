@@ -12,7 +12,7 @@ use Rattle.np_check.specs.Faults.{IsAccepted}
 use Rattle.np_verdict.specs.Faults.{Stage, Accepted, Faulty, IsWellTyped}
 use Rattle.np_verdict.specs.declared.refusal.Refusal.{Refusal}
 use Rattle.np_verdict.specs.declared.refusal.Refusal.TheVariants.{LocationTest, TooManyNodes, TooManyEvents, NotOurs, BudgetPast}
-use Rattle.np_views.specs.Tests.{tests}
+use Rattle.run_views.specs.Tests.{tests}
 use Rattle.run_save.specs.Ours.{IsOurs, StopsBeingOurs}
 use Rattle.site_crew.specs.Lists.{AreWithin, IsFirstPast}
 use Rattle.np_words.specs.declared.modes.Infrastructure.{Infrastructure}

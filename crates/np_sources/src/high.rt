@@ -3,8 +3,8 @@
 ghost use Rattle.std.specs.Prelude.{◌≡◌, ◌≢◌, None, IsSome, IfOk, IfErr, length, ◌≤◌};
 ghost use Rattle.np_calculus.specs.Reductions.{run};
 ghost use Rattle.np_calculus.specs.Starts.{start_high};
-ghost use Rattle.np_views.specs.OneStep.{one_step};
-ghost use Rattle.np_views.specs.Tests.{tests};
+ghost use Rattle.run_views.specs.OneStep.{one_step};
+ghost use Rattle.run_views.specs.Tests.{tests};
 ghost use Rattle.run_views.specs.Stepped.{IsStepped};
 ghost use Rattle.history_text.specs.Spelling.{high_text};
 ghost use Rattle.np_verdict.specs.Faults.{IsWellTyped};

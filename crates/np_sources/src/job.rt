@@ -1,14 +1,20 @@
 ghost use Rattle.std.specs.Prelude.{◌≡◌, None};
 
 use np_on_sites::Record;
-use np_serial::SerialRun;
-use np_syntax::Text;
+use np_syntax::{End, Event, List, Text};
+
+/// A run in one thread: its events, and how it ended.
+#[derive(Drop)]
+pub struct MadeRun {
+    pub events: List<Event>,
+    pub end: End,
+}
 
 /// The text to write to standard output, and the run if there was one.
 #[derive(Drop)]
 pub struct Job {
     pub kept: Option<Record>,
-    pub high: Option<SerialRun>,
+    pub high: Option<MadeRun>,
     pub text: Text,
 }
 

@@ -12,7 +12,7 @@ mod runs;
 mod sites;
 mod sources;
 
-pub use job::{Job, text_alone};
+pub use job::{Job, MadeRun, text_alone};
 pub use laws::law_one_answer;
 pub use limits::LOAD_BUDGET;
 pub use loads::load_of;

@@ -5,7 +5,7 @@ ghost use Rattle.np_syntax.specs.declared.limits.TheConstants.{LARGEST_BUDGET, M
 ghost use Rattle.np_calculus.specs.Reductions.{run};
 ghost use Rattle.np_calculus.specs.Starts.{start_low};
 ghost use Rattle.run_merge.specs.Merged.{past};
-ghost use Rattle.np_following.specs.Following.{IsResumed};
+ghost use Rattle.run_save.specs.following.Following.{IsResumed};
 ghost use Rattle.np_verdict.specs.Faults.{IsWellTyped};
 ghost use Rattle.np_sources.specs.Makes.{KeepsResumed, RunsOnSites, high_of};
 ghost use Rattle.np_sources.specs.Reaches.{CanGoOn, CannotGoOn, IsCompiled, barred};

@@ -1,21 +1,20 @@
 //! Runs of a source, with their reports: at the high level, and of its low program.
 
-ghost use Rattle.std.specs.Prelude.{◌≡◌, ◌≢◌, ◌≤◌, [], length, IfOk, IfErr, None};
+ghost use Rattle.std.specs.Prelude.{◌≡◌, ◌≢◌, ◌≤◌, [], length, Ok, IfOk, IfErr, None};
 ghost use Rattle.np_calculus.specs.Runs.{RunsWell};
 ghost use Rattle.np_calculus.specs.Starts.{start_low};
-ghost use Rattle.np_serial.specs.Serial.{IsSerialRun};
-ghost use Rattle.np_report.specs.Report.{report_text};
+ghost use Rattle.np_verdict.specs.Report.{report_text};
 ghost use Rattle.np_sources.specs.Reaches.{Reach, FaultyTo, barred};
-ghost use Rattle.np_sources.specs.Makes.{HasRun, IsReportOf, IsRunOf, Runs, RunsLow};
+ghost use Rattle.np_sources.specs.Makes.{HasRun, IsLowRunOf, IsReportOf, IsRunOf, Runs, RunsLow};
 
 use super::high::{checked_for, high_part};
+use super::job::MadeRun;
 use super::lowering::low_of;
 use np_check::Checked;
-use np_report::report;
 use np_safety::law_runs_well;
 use np_serial::{SerialRun, run_serial, run_serial_low};
 use np_syntax::{LONGEST_SOURCE, LowProgram, Memory, Text};
-use np_verdict::Refusal;
+use np_verdict::{Refusal, report};
 use np_words::{HighText, Infrastructure};
 use std::alloc::Global;
 
@@ -25,7 +24,7 @@ pub(crate) fn run_of(
     budget: u32,
     high: HighText,
     bytes: &[u8],
-) -> Result<(SerialRun, Text), Refusal>
+) -> Result<(MadeRun, Text), Refusal>
     requires { length bytes.now ≤ LONGEST_SOURCE }
     ensures made { IfOk result (λ made. Runs budget high bytes.now made.0 made.1) }
     ensures refused { IfErr result (λ refusal. refusal ≢ Refusal.Memory → FaultyTo (Reach.shown high Reach.program) bytes.now refusal) }
@@ -45,7 +44,7 @@ fn run(
     budget: u32,
     high: HighText,
     checked: &Checked,
-) -> Result<(SerialRun, Text), Memory>
+) -> Result<(MadeRun, Text), Memory>
     requires { barred high checked.now ≡ None }
     ensures { IfOk result (λ made. IsRunOf budget high checked.now made.0 made.1) }
 {
@@ -62,18 +61,23 @@ fn with_report(
     high: HighText,
     checked: &Checked,
     made: SerialRun,
-) -> Result<(SerialRun, Text), Memory>
+) -> Result<(MadeRun, Text), Memory>
     requires free { barred high checked.now ≡ None }
-    requires run { HasRun checked.now made }
-    ensures { IfOk result (λ both. (both.0 ≡ made) × IsReportOf high checked.now made both.1) }
+    requires run { HasRun checked.now made.events made.last }
+    ensures { IfOk result (λ both. (both.0 ≡ record { events = made.events; end = made.end }) × IsReportOf high checked.now made.events made.last made.end both.1) }
 {
-    match report_of(alloc, high, checked, &made) {
-        Ok(text) => Ok((made, text)),
-        Err(memory) => {
-            drop(made);
-            Err(memory)
-        }
-    }
+    let text = report_of(alloc, high, checked, &made);
+    reported(made, text)
+}
+
+/// What is kept of a run, with its report, if that was made. The last configuration is given up.
+fn reported(made: SerialRun, text: Result<Text, Memory>) -> Result<(MadeRun, Text), Memory>
+    ensures run { IfOk result (λ both. both.0 ≡ record { events = made.events; end = made.end }) }
+    ensures text { IfOk result (λ both. text ≡ Ok both.1) }
+{
+    let SerialRun { events, last, end } = made;
+    drop(last);
+    Ok((MadeRun { events, end }, text?))
 }
 
 /// The report of a run.
@@ -84,8 +88,8 @@ fn report_of(
     made: &SerialRun,
 ) -> Result<Text, Memory>
     requires free { barred high checked.now ≡ None }
-    requires run { HasRun checked.now made.now }
-    ensures { IfOk result (IsReportOf high checked.now made.now) }
+    requires run { HasRun checked.now made.now.events made.now.last }
+    ensures { IfOk result (IsReportOf high checked.now made.now.events made.now.last made.now.end) }
 {
     let between = high_part(alloc, high, checked, made.events.as_slice())?;
     let sites = &checked.program().sites;
@@ -105,7 +109,7 @@ pub fn run_low(
     infrastructure: Infrastructure,
     budget: u32,
     bytes: &[u8],
-) -> Result<(SerialRun, Text), Refusal>
+) -> Result<(MadeRun, Text), Refusal>
     requires { length bytes.now ≤ LONGEST_SOURCE }
     ensures made { IfOk result (λ made. RunsLow infrastructure budget bytes.now made.0 made.1) }
     ensures refused { IfErr result (λ refusal. refusal ≢ Refusal.Memory → FaultyTo (Reach.low infrastructure) bytes.now refusal) }
@@ -118,10 +122,9 @@ pub fn run_low(
 }
 
 /// Runs a low program and makes the report.
-fn run_encoded(alloc: Global, budget: u32, low: &LowProgram) -> Result<(SerialRun, Text), Memory>
+fn run_encoded(alloc: Global, budget: u32, low: &LowProgram) -> Result<(MadeRun, Text), Memory>
     requires { RunsWell (start_low low.now) low.now.at }
-    ensures run { IfOk result (λ made. IsSerialRun (start_low low.now) budget made.0.events made.0.last made.0.end) }
-    ensures report { IfOk result (λ made. made.1 ≡ report_text low.now.sites made.0.last.said [] made.0.end) }
+    ensures { IfOk result (λ made. IsLowRunOf budget low.now made.0 made.1) }
 {
     match run_serial_low(alloc, low, budget) {
         Ok(made) => with_low_report(alloc, low, made),
@@ -134,14 +137,9 @@ fn with_low_report(
     alloc: Global,
     low: &LowProgram,
     made: SerialRun,
-) -> Result<(SerialRun, Text), Memory>
-    ensures { IfOk result (λ both. (both.0 ≡ made) × (both.1 ≡ report_text low.now.sites made.last.said [] made.end)) }
+) -> Result<(MadeRun, Text), Memory>
+    ensures { IfOk result (λ both. (both.0 ≡ record { events = made.events; end = made.end }) × (both.1 ≡ report_text low.now.sites made.last.said [] made.end)) }
 {
-    match report(alloc, &low.sites, made.last.get().said(), b"", made.end) {
-        Ok(text) => Ok((made, text)),
-        Err(memory) => {
-            drop(made);
-            Err(memory)
-        }
-    }
+    let text = report(alloc, &low.sites, made.last.get().said(), b"", made.end);
+    reported(made, text)
 }

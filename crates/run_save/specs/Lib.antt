@@ -1,3 +1,4 @@
 pub mod Notes
 pub mod Ours
 pub mod Travels
+pub mod following

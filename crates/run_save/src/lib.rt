@@ -1,8 +1,9 @@
 //! Whether a run of a low program is one that its sites make: each numbers its own names, and on each link what is first in
-//! is first out.
+//! is first out. And laws of sites that do such a run again.
 #![tactic(auto)]
 
 mod counts;
+pub mod following;
 mod laws;
 mod notes;
 mod ours;

@@ -5,7 +5,7 @@ use Rattle.np_syntax.specs.Options.{◌>>=◌}
 use Rattle.np_syntax.specs.declared.value.Name.{Name}
 use Rattle.np_tables.specs.Names.{NameMap}
 use Rattle.np_calculus.specs.Footprints.{listed}
-use Rattle.np_views.specs.Index.{Index, IsOneOf, causes, looked_up}
+use Rattle.run_views.specs.Index.{Index, IsOneOf, causes, looked_up}
 use Rattle.run_views.specs.declared.causing.Causes.{Causes}
 use Rattle.run_views.specs.declared.touching.Touched.{Touched}
 use Rattle.run_views.specs.Causes.{last_of, places_of}

@@ -1,7 +1,7 @@
 -- The first location test of a process, by its parts.
 use Rattle.std.proofs.Common.{◌≡◌, ℕ, List, [], ◌∷◌, ◌++◌, None, Some, slice_get, refl, sym}
-use Rattle.np_views.proofs.TestParts.{par-tests, agent-tests, if-tests, lookup-tests, new-tests, inp-tests, rep-tests, migrate-tests, let-tests}
-use Rattle.np_views.proofs.TestParts.{stop-tests, out-tests, post-tests, print-tests, open-tests, send-tests, local-tests}
+use Rattle.run_views.proofs.TestParts.{par-tests, agent-tests, if-tests, lookup-tests, new-tests, inp-tests, rep-tests, migrate-tests, let-tests}
+use Rattle.run_views.proofs.TestParts.{stop-tests, out-tests, post-tests, print-tests, open-tests, send-tests, local-tests}
 
 -- where the first list has a first element, that is the first of both
 pub first-front : (xs ys : List ℕ) (at : ℕ) → Some at ≡ slice_get xs 0 → slice_get (xs ++ ys) 0 ≡ Some at

@@ -5,8 +5,8 @@ use Rattle.std.proofs.lemmas.Bool.{cases_order}
 use Rattle.std.proofs.lemmas.List.{get_or-set_same, get_or-set_other}
 use Rattle.std.proofs.lemmas.Option.{slice_get_within, slice_get-get_or}
 use Rattle.np_syntax.specs.declared.event.Event.{Event}
-use Rattle.np_views.specs.Index.{IsOneOf}
-use Rattle.np_views.specs.Past.{IsCause, IsPast, Trace, picked}
+use Rattle.run_views.specs.Index.{IsOneOf}
+use Rattle.run_views.specs.Past.{IsCause, IsPast, Trace, picked}
 use Rattle.run_views.specs.declared.causing.Causes.{Causes}
 use Rattle.run_views.specs.Causes.{AreBefore, AreCauses, AreMarked, is_marked, places_of, with_mark, with_marks}
 

@@ -6,8 +6,8 @@ use Rattle.np_syntax.specs.declared.program.LowProgram.{LowProgram}
 use Rattle.np_calculus.specs.Config.{Config}
 use Rattle.np_calculus.specs.Reductions.{run}
 use Rattle.np_calculus.specs.Starts.{start_low}
-use Rattle.np_views.specs.Past.{IsPastOf, picked, traces}
-use Rattle.np_views.proofs.PastRuns.{low-past-is-run, print-says}
+use Rattle.run_views.specs.Past.{IsPastOf, picked, traces}
+use Rattle.run_views.proofs.PastRuns.{low-past-is-run, print-says}
 use Rattle.run_views.specs.declared.causing.Causes.{Causes}
 use Rattle.run_views.specs.Causes.{AreCauses, AreMarked, is_marked}
 use Rattle.run_views.specs.Pasts.{IsPastRun, IsPrint}

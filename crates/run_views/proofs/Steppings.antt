@@ -6,9 +6,9 @@ use Rattle.np_syntax.specs.declared.program.Program.{Program}
 use Rattle.np_calculus.specs.Config.{Config}
 use Rattle.np_calculus.specs.Reductions.{apply, run}
 use Rattle.np_calculus.specs.Starts.{start_high}
-use Rattle.np_views.specs.OneStep.{IsOneStepRun, one_step}
-use Rattle.np_views.specs.Tests.{tests}
-use Rattle.np_views.proofs.OneSteps.{one-step-is-run}
+use Rattle.run_views.specs.OneStep.{IsOneStepRun, one_step}
+use Rattle.run_views.specs.Tests.{tests}
+use Rattle.run_views.proofs.OneSteps.{one-step-is-run}
 use Rattle.run_views.specs.Stepped.{IsStepped}
 
 -- the next event is enabled, where what is left is a run

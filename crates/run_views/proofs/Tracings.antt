@@ -8,10 +8,10 @@ use Rattle.np_calculus.specs.Config.{Config}
 use Rattle.np_calculus.specs.Footprints.{Footprint, touches}
 use Rattle.np_calculus.specs.Reductions.{apply, run}
 use Rattle.np_calculus.specs.Sight.{inside}
-use Rattle.np_views.specs.Index.{Index, IsIndex, IsOneOf}
-use Rattle.np_views.specs.Past.{IsCause, Trace, each_of, trace, trace_at, traces, writes}
-use Rattle.np_views.proofs.Indexing.{cause-found, found-cause, index-empty, index-noting}
-use Rattle.np_views.proofs.Parts.{goes-on}
+use Rattle.run_views.specs.Index.{Index, IsIndex, IsOneOf}
+use Rattle.run_views.specs.Past.{IsCause, Trace, each_of, trace, trace_at, traces, writes}
+use Rattle.run_views.proofs.Indexing.{cause-found, found-cause, index-empty, index-noting}
+use Rattle.run_views.proofs.Parts.{goes-on}
 use Rattle.run_views.specs.declared.causing.Causes.{Causes}
 use Rattle.run_views.specs.Causes.{AreCauses, IsTraced, places_of}
 

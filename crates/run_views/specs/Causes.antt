@@ -9,8 +9,8 @@ use Rattle.np_calculus.specs.Config.{Config}
 use Rattle.np_calculus.specs.Reductions.{apply}
 use Rattle.np_calculus.specs.Footprints.{touches}
 use Rattle.np_calculus.specs.Sight.{inside}
-use Rattle.np_views.specs.Index.{Index, IsOneOf, causes, noting}
-use Rattle.np_views.specs.Past.{IsCause, Trace, writes}
+use Rattle.run_views.specs.Index.{Index, IsOneOf, causes, noting}
+use Rattle.run_views.specs.Past.{IsCause, Trace, writes}
 use Rattle.run_views.specs.declared.causing.Causes.{Causes}
 use Rattle.run_views.specs.declared.causing.Writers.{Writers}
 

@@ -2,3 +2,9 @@ pub mod Causes
 pub mod Pasts
 pub mod Stepped
 pub mod Touching
+pub mod Index
+pub mod Laws
+pub mod OneStep
+pub mod Past
+pub mod Saying
+pub mod Tests

@@ -7,8 +7,8 @@ use Rattle.np_syntax.specs.declared.program.LowProgram.{LowProgram}
 use Rattle.np_calculus.specs.Config.{Config}
 use Rattle.np_calculus.specs.Reductions.{run}
 use Rattle.np_calculus.specs.Starts.{start_low}
-use Rattle.np_views.specs.Laws.{Says}
-use Rattle.np_views.specs.Past.{IsPastOf}
+use Rattle.run_views.specs.Laws.{Says}
+use Rattle.run_views.specs.Past.{IsPastOf}
 
 -- there is an event, and it is a Print
 abbrev pub IsPrint : Option Event → Type 0

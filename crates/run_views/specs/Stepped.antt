@@ -9,8 +9,8 @@ use Rattle.np_calculus.specs.Begins.{arrival}
 use Rattle.np_calculus.specs.Config.{Config}
 use Rattle.np_calculus.specs.Reductions.{apply, run, way}
 use Rattle.np_calculus.specs.Starts.{start_high}
-use Rattle.np_views.specs.OneStep.{HasArrived, IsOneStepRun, in_place_of, one_step}
-use Rattle.np_views.specs.Past.{each_of}
+use Rattle.run_views.specs.OneStep.{HasArrived, IsOneStepRun, in_place_of, one_step}
+use Rattle.run_views.specs.Past.{each_of}
 
 -- the one-step list of a run of a source: it is a run of the one-step calculus, at whose end everybody has arrived
 pub record IsStepped (p : Program) (events made : List Event) : Type 0 where

@@ -10,7 +10,7 @@ use Rattle.np_eval.specs.FormParts.{as_iflocal}
 use Rattle.np_calculus.specs.declared.config.Atom.{Atom}
 use Rattle.np_calculus.specs.Config.{Config}
 use Rattle.np_calculus.specs.Footprints.{Footprint, asked_by, listed}
-use Rattle.np_views.specs.Past.{made_names}
+use Rattle.run_views.specs.Past.{made_names}
 use Rattle.run_views.specs.declared.touching.Touched.{Touched}
 use Rattle.run_views.specs.declared.touching.Written.{Written}
 

@@ -3,8 +3,8 @@
 ghost use Rattle.std.specs.Prelude.{◌≡◌, ◌↔◌, ℕ, OnOk};
 ghost use Rattle.std.specs.FinMap as map;
 ghost use Rattle.np_calculus.specs.Footprints.{listed};
-ghost use Rattle.np_views.specs.Index.{IsOneOf, causes, noted, noting};
-ghost use Rattle.np_views.specs.Past.{made_names};
+ghost use Rattle.run_views.specs.Index.{IsOneOf, causes, noted, noting};
+ghost use Rattle.run_views.specs.Past.{made_names};
 ghost use Rattle.run_views.specs.Causes.{index_of, last_of, places_of};
 ghost use Rattle.run_views.specs.Touching.{touched_as, written_as};
 

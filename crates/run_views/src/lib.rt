@@ -3,6 +3,7 @@
 #![tactic(auto)]
 
 mod causing;
+mod laws;
 mod marking;
 mod pasts;
 mod stepping;
@@ -11,6 +12,7 @@ mod touching;
 mod tracing;
 mod turning;
 
+pub use laws::{law_one_step, law_past, law_said_by_prints};
 pub use pasts::past;
 pub use stepping::one_step;
 pub use testing::first_test;

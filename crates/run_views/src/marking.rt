@@ -1,8 +1,8 @@
 //! The marking of the places of a past.
 
 ghost use Rattle.std.specs.Prelude.{◌≡◌, ◌∷◌, ◌++◌, ◌+◌, ◌<◌, ◌≤◌, [], true, false, ℕ, length, replicate, IfOk};
-ghost use Rattle.np_views.specs.Index.{IsOneOf};
-ghost use Rattle.np_views.specs.Past.{picked};
+ghost use Rattle.run_views.specs.Index.{IsOneOf};
+ghost use Rattle.run_views.specs.Past.{picked};
 ghost use Rattle.run_views.specs.Causes.{AreBefore, AreMarked, is_marked, places_of, with_mark, with_marks};
 
 use super::causing::Causes;

@@ -3,7 +3,7 @@
 ghost use Rattle.std.specs.Prelude.{◌<◌, ◌^◌, length, IsSome, IfOk, slice_get};
 ghost use Rattle.np_calculus.specs.Reductions.{run};
 ghost use Rattle.np_calculus.specs.Starts.{start_low};
-ghost use Rattle.np_views.specs.Past.{IsPastOf};
+ghost use Rattle.run_views.specs.Past.{IsPastOf};
 ghost use Rattle.run_views.specs.Pasts.{IsPrint, IsPastRun};
 
 use super::marking::{mark_back, marked_events};

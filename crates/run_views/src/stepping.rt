@@ -4,8 +4,8 @@ ghost use Rattle.std.specs.Prelude.{◌≡◌, ◌++◌, [], IsSome, IfOk, OnOk}
 ghost use Rattle.np_calculus.specs.Begins.{arrival};
 ghost use Rattle.np_calculus.specs.Reductions.{apply, run};
 ghost use Rattle.np_calculus.specs.Starts.{start_high};
-ghost use Rattle.np_views.specs.OneStep.{one_step};
-ghost use Rattle.np_views.specs.Tests.{tests};
+ghost use Rattle.run_views.specs.OneStep.{one_step};
+ghost use Rattle.run_views.specs.Tests.{tests};
 ghost use Rattle.run_views.specs.Stepped.{Advances, IsStepped, arrivals};
 
 use super::turning::{agent_at, turn};

@@ -1,7 +1,7 @@
 //! Where a source tests the location of an agent.
 
 ghost use Rattle.std.specs.Prelude.{◌≡◌, slice_get};
-ghost use Rattle.np_views.specs.Tests.{tests};
+ghost use Rattle.run_views.specs.Tests.{tests};
 
 use np_check::Checked;
 use np_syntax::{Proc, ProcForm};

@@ -3,7 +3,7 @@
 ghost use Rattle.std.specs.Prelude.{◌≡◌, IfOk};
 ghost use Rattle.np_calculus.specs.Footprints.{listed, touches};
 ghost use Rattle.np_calculus.specs.Sight.{inside};
-ghost use Rattle.np_views.specs.Past.{made_agent, writes};
+ghost use Rattle.run_views.specs.Past.{made_agent, writes};
 ghost use Rattle.run_views.specs.Touching.{IsActing, asked_in, bound_at, touched_as, written_as};
 
 use super::turning::agent_at;

@@ -2,7 +2,7 @@
 
 ghost use Rattle.std.specs.Prelude.{◌≤◌, ◌^◌, length, IsSome, IfOk};
 ghost use Rattle.np_calculus.specs.Reductions.{apply, run};
-ghost use Rattle.np_views.specs.Past.{traces};
+ghost use Rattle.run_views.specs.Past.{traces};
 ghost use Rattle.run_views.specs.Causes.{AreCauses, IsTraced, index_of};
 
 use super::causing::{Causes, Writers};

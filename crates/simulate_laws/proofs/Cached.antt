@@ -14,11 +14,11 @@ use Rattle.daemon_encode.specs.Translates.{IsLowOf}
 use Rattle.cache_encode.specs.Encoded.{encoded_cached}
 use Rattle.cache_encode.proofs.CachedRelated.{cached-encodes-itself}
 use Rattle.np_lift.specs.CachedLift.{lift_cached}
-use Rattle.np_simulation.proofs.Posts.{cached-letters-in-place, cached-posts-are-paired, cached-rests-all-handed}
-use Rattle.np_simulation.specs.RestLaws.{HasCacheRest}
-use Rattle.np_simulation.proofs.Highs.{rests-together}
-use Rattle.np_simulation.proofs.Lodged.{runs-are-lodged}
-use Rattle.np_simulation.proofs.Runs.{runs-are-lifted, stays-well}
+use Rattle.simulate_laws.proofs.simulation.Posts.{cached-letters-in-place, cached-posts-are-paired, cached-rests-all-handed}
+use Rattle.simulate_laws.specs.simulation.RestLaws.{HasCacheRest}
+use Rattle.simulate_laws.proofs.simulation.Highs.{rests-together}
+use Rattle.simulate_laws.proofs.simulation.Lodged.{runs-are-lodged}
+use Rattle.simulate_laws.proofs.simulation.Runs.{runs-are-lifted, stays-well}
 use Rattle.simulate_laws.specs.Cached.{ShowsCached}
 use Rattle.simulate_laws.proofs.Locks.{free-locks}
 

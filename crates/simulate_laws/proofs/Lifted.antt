@@ -14,10 +14,10 @@ use Rattle.infrastructure_texts.specs.Infrastructures.{Infrastructure}
 use Rattle.daemon_encode.proofs.LowAgents.{encodes-runs-well}
 use Rattle.daemon_encode.proofs.Related.{encodes-itself}
 use Rattle.np_lift.specs.Lift.{lift}
-use Rattle.np_simulation.proofs.Posts.{posts-are-paired, rests-all-handed}
-use Rattle.np_simulation.proofs.Highs.{rests-together}
-use Rattle.np_simulation.proofs.Central.{central-runs-are-lifted}
-use Rattle.np_simulation.proofs.Runs.{stays-well}
+use Rattle.simulate_laws.proofs.simulation.Posts.{posts-are-paired, rests-all-handed}
+use Rattle.simulate_laws.proofs.simulation.Highs.{rests-together}
+use Rattle.simulate_laws.proofs.simulation.Central.{central-runs-are-lifted}
+use Rattle.simulate_laws.proofs.simulation.Runs.{stays-well}
 use Rattle.simulate_laws.specs.Lifted.{EndsAtRest, ShowsHigh, ShowsRest}
 
 module _ (p : Program) (accepted : IsAccepted p) (events : List Event) where

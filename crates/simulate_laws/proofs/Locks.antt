@@ -8,15 +8,15 @@ use Rattle.np_calculus.specs.Config.{Config}
 use Rattle.np_calculus.specs.Idle.{Idle}
 use Rattle.np_calculus.specs.Parts.{IsLodged}
 use Rattle.np_calculus.specs.Sight.{inside}
-use Rattle.np_protocol.specs.Chips.{has_lock}
-use Rattle.np_protocol.specs.Phases.{Phase, is_moving, is_registered}
-use Rattle.np_protocol.specs.Protocol.{one_if}
+use Rattle.simulate_laws.specs.protocol.Chips.{has_lock}
+use Rattle.simulate_laws.specs.protocol.Phases.{Phase, is_moving, is_registered}
+use Rattle.simulate_laws.specs.protocol.Protocol.{one_if}
 use Rattle.infrastructure_texts.specs.Infrastructures.{Infrastructure}
-use Rattle.np_things.specs.Things.{Thing, shows}
-use Rattle.np_levels.specs.Coupled.{Coupled, View, chips}
-use Rattle.np_simulation.specs.RestLaws.{HasRest}
-use Rattle.np_simulation.proofs.Anys.{any_counted, one_truth}
-use Rattle.np_simulation.proofs.Resting.{MayRest, rester}
+use Rattle.simulate_laws.specs.things.Things.{Thing, shows}
+use Rattle.simulate_laws.specs.levels.Coupled.{Coupled, View, chips}
+use Rattle.simulate_laws.specs.simulation.RestLaws.{HasRest}
+use Rattle.simulate_laws.proofs.simulation.Anys.{any_counted, one_truth}
+use Rattle.simulate_laws.proofs.simulation.Resting.{MayRest, rester}
 
 -- of what may wait for good only a free lock counts for an agent's
 is_free : (a l : Name) (t : Thing) → MayRest t → list_any (has_lock (Some l) a) (shows t) ≡ true → (s : ℕ) × (t ≡ Thing.free l s)

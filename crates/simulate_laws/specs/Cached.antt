@@ -14,12 +14,12 @@ use Rattle.np_lift.specs.CachedLift.{at_first}
 use Rattle.np_lift.specs.CachedPosts.{IsAllHandedCached, IsPairedCached, deeds_from}
 use Rattle.cache_encode.specs.Encoded.{encoded_cached}
 use Rattle.infrastructure_texts.specs.Infrastructures.{Infrastructure}
-use Rattle.np_things.specs.Things.{Thing}
-use Rattle.np_levels.specs.Coupled.{View}
-use Rattle.np_simulation.specs.RestLaws.{HasCacheRest, HasRest}
-use Rattle.np_simulation.specs.Laws.{IsLifted}
-use Rattle.np_simulation.specs.OnePlace.{StandsOnOne}
-use Rattle.np_simulation.specs.UnderWay.{left_by}
+use Rattle.simulate_laws.specs.things.Things.{Thing}
+use Rattle.simulate_laws.specs.levels.Coupled.{View}
+use Rattle.simulate_laws.specs.simulation.RestLaws.{HasCacheRest, HasRest}
+use Rattle.simulate_laws.specs.simulation.Laws.{IsLifted}
+use Rattle.simulate_laws.specs.simulation.OnePlace.{StandsOnOne}
+use Rattle.simulate_laws.specs.simulation.UnderWay.{left_by}
 
 -- no site can act at the high level either, each post was handed over once, and nothing is left to the daemon, to agents, caches and messengers
 pub record ShowsCachedRest (p : Program) (events : List Event) (low high : Config) (v : View) : Type 0 where

@@ -3,3 +3,4 @@ pub mod LentSeats
 pub mod Queues
 pub mod Rounds
 pub mod Standings
+pub mod deeds

@@ -1,7 +1,8 @@
-//! The agents that stand at one site, by their names, and whose turn it is.
+//! The agents that stand at one site, by their names, and whose turn it is; and what their calls do there.
 #![tactic(auto)]
 
 mod agents;
+pub mod deeds;
 mod lending;
 mod queue;
 mod seat;

@@ -4,8 +4,8 @@ use Rattle.np_calculus.specs.Config.{Config}
 use Rattle.np_calculus.specs.Starts.{start_low}
 use Rattle.np_site_runs.specs.Accounts.{SitesEnd}
 use Rattle.np_code.specs.Programs.{ProgramTable, program}
-use Rattle.np_following.specs.TravelLaws.{PutsLead}
-use Rattle.np_following.proofs.Ending.{settled_are_ours}
+use Rattle.run_save.specs.following.TravelLaws.{PutsLead}
+use Rattle.run_save.proofs.following.Ending.{settled_are_ours}
 use Rattle.agent_move.specs.declared.item.Item.{Item}
 use Rattle.site_links.specs.declared.port.Port as Port
 use Rattle.site_turn.specs.declared.seat.Seat.{Seat}

@@ -7,9 +7,9 @@ use Rattle.np_calculus.specs.declared.config.Packet.{Packet}
 use Rattle.np_calculus.specs.declared.config.Place.{Place}
 use Rattle.np_calculus.specs.declared.config.Place.TheVariants as place
 use Rattle.run_merge.proofs.InOrder.{all_append, all_weaker}
-use Rattle.np_merged_run.specs.Deeds.{StampedItem, put_for}
-use Rattle.np_merged_run.specs.Resting.{Brings}
-use Rattle.np_merged_run.proofs.Linking.{all_second}
+use Rattle.np_site_runs.specs.merged.Deeds.{StampedItem, put_for}
+use Rattle.np_site_runs.specs.merged.Resting.{Brings}
+use Rattle.np_site_runs.proofs.merged.Linking.{all_second}
 use Rattle.np_site_runs.specs.Accounts as told
 use Rattle.np_site_runs.specs.Accounts.{Came, came_on}
 use Rattle.np_site_runs.specs.Acting.{AreDirected, LeadsTo}

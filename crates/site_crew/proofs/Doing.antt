@@ -10,8 +10,8 @@ use Rattle.stamp_history.specs.declared.stamped.Stamped.{Stamped}
 use Rattle.stamp_history.specs.Histories.{Recorded}
 use Rattle.site_links.specs.declared.port.Port as Port
 use Rattle.np_code.specs.Programs.{ProgramTable}
-use Rattle.np_following.specs.Following.{AreInPlace, AreOf, HaveOneMore}
-use Rattle.np_following.proofs.Following.{none_follow, one_more_follows}
+use Rattle.run_save.specs.following.Following.{AreInPlace, AreOf, HaveOneMore}
+use Rattle.run_save.proofs.following.Following.{none_follow, one_more_follows}
 use Rattle.agent_move.specs.declared.item.Item.{Item}
 use Rattle.site_turn.specs.declared.seat.Seat.{Seat}
 use Rattle.site_crew.specs.Crews.{CrewState, NoneFailed}

@@ -31,19 +31,19 @@ use Rattle.run_merge.specs.Laws.{HasOwnSite}
 use Rattle.run_merge.specs.Merged.{items, merged}
 use Rattle.run_merge.proofs.InOrder.{all_map, all_weaker}
 use Rattle.site_links.specs.declared.port.Port as Port
-use Rattle.np_merged_run.specs.Deeds.{Deed, IsDeedOf}
+use Rattle.np_site_runs.specs.merged.Deeds.{Deed, IsDeedOf}
 use Rattle.np_syntax.proofs.Options.{there-is}
 use Rattle.np_site_runs.specs.Holdings.{Holding, IsPart}
 use Rattle.np_site_runs.specs.Making as holding
 use Rattle.np_site_runs.specs.Accounts.{SitesEnd}
 use Rattle.np_site_runs.proofs.Acting.{only_sites_can}
 use Rattle.np_code.specs.Programs.{ProgramTable, program}
-use Rattle.np_following.proofs.Following.{room_is_left}
-use Rattle.np_following.proofs.Names.{next_is_counted}
-use Rattle.np_following.proofs.Parts.{enabled_in_part, event_is_of_site}
+use Rattle.run_save.proofs.following.Following.{room_is_left}
+use Rattle.run_save.proofs.following.Names.{next_is_counted}
+use Rattle.run_save.proofs.following.Parts.{enabled_in_part, event_is_of_site}
 use Rattle.run_save.specs.Ours.{AreNext, names_by, names_of}
 use Rattle.run_save.proofs.NameLaws.{names-not, names-prefix}
-use Rattle.agent_deeds.proofs.Resting.{enabled_at}
+use Rattle.site_agents.proofs.deeds.Resting.{enabled_at}
 use Rattle.agent_move.specs.declared.item.Item.{Item}
 use Rattle.site_state.specs.Doing.{IsPossible}
 use Rattle.site_state.specs.Standings.{holding_of}

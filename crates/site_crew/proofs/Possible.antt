@@ -24,7 +24,7 @@ use Rattle.agent_pool.specs.declared.ready.Ready.{Ready}
 use Rattle.agent_pool.specs.Pools.{Pool, atoms_of}
 use Rattle.agent_pool.specs.Readies.{IsReady, sight_of}
 use Rattle.agent_pool.specs.Rows.{event_of, ready_of}
-use Rattle.agent_deeds.specs.Resting.{IsOfReady}
+use Rattle.site_agents.specs.deeds.Resting.{IsOfReady}
 use Rattle.site_agents.specs.Standings.{CanDo}
 use Rattle.site_state.specs.Doing.{IsPossible, event_at, finds}
 use Rattle.site_state.specs.Standings.{Standing, holding_of}

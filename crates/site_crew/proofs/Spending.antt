@@ -4,7 +4,7 @@ use Rattle.std.specs.Prelude.{slice_get}
 use Rattle.std.proofs.lemmas.Option.{slice_get-map, slice_get_within}
 use Rattle.np_calculus.specs.Config.{Config}
 use Rattle.np_calculus.specs.Idle.{Can, Idle}
-use Rattle.np_merged_run.proofs.Moving.{below_or_not}
+use Rattle.np_site_runs.proofs.merged.Moving.{below_or_not}
 use Rattle.np_site_runs.proofs.Acting.{only_sites_can, site_is_still}
 use Rattle.np_code.specs.Programs.{ProgramTable, program}
 use Rattle.agent_move.specs.declared.item.Item.{Item}

@@ -6,12 +6,12 @@ use Rattle.std.proofs.lemmas.Option.{slice_get_within}
 use Rattle.np_calculus.specs.Idle.{Idle}
 use Rattle.np_calculus.specs.Starts.{start_low}
 use Rattle.site_links.specs.declared.port.Port as Port
-use Rattle.np_merged_run.proofs.Moving.{below_or_not}
+use Rattle.np_site_runs.proofs.merged.Moving.{below_or_not}
 use Rattle.np_site_runs.specs.Holdings.{Holding, IsPart}
 use Rattle.np_site_runs.specs.Accounts.{Came, SitesEnd, came_on}
 use Rattle.np_site_runs.specs.Ending.{IsStill}
 use Rattle.np_code.specs.Programs.{ProgramTable, program}
-use Rattle.agent_deeds.proofs.Resting.{idle_at}
+use Rattle.site_agents.proofs.deeds.Resting.{idle_at}
 use Rattle.agent_move.specs.declared.item.Item.{Item}
 use Rattle.agent_move.specs.Items.{item_of}
 use Rattle.site_agents.specs.Standings.{AreIdle}

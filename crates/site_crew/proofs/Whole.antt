@@ -6,7 +6,7 @@ use Rattle.std.proofs.lemmas.Option.{slice_get-get_or, slice_get-map}
 use Rattle.np_calculus.specs.Starts.{start_low}
 use Rattle.stamp_history.specs.Histories.{IsHistory, Recorded}
 use Rattle.site_links.specs.declared.port.Port as Port
-use Rattle.np_merged_run.specs.Deeds.{Deed, StampedItem, put_for}
+use Rattle.np_site_runs.specs.merged.Deeds.{Deed, StampedItem, put_for}
 use Rattle.np_site_runs.specs.Holdings.{Holding}
 use Rattle.np_site_runs.specs.Accounts as told
 use Rattle.np_site_runs.specs.Accounts.{Accounts, AreTheirs, Came, IsAccount, SitesEnd, came_on}

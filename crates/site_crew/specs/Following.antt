@@ -4,7 +4,7 @@ use Rattle.np_syntax.specs.declared.event.Event.{Event}
 use Rattle.site_links.specs.declared.port.Port as Port
 use Rattle.np_calculus.specs.NotEnabled.{by_atom}
 use Rattle.np_code.specs.Programs.{ProgramTable}
-use Rattle.np_following.specs.Following.{AreOf}
+use Rattle.run_save.specs.following.Following.{AreOf}
 use Rattle.agent_move.specs.declared.item.Item.{Item}
 use Rattle.site_agents.specs.Standings.{NoneCanDo}
 use Rattle.agent_pool.specs.Rows.{ready_of}

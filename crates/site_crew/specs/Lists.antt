@@ -4,7 +4,7 @@ use Rattle.np_syntax.specs.declared.event.Event.{Event}
 use Rattle.np_syntax.specs.declared.program.LowProgram.{LowProgram}
 use Rattle.np_calculus.specs.Reductions.{run}
 use Rattle.np_calculus.specs.Starts.{start_low}
-use Rattle.np_following.specs.Following.{AreOf, events_at}
+use Rattle.run_save.specs.following.Following.{AreOf, events_at}
 use Rattle.run_save.specs.Ours.{IsOurs, StopsBeingOurs}
 use Rattle.site_crew.specs.Crews.{CrewState}
 use Rattle.site_crew.specs.declared.follow_fail.FollowFail.{FollowFail}

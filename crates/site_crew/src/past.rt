@@ -2,7 +2,7 @@
 ghost use Rattle.std.specs.Prelude.{◌≡◌, true, false, length, IfErr, IsSome, OnOk, MatchOption};
 ghost use Rattle.np_calculus.specs.Reductions.{run};
 ghost use Rattle.np_calculus.specs.Starts.{start_low};
-ghost use Rattle.np_following.specs.Following.{events_at};
+ghost use Rattle.run_save.specs.following.Following.{events_at};
 ghost use Rattle.site_crew.specs.Lists.{AreWithin, IsFirstPast, IsRefused, IsToFollow};
 
 use crate::follow_fail::FollowFail;

@@ -8,7 +8,7 @@ use Rattle.np_syntax.specs.Options.{◌>>=◌}
 use Rattle.np_tables.specs.Names.{NameMap}
 use Rattle.stamp_history.specs.declared.stamped.Stamped.{Stamped}
 use Rattle.stamp_history.specs.Histories.{Recorded, with_event, with_said}
-use Rattle.np_merged_run.specs.Deeds.{Deed, ticked}
+use Rattle.np_site_runs.specs.merged.Deeds.{Deed, ticked}
 use Rattle.np_site_runs.specs.Holdings.{Does, name_of}
 use Rattle.np_code.specs.Programs.{ProgramTable}
 use Rattle.agent_pool.specs.declared.ready.Ready.{Ready}

@@ -13,10 +13,10 @@ use Rattle.site_links.specs.Words.{Keeps, only_at}
 use Rattle.site_links.specs.declared.port.Port as Port
 use Rattle.site_links.proofs.Kept.{Keeps-refl, Keeps-trans}
 use Rattle.run_merge.proofs.InOrder.{all_filter, all_flat_map, all_pass, all_weaker}
-use Rattle.np_merged_run.specs.Deeds.{Deed, HasStamps, IsDeedOf, StampedItem, clock_after, put_for, ticked}
-use Rattle.np_merged_run.proofs.Flowing.{all_both}
-use Rattle.np_merged_run.proofs.Growing.{clock_goes_on, puts_follow}
-use Rattle.np_merged_run.proofs.Linking.{all_second}
+use Rattle.np_site_runs.specs.merged.Deeds.{Deed, HasStamps, IsDeedOf, StampedItem, clock_after, put_for, ticked}
+use Rattle.np_site_runs.proofs.merged.Flowing.{all_both}
+use Rattle.np_site_runs.proofs.merged.Growing.{clock_goes_on, puts_follow}
+use Rattle.np_site_runs.proofs.merged.Linking.{all_second}
 use Rattle.np_site_runs.specs.Holdings.{Holding}
 use Rattle.np_site_runs.specs.Accounts.{Came, IsAccount, SendsLoad, came_on, taken_on}
 use Rattle.np_site_runs.specs.Ending.{IsLoad}

@@ -9,7 +9,7 @@ use Rattle.stamp_history.specs.Histories.{Recorded}
 use Rattle.site_links.specs.Words.{Begins, Keeps, only_at}
 use Rattle.site_links.specs.declared.places.TheConstants.{PLACES}
 use Rattle.site_links.specs.declared.port.Port as Port
-use Rattle.np_merged_run.specs.Deeds.{Deed, StampedItem, clock_after, put_for}
+use Rattle.np_site_runs.specs.merged.Deeds.{Deed, StampedItem, clock_after, put_for}
 use Rattle.np_site_runs.specs.Holdings.{Holding}
 use Rattle.np_site_runs.specs.Accounts.{Came, IsAccount, came_on}
 use Rattle.np_code.specs.Programs.{ProgramTable}

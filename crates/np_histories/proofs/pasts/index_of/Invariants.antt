@@ -1,5 +1,5 @@
 use Rattle.std.proofs.Common.{◌≡◌, ◌<◌, take}
-use Rattle.np_views.specs.Saying.{prints}
+use Rattle.run_views.specs.Saying.{prints}
 use Rattle.np_histories.proofs.pasts.index_of.Given as goal
 
 -- how many values the events before print

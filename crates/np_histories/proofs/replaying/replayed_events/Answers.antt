@@ -4,7 +4,7 @@ use Rattle.np_syntax.specs.declared.program.LowProgram.{LowProgram}
 use Rattle.np_calculus.specs.Config.{Config}
 use Rattle.np_calculus.specs.Reductions.{run}
 use Rattle.np_calculus.specs.Starts.{start_low}
-use Rattle.np_report.specs.Report.{replay_text}
+use Rattle.np_verdict.specs.Report.{replay_text}
 use Rattle.np_verdict.specs.declared.refusal.Refusal.{Refusal}
 use Rattle.np_verdict.specs.declared.refusal.Refusal.TheVariants.{Memory}
 use Rattle.np_histories.specs.Histories.{Ends, Stops}

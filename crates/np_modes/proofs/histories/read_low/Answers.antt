@@ -1,4 +1,5 @@
 use Rattle.std.proofs.Common.{◌<◌, ◌^◌, length, Result, Ok, Err, IfOk, arith}
+use Rattle.std.proofs.lemmas.Grind.{common_steps}
 use Rattle.np_syntax.specs.declared.program.LowProgram.{LowProgram}
 use Rattle.np_calculus.specs.Runs.{RunsWell}
 use Rattle.np_calculus.specs.Starts.{start_low}
@@ -12,3 +13,6 @@ few (Err e) runs = tt
 
 pub returns-clause-few : goal.returns-clause-few
 returns-clause-few g c = few c.low_of.result c.low_of.ensures.runs
+
+pub returns-in_err-bytes-clause-refused : goal.returns-in_err-bytes-clause-refused
+returns-in_err-bytes-clause-refused g c = grind (arith, common_steps)

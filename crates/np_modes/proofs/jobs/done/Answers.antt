@@ -15,3 +15,6 @@ returns-in-Load-clause-made g c = rw c.in-Load.is (load_made _ _ c.load_of.resul
 
 pub returns-in-Load-clause-refused : goal.returns-in-Load-clause-refused
 returns-in-Load-clause-refused g c = rw c.in-Load.is (load_refused _ _ c.load_of.result c.load_of.ensures.short c.load_of.ensures.refused)
+
+pub returns-in-Upgrade-clause-refused : goal.returns-in-Upgrade-clause-refused
+returns-in-Upgrade-clause-refused g c = rw c.in-Upgrade.is c.upgrade.ensures.refused

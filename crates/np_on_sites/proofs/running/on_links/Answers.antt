@@ -1,6 +1,6 @@
 use denote.Exit.{no}
 use denote.Param.Send.{arg_send, param_send}
-use Rattle.site_crossing.proofs.Ports.{rings_send, trays_send}
+use Rattle.site_turn.proofs.Crossing.Ports.{rings_send, trays_send}
 use Rattle.crew_inboxes.proofs.Items.{inboxes_send}
 use Rattle.np_on_sites.proofs.running.on_links.Goals as goal
 

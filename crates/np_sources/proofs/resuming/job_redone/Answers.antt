@@ -2,7 +2,7 @@ use Rattle.std.proofs.Common.{◌≡◌, Option, IsSome, Some, IfSome, Ok, subst
 use Rattle.np_calculus.specs.Reductions.{run}
 use Rattle.np_calculus.specs.Starts.{start_low}
 use Rattle.run_merge.specs.Merged.{past}
-use Rattle.np_following.specs.Following.{IsResumed}
+use Rattle.run_save.specs.following.Following.{IsResumed}
 use Rattle.np_on_sites.specs.declared.record.Record.{Record}
 use Rattle.np_sources.specs.Makes.{RunsOnSites}
 use Rattle.np_sources.specs.Reaches.{CanGoOn}

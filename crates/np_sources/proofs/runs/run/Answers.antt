@@ -4,7 +4,7 @@ use Rattle.np_syntax.specs.declared.program.Program.{Program}
 use Rattle.np_calculus.specs.Runs.{RunsWell}
 use Rattle.np_calculus.specs.Starts.{start_high}
 use Rattle.np_serial.specs.Serial.{IsSerialRun}
-use Rattle.np_serial.specs.declared.serial.SerialRun.{SerialRun}
+use Rattle.np_sources.specs.declared.job.MadeRun.{MadeRun}
 use Rattle.np_sources.specs.Makes.{HasRun, IsReportOf, IsRunOf}
 use Rattle.np_sources.proofs.runs.run.Goals as goal
 
@@ -16,7 +16,7 @@ run_serial-requires c =
 pub with_report-requires-clause-run : goal.with_report-requires-clause-run
 with_report-requires-clause-run c =
     let made = c.in-Ok.made in
-    subst (λ (p : Program). HasRun p made) c.program.ensures.value c.in-Ok.ensures.reaches
+    subst (λ (p : Program). HasRun p made.events made.last) c.program.ensures.value c.in-Ok.ensures.reaches
 
 pub returns-in-Ok : goal.returns-in-Ok
 returns-in-Ok c =
@@ -27,6 +27,7 @@ returns-in-Ok c =
     let ran = subst (λ (q : Program). IsSerialRun (start_high q) budget made.events made.last made.end) c.program.ensures.value c.in-Ok.ensures in
     IfOk-weaker c.with_report.result _ (λ both. IsRunOf budget high p both.0 both.1)
     (λ both is. record {
-      run = subst (λ (m : SerialRun). IsSerialRun (start_high p) budget m.events m.last m.end) (sym is.0) ran;
-      report = subst (λ (m : SerialRun). IsReportOf high p m both.1) (sym is.0) is.1;
+      last = made.last;
+      run = subst (λ (m : MadeRun). IsSerialRun (start_high p) budget m.events made.last m.end) (sym is.0) ran;
+      report = subst (λ (m : MadeRun). IsReportOf high p m.events made.last m.end both.1) (sym is.0) is.1;
     }) c.with_report.ensures

@@ -5,3 +5,12 @@ returns-in-Run-clause-refused g c = rw c.in-Run.is c.job_on_sites.ensures.refuse
 
 pub returns-in-Low-clause-refused : goal.returns-in-Low-clause-refused
 returns-in-Low-clause-refused g c = rw c.in-Low.is c.low_source.ensures.refused
+
+pub returns-in-High-clause-refused : goal.returns-in-High-clause-refused
+returns-in-High-clause-refused g c = rw c.in-High.is c.high_source.ensures.refused
+
+pub returns-in-Check-clause-refused : goal.returns-in-Check-clause-refused
+returns-in-Check-clause-refused g c = rw c.in-Check.is c.check_source.ensures.refused
+
+pub returns-in-Show-clause-refused : goal.returns-in-Show-clause-refused
+returns-in-Show-clause-refused g c = rw c.in-Show.is c.show_source.ensures.refused

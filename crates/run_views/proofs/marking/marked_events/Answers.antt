@@ -1,5 +1,5 @@
 use Rattle.std.proofs.Common.{◌≡◌, ◌++◌, ◌+◌, arith, drop, sym, subst, ◌∙◌}
-use Rattle.np_views.specs.Past.{picked}
+use Rattle.run_views.specs.Past.{picked}
 use Rattle.run_views.specs.Causes.{is_marked}
 use Rattle.run_views.proofs.Marks.{picked-end, picked-off, picked-on}
 use Rattle.run_views.proofs.marking.marked_events.Goals.{then-marked-place+in_ok-add, else-marked-place}

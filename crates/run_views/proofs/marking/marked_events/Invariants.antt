@@ -1,5 +1,5 @@
 use Rattle.std.proofs.Common.{◌≡◌, ◌++◌, drop}
-use Rattle.np_views.specs.Past.{picked}
+use Rattle.run_views.specs.Past.{picked}
 use Rattle.run_views.specs.Causes.{is_marked}
 use Rattle.run_views.proofs.marking.marked_events.Given as goal
 

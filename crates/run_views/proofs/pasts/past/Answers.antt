@@ -1,7 +1,7 @@
 use Rattle.std.proofs.Common.{IsSome, subst, sym}
 use Rattle.std.proofs.lemmas.Result.{IfOk-weaker}
 use Rattle.np_calculus.specs.Reductions.{run}
-use Rattle.np_views.specs.Past.{IsPastOf}
+use Rattle.run_views.specs.Past.{IsPastOf}
 use Rattle.run_views.specs.Pasts.{IsPastRun}
 use Rattle.run_views.proofs.PrintPasts.{is-past-run, print-within}
 use Rattle.run_views.proofs.pasts.past.Goals as goal

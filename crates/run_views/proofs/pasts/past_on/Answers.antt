@@ -1,6 +1,6 @@
 use Rattle.std.proofs.Common.{◌+◌, ap, arith, length, subst, sym, ◌∙◌}
 use Rattle.std.proofs.lemmas.Result.{IfOk-weaker}
-use Rattle.np_views.specs.Past.{IsPastOf, picked, traces}
+use Rattle.run_views.specs.Past.{IsPastOf, picked, traces}
 use Rattle.run_views.specs.Causes.{AreCauses, AreMarked, is_marked}
 use Rattle.run_views.proofs.Marks.{are-before}
 use Rattle.run_views.proofs.PrintPasts.{is-past}

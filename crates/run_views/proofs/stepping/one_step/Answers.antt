@@ -1,7 +1,7 @@
 use Rattle.std.proofs.Common.{ap, ◌∙◌}
 use Rattle.std.proofs.lemmas.Result.{IfOk-weaker}
 use Rattle.np_calculus.specs.Starts.{start_high}
-use Rattle.np_views.specs.OneStep.{one_step}
+use Rattle.run_views.specs.OneStep.{one_step}
 use Rattle.run_views.specs.Stepped.{IsStepped}
 use Rattle.run_views.proofs.Steppings.{is-stepped}
 use Rattle.run_views.proofs.stepping.one_step.Goals as goal

@@ -1,6 +1,6 @@
 use Rattle.std.proofs.Common.{◌≡◌, ◌++◌, drop}
 use Rattle.np_calculus.specs.Reductions.{run}
-use Rattle.np_views.specs.OneStep.{one_step}
+use Rattle.run_views.specs.OneStep.{one_step}
 use Rattle.run_views.proofs.stepping.one_step_on.Given as goal
 
 -- what is left leads on from here as all does from the start, and its list is what is still to come

@@ -2,8 +2,8 @@ use Rattle.std.proofs.Common.{◌≡◌, ◌++◌, ◌⊎◌, ⊎_elim, ℕ, sli
 use Rattle.np_syntax.specs.declared.expression.Expr.{Expr}
 use Rattle.np_syntax.specs.declared.process.Proc.{Proc}
 use Rattle.np_syntax.specs.declared.process.ProcForm as form
-use Rattle.np_views.specs.Tests.{tests}
-use Rattle.np_views.proofs.TestParts.{par-tests, agent-tests, if-tests, lookup-tests, local-tests, send-tests}
+use Rattle.run_views.specs.Tests.{tests}
+use Rattle.run_views.proofs.TestParts.{par-tests, agent-tests, if-tests, lookup-tests, local-tests, send-tests}
 use Rattle.run_views.proofs.FirstTests.{first-back, first-front}
 use Rattle.run_views.proofs.testing.+first_in.Goals as goal
 

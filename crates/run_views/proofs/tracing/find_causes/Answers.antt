@@ -1,5 +1,5 @@
 use Rattle.std.proofs.Common.{◌+◌, arith, subst, sym}
-use Rattle.np_views.proofs.Parts.{enabled-here}
+use Rattle.run_views.proofs.Parts.{enabled-here}
 use Rattle.run_views.specs.Causes.{index_of}
 use Rattle.run_views.proofs.Tracings.{IsFollowed, followed-start, follows-on}
 use Rattle.run_views.proofs.tracing.find_causes.Goals as goal

@@ -1,5 +1,5 @@
 use Rattle.std.proofs.Common.{◌↔◌, ap, subst, ◌∙◌}
-use Rattle.np_views.specs.Index.{IsOneOf, causes, noting}
+use Rattle.run_views.specs.Index.{IsOneOf, causes, noting}
 use Rattle.run_views.specs.Causes.{index_of, places_of}
 use Rattle.run_views.proofs.tracing.trace.Goals as goal
 

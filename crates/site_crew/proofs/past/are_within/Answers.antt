@@ -1,7 +1,7 @@
 use Rattle.std.proofs.Common.{◌≡◌, ◌<◌, ◌≤◌, ℕ, Bool, true, false, List, Option, None, Some, not, ap, ◌∙◌, arith}
 use Rattle.std.specs.Prelude.{MatchOption, is_some}
 use Rattle.np_syntax.specs.declared.event.Event.{Event}
-use Rattle.np_following.specs.Following.{events_at}
+use Rattle.run_save.specs.following.Following.{events_at}
 use Rattle.site_crew.specs.Lists.{AreWithin, IsFirstPast}
 use Rattle.site_crew.proofs.past.are_within.Goals as goal
 

@@ -1,5 +1,5 @@
 use Rattle.std.proofs.Common.{◌≡◌, take}
-use Rattle.np_following.specs.Following.{events_at}
+use Rattle.run_save.specs.following.Following.{events_at}
 use Rattle.site_crew.proofs.past.events_at.Given as goal
 
 abbrev pub invariant-loop-event : goal.invariant-loop-event

@@ -1,6 +1,6 @@
 use Rattle.std.proofs.Common.{◌≤◌, ℕ, arith, subst, sym, inl, inr}
 use Rattle.std.proofs.lemmas.Bool.Decides.{eqb_tells}
-use Rattle.np_following.specs.Following.{events_at}
+use Rattle.run_save.specs.following.Following.{events_at}
 use Rattle.site_crew.proofs.past.first_past.Goals as goal
 
 pub loop-site-preserved : goal.loop-site-preserved

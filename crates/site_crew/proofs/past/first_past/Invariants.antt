@@ -1,5 +1,5 @@
 use Rattle.std.proofs.Common.{◌<◌, ◌≤◌, ℕ}
-use Rattle.np_following.specs.Following.{events_at}
+use Rattle.run_save.specs.following.Following.{events_at}
 use Rattle.site_crew.proofs.past.first_past.Given as goal
 
 abbrev pub invariant-loop-site : goal.invariant-loop-site

@@ -16,8 +16,8 @@ use Rattle.np_code.specs.contracts.code.Code as code
 use Rattle.site_turn.specs.contracts.effort.Effort as effort
 use Rattle.site_turn.specs.declared.seat.Seat.{Seat}
 use Rattle.site_turn.specs.Turns.{Seated}
-use Rattle.site_crossing.proofs.Codes.{code_sync}
-use Rattle.site_crossing.proofs.Seats.{seat_send}
+use Rattle.site_turn.proofs.Crossing.Codes.{code_sync}
+use Rattle.site_turn.proofs.Crossing.Seats.{seat_send}
 use Rattle.site_crew.proofs.turns.threads_turns.Goals as goal
 
 -- what the closure reads: the handle, the allocator, the code, the gate and the effort

@@ -1,8 +1,0 @@
-use Rattle.agent_deeds.proofs.Calls.{leaves_at, sends_at}
-use Rattle.agent_deeds.proofs.laws.law_agents_leave.Goals as goal
-
-pub returns-clause-agent : goal.returns-clause-agent
-returns-clause-agent c = leaves_at
-
-pub returns-clause-packet : goal.returns-clause-packet
-returns-clause-packet c = sends_at

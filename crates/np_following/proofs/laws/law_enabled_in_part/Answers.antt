@@ -1,8 +1,0 @@
-use Rattle.np_following.proofs.Parts.{enabled_in_part, event_is_of_site}
-use Rattle.np_following.proofs.laws.law_enabled_in_part.Goals as goal
-
-pub returns-clause-site : goal.returns-clause-site
-returns-clause-site c = event_is_of_site
-
-pub returns-clause-part : goal.returns-clause-part
-returns-clause-part c = enabled_in_part

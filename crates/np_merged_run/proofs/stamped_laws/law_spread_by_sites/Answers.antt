@@ -1,9 +1,0 @@
-use Rattle.np_merged_run.proofs.LowStart.{low_start_is_settled}
-use Rattle.np_merged_run.proofs.Starting.{spread_by_sites}
-use Rattle.np_merged_run.proofs.stamped_laws.law_spread_by_sites.Goals as goal
-
-pub returns-clause-sites : goal.returns-clause-sites
-returns-clause-sites c = spread_by_sites
-
-pub returns-clause-low : goal.returns-clause-low
-returns-clause-low c = low_start_is_settled

@@ -1,5 +1,0 @@
-use Rattle.np_replay.proofs.Runs.{one-end}
-use Rattle.np_replay.proofs.laws.law_one_end.Goals as goal
-
-pub returns : goal.returns
-returns c = one-end

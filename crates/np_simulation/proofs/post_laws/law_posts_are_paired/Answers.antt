@@ -1,8 +1,0 @@
-use Rattle.np_simulation.proofs.Posts.{cached-posts-are-paired, posts-are-paired}
-use Rattle.np_simulation.proofs.post_laws.law_posts_are_paired.Goals as goal
-
-pub returns-clause-central : goal.returns-clause-central
-returns-clause-central c = posts-are-paired
-
-pub returns-clause-cached : goal.returns-clause-cached
-returns-clause-cached c = cached-posts-are-paired

@@ -1,5 +1,0 @@
-use Rattle.std.proofs.Common.{refl}
-use Rattle.np_things.proofs.laws.law_daemon_desks.Goals as goal
-
-pub returns : goal.returns
-returns c = λ n s0 x. refl
