@@ -2,13 +2,13 @@
 
 use super::case::Case;
 use super::counting::count_of;
-use super::trial::{Check, Expected, Then, Trial, Wanted, Way};
+use super::trial::{Check, Then, Trial, Wanted, Way, add};
 use history_text::write_history;
 use np_example_files::{
     Change, ExampleFail, between, early_place, exchanged, moved, next_unlike, without,
 };
-use np_syntax::{Event, Kind, List};
-use std::alloc::Global;
+use np_syntax::{Event, Kind, List, Memory, Text};
+use std::alloc::{AllocError, Global};
 
 /// The refusal of events of which so many of the first are a run, and one more is none.
 pub(crate) const NOT_A_RUN: &str = "21 NotARun";
@@ -36,27 +36,24 @@ pub(crate) fn add_change(
     add_changed(alloc, case, check, changed, left)
 }
 
+/// The history of these events, to be read as the text `h`.
+fn history_of(alloc: Global, events: &[Event]) -> Result<Option<Text>, Memory> {
+    Ok(Some(write_history(alloc, events)?))
+}
+
 /// Adds the call that replays these events.
 pub(crate) fn add_replay(
     alloc: Global,
     case: &Case<'_>,
     check: Check,
     events: &[Event],
-    wanted: Wanted,
+    wanted: Result<Wanted, AllocError>,
     then: Then,
     left: &mut Vec<Trial>,
 ) -> Result<(), ExampleFail> {
     let option = case.option();
-    let words = format!(in alloc; "replay a h{option}")?;
-    let history = Some(write_history(alloc, events)?);
-    left.push(Trial {
-        check,
-        words,
-        history,
-        wanted,
-        then,
-    })?;
-    Ok(())
+    let words = format!(in alloc; "replay a h{option}");
+    add(left, check, words, history_of(alloc, events), wanted, then)
 }
 
 /// The first events are a run, which prints the first lines.
@@ -69,7 +66,7 @@ fn add_cut(
 ) -> Result<(), ExampleFail> {
     let events = between(case.events, 0, place);
     let lines = first_lines(case.report, count_of(events, Kind::Print));
-    let wanted = Wanted::Exactly(Expected::run(alloc, lines, place)?);
+    let wanted = Wanted::run(alloc, lines, place);
     add_replay(alloc, case, check, events, wanted, Then::Nothing, left)
 }
 
@@ -108,7 +105,15 @@ fn add_changed(
                 wanted,
                 then,
             } = changed;
-            add_replay(alloc, case, check, events.as_slice(), wanted, then, left)
+            add_replay(
+                alloc,
+                case,
+                check,
+                events.as_slice(),
+                Ok(wanted),
+                then,
+                left,
+            )
         }
         None => Ok(()),
     }
@@ -118,7 +123,7 @@ fn add_changed(
 fn refused_at(alloc: Global, events: List<Event>, at: usize) -> Result<Changed, ExampleFail> {
     Ok(Changed {
         events,
-        wanted: Wanted::Exactly(Expected::refused(alloc, NOT_A_RUN, at)?),
+        wanted: Wanted::refused(alloc, NOT_A_RUN, at)?,
         then: Then::Nothing,
     })
 }
@@ -176,23 +181,22 @@ fn add_past(
     if line == 0 || line > printed.saturating_add(1) {
         return Ok(());
     }
-    let (wanted, then) = if line <= printed {
-        (Wanted::Past(line), Then::Replay)
-    } else {
-        let refused = Expected::refused(alloc, "24 NoLine", printed)?;
-        (Wanted::Exactly(refused), Then::Nothing)
-    };
     let option = case.option();
-    let words = format!(in alloc; "past a h --line {line}{option}")?;
-    let history = Some(write_history(alloc, case.events)?);
-    left.push(Trial {
-        check,
-        words,
-        history,
-        wanted,
-        then,
-    })?;
-    Ok(())
+    let words = format!(in alloc; "past a h --line {line}{option}");
+    let history = history_of(alloc, case.events);
+    if line <= printed {
+        add(
+            left,
+            check,
+            words,
+            history,
+            Ok(Wanted::Past(line)),
+            Then::Replay,
+        )
+    } else {
+        let wanted = Wanted::refused(alloc, "24 NoLine", printed);
+        add(left, check, words, history, wanted, Then::Nothing)
+    }
 }
 
 /// The run on sites that a budget cuts off is resumed, with each kind of links. Any budget but those from 1 to 60 asks for nothing.
@@ -222,19 +226,19 @@ fn add_run(
 ) -> Result<(), ExampleFail> {
     let options = options_of(alloc, case, way)?;
     let budget = way.budget;
-    let words = format!(in alloc; "run a {options} --budget {budget}")?;
-    left.push(Trial {
+    let words = format!(in alloc; "run a {options} --budget {budget}");
+    add(
+        left,
         check,
         words,
-        history: None,
-        wanted: Wanted::Sites,
-        then: Then::Resume(way),
-    })?;
-    Ok(())
+        Ok(None),
+        Ok(Wanted::Sites),
+        Then::Resume(way),
+    )
 }
 
 /// The options of such a run: with one budget for each kind of links on threads, and with the others one site after another.
-pub(crate) fn options_of(alloc: Global, case: &Case<'_>, way: Way) -> Result<String, ExampleFail> {
+pub(crate) fn options_of(alloc: Global, case: &Case<'_>, way: Way) -> Result<String, AllocError> {
     let Way { links, budget } = way;
     let on_threads = match budget {
         20 => links == "tray",
@@ -244,5 +248,5 @@ pub(crate) fn options_of(alloc: Global, case: &Case<'_>, way: Way) -> Result<Str
     };
     let serial = if on_threads { "" } else { " --serial" };
     let option = case.option();
-    Ok(format!(in alloc; "--history --links {links}{serial}{option}")?)
+    format!(in alloc; "--history --links {links}{serial}{option}")
 }

@@ -2,7 +2,7 @@
 
 use super::case::Case;
 use super::changes::{NOT_A_RUN, add_replay, options_of};
-use super::trial::{Came, Check, Expected, Then, Trial, Wanted, Way};
+use super::trial::{Came, Check, Then, Trial, Wanted, Way, add};
 use super::verdict::{lines_in_front, past_count, stop_of};
 use np_example_files::{ExampleFail, between, without};
 use np_syntax::{List, Memory, Text};
@@ -49,18 +49,17 @@ fn add_again(
         check => (check, past_count(came.text())),
     };
     let lines = lines_in_front(case, came.text());
-    let wanted = Wanted::Exactly(Expected::run(alloc, lines, count.unwrap_or(0))?);
+    let wanted = Wanted::run(alloc, lines, count.unwrap_or(0));
     let option = case.option();
-    let words = format!(in alloc; "replay a h{option}")?;
-    let history = written(alloc, came)?;
-    left.push(Trial {
+    let words = format!(in alloc; "replay a h{option}");
+    add(
+        left,
         check,
         words,
-        history,
+        written(alloc, came),
         wanted,
-        then: Then::Nothing,
-    })?;
-    Ok(())
+        Then::Nothing,
+    )
 }
 
 /// Where the events but one stopped being a run, so many of the first are a run, and one more is none.
@@ -77,9 +76,9 @@ fn add_stop(
     let events = without(alloc, case.events, place)?;
     let before = between(events.as_slice(), 0, index);
     let longer = between(events.as_slice(), 0, index.saturating_add(1));
-    let is_run = Wanted::RunOrStop(index, index);
+    let is_run = Ok(Wanted::RunOrStop(index, index));
     add_replay(alloc, case, check, before, is_run, Then::Nothing, left)?;
-    let is_none = Wanted::Exactly(Expected::refused(alloc, NOT_A_RUN, index)?);
+    let is_none = Wanted::refused(alloc, NOT_A_RUN, index);
     add_replay(alloc, case, check, longer, is_none, Then::Nothing, left)
 }
 
@@ -93,16 +92,16 @@ fn add_end(
     left: &mut Vec<Trial>,
 ) -> Result<(), ExampleFail> {
     let options = options_of(alloc, case, way)?;
-    let words = format!(in alloc; "resume a h {options}")?;
-    let history = written(alloc, came)?;
-    left.push(Trial {
+    let words = format!(in alloc; "resume a h {options}");
+    let wanted = Ok(Wanted::WholeSites);
+    add(
+        left,
         check,
         words,
-        history,
-        wanted: Wanted::WholeSites,
-        then: Then::Nothing,
-    })?;
-    Ok(())
+        written(alloc, came),
+        wanted,
+        Then::Nothing,
+    )
 }
 
 /// The run that was written is resumed with a few events more, and then once more to its end.
@@ -116,14 +115,14 @@ fn add_more(
 ) -> Result<(), ExampleFail> {
     let options = options_of(alloc, case, way)?;
     let further = way.budget.saturating_add(MORE);
-    let words = format!(in alloc; "resume a h {options} --budget {further}")?;
-    let history = written(alloc, came)?;
-    left.push(Trial {
+    let words = format!(in alloc; "resume a h {options} --budget {further}");
+    let wanted = Ok(Wanted::Sites);
+    add(
+        left,
         check,
         words,
-        history,
-        wanted: Wanted::Sites,
-        then: Then::End(way),
-    })?;
-    Ok(())
+        written(alloc, came),
+        wanted,
+        Then::End(way),
+    )
 }

@@ -2,7 +2,7 @@
 
 use np_example_files::{Change, ExampleFail};
 use np_run::{BAD_HISTORY, DONE};
-use np_syntax::Text;
+use np_syntax::{Memory, Text};
 use std::alloc::{AllocError, Global};
 
 /// Which check of an example a call belongs to.
@@ -26,26 +26,6 @@ pub(crate) struct Expected {
     pub err: String,
 }
 
-impl Expected {
-    /// So many events are a run, behind these lines.
-    pub fn run(alloc: Global, lines: &str, count: usize) -> Result<Expected, ExampleFail> {
-        Ok(Expected {
-            status: DONE,
-            out: run_text(alloc, lines, count)?,
-            err: String::new(alloc),
-        })
-    }
-
-    /// The history is refused so, at this index.
-    pub fn refused(alloc: Global, refusal: &str, at: usize) -> Result<Expected, ExampleFail> {
-        Ok(Expected {
-            status: BAD_HISTORY,
-            out: String::new(alloc),
-            err: format!(in alloc; "np: {refusal} at {at}\n")?,
-        })
-    }
-}
-
 /// What is written of a run of so many events that prints these lines.
 pub(crate) fn run_text(alloc: Global, lines: &str, count: usize) -> Result<String, AllocError> {
     format!(in alloc; "{lines}a run of {count} events\n")
@@ -67,6 +47,26 @@ pub(crate) enum Wanted {
     Sites,
     /// Such a run at rest, with the lines of the low program's run, in any order, and with as many events.
     WholeSites,
+}
+
+impl Wanted {
+    /// So many events are a run, behind these lines.
+    pub fn run(alloc: Global, lines: &str, count: usize) -> Result<Wanted, AllocError> {
+        Ok(Wanted::Exactly(Expected {
+            status: DONE,
+            out: run_text(alloc, lines, count)?,
+            err: String::new(alloc),
+        }))
+    }
+
+    /// The history is refused so, at this index.
+    pub fn refused(alloc: Global, refusal: &str, at: usize) -> Result<Wanted, AllocError> {
+        Ok(Wanted::Exactly(Expected {
+            status: BAD_HISTORY,
+            out: String::new(alloc),
+            err: format!(in alloc; "np: {refusal} at {at}\n")?,
+        }))
+    }
 }
 
 /// How a run on sites is cut off: over which kind of links, and by which budget.
@@ -99,6 +99,25 @@ pub(crate) struct Trial {
     pub history: Option<Text>,
     pub wanted: Wanted,
     pub then: Then,
+}
+
+/// Adds a call, of parts as they came.
+pub(crate) fn add(
+    left: &mut Vec<Trial>,
+    check: Check,
+    words: Result<String, AllocError>,
+    history: Result<Option<Text>, Memory>,
+    wanted: Result<Wanted, AllocError>,
+    then: Then,
+) -> Result<(), ExampleFail> {
+    left.push(Trial {
+        check,
+        words: words?,
+        history: history?,
+        wanted: wanted?,
+        then,
+    })?;
+    Ok(())
 }
 
 impl Trial {

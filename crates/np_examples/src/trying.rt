@@ -116,11 +116,29 @@ fn passes_low<R: Print + Threads + Wait + Sync>(
     case: &Case<'_>,
     came: &Came<'_>,
 ) -> Result<bool, ExampleFail> {
+    Ok(
+        judge_low(rt, alloc, case, came)?
+            && (!case.example.as_high || passes_high(rt, alloc, case)?),
+    )
+}
+
+/// Whether the run of the low program does what the example wants.
+fn judge_low(
+    rt: &impl Print,
+    alloc: Global,
+    case: &Case<'_>,
+    came: &Came<'_>,
+) -> Result<bool, ExampleFail> {
     let low = trial_of(alloc, Check::Low, "low run", Wanted::Said, Then::Nothing)?;
-    let passed = judge(rt, alloc, case, &low, came)?;
-    if !passed || !case.example.as_high {
-        return Ok(passed);
-    }
+    judge(rt, alloc, case, &low, came)
+}
+
+/// Whether the run at the high level prints the lines of the low program's run, in any order.
+fn passes_high<R: Print + Threads + Wait + Sync>(
+    rt: &R,
+    alloc: Global,
+    case: &Case<'_>,
+) -> Result<bool, ExampleFail> {
     let high = trial_of(alloc, Check::Low, HIGH_WORDS, Wanted::Lines, Then::Nothing)?;
     passes(rt, alloc, case, high)
 }
