@@ -18,7 +18,7 @@ pub(crate) struct Case<'a> {
 
 impl<'a> Case<'a> {
     /// The example as it stands, before the low program of a source is run.
-    pub fn new(file: &'a str, example: &'a Example) -> Case<'a> {
+    pub(crate) fn new(file: &'a str, example: &'a Example) -> Case<'a> {
         Case {
             file,
             example,
@@ -29,7 +29,7 @@ impl<'a> Case<'a> {
     }
 
     /// The source that the calls read, if it is one of their texts.
-    pub fn source_bytes(&self) -> Option<&'a [u8]> {
+    pub(crate) fn source_bytes(&self) -> Option<&'a [u8]> {
         match self.source {
             Some(source) => Some(source.as_bytes()),
             None => self.example.text("a"),
@@ -37,7 +37,7 @@ impl<'a> Case<'a> {
     }
 
     /// The infrastructure of the low programs.
-    pub fn infrastructure(&self) -> Infrastructure {
+    pub(crate) fn infrastructure(&self) -> Infrastructure {
         if self.example.with_caches {
             Infrastructure::Cache
         } else {
@@ -46,7 +46,7 @@ impl<'a> Case<'a> {
     }
 
     /// The words that say so, behind those of a call.
-    pub fn option(&self) -> &'static str {
+    pub(crate) fn option(&self) -> &'static str {
         if self.example.with_caches {
             " --infra cache"
         } else {
@@ -55,7 +55,7 @@ impl<'a> Case<'a> {
     }
 
     /// The first line of the histories that `run` and `past` write of such a low program.
-    pub fn first_line(&self) -> &'static str {
+    pub(crate) fn first_line(&self) -> &'static str {
         if self.example.with_caches {
             "history 1\n"
         } else {

@@ -136,7 +136,10 @@ fn without_one(
 ) -> Result<Option<Changed>, ExampleFail> {
     let events = without(alloc, case.events, place)?;
     Ok(Some(Changed {
-        wanted: Wanted::RunOrStop(events.len(), place),
+        wanted: Wanted::RunOrStop {
+            count: events.len(),
+            least: place,
+        },
         events,
         then: Then::Stop,
     }))

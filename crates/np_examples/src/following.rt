@@ -76,7 +76,10 @@ fn add_stop(
     let events = without(alloc, case.events, place)?;
     let before = between(events.as_slice(), 0, index);
     let longer = between(events.as_slice(), 0, index.saturating_add(1));
-    let is_run = Ok(Wanted::RunOrStop(index, index));
+    let is_run = Ok(Wanted::RunOrStop {
+        count: index,
+        least: index,
+    });
     add_replay(alloc, case, check, before, is_run, Then::Nothing, left)?;
     let is_none = Wanted::refused(alloc, NOT_A_RUN, index);
     add_replay(alloc, case, check, longer, is_none, Then::Nothing, left)

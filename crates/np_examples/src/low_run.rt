@@ -23,7 +23,7 @@ pub(crate) struct LowMade {
 
 impl LowMade {
     /// What came of it. Each letter that was opened is a message that was handed over.
-    pub fn came(&self) -> Came<'_> {
+    pub(crate) fn came(&self) -> Came<'_> {
         let events = self.events.as_slice();
         let is_run = self.err.as_slice().is_empty();
         Came {

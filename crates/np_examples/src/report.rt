@@ -98,7 +98,7 @@ fn tell_wanted(rt: &impl Print, case: &Case<'_>, trial: &Trial) -> io::Result<()
             tell_text(rt, "wanted out", expected.out.as_str())?;
             tell_text(rt, "wanted err", expected.err.as_str())
         }
-        Wanted::RunOrStop(count, least) => {
+        Wanted::RunOrStop { count, least } => {
             tell_number(rt, "wanted a run, of events", *count)?;
             tell_number(rt, "or no run, from an index of at least", *least)
         }

@@ -40,7 +40,7 @@ pub(crate) enum Wanted {
     Lines,
     Exactly(Expected),
     /// Any lines, and then that so many events are a run; or that the history is refused at this index or behind it.
-    RunOrStop(usize, usize),
+    RunOrStop { count: usize, least: usize },
     /// The printed line of that number, counted from 1, then the history of what led to it, and then how many events that has.
     Past(usize),
     /// A run on sites which begins with the lines and the events of the history that the call reads, if it reads one. It is cut off or at rest.
@@ -51,7 +51,7 @@ pub(crate) enum Wanted {
 
 impl Wanted {
     /// So many events are a run, behind these lines.
-    pub fn run(alloc: Global, lines: &str, count: usize) -> Result<Wanted, AllocError> {
+    pub(crate) fn run(alloc: Global, lines: &str, count: usize) -> Result<Wanted, AllocError> {
         Ok(Wanted::Exactly(Expected {
             status: DONE,
             out: run_text(alloc, lines, count)?,
@@ -60,7 +60,7 @@ impl Wanted {
     }
 
     /// The history is refused so, at this index.
-    pub fn refused(alloc: Global, refusal: &str, at: usize) -> Result<Wanted, AllocError> {
+    pub(crate) fn refused(alloc: Global, refusal: &str, at: usize) -> Result<Wanted, AllocError> {
         Ok(Wanted::Exactly(Expected {
             status: BAD_HISTORY,
             out: String::new(alloc),
@@ -122,7 +122,7 @@ pub(crate) fn add(
 
 impl Trial {
     /// The history that the call reads, if it is a text of its own.
-    pub fn saved(&self) -> &str {
+    pub(crate) fn saved(&self) -> &str {
         match &self.history {
             Some(history) => std::str::from_utf8(history.as_slice()).unwrap_or(""),
             None => "",
@@ -145,12 +145,12 @@ pub(crate) struct Came<'a> {
 }
 
 impl<'a> Came<'a> {
-    pub fn is_text(&self) -> bool {
+    pub(crate) fn is_text(&self) -> bool {
         std::str::from_utf8(self.out).is_ok()
     }
 
     /// What stands on out; nothing where it is no text.
-    pub fn text(&self) -> &'a str {
+    pub(crate) fn text(&self) -> &'a str {
         std::str::from_utf8(self.out).unwrap_or("")
     }
 }

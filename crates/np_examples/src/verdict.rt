@@ -17,7 +17,7 @@ pub(crate) fn holds(
         Wanted::Said => Ok(meets(case.example, came)),
         Wanted::Lines => Ok(same_lines(case.report, came.text())),
         Wanted::Exactly(expected) => Ok(is_expected(expected, came)),
-        Wanted::RunOrStop(count, least) => is_run_or_stop(alloc, came, *count, *least),
+        Wanted::RunOrStop { count, least } => is_run_or_stop(alloc, came, *count, *least),
         Wanted::Past(line) => Ok(is_past(case, came, *line)),
         Wanted::Sites => Ok(is_on_sites(case, trial, came)),
         Wanted::WholeSites => Ok(is_on_sites(case, trial, came) && is_whole(alloc, case, came)?),
