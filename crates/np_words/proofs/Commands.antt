@@ -7,7 +7,7 @@ use Rattle.clap.specs.declared.error.Error.{Error}
 use Rattle.clap.specs.declared.error.kind.ErrorKind.TheVariants.{OutOfMemory}
 use Rattle.clap.specs.declared.parser.matches.ArgMatches.{ArgMatches}
 use Rattle.clap.proofs.OnLiterals.{clap_on_literals}
-use Rattle.np_words.specs.Arguments.{Given, start, operand, further, valued, flag, operands, run_options, with_rules, command, given, has_fault, taken}
+use Rattle.np_words.specs.Arguments.{Given, start, valued, flag, operands, run_options, with_rules, command, given, has_fault, taken}
 use Rattle.np_words.specs.Plans.{plan, planned, Plans}
 use Rattle.np_words.specs.declared.planning.Plan.{Plan}
 use Rattle.np_words.specs.declared.fail.PlanFail.{PlanFail}

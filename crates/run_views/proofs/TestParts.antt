@@ -7,7 +7,24 @@ use Rattle.np_syntax.specs.declared.process.Proc.{Proc}
 use Rattle.np_syntax.specs.declared.process.ProcForm.{ProcForm-F}
 use Rattle.np_syntax.specs.declared.process.ProcForm as form
 use Rattle.np_syntax.specs.declared.process.ProcForm.{out-ProcForm}
-use Rattle.np_syntax.specs.declared.process.ProcForm.TheVariants.{outs-Par, outs-Agent, outs-If, outs-Lookup, outs-New, outs-Inp, outs-Rep, outs-Migrate, outs-Let, outs-Stop, outs-Out, outs-Post, outs-Print, outs-Open, outs-Send, outs-IfLocal}
+use Rattle.np_syntax.specs.declared.process.ProcForm.TheVariants.{
+  outs-Par,
+  outs-Agent,
+  outs-If,
+  outs-Lookup,
+  outs-New,
+  outs-Inp,
+  outs-Rep,
+  outs-Migrate,
+  outs-Let,
+  outs-Stop,
+  outs-Out,
+  outs-Post,
+  outs-Print,
+  outs-Open,
+  outs-Send,
+  outs-IfLocal,
+}
 use Rattle.run_views.specs.Tests.{tests}
 use Rattle.run_views.proofs.TestForms.{tests-by}
 

@@ -143,7 +143,12 @@ module _ (sites : ℕ) (x : Contents) (e : Event) (d : Change) where
         → Tr kind.Local d
     unfolding here_row away_row
     tested true met unmet b n v o h = then (one_made e.made) _ h λ m made h.
-        so (Tr kind.Local) e h (record { own = record { places = tt; atoms = (later e m (one-later e m made), (actor e, tt)); packets = tt }; there = alone o; says = refl; apart = apart-by _ _ _ (inr (makes-one e.made m made), (inl stands, tt)) })
+        so (Tr kind.Local) e h (record {
+          own = record { places = tt; atoms = (later e m (one-later e m made), (actor e, tt)); packets = tt };
+          there = alone o;
+          says = refl;
+          apart = apart-by _ _ _ (inr (makes-one e.made m made), (inl stands, tt));
+        })
     tested false met unmet b n v o h = then (none_made e.made) _ h λ m made h.
         so (Tr kind.Local) e h (record { own = record { places = tt; atoms = (actor e, tt); packets = tt }; there = alone o; says = refl; apart = apart-by _ _ _ (inl stands, tt) })
 
@@ -152,7 +157,12 @@ module _ (sites : ℕ) (x : Contents) (e : Event) (d : Change) where
     traced-act kind.Stop h = parts kind.Stop w e a h λ p form h. lonely e h λ o h.
         so (Tr kind.Stop) e h (record { own = record { places = tt; atoms = (actor e, tt); packets = tt }; there = alone o; says = refl; apart = apart-by _ _ _ (inl stands, tt) })
     traced-act kind.Fork h = parts kind.Fork w e a h λ p form h. then (one_made e.made) _ h λ m made h. then (no_other e.other) _ h λ l other h.
-        so (Tr kind.Fork) e h (record { own = record { places = tt; atoms = (later e m (one-later e m made), (actor e, tt)); packets = tt }; there = alone (no-other e.other l other); says = refl; apart = apart-by _ _ _ (inr (makes-one e.made m made), (inl stands, tt)) })
+        so (Tr kind.Fork) e h (record {
+          own = record { places = tt; atoms = (later e m (one-later e m made), (actor e, tt)); packets = tt };
+          there = alone (no-other e.other l other);
+          says = refl;
+          apart = apart-by _ _ _ (inr (makes-one e.made m made), (inl stands, tt));
+        })
     traced-act kind.New h = parts kind.New w e a h λ p form h. then (one_made e.made) _ h λ m made h. then (no_other e.other) _ h λ l other h.
         so (Tr kind.New) e h (record { own = record { places = tt; atoms = (actor e, tt); packets = tt }; there = alone (no-other e.other l other); says = refl; apart = apart-by _ _ _ (inl stands, tt) })
     traced-act kind.Let h = parts kind.Let w e a h λ p form h. then (eval p.1 a.env) _ h λ v gives h. then (bind p.0 v a.env) _ h λ env binds h. lonely e h λ o h.
@@ -160,7 +170,12 @@ module _ (sites : ℕ) (x : Contents) (e : Event) (d : Change) where
     traced-act kind.If h = parts kind.If w e a h λ p form h. then (truth_of p.0 a.env) _ h λ t truth h. lonely e h λ o h.
         so (Tr kind.If) e h (record { own = record { places = tt; atoms = (actor e, tt); packets = tt }; there = alone o; says = refl; apart = apart-by _ _ _ (inl stands, tt) })
     traced-act kind.Comm h = parts kind.Comm w e a h λ p form h. takes w e a p.0 p.1 _ h λ n o v env other offer h.
-        so (Tr kind.Comm) e h (record { own = record { places = tt; atoms = (actor e, (later e o (other-later e o other), tt)); packets = tt }; there = both o n v other offer; says = refl; apart = apart-by _ _ _ (inl stands, (inl (gives o a.agent n v offer), tt)) })
+        so (Tr kind.Comm) e h (record {
+          own = record { places = tt; atoms = (actor e, (later e o (other-later e o other), tt)); packets = tt };
+          there = both o n v other offer;
+          says = refl;
+          apart = apart-by _ _ _ (inl stands, (inl (gives o a.agent n v offer), tt));
+        })
     traced-act kind.Rep h = parts kind.Rep w e a h λ p form h. takes w e a p.0 p.1 _ h λ n o v env other offer h.
         so (Tr kind.Rep) e h (record { own = record { places = tt; atoms = (other-later e o other, tt); packets = tt }; there = both o n v other offer; says = refl; apart = apart-by _ _ _ (inl (gives o a.agent n v offer), tt) })
     traced-act kind.Agent h = parts kind.Agent w e a h λ p form h. then (two_made e.made) _ h λ n made h. then (no_other e.other) _ h λ l other h.

@@ -155,7 +155,11 @@ apart_by phase a b p q at_a at_b differ = go (same_name a b) refl
   where
     go : (t : Bool) → same_name a b ≡ t → t ≡ false
     go false e = refl
-    go true e = absurd (let one : p ≡ q = sym at_a ∙ ap phase (same_name-is a b e) ∙ at_b in let same : nat_eq (index q) (index q) ≡ true = eq-eqb (index q) (index q) refl in let d : nat_eq (index q) (index q) ≡ false = ap (λ r. nat_eq (index r) (index q)) (sym one) ∙ differ in cc)
+    go true e = absurd (
+        let one : p ≡ q = sym at_a ∙ ap phase (same_name-is a b e) ∙ at_b in
+        let same : nat_eq (index q) (index q) ≡ true = eq-eqb (index q) (index q) refl in
+        let d : nat_eq (index q) (index q) ≡ false = ap (λ r. nat_eq (index r) (index q)) (sym one) ∙ differ in
+        cc)
 
 -- the lock of an agent is no other's
 pub lock_of : (w : Scene) → ((a b l : Name) → w.lock a ≡ Some l → w.lock b ≡ Some l → a ≡ b) → (a l : Name) → w.lock a ≡ Some l → (x : Name) → is_lock (w.lock x) l ≡ same_name x a

@@ -87,7 +87,8 @@ module _ (w : Scene) (phase : Name → Phase) {before after : List Chip} where
       one_map = same_sum step (λ ch. one_if (is_of_locks ch)) refl ∙ p.one_map;
       one_lock = λ x.
           let m : one_if (is_moving (then x)) ≡ one_if (is_moving (phase x)) = ap one_if (alike middle a Phase.creating Phase.parent still is_moving refl x ∙ alike phase b Phase.absent Phase.registering none is_moving refl x) in
-          let r : one_if (is_registered (then x)) ≡ one_if (is_registered (phase x)) = ap one_if (alike middle a Phase.creating Phase.parent still is_registered refl x ∙ alike phase b Phase.absent Phase.registering none is_registered refl x) in
+          let r : one_if (is_registered (then x)) ≡ one_if (is_registered (phase x)) =
+          ap one_if (alike middle a Phase.creating Phase.parent still is_registered refl x ∙ alike phase b Phase.absent Phase.registering none is_registered refl x) in
           let n : count_by (has_lock (w.lock x) x) after ≡ count_by (has_lock (w.lock x) x) before = same_sum step (λ ch. one_if (has_lock (w.lock x) x ch)) refl in
           omega (arith, p.one_lock x);
       travels = λ x u r. on_way x u (p.travels x u (was_reporting phase b Phase.absent Phase.registering none refl x u (was_reporting middle a Phase.creating Phase.parent still refl x u r)));
