@@ -5,8 +5,8 @@ that joins it to the contracts (Tie), the goals (Proof), and so on.
     bench/module-times.py CRATE [COUNT]      for example: bench/module-times.py np_eval 40
 
 It reads the times at which `rt check` in the crate's folder wrote what it kept (out/incremental): run that first, from nothing and with
-`--jobs 1`, with nothing beside it. A part's time is what passed since the part before it was written. docs/COST.md says what to do about a part
-that takes long.
+`--jobs 1`, with nothing beside it. A part's time is what passed since the part before it was written. docs/COST.md says
+what to do about a part that takes long.
 """
 
 import collections

@@ -20,7 +20,8 @@ source_of() {
     printf 'sites home ; main at home = %s\n' "$1"
 }
 
-# took WORDS..: nanoseconds of all rounds of the program with these words; a status that is no refusal of words, sources or histories ends the script
+# took WORDS..: nanoseconds of all rounds of the program with these words; a status that is no refusal of words,
+# sources or histories ends the script
 took() {
     local begin end
     begin=$(date +%s%N)

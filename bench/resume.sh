@@ -48,6 +48,7 @@ for how in '--serial' '--links rings' '--links tray' '--links inbox'; do
     halt=$(took run "$folder/ring.np" --budget "$low" --history "${options[@]}")
     resumed=$(rested resume "$folder/ring.np" "$folder/stopped" --budget "$most" "${options[@]}")
     awk -v how="$how" -v whole="$whole" -v halted="$halt" -v resumed="$resumed" -v rounds="$rounds" 'BEGIN {
-        printf "%-16s %12.2f %12.2f %12.2f %8.2f\n", how, whole / rounds / 1e6, halted / rounds / 1e6, resumed / rounds / 1e6, (halted + resumed) / (whole < 1 ? 1 : whole)
+        printf "%-16s %12.2f %12.2f %12.2f %8.2f\n", \
+            how, whole / rounds / 1e6, halted / rounds / 1e6, resumed / rounds / 1e6, (halted + resumed) / (whole < 1 ? 1 : whole)
     }'
 done

@@ -40,5 +40,6 @@ for agents in 10 30 100; do
         : >"$folder/starts"
         LD_PRELOAD="$folder/starts.so" STARTS="$folder/starts" "$program" load "$agents" >"$folder/told"
         echo $(($(stat -c %s "$folder/starts") / 3))
-    done | sort -n | awk -v name="load $agents" '{ all[NR] = $1 } END { printf "%-10s %8d %8d %8d\n", name, all[1], all[int((NR + 1) / 2)], all[NR] }'
+    done | sort -n | awk -v name="load $agents" '{ all[NR] = $1 } END {
+        printf "%-10s %8d %8d %8d\n", name, all[1], all[int((NR + 1) / 2)], all[NR] }'
 done

@@ -14,7 +14,8 @@ source bench/parts.sh
 # times WORD..: milliseconds of wall time and of processor time, of one call
 times() {
     local TIMEFORMAT='%R %U %S'
-    { time for ((round = 0; round < rounds; round++)); do "$program" "$@" >"$folder/told" || case $? in 1) ;; *) exit 1 ;; esac; done; } 2>&1 |
+    { time for ((round = 0; round < rounds; round++)); do "$program" "$@" >"$folder/told" ||
+        case $? in 1) ;; *) exit 1 ;; esac; done; } 2>&1 |
         awk -v rounds="$rounds" '{ printf "%10.2f %10.2f", $1 * 1000 / rounds, ($2 + $3) * 1000 / rounds }'
 }
 

@@ -1,4 +1,9 @@
-//! What goes from site to site: an agent with its atoms, or a packet under its mark.
+//! Items: agents and packets on their way from site to site.
+//!
+//! An `Item` is an agent with its atoms, or a packet under its mark, with its stamp and its two sites. It owns what it
+//! carries; packing and unpacking move each part unchanged.
+//!
+//! Contracts: `pack_agent`, `pack_packet`, `unpack`, `law_loads`.
 #![tactic(auto)]
 
 mod item;

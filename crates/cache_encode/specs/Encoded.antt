@@ -1,4 +1,4 @@
--- The low program of a program, where agents have caches (docs/LANGUAGE.md, "Translation and daemon"): each form becomes what it does
+-- The low program of a program, where agents have caches (docs/TRANSLATION.md, "Translation and daemon"): each form becomes what it does
 -- without caches, but a post and a creation. Binders that are made are numbered on from those of the program, in reading order of the
 -- low program, main first.
 use Rattle.std.specs.Prelude.{ℕ, ◌+◌, length}

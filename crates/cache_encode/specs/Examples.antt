@@ -1,5 +1,5 @@
--- Worked rows: the low text of a program with caches, and the texts of a post and of a creation, letter by letter (docs/LANGUAGE.md,
--- "Printed values").
+-- Worked rows: the low text of a program with caches, and the texts of a post and of a creation, letter by letter (docs/TRANSLATION.md,
+-- "Low text").
 use Rattle.std.specs.Prelude.{◌≡◌, pos, true, List, ℕ, [], ◌∷◌, ◌++◌, codes}
 use Rattle.np_syntax.specs.declared.value.Value as value
 use Rattle.np_syntax.specs.declared.expression.ExprForm as expr

@@ -1,4 +1,4 @@
--- What the laws of the translation with caches say (docs/LANGUAGE.md, "Translation and daemon").
+-- What the laws of the translation with caches say (docs/TRANSLATION.md, "Translation and daemon").
 use Rattle.std.specs.Prelude.{◌≤◌, ℕ}
 use Rattle.np_syntax.specs.declared.expression.Expr.{Expr}
 use Rattle.np_syntax.specs.declared.process.Proc.{Proc}

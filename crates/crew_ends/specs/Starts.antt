@@ -1,4 +1,4 @@
--- How the seats of a crew begin: what stands at a site at the low start (docs/LANGUAGE.md, "Starts").
+-- How the seats of a crew begin: what stands at a site at the low start (docs/TRANSLATION.md, "Starts").
 use Rattle.std.specs.Prelude.{◌≡◌, ℕ, Bool, false, List, length, None, Some, slice_get}
 use Rattle.np_syntax.specs.declared.value.Name.{Name}
 use Rattle.np_tables.specs.Mapped.{mapped}

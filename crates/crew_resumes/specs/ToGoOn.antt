@@ -1,4 +1,4 @@
--- Events from which the sites of a low program can go on (docs/LANGUAGE.md, "Stop and resume").
+-- Events from which the sites of a low program can go on (docs/HISTORIES.md, "Stop and resume").
 use Rattle.std.specs.Prelude.{ℕ, List, length, IsSome}
 use Rattle.np_syntax.specs.declared.event.Event.{Event}
 use Rattle.np_syntax.specs.declared.program.LowProgram.{LowProgram}

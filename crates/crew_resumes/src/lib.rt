@@ -1,4 +1,8 @@
-//! A crew that has made no event goes on with the events of a list: its sites do them again, and then it runs to its end.
+//! A crew that has made no event does those of a list again, and runs on.
+//!
+//! If it does them all, the merged histories at its end begin with them, and each later event has a greater stamp.
+//!
+//! Contracts: `redone` (`IsToGoOn`), `resumed`.
 #![tactic(auto)]
 
 mod going_on;

@@ -1,4 +1,4 @@
--- The low program of a program (docs/LANGUAGE.md, "Translation and daemon"): each form is kept, with its tag and offset, but for
+-- The low program of a program (docs/TRANSLATION.md, "Translation and daemon"): each form is kept, with its tag and offset, but for
 -- three. Binders that are made are numbered on from those of the program, in reading order of the low program, main first.
 use Rattle.std.specs.Prelude.{ℕ, ◌+◌, length}
 use Rattle.np_syntax.specs.declared.expression.Expr.{Expr}

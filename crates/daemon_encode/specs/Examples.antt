@@ -1,4 +1,4 @@
--- A worked row: the low text of a program, letter by letter (docs/LANGUAGE.md, "Printed values").
+-- A worked row: the low text of a program, letter by letter (docs/TRANSLATION.md, "Low text").
 use Rattle.std.specs.Prelude.{◌≡◌, pos, List, ℕ, [], ◌∷◌, ◌++◌, codes}
 use Rattle.np_syntax.specs.declared.value.Value as value
 use Rattle.np_syntax.specs.declared.expression.ExprForm as expr

@@ -1,5 +1,5 @@
--- What stands in the low program of a checked program (docs/LANGUAGE.md, "Types"): each use stands in the scope of its binder, each site is one
--- of the program, no value is a letter, none is a channel but the infrastructure's, and the type at each `new` is a channel type.
+-- What stands in the low program of a checked program (docs/LANGUAGE.md, "Types"): each use stands in the scope of its binder, each site
+-- is one of the program, no value is a letter, none is a channel but the infrastructure's, and the type at each `new` is a channel type.
 use Rattle.std.specs.Prelude.{◌≡◌, ◌<◌, ℕ, Bool, true, false, ◌||◌, nat_eq, List, [], ◌∷◌, length}
 use Rattle.np_syntax.specs.declared.value.Value.{Value}
 use Rattle.np_syntax.specs.declared.value.Value as value

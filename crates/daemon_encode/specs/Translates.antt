@@ -1,5 +1,5 @@
--- A low program of a program, by the infrastructure and whatever the numbers of the binders that the infrastructure makes, as long as they are none of the
--- program's (docs/LANGUAGE.md, "Translation and daemon"). What holds of low programs holds for each such numbering.
+-- A low program of a program, by the infrastructure and whatever the numbers of the binders that the infrastructure makes, as long as they
+-- are none of the program's (docs/TRANSLATION.md, "Translation and daemon"). What holds of low programs holds for each such numbering.
 use Rattle.std.specs.Prelude.{◌≡◌, ◌≤◌, ℕ, length}
 use Rattle.np_syntax.specs.declared.types.Ty.{Ty}
 use Rattle.np_syntax.specs.declared.expression.Expr.{Expr}

@@ -1,4 +1,8 @@
-//! The daemon's process, with caches and without.
+//! The daemon's process, with caches and without, server by server.
+//!
+//! Each is exactly the text of the definitions.
+//!
+//! Contracts: `daemon`, `cached_daemon`.
 #![tactic(auto)]
 
 mod cached_servers;

@@ -1,4 +1,4 @@
--- Which texts are histories, and where any other is refused (docs/LANGUAGE.md, "History text").
+-- Which texts are histories, and where any other is refused (docs/HISTORIES.md, "History text").
 use Rattle.std.specs.Prelude.{◌≡◌, ◌≢◌, ℕ, ◌+◌, ◌<◌, ◌^◌, ◌==◌, if◌then◌else◌, List, [], ◌∷◌, ◌++◌, length, map, Option, Some, None}
 use Rattle.std.specs.List.{onto_first, AllByRecursion}
 use Rattle.np_syntax.specs.declared.value.Name.{Name}

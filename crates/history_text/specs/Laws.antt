@@ -1,4 +1,4 @@
--- What holds of histories and their texts (docs/LANGUAGE.md, "History text").
+-- What holds of histories and their texts (docs/HISTORIES.md, "History text").
 use Rattle.std.specs.Prelude.{◌≡◌, ℕ, ◌⊎◌, List}
 use Rattle.std.specs.List.{AllByRecursion}
 use Rattle.np_syntax.specs.declared.event.Event.{Event}

@@ -1,4 +1,4 @@
--- How a history and the high-level events are written, as lines and fields (docs/LANGUAGE.md, "History text").
+-- How a history and the high-level events are written, as lines and fields (docs/HISTORIES.md, "History text").
 use Rattle.std.specs.Prelude.{ℕ, List, [], ◌∷◌, ◌++◌, map, codes, decimal, Option, Some, None}
 use Rattle.std.specs.List.{flat_map}
 use Rattle.np_syntax.specs.Printed.{spaced}

@@ -1,4 +1,4 @@
--- The daemon's process where agents have caches (docs/LANGUAGE.md, "Translation and daemon"): that of the central infrastructure, and
+-- The daemon's process where agents have caches (docs/TRANSLATION.md, "Translation and daemon"): that of the central infrastructure, and
 -- a server that says where agents are. Here n is the number of sites.
 use Rattle.std.specs.Prelude.{ℕ, ◌+◌}
 use Rattle.np_syntax.specs.declared.process.Proc.{Proc}

@@ -1,4 +1,4 @@
--- The forms that are translated otherwise where agents have caches, and main's bracket (docs/LANGUAGE.md, "Translation and daemon").
+-- The forms that are translated otherwise where agents have caches, and main's bracket (docs/TRANSLATION.md, "Translation and daemon").
 -- Here n is the number of sites, k that of the source node, and a the agent that the form stands in; P and Q are written for their
 -- processes in the low program. The binders that a post makes are numbered on from m, in reading order, and those of K from c.
 use Rattle.std.specs.Prelude.{ℕ, ◌+◌, []}

@@ -1,4 +1,4 @@
--- The daemon's process (docs/LANGUAGE.md, "Translation and daemon"). Here n is the number of sites.
+-- The daemon's process (docs/TRANSLATION.md, "Translation and daemon"). Here n is the number of sites.
 use Rattle.std.specs.Prelude.{ℕ, ◌+◌, [], ◌∷◌}
 use Rattle.np_syntax.specs.declared.value.Value as value
 use Rattle.np_syntax.specs.declared.expression.Expr.{Expr}

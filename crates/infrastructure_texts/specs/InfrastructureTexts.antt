@@ -1,5 +1,5 @@
 -- What the forms that each infrastructure translates in a way of its own become, main's bracket, and the daemon, by the infrastructure
--- (docs/LANGUAGE.md, "Translation and daemon"). Here n is the number of sites, k that of the source node, and a the agent that the form
+-- (docs/TRANSLATION.md, "Translation and daemon"). Here n is the number of sites, k that of the source node, and a the agent that the form
 -- stands in. Binders are given for both infrastructures: those of a post from m, and those that keep an agent's cache from c.
 use Rattle.std.specs.Prelude.{ℕ}
 use Rattle.np_syntax.specs.declared.expression.Expr.{Expr}

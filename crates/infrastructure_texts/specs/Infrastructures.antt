@@ -1,4 +1,4 @@
--- The two infrastructures (docs/LANGUAGE.md, "Translation and daemon").
+-- The two infrastructures (docs/TRANSLATION.md, "Translation and daemon").
 
 -- a daemon alone, or a daemon and a cache in each agent
 pub data Infrastructure : Type 0 where

@@ -1,4 +1,4 @@
--- What the translation and the daemon write out (docs/LANGUAGE.md, "Translation and daemon"). It has the offset 0; what is
+-- What the translation and the daemon write out (docs/TRANSLATION.md, "Translation and daemon"). It has the offset 0; what is
 -- taken over from the source keeps its own.
 use Rattle.std.specs.Prelude.{ℕ, ◌≡◌, [], ◌∷◌, Result, IfOk}
 use Rattle.np_syntax.specs.declared.memory.Memory.{Memory}

@@ -1,4 +1,4 @@
--- The three forms that are translated, and main's bracket (docs/LANGUAGE.md, "Translation and daemon"). Here n is the number of
+-- The three forms that are translated, and main's bracket (docs/TRANSLATION.md, "Translation and daemon"). Here n is the number of
 -- sites, k that of the source node, and a the agent that the form stands in; P and Q are written for their processes in the low
 -- program.
 use Rattle.std.specs.Prelude.{ℕ}

@@ -1,5 +1,6 @@
-//! The program: takes the command line, the files and the streams of the process, and makes the top
-//! call.
+//! The program: takes the command line, the files and the streams of the process, and makes the top call.
+//!
+//! Contracts: none beyond that each call it makes meets its conditions.
 #![tactic(auto)]
 
 use np_io::{ErrSink, FileTexts, OutSink, Word};

@@ -1,4 +1,4 @@
--- What the program answers, by what a call made, or why it made nothing (docs/LANGUAGE.md, "Reports and refusals").
+-- What the program answers, by what a call made, or why it made nothing (docs/COMMANDS.md, "Reports and refusals").
 use Rattle.std.specs.Prelude.{◌≡◌, ◌≢◌, ℕ, ◌-◌, ◌^◌, ◌⊎◌, min, List, length, sum_by, Option, Some, None, Result, Ok, Err}
 use Rattle.std.specs.Io.KnownBytes.{Appends, Keeps}
 use Rattle.np_syntax.specs.declared.event.End.{End}

@@ -1,5 +1,10 @@
-//! The answer of the program: from what a call made, or why it made nothing, to the exit status and to what stands on standard
-//! output and standard error.
+//! From what a call made, or its refusal, to the exit status and what stands on the two sinks.
+//!
+//! `answer_of` writes the text of what was made, or the line of the refusal, and answers with the run, if there is one, and
+//! with the status: that of the end of the run or of the refusal, or that a write failed or memory ran out. It knows nothing
+//! of the words and the texts of the call.
+//!
+//! Contracts: `answer_of` (`Answers`), `Answer::told`.
 #![tactic(auto)]
 
 mod answer;

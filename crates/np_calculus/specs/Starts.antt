@@ -1,4 +1,4 @@
--- Where runs begin (docs/LANGUAGE.md, "Starts").
+-- Where runs begin (docs/TRANSLATION.md, "Starts").
 use Rattle.std.specs.Prelude.{ℕ, List, [], ◌∷◌, length, map}
 use Rattle.std.specs.FinMap as table
 use Rattle.std.specs.FinSet as set

@@ -1,4 +1,5 @@
--- How many process nodes a process and a low program have (docs/LANGUAGE.md, "Scope" and "Limits"). Each composition is a node.
+-- How many process nodes a process and a low program have (docs/LANGUAGE.md, "Scope"; docs/COMMANDS.md, "Limits"). Each composition is a
+-- node.
 use Rattle.std.specs.Prelude.{ℕ, ◌+◌, ◌-◌, ◌^◌, min, Option, None, Some, unwrap_or}
 use Rattle.np_syntax.specs.declared.process.Proc.{Proc}
 use Rattle.np_syntax.specs.declared.process.ProcForm.{ProcForm-F, fold-ProcForm}

@@ -1,4 +1,8 @@
-//! Conditions of events in code: what an event names is read as the table of reductions asks for it.
+//! Conditions of events in code: what an event names, and where an agent is.
+//!
+//! What an event names, and a place, are read as the table of reductions asks for them.
+//!
+//! Contracts: `none_made`, `one_made`, `two_made`, `two_names`, `one_site`, `one_tag`, `way`, `at_site`.
 #![tactic(auto)]
 
 mod conditions;

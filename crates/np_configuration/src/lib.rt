@@ -1,4 +1,12 @@
-//! A configuration in code, its rows, and the starts.
+//! The configuration in code, its rows, and the two starts.
+//!
+//! `apply` makes an event of any of the seventeen kinds exactly if its row is met, and leaves the configuration of that row;
+//! where the row is not met, or memory runs out, it changes nothing. First a function of `&self`, such as `find_let`, finds
+//! what the row needs; then a short one that several rows share makes room, files the errand and changes the atoms. `idle`,
+//! `start_high` and `start_low` are their definitions. `Cfg::next` gives what can happen next, and nothing only if no site
+//! can act.
+//!
+//! Contracts: `apply` (`Applied`), `Cfg::next` (`IsNext`), `idle`, `start_high`, `start_low`.
 #![tactic(auto)]
 
 mod alone;

@@ -1,4 +1,10 @@
-//! One process in its frame: the values of expressions, patterns, the forms of processes, and what they wait for.
+//! One process and its environment: values of expressions, matching, and the forms of processes.
+//!
+//! `eval`, `bind` and `fits` are their definitions; `fits` says whether a value matches a pattern without making the value. A
+//! `Frame` is a finite map from binders to values, of which a copy shares what is there. `errand_of` says what a process
+//! waits for.
+//!
+//! Contracts: `eval`, `bind`, `fits`, `Frame`.
 #![tactic(auto)]
 
 mod fitting;

@@ -1,6 +1,11 @@
-//! Runs worked examples: calls of np over texts and sinks in memory, each with what must come of it. The words name the
-//! files of examples. It prints how many calls did as they should, and of each one that did not what was wanted and what came.
-//! With the words `history` and the file of a source it prints the history of the run of the source's low program instead.
+//! Runs worked examples: calls of np over texts and sinks in memory, each with what must come of it.
+//!
+//! The words name the files of examples. It prints how many calls did as they should, and of each one that did not what was
+//! wanted and what came. With the words `history` and the file of a source it prints the history of the run of the source's
+//! low program instead. An example is a list of calls, each a `Trial`: its words, its history, what is wanted (`Wanted`), and
+//! which calls follow if that came (`Then`). What is read off a run on sites is made again at the high level.
+//!
+//! Contracts: none beyond that each call it makes meets its conditions.
 #![tactic(auto)]
 
 mod calling;

@@ -43,7 +43,8 @@ pub(crate) enum Wanted {
     RunOrStop { count: usize, least: usize },
     /// The printed line of that number, counted from 1, then the history of what led to it, and then how many events that has.
     Past(usize),
-    /// A run on sites which begins with the lines and the events of the history that the call reads, if it reads one. It is cut off or at rest.
+    /// A run on sites which begins with the lines and the events of the history that the call reads, if it reads one.
+    /// It is cut off or at rest.
     Sites,
     /// Such a run at rest, with the lines of the low program's run, in any order, and with as many events.
     WholeSites,

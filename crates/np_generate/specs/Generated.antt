@@ -1,4 +1,4 @@
--- The generated source, line by line (docs/LANGUAGE.md, "The generated source").
+-- The generated source, line by line (docs/COMMANDS.md, "The generated source").
 use Rattle.std.specs.Prelude.{ℕ, ◌-◌, ◌*◌, ◌%◌, nat_eq, List, [], ◌∷◌, ◌++◌, map, codes, decimal, if◌then◌else◌}
 use Rattle.std.specs.List.{flat_map, range_with_len}
 

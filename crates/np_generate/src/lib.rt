@@ -1,4 +1,8 @@
 //! The source that np generates itself: a ring of agents that pass one token round.
+//!
+//! `generated` gives its text, for each number of agents from 1 to 100.
+//!
+//! Contracts: `generated`.
 #![tactic(auto)]
 
 mod source;

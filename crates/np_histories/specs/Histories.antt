@@ -1,4 +1,4 @@
--- What is made of the text of a history, and what is wrong with it (docs/LANGUAGE.md, "History text" and "Reports and
+-- What is made of the text of a history, and what is wrong with it (docs/HISTORIES.md, "History text"; docs/COMMANDS.md, "Reports and
 -- refusals").
 use Rattle.std.specs.Prelude.{◌≡◌, ◌≤◌, ℕ, ◌⊎◌, List, length, Some}
 use Rattle.np_syntax.specs.declared.event.Event.{Event}

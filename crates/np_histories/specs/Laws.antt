@@ -1,4 +1,4 @@
--- A history is read or refused, replayed or refused, and refused in one way alone (docs/LANGUAGE.md, "Reports and refusals").
+-- A history is read or refused, replayed or refused, and refused in one way alone (docs/COMMANDS.md, "Reports and refusals").
 use Rattle.std.specs.Prelude.{◌≡◌, ℕ, List}
 use Rattle.np_syntax.specs.declared.event.Event.{Event}
 use Rattle.np_syntax.specs.declared.program.LowProgram.{LowProgram}

@@ -1,4 +1,4 @@
--- The past of a printed value, in a history of a low program (docs/LANGUAGE.md, "Views of a run").
+-- The past of a printed value, in a history of a low program (docs/HISTORIES.md, "Views of a run").
 use Rattle.std.specs.Prelude.{◌≡◌, ◌+◌, ◌-◌, ◌<◌, ◌≤◌, ℕ, List, length, take, Some, slice_get}
 use Rattle.np_syntax.specs.declared.event.Event.{Event}
 use Rattle.np_syntax.specs.declared.program.LowProgram.{LowProgram}

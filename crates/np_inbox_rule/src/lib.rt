@@ -1,5 +1,11 @@
-//! The rule of an inbox: one bounded queue of a receiving site, into which each site pushes. It says what the queue holds and what
-//! each pass of it knows, and that each step of the queue keeps it.
+//! The rule of an inbox: one bounded queue of a receiving site, into which all sites put. Laws only.
+//!
+//! Each step of a sender and of the owner keeps the rule, by which no more than 64 items of one sender wait, and what was
+//! taken is a beginning of what was put. It is over plain lists, with a lemma for each step on the one that takes it and one
+//! for all others.
+//!
+//! Contracts: `law_inbox_begins`, `law_inbox_pushes`, `law_inbox_pops`, `law_inbox_looks`, `law_inbox_splits`,
+//! `law_inbox_joins`.
 #![tactic(auto)]
 
 mod laws;

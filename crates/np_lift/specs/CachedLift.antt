@@ -1,5 +1,5 @@
 -- The list of events of the high level that is read off a run of the low level whose infrastructure has caches and messengers
--- (docs/LANGUAGE.md, "Translation and daemon").
+-- (docs/TRANSLATION.md, "Translation and daemon").
 use Rattle.std.specs.Prelude.{Bool, true, false, Option, None, Some, List, [], ◌∷◌, unwrap_or, refl}
 use Rattle.std.specs.Coded.{Coded, code_by, coded×}
 use Rattle.std.specs.Option.{option_map}

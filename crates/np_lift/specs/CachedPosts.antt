@@ -1,5 +1,5 @@
--- Posts of a run of the low level whose infrastructure has caches and messengers, and where they are handed over, each under the mark for which its own
--- stands (docs/LANGUAGE.md, "Translation and daemon").
+-- Posts of a run of the low level whose infrastructure has caches and messengers, and where they are handed over, each under the mark for
+-- which its own stands (docs/TRANSLATION.md, "Translation and daemon").
 use Rattle.std.specs.Prelude.{Option, None, Some, List, [], ◌∷◌}
 use Rattle.std.specs.FinMap as map
 use Rattle.np_syntax.specs.declared.value.Name.{Name}

@@ -1,4 +1,4 @@
--- The list of events of the high level that is read off a run of the low level (docs/LANGUAGE.md, "Translation and daemon").
+-- The list of events of the high level that is read off a run of the low level (docs/TRANSLATION.md, "Translation and daemon").
 use Rattle.std.specs.Prelude.{Option, None, Some, List}
 use Rattle.std.specs.List.{filter_map}
 use Rattle.np_syntax.specs.declared.process.Role.{Role}

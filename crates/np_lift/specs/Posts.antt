@@ -1,4 +1,4 @@
--- Posts of a run of the low level, and where they are handed over (docs/LANGUAGE.md, "Translation and daemon").
+-- Posts of a run of the low level, and where they are handed over (docs/TRANSLATION.md, "Translation and daemon").
 use Rattle.std.specs.Prelude.{◌≡◌, Option, None, Some, List, [], ◌∷◌, cond}
 use Rattle.std.specs.List.{filter_map}
 use Rattle.std.specs.FinMap as map

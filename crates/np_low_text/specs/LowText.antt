@@ -1,4 +1,4 @@
--- The low text: how a low program is written (docs/LANGUAGE.md, "Printed values"). It is the canonical text with binders, own names,
+-- The low text: how a low program is written (docs/TRANSLATION.md, "Low text"). It is the canonical text with binders, own names,
 -- maps of places and the further forms of the low level.
 use Rattle.std.specs.Prelude.{ℕ, Bool, true, false, nat_eq, nat_lt, List, [], ◌∷◌, ◌++◌, length, map, codes, slice_index_or, if◌then◌else◌}
 use Rattle.std.specs.Fmt.{decimal}

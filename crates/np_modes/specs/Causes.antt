@@ -1,4 +1,4 @@
--- What a call makes of its texts, and the cause of each refusal (docs/LANGUAGE.md, "Reports and refusals").
+-- What a call makes of its texts, and the cause of each refusal (docs/COMMANDS.md, "Reports and refusals").
 use Rattle.std.specs.Prelude.{◌≡◌, ℕ, ◌+◌, ◌<◌, ◌≤◌, ◌⊎◌, List, length, Option, Some, None, IsSome}
 use Rattle.np_syntax.specs.declared.limits.TheConstants.{LONGEST_SOURCE, MOST_SITES}
 use Rattle.np_syntax.specs.declared.event.Event.{Event}

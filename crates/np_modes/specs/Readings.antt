@@ -1,4 +1,4 @@
--- What a call saw of its texts, and what was read of them (docs/LANGUAGE.md, "Reports and refusals").
+-- What a call saw of its texts, and what was read of them (docs/COMMANDS.md, "Reports and refusals").
 use Rattle.std.specs.Prelude.{◌≡◌, ℕ, ◌<◌, ◌≤◌, ◌⊎◌, List, length, IfSome}
 use Rattle.np_io.specs.Causes.{Counts, Rose}
 use Rattle.np_io.specs.Bytes.{Held}

@@ -1,4 +1,4 @@
--- How the sites of a low program begin, and what is known of what comes of it (docs/LANGUAGE.md, "Stop and resume").
+-- How the sites of a low program begin, and what is known of what comes of it (docs/HISTORIES.md, "Stop and resume").
 use Rattle.std.specs.Prelude.{ℕ, List, length, IsSome}
 use Rattle.np_syntax.specs.declared.event.Event.{Event}
 use Rattle.np_syntax.specs.declared.program.LowProgram.{LowProgram}

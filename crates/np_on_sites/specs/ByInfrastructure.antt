@@ -1,5 +1,5 @@
--- What the infrastructure of a run decides: the low program, the run of the high level that is read off, and what is said of the posts of a run
--- (docs/LANGUAGE.md, "Translation and daemon").
+-- What the infrastructure of a run decides: the low program, the run of the high level that is read off, and what is said of the posts of
+-- a run (docs/TRANSLATION.md, "Translation and daemon").
 use Rattle.std.specs.Prelude.{List}
 use Rattle.np_syntax.specs.declared.event.Event.{Event}
 use Rattle.np_syntax.specs.declared.program.LowProgram.{LowProgram}

@@ -1,4 +1,4 @@
--- A run of a low program on its sites (docs/LANGUAGE.md, "History text").
+-- A run of a low program on its sites (docs/HISTORIES.md, "History text").
 use Rattle.std.specs.Prelude.{◌≡◌, ◌↔◌, ℕ, List, length, Some}
 use Rattle.np_syntax.specs.declared.event.End.{End}
 use Rattle.np_syntax.specs.declared.event.End.TheVariants.{Rest, Spent}

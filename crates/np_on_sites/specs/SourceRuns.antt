@@ -1,4 +1,4 @@
--- What a run of a compiled program on its sites is of the source (docs/LANGUAGE.md, "Translation and daemon").
+-- What a run of a compiled program on its sites is of the source (docs/TRANSLATION.md, "Translation and daemon").
 use Rattle.std.specs.Prelude.{◌≡◌, ℕ, List, Some}
 use Rattle.np_syntax.specs.declared.event.End.{End}
 use Rattle.np_syntax.specs.declared.event.End.TheVariants.{Rest}

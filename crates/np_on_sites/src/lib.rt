@@ -1,5 +1,13 @@
-//! A low program on its sites: each makes its events on a thread of its own, or one site after another, and the histories
-//! that they leave are a run of the low program and of its source.
+//! A low program on its sites, and what such a run is of its source.
+//!
+//! `run_on_sites` keeps the histories of a run of the low program, and how it ended: at rest exactly if no site can act, else
+//! with its budget spent, and then each site that can still act has used its budget. Of an accepted source, by each
+//! infrastructure (`ByInfrastructure`): no value of a wrong type is met, the list that is read off is a run of the source
+//! that prints the same, each location-independent message was handed over at most once, and if the low level rests the high
+//! level rests and each was handed over. A run that goes on from saved events begins with them. The calls ask for `Wait`,
+//! since those of inboxes may.
+//!
+//! Contracts: `run_on_sites` (`IsSitesRun`), `redo_on_sites` (`IsToGoOn`), `law_source_runs` (`IsSourceRun`).
 #![tactic(auto)]
 
 mod beginning;

@@ -1,4 +1,9 @@
-//! When each answer of the program comes: laws that follow from the contract of the top call.
+//! When each answer of the program comes. Laws only.
+//!
+//! What follows from the contract of the top call where no write failed and memory was not wanting: which answer comes is
+//! told by the words and by the bytes of the texts that they name. No other crate stands on it.
+//!
+//! Contracts: `law_completes`, `law_refuses_words`, `law_refuses_once`, `law_refuses_histories_once` and six more.
 #![tactic(auto)]
 
 mod laws;

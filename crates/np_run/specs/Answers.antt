@@ -1,4 +1,4 @@
--- The program's answers and their causes (docs/LANGUAGE.md, "Reports and refusals"). Want of memory alone has no cause.
+-- The program's answers and their causes (docs/COMMANDS.md, "Reports and refusals"). Want of memory alone has no cause.
 use Rattle.std.specs.Prelude.{◌≡◌, ℕ, ◌+◌, ◌≤◌, ◌⊎◌, List, Some, None}
 use Rattle.std.specs.Io.KnownBytes.{Appends, Keeps}
 use Rattle.np_io.specs.Causes.{Rose}

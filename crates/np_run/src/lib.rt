@@ -1,4 +1,9 @@
-//! The top call: from the words and the bytes of a source to the bytes of a report.
+//! The top call, with a gate and without one.
+//!
+//! It makes the text first and has it written then. Each answer has its cause (`HasCauses`), and each run on sites that an
+//! answer keeps meets the `Headline`.
+//!
+//! Contracts: `np`, `np_gated` (`HasCauses`, `Headline`).
 #![tactic(auto)]
 
 mod top;

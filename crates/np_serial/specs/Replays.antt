@@ -1,4 +1,4 @@
--- What following a list of events answers (docs/LANGUAGE.md, "Refusals").
+-- What following a list of events answers (docs/COMMANDS.md, "Reports and refusals").
 use Rattle.std.specs.Prelude.{◌≡◌, ℕ, ◌+◌, ◌<◌, List, length, take, None}
 use Rattle.np_syntax.specs.declared.event.Event.{Event}
 use Rattle.np_calculus.specs.Config.{Config}

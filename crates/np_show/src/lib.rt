@@ -1,4 +1,9 @@
-//! The canonical text of a tree, which is read back as the tree.
+//! The canonical text of a tree.
+//!
+//! `show` writes it. For every tree that the grammar gives a list of tokens, this text has exactly one list of tokens, and
+//! that has the same tree up to offsets, at the same depth.
+//!
+//! Contracts: `show`.
 #![tactic(auto)]
 
 mod expressions;

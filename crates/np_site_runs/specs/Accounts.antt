@@ -1,5 +1,5 @@
 -- What each of n sites did, told by itself: of an item that it takes it knows on whose link it came, and not who sent it
--- (docs/LANGUAGE.md, "History text").
+-- (docs/HISTORIES.md, "History text").
 use Rattle.std.specs.Prelude.{◌≡◌, ◌<◌, ◌↔◌, ◌==◌, ℕ, cond, nat_lt, ◌&&◌, List, [], ◌∷◌, ◌++◌, length, map, Some, IfSome, option_to_list, slice_index_or}
 use Rattle.std.specs.List.{AllByRecursion, filter, flat_map}
 use Rattle.np_syntax.specs.declared.program.LowProgram.{LowProgram}

@@ -1,4 +1,4 @@
--- What a site holds, the configurations that are just this, and what the site does (docs/LANGUAGE.md, "History text").
+-- What a site holds, the configurations that are just this, and what the site does (docs/HISTORIES.md, "History text").
 use Rattle.std.specs.Prelude.{◌≡◌, ◌<◌, ◌+◌, ℕ, nat_lt, List, [], ◌∷◌, map, option_map, None, Some, IsSome, IfSome}
 use Rattle.std.specs.FinMap as table
 use Rattle.std.specs.FinSet as set

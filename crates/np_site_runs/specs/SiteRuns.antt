@@ -1,4 +1,4 @@
--- What each of many sites did alone, told by what it holds (docs/LANGUAGE.md, "History text").
+-- What each of many sites did alone, told by what it holds (docs/HISTORIES.md, "History text").
 use Rattle.std.specs.Prelude.{◌≡◌, ◌≤◌, ℕ, List, [], ◌∷◌, ◌++◌}
 use Rattle.std.specs.List.{AllByRecursion}
 use Rattle.np_calculus.specs.Config.{Config}

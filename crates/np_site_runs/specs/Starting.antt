@@ -1,4 +1,4 @@
--- What each site holds at the low start (docs/LANGUAGE.md, "Starts").
+-- What each site holds at the low start (docs/TRANSLATION.md, "Starts").
 use Rattle.std.specs.Prelude.{◌<◌, ℕ, Bool, cond, nat_eq, [], length}
 use Rattle.std.specs.FinMap as table
 use Rattle.np_syntax.specs.declared.value.Name.{Name}

@@ -1,5 +1,5 @@
--- What is promised of a run on sites (docs/LANGUAGE.md, "Reports and refusals" and "History text"): whatever the schedule, the histories of the sites
--- are one run of the compiled program, and what is read off it is a run of the source.
+-- What is promised of a run on sites (docs/COMMANDS.md, "Reports and refusals"; docs/HISTORIES.md, "History text"): whatever the schedule,
+-- the histories of the sites are one run of the compiled program, and what is read off it is a run of the source.
 use Rattle.std.specs.Prelude.{◌≡◌, ℕ, ◌*◌, ◌≤◌, Bool, true, false, List, [], ◌++◌, length, Some}
 use Rattle.np_syntax.specs.declared.event.End.TheVariants.{Rest}
 use Rattle.np_syntax.specs.declared.event.Event.{Event}

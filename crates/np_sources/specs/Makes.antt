@@ -1,4 +1,4 @@
--- What a mode makes of the bytes of a source (docs/LANGUAGE.md, "Reports and refusals").
+-- What a mode makes of the bytes of a source (docs/COMMANDS.md, "Reports and refusals").
 use Rattle.std.specs.Prelude.{◌≡◌, ℕ, ◌*◌, ◌≤◌, Bool, true, false, List, [], length, codes, Option, Some, None, IsSome}
 use Rattle.np_syntax.specs.declared.event.End.{End}
 use Rattle.np_syntax.specs.declared.event.Event.{Event}

@@ -1,4 +1,4 @@
--- How far a source is taken, and what is wrong with one that is not taken so far (docs/LANGUAGE.md, "Reports and refusals" and
+-- How far a source is taken, and what is wrong with one that is not taken so far (docs/COMMANDS.md, "Reports and refusals" and
 -- "Limits").
 use Rattle.std.specs.Prelude.{◌≡◌, ℕ, ◌*◌, ◌<◌, ◌≤◌, ◌⊎◌, List, length, Option, None, Some, slice_get}
 use Rattle.np_syntax.specs.declared.event.Event.{Event}

@@ -1,4 +1,14 @@
-//! What each mode makes of the bytes of a source: a text, and a run where it runs the source.
+//! What each mode makes of the bytes of a source: a text, and a run where it runs the source; or the first refusal.
+//!
+//! `job_of` makes what is asked for, or gives the refusal with its cause; of a run on sites it gives what the headline
+//! promises (`KeepsPromises`), and with `--one` also that the one-step list is a run of the calculus in which migration is
+//! one step. A run that goes on from saved events begins with them (`KeepsResumed`). `load_of` does so with a generated
+//! source, which is no longer than a source may be. `low_of` gives the low program of an infrastructure, whose process nodes
+//! are few and which can run; `run_low` runs it in one thread. `Reach` says how far a mode takes a source. No source is both
+//! taken so far and refused, and none is refused in two ways.
+//!
+//! Contracts: `job_of` (`DoesTask`, `KeepsPromises`, `IsShownSo`, `FaultyTo`), `job_redone` (`KeepsResumed`), `load_of`
+//! (`DoesLoad`), `low_of` (`IsLowOf`), `run_low` (`RunsLow`), `law_one_answer` (`HaveOneAnswer`).
 #![tactic(auto)]
 
 mod high;

@@ -1,4 +1,8 @@
-//! Subtyping, and the forms of types.
+//! Subtyping, and the tests of a type's form.
+//!
+//! `sub` is the table of subtyping. It compares two types in one walk, which turns round below an output.
+//!
+//! Contracts: `sub`.
 #![tactic(auto)]
 
 mod forms;

@@ -1,5 +1,5 @@
--- What a value or a type has in it: a letter its channel and its value, a map of places its pairs, a type of channels what may be done with them and
--- the type that they carry (docs/LANGUAGE.md, "Values and evaluation" and "Types").
+-- What a value or a type has in it: a letter its channel and its value, a map of places its pairs, a type of channels what may be done
+-- with them and the type that they carry (docs/LANGUAGE.md, "Values and evaluation" and "Types").
 use Rattle.std.specs.Prelude.{Option, None, Some, List}
 use Rattle.np_syntax.specs.declared.value.Name.{Name}
 use Rattle.np_syntax.specs.declared.value.Value.{Value, Value-F}

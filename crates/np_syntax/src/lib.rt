@@ -1,5 +1,13 @@
-//! The plain data of Nomadic Pict: values, types, expressions, patterns, processes, programs of both
-//! levels, and the events of runs. Contracts see each as a tree, and each copy equals its original.
+//! The data that all layers share: lists, boxes, names, values, types, expressions, patterns, processes, programs of both
+//! levels, and events.
+//!
+//! A list is seen as its items and a box as its content, so contracts see trees. A copy equals its original, and `same` is
+//! equality. An expression and a process keep their form on the heap, so what holds one is small. A form that is made of its
+//! parts and of copies of the rest is that form, and a process that is moved out of a form is the one that was in it. The
+//! printed text of a value is that of the table in docs/LANGUAGE.md. Chains of conditions (`>>=`, `need`), the escapes of
+//! strings and the limits, as named constants, stand here once for all crates.
+//!
+//! Contracts: `copy`, `same`, `process_forms`, `into_parts`, `into_creation`, `into_body`, `into_way`, `print_value`.
 #![tactic(auto)]
 
 mod boxed;

@@ -11,8 +11,8 @@ use np_syntax::{Memory, Name};
 use std::alloc::Global;
 use std::marker::Model;
 
-/// A finite map from names, which lends its values to be changed in place. Its `spare` is how many new names are sure to find room, and its `keys` are the
-/// names in the order of a walk, which `take` and `remove` change.
+/// A finite map from names, which lends its values to be changed in place. Its `spare` is how many new names are sure
+/// to find room, and its `keys` are the names in the order of a walk, which `take` and `remove` change.
 pub struct Table<V> {
     entries: IndexMap<Name, V>,
 }

@@ -1,5 +1,7 @@
-//! Tests of what no contract and no example can say: calls over real files and streams, items that two threads pass on, sites on
-//! two threads, and public calls that no mode of the program makes, each with ample memory.
+//! Tests of what no contract and no example can say: calls over real files and streams, items that two threads pass on, sites
+//! on two threads, and public calls that no mode of the program makes, each with ample memory.
+//!
+//! Contracts: none beyond that each call it makes meets its conditions.
 #![tactic(auto)]
 
 #[cfg(test)]

@@ -1,4 +1,5 @@
--- What the checks in code answer: the value or the first fault (docs/LANGUAGE.md, "Types"). Want of memory may be answered in the place of either.
+-- What the checks in code answer: the value or the first fault (docs/LANGUAGE.md, "Types"). Want of memory may be answered in the place of
+-- either.
 use Rattle.std.specs.Prelude.{◌≡◌, ℕ, Option, Result, Ok, Err, List}
 use Rattle.np_syntax.specs.declared.types.Ty.{Ty}
 use Rattle.np_types.specs.declared.fault.LeastFail.{LeastFail}

@@ -1,4 +1,5 @@
--- What binders had before, and how it is put back: a name is bound in its own part of a program alone (docs/LANGUAGE.md, "Scope" and "Types").
+-- What binders had before, and how it is put back: a name is bound in its own part of a program alone (docs/LANGUAGE.md, "Scope" and
+-- "Types").
 use Rattle.std.specs.Prelude.{ℕ, Option, None, Some, IsSome, List, [], ◌∷◌}
 use Rattle.std.specs.FinMap as map
 use Rattle.np_syntax.specs.declared.types.Ty.{Ty}

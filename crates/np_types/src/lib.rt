@@ -1,4 +1,10 @@
-//! The least types of expressions, and the types of binders.
+//! Least types of expressions, patterns against types, typing environments, and the laws of subtyping.
+//!
+//! Subtyping is a partial order. `least` gives the least type of an expression, or the first fault with its place and rule.
+//! `cover` gives the names of a pattern their types, and changes nothing if it fails. `Env` is a finite map in which what was
+//! put can be put back. What np_subtyping has is passed on.
+//!
+//! Contracts: `least`, `cover`, `Env`, `law_subtyping`.
 #![tactic(auto)]
 
 mod channels;

@@ -1,4 +1,4 @@
--- The line and the status of each refusal (docs/LANGUAGE.md, "Reports and refusals").
+-- The line and the status of each refusal (docs/COMMANDS.md, "Reports and refusals").
 use Rattle.std.specs.Prelude.{ℕ, List, [], ◌++◌, codes}
 use Rattle.std.specs.Fmt.{decimal}
 use Rattle.np_types.specs.declared.fault.Rule.{Rule}

@@ -1,4 +1,4 @@
--- The texts of reports (docs/LANGUAGE.md, "Reports and refusals").
+-- The texts of reports (docs/COMMANDS.md, "Reports and refusals").
 use Rattle.std.specs.Prelude.{ℕ, ℤ, pos, ◌+ℤ◌, List, [], ◌++◌, length, codes, decimal, slice_index_or}
 use Rattle.std.specs.Fmt.{signed_decimal}
 use Rattle.std.specs.Int.{int_wrap, w64}

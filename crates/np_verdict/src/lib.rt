@@ -1,5 +1,13 @@
-//! What np says of sources and runs: from the bytes of a source to its checked program, or to the first refusal; the refusals of the
-//! program, with their lines and statuses; and the texts of runs, of replays and of pasts.
+//! From the bytes of a source to its checked program, or to the first refusal; the refusals with their lines and statuses;
+//! and the texts of runs.
+//!
+//! `checked_source` gives the program of the bytes, without a fault of types, or the refusal with its cause; no source is
+//! both accepted and refused, and none is refused in two ways. `Stage` says how far a source is read. `line` and `status` are
+//! the tables of refusals. `report`, `replay_report`, `past_report` and `load_report` are the texts of docs/COMMANDS.md; the
+//! sum is that over the integers, of which 64 bits are left.
+//!
+//! Contracts: `tokens_of`, `tree_of`, `checked_source` (`IsWellTyped`, `Faulty`), `line`, `status`, `report`,
+//! `replay_report`, `past_report`, `load_report`.
 #![tactic(auto)]
 
 mod reading;

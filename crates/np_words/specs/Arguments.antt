@@ -1,4 +1,4 @@
--- The words of the command line as one simple command (docs/LANGUAGE.md, "Reports and refusals"): its arguments, and what the words
+-- The words of the command line as one simple command (docs/COMMANDS.md, "Reports and refusals"): its arguments, and what the words
 -- give for each. The definitions of clap say which words are taken.
 use Rattle.std.specs.Prelude.{Bool, true, false, List, [], ◌∷◌, ◌++◌, codes, Option, Some, None, option_map, if◌then◌else◌}
 use Rattle.std.specs.Str.{bytes_eq}

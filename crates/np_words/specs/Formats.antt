@@ -1,4 +1,4 @@
--- The format in which the histories of an infrastructure are written (docs/LANGUAGE.md, "History text").
+-- The format in which the histories of an infrastructure are written (docs/HISTORIES.md, "History text").
 use Rattle.history_text.specs.declared.format.Format.{Format}
 use Rattle.history_text.specs.declared.format.Format.TheVariants.{First, Second}
 use Rattle.np_words.specs.declared.modes.Infrastructure.{Infrastructure}

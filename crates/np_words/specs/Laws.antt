@@ -1,4 +1,4 @@
--- What the words give that are taken in their order (docs/LANGUAGE.md, "Reports and refusals").
+-- What the words give that are taken in their order (docs/COMMANDS.md, "Reports and refusals").
 use Rattle.std.specs.Prelude.{◌≡◌, ◌==◌, Bool, true, false, not, [], ◌∷◌, codes, Some, None}
 use Rattle.clap.specs.Words.{Text}
 use Rattle.np_words.specs.Arguments.{Given, taken}

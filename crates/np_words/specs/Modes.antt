@@ -1,4 +1,4 @@
--- The table of the modes that are built, and the words of the options (docs/LANGUAGE.md, "Reports and refusals").
+-- The table of the modes that are built, and the words of the options (docs/COMMANDS.md, "Reports and refusals").
 use Rattle.std.specs.Prelude.{ℕ, Bool, true, false, ◌&&◌, nat_le, nat_lt, if◌then◌else◌, List, [], ◌∷◌, length, codes, find, Option, Some, None}
 use Rattle.std.specs.Char.{is_ascii_digit}
 use Rattle.std.specs.List.{list_all}

@@ -1,4 +1,5 @@
--- Which words ask for what (docs/LANGUAGE.md, "Reports and refusals"): those that are taken, and meet the table of the modes that are built.
+-- Which words ask for what (docs/COMMANDS.md, "Reports and refusals"): those that are taken, and meet the table of the modes that are
+-- built.
 use Rattle.std.specs.Prelude.{◌≡◌, ℕ, ◌≤◌, Bool, true, false, ◌&&◌, ◌||◌, not, List, Option, Some, None, is_some, Result, Ok, Err}
 use Rattle.clap.specs.Words.{Text}
 use Rattle.np_syntax.specs.Options.{◌>>=◌, ◌>>◌, need}

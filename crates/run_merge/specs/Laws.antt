@@ -1,4 +1,4 @@
--- What merged histories are, and what was printed in them (docs/LANGUAGE.md, "History text").
+-- What merged histories are, and what was printed in them (docs/HISTORIES.md, "History text").
 use Rattle.std.specs.Prelude.{◌≡◌, ◌≢◌, ◌<◌, ◌≤◌, ◌==◌, ◌⊎◌, ℕ, List, [], ◌∷◌, map, length, slice_index_or}
 use Rattle.std.specs.List.{AllByRecursion, filter}
 use Rattle.np_syntax.specs.declared.event.Event.{Event}

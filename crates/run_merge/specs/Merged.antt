@@ -1,4 +1,4 @@
--- The merged history, and the values that were printed (docs/LANGUAGE.md, "History text").
+-- The merged history, and the values that were printed (docs/HISTORIES.md, "History text").
 use Rattle.std.specs.Prelude.{ℕ, Bool, List, [], ◌∷◌, map}
 use Rattle.std.specs.Borrow.{Bor}
 use Rattle.std.specs.List.{filter, flat_map}

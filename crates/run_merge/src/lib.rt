@@ -1,5 +1,10 @@
-//! The merged history of several sites: all their events by stamp and then by site, and what they printed in that order; and
-//! the run of the high level that is read off.
+//! The merged history of several sites: all their events by stamp and then by site, what they printed in that order, and the
+//! run of the high level that is read off.
+//!
+//! The merged history is the only list in that order that has the events of each history in their order, and the same holds
+//! of the values. The laws ask that no two histories have one site; the functions do not.
+//!
+//! Contracts: `merge`, `said`, `lift`, `law_merged`, `law_said`.
 #![tactic(auto)]
 
 mod laws;

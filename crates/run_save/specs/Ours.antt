@@ -1,4 +1,4 @@
--- Which runs the sites of a program make by themselves (docs/LANGUAGE.md, "History text").
+-- Which runs the sites of a program make by themselves (docs/HISTORIES.md, "History text").
 use Rattle.std.specs.Prelude.{◌≡◌, ◌<◌, ◌≤◌, ◌+◌, ◌==◌, ◌↔◌, ℕ, List, [], ◌∷◌, ◌++◌, length, take, Some, if◌then◌else◌}
 use Rattle.std.specs.List.{flat_map}
 pub use Rattle.np_syntax.specs.Events.{made_names as names_of}

@@ -1,5 +1,12 @@
-//! Whether a run of a low program is one that its sites make: each numbers its own names, and on each link what is first in
-//! is first out. And laws of sites that do such a run again.
+//! Whether a run is *ours*: one that the sites of its low program make by themselves. Each numbers the names that it makes,
+//! and each link is first-in first-out.
+//!
+//! `ours_until` says of a run from the start of a low program that it is ours, or gives the index of the last event of the
+//! shortest prefix that is not. A prefix of what is ours is ours, and an event more is ours exactly if its names are the next
+//! of its site and what it takes was put first. It keeps a count for each site and a queue for each link that was used, so an
+//! event costs a few look-ups.
+//!
+//! Contracts: `ours_until` (`IsOurs`, `StopsBeingOurs`), `law_nothing_is_ours`, `law_prefix_is_ours`, `law_ours_goes_on`.
 #![tactic(auto)]
 
 mod counts;

@@ -1,6 +1,12 @@
-//! The two levels: each run of the low level gives a run of the high level. The protocol of agents and daemon, what the low level has
-//! for what, the invariant between the levels and the laws of whole runs are modules of laws; the functions here tell the same of a
-//! run at hand, and each replays it and answers the configuration that it leaves.
+//! The two levels: each run of the low level gives a run of the high level. Four modules of laws, each over those before it,
+//! and functions that tell the same of a run at hand.
+//!
+//! Of merged histories that are a run, `law_merge` answers the configuration to which they lead. Of a run of a compiled
+//! program, `law_lift` answers the configuration to which its lifted list leads from the high start, with the same printed
+//! values and its posts paired; `law_rest` says that no site can act there if none can act below, and that each post was
+//! handed over; `law_cached` says the same with caches. Each replays what it speaks of.
+//!
+//! Contracts: `law_merge`, `law_lift` (`ShowsHigh`), `law_rest` (`ShowsRest`), `law_cached` (`ShowsCached`).
 #![tactic(auto)]
 
 mod caching;

@@ -1,5 +1,14 @@
-//! The simulation: each run of the low level is a run of the high level. Where the low level rests the high level rests, and each post
-//! is handed over once at most.
+//! The simulation along whole runs, rest at the two levels, and the posts of a run. Laws only.
+//!
+//! From the low start of an accepted program the list that is read off each run is a run from the high start that has printed
+//! the same, and the two ends are coupled, by either infrastructure. Where no site can act at the low level, none can at the
+//! high level; no agent has an *affair* (a registration, creation or move in progress with the daemon), the daemon's lock is
+//! free, and no letter is under way; with caches each agent's cache and its hints are free, and no messenger carries a
+//! letter. Each post is handed over once at most, and before the next one of its mark; until then its letter is in one place;
+//! at rest each was handed over.
+//!
+//! Contracts: `law_runs_are_lifted`, `law_cached_runs_are_lifted`, `law_runs_are_lodged`, `law_rest`, `law_posts_are_paired`,
+//! `law_one_place`, `law_all_handed`.
 
 mod laws;
 mod post_laws;

@@ -1,4 +1,4 @@
--- What seats are while the events of a list are done again (docs/LANGUAGE.md, "History text").
+-- What seats are while the events of a list are done again (docs/HISTORIES.md, "History text").
 use Rattle.std.specs.Prelude.{◌≡◌, ◌≢◌, ◌<◌, ◌≤◌, ◌+◌, ℕ, true, false, max, List, [], ◌∷◌, ◌++◌, length, take, Some, slice_get}
 use Rattle.np_syntax.specs.declared.event.Event.{Event}
 use Rattle.site_links.specs.declared.port.Port as Port

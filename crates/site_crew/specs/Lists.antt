@@ -1,4 +1,4 @@
--- The events of a list that a crew is to do again (docs/LANGUAGE.md, "History text").
+-- The events of a list that a crew is to do again (docs/HISTORIES.md, "History text").
 use Rattle.std.specs.Prelude.{◌≡◌, ◌<◌, ◌≤◌, ◌^◌, ℕ, true, false, List, length, get_or, IsSome}
 use Rattle.np_syntax.specs.declared.event.Event.{Event}
 use Rattle.np_syntax.specs.declared.program.LowProgram.{LowProgram}

@@ -1,4 +1,4 @@
--- What the histories of a crew are (docs/LANGUAGE.md, "History text").
+-- What the histories of a crew are (docs/HISTORIES.md, "History text").
 use Rattle.std.specs.Prelude.{◌≡◌, ◌<◌, ◌≤◌, ℕ, List, length, Some, slice_get, slice_index_or}
 use Rattle.np_syntax.specs.declared.limits.TheConstants.{MOST_SITES}
 use Rattle.np_syntax.specs.declared.program.LowProgram.{LowProgram}

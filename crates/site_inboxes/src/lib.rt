@@ -1,4 +1,8 @@
-//! Links between sites over one inbox for each site: a bounded queue into which each site pushes and from which its own pops.
+//! An inbox over a ruled queue, and the ways into it.
+//!
+//! What was put, what was taken, and what is known once an inbox and a way into it are settled, for each by itself.
+//!
+//! Contracts: `Inbox`, `Outlet`.
 #![tactic(auto)]
 
 mod ends;

@@ -1,4 +1,4 @@
--- What an event does to a site (docs/LANGUAGE.md, "History text").
+-- What an event does to a site (docs/HISTORIES.md, "History text").
 use Rattle.std.specs.Prelude.{◌≡◌, ◌<◌, ◌+◌, ◌-◌, ℕ, Bool, true, false, is_some, List, length, option_map, Option, None, Some, IfSome}
 use Rattle.std.specs.FinMap as map
 use Rattle.np_syntax.specs.declared.event.Event.{Event}

@@ -1,4 +1,5 @@
--- The parts of an event of a site: what an agent does, and what is recorded (docs/LANGUAGE.md, "Reductions", "History text").
+-- The parts of an event of a site: what an agent does, and what is recorded (docs/LANGUAGE.md, "Reductions"; docs/HISTORIES.md, "History
+-- text").
 use Rattle.std.specs.Prelude.{◌≡◌, ◌≤◌, Bool, true, false, ℕ, [], ◌∷◌, Option, Some}
 use Rattle.std.specs.FinMap as map
 use Rattle.np_syntax.specs.declared.event.Event.{Event}

@@ -1,4 +1,4 @@
--- What contracts see of a site, and what the calculus sees of it (docs/LANGUAGE.md, "History text").
+-- What contracts see of a site, and what the calculus sees of it (docs/HISTORIES.md, "History text").
 use Rattle.std.specs.Prelude.{◌≡◌, ◌≤◌, ◌+◌, ◌*◌, ℕ, Bool, List, [], length, option_map, refl}
 use Rattle.std.specs.Coded.{Coded, code_by, coded×, coded_ℕ, coded_bool, coded_list}
 use Rattle.std.specs.FinMap as map

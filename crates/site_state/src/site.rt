@@ -16,8 +16,8 @@ use stamp_history::{Clock, History};
 use std::alloc::Global;
 use std::marker::Model;
 
-/// One site: for how many events it has room, the agents that stand there, the number of the next name that it makes, its clock, what it made and printed,
-/// and the items that it has to put on its links.
+/// One site: for how many events it has room, the agents that stand there, the number of the next name that it makes,
+/// its clock, what it made and printed, and the items that it has to put on its links.
 pub struct Site {
     pub(super) site: u32,
     pub(super) budget: u32,

@@ -1,4 +1,4 @@
--- What a turn leaves of a site and its port (docs/LANGUAGE.md, "History text").
+-- What a turn leaves of a site and its port (docs/HISTORIES.md, "History text").
 use Rattle.std.specs.Prelude.{◌≡◌, ◌<◌, ◌≤◌, ◌+◌, ◌⊎◌, min, ℕ, Bool, true, false, List, [], ◌∷◌, ◌++◌, length, map, Option, None, Some, IfSome, option_map, option_to_list}
 use Rattle.std.specs.List.{AllByRecursion}
 use Rattle.np_syntax.specs.declared.limits.TheConstants.{STAMPS_END}

@@ -1,4 +1,12 @@
 //! A turn: a site beside its port goes on for some events.
+//!
+//! It takes from the port first, otherwise steps, and puts what is outgoing on the port. `Turned` says what the site did,
+//! took and sent, whether memory ran out or not, and `HadNothing` what was left if it made no event: if it had room for one,
+//! no item was known to wait for it, and in a thorough turn no agent could do anything. A `Gate` is called after each event
+//! on a thread. The lemmas `Crossing` say that what a crew hands to threads may go to them: the kit finds such proofs by
+//! itself for types without recursion.
+//!
+//! Contracts: `turn` (`Turned`, `HadNothing`), `Effort`, `Gate`.
 #![tactic(auto)]
 
 mod effort;

@@ -1,4 +1,4 @@
--- The history of a site (docs/LANGUAGE.md, "History text"): its events with rising stamps, and the values that it printed.
+-- The history of a site (docs/HISTORIES.md, "History text"): its events with rising stamps, and the values that it printed.
 use Rattle.std.specs.Prelude.{◌≡◌, ◌<◌, ◌≤◌, ◌^◌, ℕ, Bool, true, false, List, [], ◌∷◌, ◌++◌, length, count_by, refl}
 use Rattle.std.specs.Coded.{Coded, code_by, coded×, coded_ℕ, coded_list}
 use Rattle.std.specs.List.{AllByRecursion}

@@ -1,4 +1,4 @@
--- What one event puts on its way and another takes (docs/LANGUAGE.md, "History text").
+-- What one event puts on its way and another takes (docs/HISTORIES.md, "History text").
 use Rattle.std.specs.Prelude.{◌≡◌, ◌<◌, ◌⊎◌, ℕ, List, true, Some, IsSome}
 use Rattle.np_syntax.specs.declared.value.Name.{Name}
 use Rattle.np_calculus.specs.Config.{Config}

@@ -1,4 +1,5 @@
--- Where sites have the parts of a configuration, and links what is under way: which of its sites can act, and whether it rests (docs/LANGUAGE.md, "Reductions").
+-- Where sites have the parts of a configuration, and links what is under way: which of its sites can act, and whether it rests
+-- (docs/LANGUAGE.md, "Reductions").
 use Rattle.std.specs.Prelude.{◌≡◌, ◌<◌, ◌⊎◌, ◌↔◌, ℕ, Some}
 use Rattle.np_syntax.specs.declared.value.Name.{Name}
 use Rattle.np_calculus.specs.declared.config.Packet.{Packet}

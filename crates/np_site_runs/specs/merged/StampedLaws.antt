@@ -1,4 +1,4 @@
--- The merged histories of sites are a run of the whole (docs/LANGUAGE.md, "History text").
+-- The merged histories of sites are a run of the whole (docs/HISTORIES.md, "History text").
 use Rattle.std.specs.Prelude.{◌≡◌, ◌≢◌, ◌<◌, ◌≤◌, ℕ, List, [], ◌∷◌, map, length, Some}
 use Rattle.std.specs.List.{AllByRecursion}
 use Rattle.np_calculus.specs.Config.{Config}

@@ -1,4 +1,4 @@
--- A configuration in which nothing is under way, as what its sites have (docs/LANGUAGE.md, "Starts").
+-- A configuration in which nothing is under way, as what its sites have (docs/TRANSLATION.md, "Starts").
 use Rattle.std.specs.Prelude.{◌≡◌, ◌<◌, ℕ, [], length, cond, None, Some}
 use Rattle.np_syntax.specs.declared.value.Name.{Name}
 use Rattle.np_syntax.specs.declared.program.LowProgram.{LowProgram}

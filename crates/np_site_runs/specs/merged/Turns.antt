@@ -1,5 +1,5 @@
 -- The events of many sites one after the other, in an order in which what an event takes waits first on its link
--- (docs/LANGUAGE.md, "History text").
+-- (docs/HISTORIES.md, "History text").
 use Rattle.std.specs.Prelude.{◌≡◌, ◌<◌, ◌≤◌, ◌==◌, ℕ, cond, List, [], ◌∷◌, ◌++◌, length, drop, map, Option, Some, IfSome, option_to_list}
 use Rattle.std.specs.List.{AllByRecursion, filter}
 use Rattle.np_calculus.specs.Config.{Config}

@@ -1,4 +1,4 @@
--- Histories of which the merged events are those of a list (docs/LANGUAGE.md, "History text").
+-- Histories of which the merged events are those of a list (docs/HISTORIES.md, "History text").
 use Rattle.std.specs.Prelude.{◌≡◌, ◌≢◌, ◌<◌, ◌+◌, ◌==◌, ℕ, List, [], ◌∷◌, ◌++◌, length, take, count_by, slice_get, Some}
 use Rattle.std.specs.List.{AllByRecursion}
 use Rattle.np_syntax.specs.declared.event.Event.{Event}

@@ -1,4 +1,4 @@
--- How many names a site has made where the merged history leads (docs/LANGUAGE.md, "History text").
+-- How many names a site has made where the merged history leads (docs/HISTORIES.md, "History text").
 use Rattle.std.specs.Prelude.{◌≡◌, ◌<◌, ℕ, List, length}
 use Rattle.np_syntax.specs.declared.program.LowProgram.{LowProgram}
 use Rattle.np_calculus.specs.Starts.{start_low}

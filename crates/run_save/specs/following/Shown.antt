@@ -1,4 +1,4 @@
--- Which items of a run are those that sites put on their way (docs/LANGUAGE.md, "History text").
+-- Which items of a run are those that sites put on their way (docs/HISTORIES.md, "History text").
 use Rattle.std.specs.Prelude.{◌≡◌, ℕ, List, [], ◌∷◌, None, Some, IsSome}
 use Rattle.np_syntax.specs.declared.value.Name.{Name}
 use Rattle.np_calculus.specs.declared.config.Packet.{Packet}

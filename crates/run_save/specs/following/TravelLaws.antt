@@ -1,5 +1,5 @@
 -- What n sites did by themselves is a run in which each site numbers its own names, and on each link what is first in is first out
--- (docs/LANGUAGE.md, "History text").
+-- (docs/HISTORIES.md, "History text").
 use Rattle.std.specs.Prelude.{◌≡◌, ◌<◌, ℕ, List, ◌++◌, length}
 use Rattle.std.specs.List.{AllByRecursion}
 use Rattle.np_syntax.specs.declared.program.LowProgram.{LowProgram}

@@ -1,6 +1,6 @@
 -- The invariant between the two levels: how a configuration of the low program of a source belongs to one of the source itself
--- (docs/LANGUAGE.md, "Translation and daemon"). Here i is the infrastructure, n the number of sites, the source's binders are below `from`, and the
--- daemon's are numbered from `first`.
+-- (docs/TRANSLATION.md, "Translation and daemon"). Here i is the infrastructure, n the number of sites, the source's binders are below
+-- `from`, and the daemon's are numbered from `first`.
 use Rattle.std.specs.Prelude.{◌≡◌, ℕ, Bool, true, false, not, ◌||◌, ◌&&◌, is_some, Option, None, Some, List, [], ◌∷◌}
 use Rattle.std.specs.List.{All, flat_map, list_any}
 use Rattle.std.specs.FinMap as map

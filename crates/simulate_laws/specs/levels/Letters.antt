@@ -1,4 +1,4 @@
--- The letters under way, each under the mark of its post, and what an event makes of them (docs/LANGUAGE.md, "Translation and daemon").
+-- The letters under way, each under the mark of its post, and what an event makes of them (docs/TRANSLATION.md, "Translation and daemon").
 use Rattle.std.specs.Prelude.{◌≡◌, Option, None, Some, List, [], ◌∷◌, cond}
 use Rattle.std.specs.FinMap as map
 use Rattle.np_syntax.specs.declared.value.Name.{Name}

@@ -1,4 +1,4 @@
--- Which kinds of events there are of each role, in runs of a low program of a source (docs/LANGUAGE.md, "Translation and daemon").
+-- Which kinds of events there are of each role, in runs of a low program of a source (docs/TRANSLATION.md, "Translation and daemon").
 use Rattle.std.specs.Prelude.{Bool, true, false, ◌||◌}
 use Rattle.np_syntax.specs.declared.event.Kind.{Kind}
 use Rattle.np_syntax.specs.declared.event.Kind.TheVariants as kind

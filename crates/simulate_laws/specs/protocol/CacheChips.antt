@@ -1,4 +1,4 @@
--- What stands about as far as agents' caches go, whatever process it is in (docs/LANGUAGE.md, "Translation and daemon").
+-- What stands about as far as agents' caches go, whatever process it is in (docs/TRANSLATION.md, "Translation and daemon").
 use Rattle.std.specs.Prelude.{Bool, false, ◌&&◌, Option}
 use Rattle.np_syntax.specs.declared.value.Name.{Name}
 use Rattle.np_tables.specs.Names.{same_name}

@@ -1,4 +1,4 @@
--- What the caches' rule sees of the two levels, and what events make of it (docs/LANGUAGE.md, "Translation and daemon").
+-- What the caches' rule sees of the two levels, and what events make of it (docs/TRANSLATION.md, "Translation and daemon").
 use Rattle.std.specs.Prelude.{◌≡◌, Bool, true, false}
 use Rattle.np_syntax.specs.declared.value.Name.{Name}
 use Rattle.simulate_laws.specs.protocol.Scenes.{changed}

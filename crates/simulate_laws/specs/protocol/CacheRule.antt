@@ -1,4 +1,4 @@
--- The caches' rule: what always holds of what stands about (docs/LANGUAGE.md, "Translation and daemon").
+-- The caches' rule: what always holds of what stands about (docs/TRANSLATION.md, "Translation and daemon").
 use Rattle.std.specs.Prelude.{◌≡◌, ◌≤◌, true, Some, List}
 use Rattle.std.specs.List.{All, count_by}
 use Rattle.np_syntax.specs.declared.value.Name.{Name}

@@ -1,4 +1,4 @@
--- The steps that there are: what each takes and gives, and what becomes of the agents (docs/LANGUAGE.md, "Translation and daemon").
+-- The steps that there are: what each takes and gives, and what becomes of the agents (docs/TRANSLATION.md, "Translation and daemon").
 use Rattle.std.specs.Prelude.{◌≡◌, None, Some, List, [], ◌∷◌}
 use Rattle.np_syntax.specs.declared.value.Name.{Name}
 use Rattle.simulate_laws.specs.protocol.Scenes.{changed}

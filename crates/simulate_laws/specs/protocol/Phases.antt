@@ -1,4 +1,4 @@
--- The phases of an agent's affairs, and the table of what stands about in each (docs/LANGUAGE.md, "Translation and daemon").
+-- The phases of an agent's affairs, and the table of what stands about in each (docs/TRANSLATION.md, "Translation and daemon").
 use Rattle.std.specs.Prelude.{ℕ, Bool, true, false, List, [], ◌∷◌}
 use Rattle.simulate_laws.specs.protocol.Columns.{Column}
 

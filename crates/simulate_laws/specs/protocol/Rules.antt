@@ -1,4 +1,5 @@
--- The rules of the protocol: what each takes and gives, and what becomes of places and the map (docs/LANGUAGE.md, "Translation and daemon").
+-- The rules of the protocol: what each takes and gives, and what becomes of places and the map (docs/TRANSLATION.md, "Translation and
+-- daemon").
 use Rattle.std.specs.Prelude.{◌≡◌, ℕ, true, false, Some, is_some, List, [], ◌∷◌}
 use Rattle.std.specs.List.{All}
 use Rattle.np_syntax.specs.declared.value.Name.{Name}

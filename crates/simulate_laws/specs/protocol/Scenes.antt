@@ -1,4 +1,4 @@
--- What the protocol sees of a configuration: where agents are, and the daemon's map (docs/LANGUAGE.md, "Translation and daemon").
+-- What the protocol sees of a configuration: where agents are, and the daemon's map (docs/TRANSLATION.md, "Translation and daemon").
 use Rattle.std.specs.Prelude.{ℕ, Bool, true, false, Option, Some, cond}
 use Rattle.np_syntax.specs.declared.value.Name.{Name}
 use Rattle.np_tables.specs.Names.{same_name}

@@ -1,4 +1,4 @@
--- Where the protocol begins: main at its site, with its lock, and the daemon (docs/LANGUAGE.md, "Starts").
+-- Where the protocol begins: main at its site, with its lock, and the daemon (docs/TRANSLATION.md, "Starts").
 use Rattle.std.specs.Prelude.{ℕ, None, Some, List, [], ◌∷◌, cond}
 use Rattle.np_syntax.specs.declared.value.Name.{Name}
 use Rattle.np_tables.specs.Names.{same_name}

@@ -1,4 +1,4 @@
--- What each event makes of the letters under way, whichever the infrastructure (docs/LANGUAGE.md, "Translation and daemon").
+-- What each event makes of the letters under way, whichever the infrastructure (docs/TRANSLATION.md, "Translation and daemon").
 use Rattle.std.specs.Prelude.{◌⊎◌}
 use Rattle.np_syntax.specs.declared.process.Role.{Role}
 use Rattle.np_syntax.specs.declared.process.Role.TheVariants as role

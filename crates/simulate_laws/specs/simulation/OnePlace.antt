@@ -1,4 +1,5 @@
--- Where the letter of a post that was not handed over yet is, where the infrastructure has caches and messengers (docs/LANGUAGE.md, "Translation and daemon").
+-- Where the letter of a post that was not handed over yet is, where the infrastructure has caches and messengers (docs/TRANSLATION.md,
+-- "Translation and daemon").
 use Rattle.std.specs.Prelude.{◌≡◌, ◌⊎◌, ℕ, true, false, None, Some, [], ◌∷◌}
 use Rattle.std.specs.FinMap as map
 use Rattle.std.specs.FinSet as set

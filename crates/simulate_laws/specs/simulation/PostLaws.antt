@@ -1,4 +1,4 @@
--- What the laws of posts say (docs/LANGUAGE.md, "Translation and daemon").
+-- What the laws of posts say (docs/TRANSLATION.md, "Translation and daemon").
 use Rattle.std.specs.Prelude.{◌≡◌, List, [], None, Some, length}
 use Rattle.std.specs.FinMap as map
 use Rattle.np_syntax.specs.declared.value.Name.{Name}

@@ -1,4 +1,4 @@
--- What the law of rest says (docs/LANGUAGE.md, "Translation and daemon").
+-- What the law of rest says (docs/TRANSLATION.md, "Translation and daemon").
 use Rattle.std.specs.Prelude.{◌≡◌, ◌⊎◌, ℕ, true, None, Some, List, [], ◌∷◌}
 use Rattle.std.specs.List.{All}
 use Rattle.std.specs.FinMap as map

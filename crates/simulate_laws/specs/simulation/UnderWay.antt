@@ -1,4 +1,4 @@
--- The letters that are under way, by what a run did, and by the things that stand about (docs/LANGUAGE.md, "Translation and daemon").
+-- The letters that are under way, by what a run did, and by the things that stand about (docs/TRANSLATION.md, "Translation and daemon").
 use Rattle.std.specs.Prelude.{Option, None, Some, List, [], ◌∷◌}
 use Rattle.std.specs.Option.{option_map}
 use Rattle.std.specs.List.{filter_map}

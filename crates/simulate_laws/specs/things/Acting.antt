@@ -1,4 +1,4 @@
--- Which events a thing begins: by the role of its process and the kind of the event (docs/LANGUAGE.md, "Translation and daemon").
+-- Which events a thing begins: by the role of its process and the kind of the event (docs/TRANSLATION.md, "Translation and daemon").
 use Rattle.std.specs.Prelude.{◌≡◌, ◌⊎◌, ℕ, Bool, true, false, Some, List, [], ◌∷◌}
 use Rattle.np_syntax.specs.declared.process.Role.{Role}
 use Rattle.np_syntax.specs.declared.process.Role.TheVariants as role

@@ -1,5 +1,6 @@
--- Which of the things that there are with caches an atom of the low level is (docs/LANGUAGE.md, "Translation and daemon"). Here n is the number of
--- sites, the source's binders are below `from`, and the daemon's are numbered from `first`. What a messenger does is told by the values of its expressions.
+-- Which of the things that there are with caches an atom of the low level is (docs/TRANSLATION.md, "Translation and daemon"). Here n is
+-- the number of sites, the source's binders are below `from`, and the daemon's are numbered from `first`. What a messenger does is told by
+-- the values of its expressions.
 use Rattle.std.specs.Prelude.{◌≡◌, ◌≤◌, ◌+◌, ℕ, Some, List}
 use Rattle.std.specs.FinMap as map
 use Rattle.np_syntax.specs.declared.value.Name.{Name}

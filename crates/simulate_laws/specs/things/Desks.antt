@@ -1,5 +1,5 @@
--- The daemon by its servers (docs/LANGUAGE.md, "Translation and daemon"): what each serves, how it takes the map, and what it does with it.
--- Here n is the number of sites, and the daemon's binders are numbered from x.
+-- The daemon by its servers (docs/TRANSLATION.md, "Translation and daemon"): what each serves, how it takes the map, and what it does with
+-- it. Here n is the number of sites, and the daemon's binders are numbered from x.
 use Rattle.std.specs.Prelude.{◌≡◌, ℕ, ◌+◌, Some}
 use Rattle.std.specs.FinMap as map
 use Rattle.np_syntax.specs.declared.value.Value as value

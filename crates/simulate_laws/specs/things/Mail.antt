@@ -1,4 +1,5 @@
--- What the infrastructure sends (docs/LANGUAGE.md, "Translation and daemon"): to whom, on which channel, and what. Here n is the number of sites.
+-- What the infrastructure sends (docs/TRANSLATION.md, "Translation and daemon"): to whom, on which channel, and what. Here n is the number
+-- of sites.
 use Rattle.std.specs.Prelude.{ℕ, [], ◌∷◌}
 use Rattle.np_syntax.specs.declared.value.Name.{Name}
 use Rattle.np_syntax.specs.declared.value.Value.{Value}

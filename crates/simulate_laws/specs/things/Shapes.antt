@@ -1,6 +1,6 @@
--- Which thing an atom or a packet of the low level is (docs/LANGUAGE.md, "Translation and daemon"). Here i is the infrastructure, n the number of sites, the source's binders
--- are below `from`, and the daemon's are numbered from `first`. What only sends, outputs or opens is told by the values of its expressions; what binds
--- is told by its text.
+-- Which thing an atom or a packet of the low level is (docs/TRANSLATION.md, "Translation and daemon"). Here i is the infrastructure, n the
+-- number of sites, the source's binders are below `from`, and the daemon's are numbered from `first`. What only sends, outputs or opens is
+-- told by the values of its expressions; what binds is told by its text.
 use Rattle.std.specs.Prelude.{◌≡◌, ◌≤◌, ◌+◌, ℕ, false, Some, List, [], ◌∷◌, ◌++◌}
 use Rattle.std.specs.FinMap as map
 use Rattle.np_syntax.specs.declared.value.Name.{Name}

@@ -1,4 +1,4 @@
--- Processes of a source, and environments that agree on its binders (docs/LANGUAGE.md, "Translation and daemon").
+-- Processes of a source, and environments that agree on its binders (docs/TRANSLATION.md, "Translation and daemon").
 use Rattle.std.specs.Prelude.{◌≡◌, ◌<◌, ℕ, List}
 use Rattle.std.specs.FinMap as map
 use Rattle.np_syntax.specs.declared.expression.Expr.{Expr}

@@ -1,4 +1,4 @@
--- The things that stand at the low start (docs/LANGUAGE.md, "Starts").
+-- The things that stand at the low start (docs/TRANSLATION.md, "Starts").
 use Rattle.std.specs.Prelude.{ℕ, List, [], ◌∷◌}
 use Rattle.np_syntax.specs.declared.value.Name.{Name}
 use Rattle.np_syntax.specs.declared.process.Proc.{Proc}

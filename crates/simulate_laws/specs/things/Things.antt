@@ -1,5 +1,5 @@
--- What an atom or a packet of the low level is there for, apart from the process that it has: a *thing*. It tells which chips of the protocol it
--- stands for, and which atom or packet of the high level (docs/LANGUAGE.md, "Translation and daemon").
+-- What an atom or a packet of the low level is there for, apart from the process that it has: a *thing*. It tells which chips of the
+-- protocol it stands for, and which atom or packet of the high level (docs/TRANSLATION.md, "Translation and daemon").
 use Rattle.std.specs.Prelude.{◌≡◌, ℕ, true, false, Option, None, Some, List, [], ◌∷◌}
 use Rattle.std.specs.List.{All, flat_map}
 use Rattle.np_syntax.specs.declared.value.Name.{Name}

@@ -11,9 +11,10 @@ pub fn law_coupled_starts()
     ensures { (i : Infrastructure) → StartsCoupled i }
 {}
 
-/// Each event of the infrastructure, the landing of a post, and the arrival of a messenger are nothing at the high level: the two configurations stay
-/// coupled. The opening of a letter hands it over, and all others leave the letters that are under way. Where a messenger tests whether an agent
-/// is there, and it is, a new mark stands for that of the messenger from then on; the central infrastructure has no messengers.
+/// Each event of the infrastructure, the landing of a post, and the arrival of a messenger are nothing at the high
+/// level: the two configurations stay coupled. The opening of a letter hands it over, and all others leave the
+/// letters that are under way. Where a messenger tests whether an agent is there, and it is, a new mark stands for
+/// that of the messenger from then on; the central infrastructure has no messengers.
 pub fn law_quiet()
     ensures others { (i : Infrastructure) (k : Kind) → (k ≡ kind.Local → ⊥) → IsQuiet i k role.Infra }
     ensures infrastructure { (k : Kind) → IsQuiet Infrastructure.central k role.Infra }
@@ -29,8 +30,8 @@ pub fn law_posts_are_events()
     ensures hired { (i : Infrastructure) → MessengersAreHired i }
 {}
 
-/// An event that one process of the source makes alone is the same event of the high level: it is done, makes a channel, binds a value, tests, says a
-/// value, or finds an agent at its site or not.
+/// An event that one process of the source makes alone is the same event of the high level: it is done, makes a
+/// channel, binds a value, tests, says a value, or finds an agent at its site or not.
 pub fn law_steps_are_events()
     ensures stops { (i : Infrastructure) → IsEvent i kind.Stop }
     ensures news { (i : Infrastructure) → IsEvent i kind.New }
@@ -40,8 +41,8 @@ pub fn law_steps_are_events()
     ensures locals { (i : Infrastructure) → IsEvent i kind.Local }
 {}
 
-/// Where the source forks, sends, takes an output, or takes one by a copy of a replicated input, and where what it sent lands, the high level does
-/// the same, and the two configurations stay coupled.
+/// Where the source forks, sends, takes an output, or takes one by a copy of a replicated input, and where what it
+/// sent lands, the high level does the same, and the two configurations stay coupled.
 pub fn law_meetings_are_events()
     ensures forks { (i : Infrastructure) → IsEvent i kind.Fork }
     ensures sends { (i : Infrastructure) → IsEvent i kind.Send }
@@ -50,8 +51,8 @@ pub fn law_meetings_are_events()
     ensures copies { (i : Infrastructure) → IsEvent i kind.Rep }
 {}
 
-/// Where an agent is made, departs or arrives for the source, and is no messenger, the same is an event of the high level, and the two configurations
-/// stay coupled.
+/// Where an agent is made, departs or arrives for the source, and is no messenger, the same is an event of the high
+/// level, and the two configurations stay coupled.
 pub fn law_moves_are_events()
     ensures creations { (i : Infrastructure) → IsEvent i kind.Agent }
     ensures departures { (i : Infrastructure) → IsEvent i kind.Depart }
