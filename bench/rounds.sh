@@ -1,10 +1,11 @@
 #!/usr/bin/env bash
-# Prints how many rounds runs on threads take: rings of agents at four sites that pass one token (`load N`).
+# Prints how many rounds runs on threads take, over each kind of links: rings of agents at four sites that pass one token (`load N`),
+# and the two sources of `sites-source.sh` with 16, 64 and 128 sites, with as great a budget as they may have.
 #
 #   bench/rounds.sh [PROGRAM] [RUNS]
 #
 # It builds nothing of np: PROGRAM is the built program, by default crates/np/out/np. A small library that gcc makes stands before
-# the call that starts a thread and counts. A round over four sites starts three threads, since one site takes its turn on the thread
+# the call that starts a thread and counts. A round over n sites starts n - 1 threads, since one site takes its turn on the thread
 # that starts the others. Each run is made RUNS times, by default 20; the columns are the least, the middle and the greatest count.
 # How long a site looks for what comes before its turn ends quiet depends on what else the machine does, and so do the rounds.
 set -euo pipefail
@@ -34,12 +35,29 @@ int pthread_create(pthread_t *thread, const pthread_attr_t *how, void *(*what)(v
 C
 gcc -O1 -shared -fPIC -o "$folder/starts.so" "$folder/starts.c" -ldl
 
-printf '%-10s %8s %8s %8s\n' run least middle greatest
+# rounds_of NAME SITES WORD..: a row of the rounds over each kind of links
+rounds_of() {
+    local name=$1 sites=$2
+    shift 2
+    for kind in rings tray inbox; do
+        for ((run = 0; run < rounds; run++)); do
+            : >"$folder/starts"
+            LD_PRELOAD="$folder/starts.so" STARTS="$folder/starts" "$program" "$@" --links "$kind" >"$folder/told" ||
+                case $? in 1) ;; *) exit 1 ;; esac
+            echo $(($(stat -c %s "$folder/starts") / (sites - 1)))
+        done | sort -n | awk -v name="$name" -v kind="$kind" '{ all[NR] = $1 } END {
+            printf "%-18s %-6s %8d %8d %8d\n", name, kind, all[1], all[int((NR + 1) / 2)], all[NR] }'
+    done
+}
+
+printf '%-18s %-6s %8s %8s %8s\n' run links least middle greatest
 for agents in 10 30 100; do
-    for ((run = 0; run < rounds; run++)); do
-        : >"$folder/starts"
-        LD_PRELOAD="$folder/starts.so" STARTS="$folder/starts" "$program" load "$agents" >"$folder/told"
-        echo $(($(stat -c %s "$folder/starts") / 3))
-    done | sort -n | awk -v name="load $agents" '{ all[NR] = $1 } END {
-        printf "%-10s %8d %8d %8d\n", name, all[1], all[int((NR + 1) / 2)], all[NR] }'
+    rounds_of "load $agents" 4 load "$agents"
+done
+for kind in posts own; do
+    for sites in 16 64 128; do
+        bench/sites-source.sh "$kind" "$sites" >"$folder/sites.np"
+        budget=$((6400000 / sites))
+        rounds_of "$kind, $sites sites" "$sites" run "$folder/sites.np" --budget $((budget < 200000 ? budget : 200000))
+    done
 done

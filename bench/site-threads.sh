@@ -4,9 +4,10 @@
 #   bench/site-threads.sh [PROGRAM] [ROUNDS]
 #
 # It builds nothing: PROGRAM is the built program, by default crates/np/out/np. Each run is made ROUNDS times, by default 20. The
-# first rows are rings of agents that pass one token (`load N`), in which the sites have little to do at once; the last is of two
-# sites with work of their own, of which neither waits for the other. Wall time is what passes; processor time is the sum over all
-# threads. Run it on an idle machine.
+# first rows are rings of agents that pass one token (`load N`), in which the sites have little to do at once; then come two
+# sites with work of their own, of which neither waits for the other; then the two sources of `sites-source.sh` with 4, 16, 64 and 128
+# sites, and with as great a budget as they may have. Wall time is what passes; processor time is the sum over all threads; the last
+# column is the wall time on threads by that of turns one after another over the same kind of links. Run it on an idle machine.
 set -euo pipefail
 cd "$(dirname "$0")/.."
 source bench/parts.sh
@@ -19,16 +20,17 @@ times() {
         awk -v rounds="$rounds" '{ printf "%10.2f %10.2f", $1 * 1000 / rounds, ($2 + $3) * 1000 / rounds }'
 }
 
-# rows NAME WORD..: a row for each way of running
+# rows NAME WORD..: two rows for each kind of links, one after another and on threads
 rows() {
-    local name=$1
+    local name=$1 serial threads
     shift
-    printf '%-22s %-16s %s\n' "$name" 'threads, rings' "$(times "$@")"
-    printf '%-22s %-16s %s\n' "$name" 'threads, tray' "$(times "$@" --links tray)"
-    printf '%-22s %-16s %s\n' "$name" 'threads, inbox' "$(times "$@" --links inbox)"
-    printf '%-22s %-16s %s\n' "$name" 'serial, rings' "$(times "$@" --serial)"
-    printf '%-22s %-16s %s\n' "$name" 'serial, tray' "$(times "$@" --serial --links tray)"
-    printf '%-22s %-16s %s\n' "$name" 'serial, inbox' "$(times "$@" --serial --links inbox)"
+    for kind in rings tray inbox; do
+        serial=$(times "$@" --serial --links "$kind")
+        threads=$(times "$@" --links "$kind")
+        printf '%-22s %-16s %s\n' "$name" "serial, $kind" "$serial"
+        printf '%-22s %-16s %s %8.2f\n' "$name" "threads, $kind" "$threads" \
+            "$(awk -v threads="$threads" -v serial="$serial" 'BEGIN { print threads / (serial < 0.01 ? 0.01 : serial) }')"
+    done
 }
 
 # two agents count at two sites, and neither hears of the other
@@ -39,8 +41,15 @@ rows() {
     echo 'new c : ^Int in (*c?x -> c!(x + 1) | c!0)'
 } >"$folder/two.np"
 
-printf '%-22s %-16s %10s %10s\n' run how 'wall ms' 'busy ms'
+printf '%-22s %-16s %10s %10s %8s\n' run how 'wall ms' 'busy ms' ratio
 for agents in 10 30 100; do
     rows "load $agents" load "$agents"
 done
 rows 'two sites, 200,000' run "$folder/two.np" --budget 200000
+for kind in posts own; do
+    for sites in 4 16 64 128; do
+        bench/sites-source.sh "$kind" "$sites" >"$folder/sites.np"
+        budget=$((6400000 / sites))
+        rows "$kind, $sites sites" run "$folder/sites.np" --budget $((budget < 200000 ? budget : 200000))
+    done
+done
