@@ -37,7 +37,7 @@ gcc -O1 -shared -fPIC -o "$folder/starts.so" "$folder/starts.c" -ldl
 
 # rounds_of NAME SITES WORD..: a row of the rounds over each kind of links
 rounds_of() {
-    local name=$1 sites=$2
+    local name=$1 sites=$2 kind run
     shift 2
     for kind in rings tray inbox; do
         for ((run = 0; run < rounds; run++)); do

@@ -22,14 +22,14 @@ times() {
 
 # rows NAME WORD..: two rows for each kind of links, one after another and on threads
 rows() {
-    local name=$1 serial threads
+    local name=$1 serial threads kind
     shift
     for kind in rings tray inbox; do
         serial=$(times "$@" --serial --links "$kind")
         threads=$(times "$@" --links "$kind")
         printf '%-22s %-16s %s\n' "$name" "serial, $kind" "$serial"
         printf '%-22s %-16s %s %8.2f\n' "$name" "threads, $kind" "$threads" \
-            "$(awk -v threads="$threads" -v serial="$serial" 'BEGIN { print threads / (serial < 0.01 ? 0.01 : serial) }')"
+            "$(awk -v threads="$threads" -v serial="$serial" 'BEGIN { serial += 0; print threads / (serial < 0.01 ? 0.01 : serial) }')"
     done
 }
 
