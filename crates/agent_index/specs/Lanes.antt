@@ -14,7 +14,8 @@ pub record Laned : Type 0 where
   pub spare : ℕ
 
 abbrev pub laned_code : Coded Laned
-laned_code = code_by (NameMap Waiting × ℕ) (coded× (map.code name.the_row.coded waiting_code) coded_ℕ) (λ l. (l.lanes, l.spare)) (λ p. record { lanes = p.0; spare = p.1 }) (λ _. refl)
+laned_code = code_by (NameMap Waiting × ℕ) (coded× (map.code name.the_row.coded waiting_code) coded_ℕ) (λ l. (l.lanes, l.spare))
+    (λ p. record { lanes = p.0; spare = p.1 }) (λ _. refl)
 
 -- one where no channel is owed a place
 abbrev pub free : Option Name → ℕ

@@ -14,7 +14,8 @@ pub record Row : Type 0 where
   pub room : ℕ
 
 abbrev pub row_code : Coded Row
-row_code = code_by (List Name × ℕ) (coded× (coded_list name.the_row.coded) coded_ℕ) (λ r. (r.items, r.room)) (λ p. record { items = p.0; room = p.1 }) (λ _. refl)
+row_code = code_by (List Name × ℕ) (coded× (coded_list name.the_row.coded) coded_ℕ) (λ r. (r.items, r.room))
+    (λ p. record { items = p.0; room = p.1 }) (λ _. refl)
 
 -- how often a mark stands in a list
 abbrev pub times : Name → List Name → ℕ
@@ -37,7 +38,8 @@ pub record Waiting : Type 0 where
 
 abbrev pub waiting_code : Coded Waiting
 waiting_code =
-    code_by (List Name × (List Name × ℕ)) (coded× (coded_list name.the_row.coded) (coded× (coded_list name.the_row.coded) coded_ℕ)) (λ w. (w.inputs, (w.outputs, w.room)))
+    code_by (List Name × (List Name × ℕ)) (coded× (coded_list name.the_row.coded) (coded× (coded_list name.the_row.coded) coded_ℕ))
+    (λ w. (w.inputs, (w.outputs, w.room)))
     (λ p. record { inputs = p.0; outputs = p.1.0; room = p.1.1 }) (λ _. refl)
 
 abbrev pub is_none : List Name → Bool

@@ -20,7 +20,8 @@ pub record Shelf (X : Type 0) : Type 0 where
 
 abbrev pub shelf_code : {X : Type 0} → Coded X → Coded (Shelf X)
 shelf_code {X} x =
-    code_by (NameMap (Kept X) × (ℕ × List Name)) (coded× (map.code name.the_row.coded (coded× wait.the_row.coded x)) (coded× coded_ℕ (coded_list name.the_row.coded)))
+    code_by (NameMap (Kept X) × (ℕ × List Name))
+    (coded× (map.code name.the_row.coded (coded× wait.the_row.coded x)) (coded× coded_ℕ (coded_list name.the_row.coded)))
     (λ s. (s.items, (s.spare, s.keys))) (λ p. record { items = p.0; spare = p.1.0; keys = p.1.1 }) (λ _. refl)
 
 -- the value alone

@@ -44,7 +44,11 @@ impl<V> Model for Index<V> {
 
     ghost coded = { shelf_code V.code };
 
-    ghost view = { λ index. record { items = index.entries.items; spare = min index.entries.spare index.lanes.spare; keys = index.entries.keys } };
+    ghost view = { λ index. record {
+      items = index.entries.items;
+      spare = min index.entries.spare index.lanes.spare;
+      keys = index.entries.keys;
+    } };
 
     ghost invariant = { λ index. IsInStep index.entries.items index.lanes.lanes };
 }

@@ -92,7 +92,8 @@ impl Marks {
 
 /// The first place of a mark.
 fn position(queue: &VecDeque<Name>, mark: Name) -> Option<usize>
-    ensures { MatchOption result (without queue.now.items mark ≡ queue.now.items) (λ at. (at < length queue.now.items) × (remove queue.now.items at ≡ without queue.now.items mark)) }
+    ensures { MatchOption result (without queue.now.items mark ≡ queue.now.items)
+        (λ at. (at < length queue.now.items) × (remove queue.now.items at ≡ without queue.now.items mark)) }
 {
     for at in 0..queue.len() {
         if queue[at] == mark {

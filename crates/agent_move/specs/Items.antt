@@ -16,4 +16,5 @@ contents_of ts (load.Agent agent) to = agent_load agent.name (atoms_of ts agent)
 contents_of ts (load.Packet mark packet) to = packet_load mark packet
 
 abbrev pub item_of : ProgramTable → Item → StampedItem
-item_of code x = record { stamp = x.stamp; item = record { sender = x.from; receiver = x.to; load = contents_of code.processes x.load x.to } }
+item_of code x =
+    record { stamp = x.stamp; item = record { sender = x.from; receiver = x.to; load = contents_of code.processes x.load x.to } }

@@ -45,7 +45,8 @@ IsAway code p r h = GoesOnAs kind.Local code p r made.Nothing r.actor h
 -- by a location test the agent goes on: where it finds its agent, the packet is its output in that agent
 abbrev pub LocalLeaves : ProgramTable → Pool → Pool → Ready → Name → Bool → Option Packet → Type 0
 LocalLeaves code old new r mark true (Some packet) =
-    (site : ℕ) → (change_in kind.Local (own_sight code old true) (event_of site r (made.One mark)) >>= leaves_outside (atoms_of code.processes old))
+    (site : ℕ) → (change_in kind.Local (own_sight code old true) (event_of site r (made.One mark))
+    >>= leaves_outside (atoms_of code.processes old))
     ≡ Some (record still { atoms = put mark (output_of packet) ∷ [] }, atoms_of code.processes new)
 LocalLeaves code old new r mark false None = Reduces kind.Local code old new r made.Nothing still
 LocalLeaves code old new r mark _ _ = ⊥
@@ -62,7 +63,14 @@ IsSplit code p r agent mark body rest =
 -- by the making of an agent the agent goes on, and the child is the new agent with its first atom
 pub record Births (code : ProgramTable) (old new : Pool) (r : Ready) (agent mark : Name) (child : Pool) : Type 0 where
   pub body : Held
-  pub row : (site : ℕ) → (change_in kind.Agent (own_sight code old false) (event_of site r (made.Two agent mark)) >>= leaves_outside (atoms_of code.processes old))
-      ≡ Some (record still { places = put agent (place.At site) ∷ []; atoms = put mark (atom_of code.processes agent body) ∷ [] }, atoms_of code.processes new)
+  pub row : (site : ℕ) → (change_in kind.Agent (own_sight code old false) (event_of site r (made.Two agent mark))
+      >>= leaves_outside (atoms_of code.processes old))
+      ≡ Some (
+        record still {
+          places = put agent (place.At site) ∷ [];
+          atoms = put mark (atom_of code.processes agent body) ∷ [];
+        },
+        atoms_of code.processes new,
+      )
   pub name : child.name ≡ agent
   pub atoms : child.atoms ≡ map.insert map.empty mark (wait_of code.processes body, body)

@@ -22,7 +22,8 @@ pub record Pool : Type 0 where
 
 abbrev pub pool_code : Coded Pool
 pool_code =
-    code_by (Name × (NameMap (Kept Held) × ℕ)) (coded× name.the_row.coded (coded× (map.code name.the_row.coded (coded× wait.the_row.coded held.the_row.coded)) coded_ℕ))
+    code_by (Name × (NameMap (Kept Held) × ℕ)) (coded× name.the_row.coded
+    (coded× (map.code name.the_row.coded (coded× wait.the_row.coded held.the_row.coded)) coded_ℕ))
     (λ p. (p.name, (p.atoms, p.spare))) (λ q. record { name = q.0; atoms = q.1.0; spare = q.1.1 }) (λ _. refl)
 
 -- the atoms as the calculus sees them

@@ -28,7 +28,8 @@ sight_of code atoms here = record { sites = length code.sites; here = λ q. here
 
 -- the row of a ready's kind is met by its event, whatever names it makes, and whether or not an agent that it asks for is here
 abbrev pub IsReady : ProgramTable → NameMap Atom → Ready → Type 0
-IsReady code atoms r = (here : Bool) (first second : Name) → IsSome (change_in r.kind (sight_of code atoms here) (event_of 0 r (made_of r.kind here first second)))
+IsReady code atoms r = (here : Bool) (first second : Name)
+    → IsSome (change_in r.kind (sight_of code atoms here) (event_of 0 r (made_of r.kind here first second)))
 
 -- no event of these atoms has its row met, but for posts, which no low program has
 pub record NothingReady (code : ProgramTable) (atoms : NameMap Atom) : Type 0 where
@@ -46,7 +47,8 @@ begins sites env (ProcForm-F.New x ty body) = Some kind.New
 begins sites env (ProcForm-F.Agent b body rest) = Some kind.Agent
 begins sites env (ProcForm-F.Migrate s body) = site_in sites s env >> Some kind.Depart
 begins sites env (ProcForm-F.IfLocal b c e met unmet) = agent_of b env >> (chan_of c env >> only (is_some (eval e env)) kind.Local)
-begins sites env (ProcForm-F.Send b s c e) = agent_of b env >> (site_in sites s env >> (chan_of c env >> only (is_some (eval e env)) kind.Send))
+begins sites env (ProcForm-F.Send b s c e) = agent_of b env
+    >> (site_in sites s env >> (chan_of c env >> only (is_some (eval e env)) kind.Send))
 begins sites env (ProcForm-F.If e met unmet) = only (is_some (truth_of e env)) kind.If
 begins sites env (ProcForm-F.Let pat e body) = only (fits pat e env) kind.Let
 begins sites env (ProcForm-F.Print e) = only (is_some (eval e env)) kind.Print

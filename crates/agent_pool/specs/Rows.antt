@@ -55,12 +55,14 @@ pub record NeverActs (code : ProgramTable) (p : Pool) (r : Ready) : Type 0 where
 -- by the event of a ready that makes these names, and by the row of this kind, the agent goes on; this is all else that changes
 abbrev pub Reduces : Kind → ProgramTable → Pool → Pool → Ready → Made → Change → Type 0
 Reduces k code old new r made rest =
-    (site : ℕ) → (change_in k (own_sight code old false) (event_of site r made) >>= leaves (atoms_of code.processes old)) ≡ Some (rest, atoms_of code.processes new)
+    (site : ℕ) → (change_in k (own_sight code old false) (event_of site r made) >>= leaves (atoms_of code.processes old))
+    ≡ Some (rest, atoms_of code.processes new)
 
 -- by that event the agent has this atom under a mark then, and nothing else changes
 abbrev pub GoesOnAs : Kind → ProgramTable → Pool → Ready → Made → Name → Held → Type 0
 GoesOnAs k code p r made mark h =
-    (site : ℕ) → change_in k (own_sight code p false) (event_of site r made) ≡ Some (record still { atoms = put mark (atom_of code.processes p.name h) ∷ [] })
+    (site : ℕ) → change_in k (own_sight code p false) (event_of site r made)
+    ≡ Some (record still { atoms = put mark (atom_of code.processes p.name h) ∷ [] })
 
 -- by that event the acting atom goes on as the first of these, and the second stands under a mark
 abbrev pub IsFork : ProgramTable → Pool → Ready → Name → Held → Held → Type 0
@@ -71,7 +73,8 @@ IsFork code p r mark left right =
 -- by that event the acting atom goes, and this value is said
 abbrev pub IsPrinted : ProgramTable → Pool → Ready → Value → Type 0
 IsPrinted code p r value =
-    (site : ℕ) → change_in kind.Print (own_sight code p false) (event_of site r made.Nothing) ≡ Some (record still { atoms = cut r.actor ∷ []; said = Some value })
+    (site : ℕ) → change_in kind.Print (own_sight code p false) (event_of site r made.Nothing)
+    ≡ Some (record still { atoms = cut r.actor ∷ []; said = Some value })
 
 -- the environment of a pattern that takes what an output gives
 abbrev pub taken_in : Atom → Pat → Env → Option Env

@@ -34,9 +34,12 @@ asked_at _ env = None
 
 -- it was told right whether the agent for which a location test asks is here
 pub record IsToldRight (c : Config) (e : Event) (here : Bool) : Type 0 where
-  pub each : (a : Atom) (agent : Name) → map.get c.atoms e.actor ≡ Some a → asked_at (layer a.proc) a.env ≡ Some agent → is_at c agent e.site ≡ here
+  pub each : (a : Atom) (agent : Name) → map.get c.atoms e.actor ≡ Some a → asked_at (layer a.proc) a.env ≡ Some agent
+      → is_at c agent e.site ≡ here
 
 -- an event of the agent is one of each configuration that shows it, with the same change
 abbrev pub ChangesTheWhole : Type 0
-ChangesTheWhole = (code : ProgramTable) (p : Pool) (c : Config) (here : Bool) (e : Event) (d : Change) → (e.kind ≡ kind.Arrive → ⊥) → (e.kind ≡ kind.Land → ⊥)
-    → Shows code p c e.site → IsToldRight c e here → change_in e.kind (own_sight code p here) e ≡ Some d → change e.kind c.sites (inside c) e ≡ Some d
+ChangesTheWhole = (code : ProgramTable) (p : Pool) (c : Config) (here : Bool) (e : Event) (d : Change) → (e.kind ≡ kind.Arrive → ⊥)
+    → (e.kind ≡ kind.Land → ⊥)
+    → Shows code p c e.site → IsToldRight c e here → change_in e.kind (own_sight code p here) e ≡ Some d
+    → change e.kind c.sites (inside c) e ≡ Some d

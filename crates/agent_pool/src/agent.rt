@@ -60,7 +60,8 @@ impl Agent {
     ) -> Result<Agent, Memory>
         ensures name { IfOk result (λ agent. agent.name ≡ name) }
         ensures atoms { IfOk result (λ agent. agent.atoms ≡ map.insert map.empty mark (wait.Acts, held.Node root frame)) }
-        ensures filed { IfOk result (λ agent. (code : ProgramTable) → wait_of code.processes (held.Node root frame) ≡ wait.Acts → IsFiled code.processes agent.atoms) }
+        ensures filed { IfOk result (λ agent. (code : ProgramTable) → wait_of code.processes (held.Node root frame) ≡ wait.Acts
+            → IsFiled code.processes agent.atoms) }
     {
         Agent::with_atom(alloc, name, mark, Held::Node(root, frame), Wait::Acts)
     }
@@ -76,7 +77,8 @@ impl Agent {
     ) -> Result<Agent, Memory>
         ensures name { IfOk result (λ agent. agent.name ≡ name) }
         ensures atoms { IfOk result (λ agent. agent.atoms ≡ map.insert map.empty mark (wait, held)) }
-        ensures filed { IfOk result (λ agent. (code : ProgramTable) → wait_of code.processes held ≡ wait → IsFiled code.processes agent.atoms) }
+        ensures filed { IfOk result (λ agent. (code : ProgramTable) → wait_of code.processes held ≡ wait
+            → IsFiled code.processes agent.atoms) }
     {
         let mut atoms = Index::new(alloc);
         atoms.reserve(1)?;
@@ -163,7 +165,8 @@ impl Agent {
     /// Who waits on a channel, and none exactly where no one does. It takes no memory.
     pub fn waiting(&self, code: &Code, chan: Name) -> Option<&Waiters>
         requires { IsFiled code.now.processes self.now.atoms }
-        ensures { MatchOption result (NoneWaitsOn code.now.processes self.now.atoms chan) (λ waiters. WaitOn code.now.processes self.now.atoms chan waiters.now) }
+        ensures { MatchOption result (NoneWaitsOn code.now.processes self.now.atoms chan)
+            (λ waiters. WaitOn code.now.processes self.now.atoms chan waiters.now) }
     {
         self.atoms.waiting(chan)
     }

@@ -164,7 +164,8 @@ impl Agent {
     #[tactic(auto, using(crate::proofs::Maps::maps))]
     pub fn print(&mut self, alloc: Global, code: &Code, r: Ready) -> Result<Value, Memory>
         requires { IsMet kind.Print code.now self.old r made.Nothing }
-        ensures row { IfOk result (λ value. Reduces kind.Print code.now self.old self.new r made.Nothing (record still { said = Some value })) }
+        ensures row { IfOk result (λ value. Reduces kind.Print code.now self.old self.new r made.Nothing
+            (record still { said = Some value })) }
         ensures name { self.new.name ≡ self.old.name }
         ensures filed { IsFiled code.now.processes self.old.atoms → IsFiled code.now.processes self.new.atoms }
         ensures err { OnErr result (Unchanged self.old self.new) }

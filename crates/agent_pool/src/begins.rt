@@ -103,7 +103,8 @@ pub fn alone(code: &Code, mark: Name, held: &Held) -> Option<Ready>
 /// What an input can do with an output. It takes no memory.
 #[tactic(auto, using(crate::proofs::Outputs::outputs))]
 pub fn pair(code: &Code, mark: Name, taker: &Held, other: Name, giver: &Held) -> Option<Ready>
-    ensures { (agent : Named) → result ≡ pair_at mark (atom_of code.now.processes agent taker.now) other (atom_of code.now.processes agent giver.now) }
+    ensures { (agent : Named) → result ≡ pair_at mark (atom_of code.now.processes agent taker.now) other
+        (atom_of code.now.processes agent giver.now) }
 {
     let (node, frame) = node_of(code, taker)?;
     let (kind, chan, pat) = taken_by(node)?;

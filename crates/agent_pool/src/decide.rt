@@ -60,7 +60,8 @@ fn post_in(code: &Code, atoms: &Index<Held>, mark: Name) -> Option<Ready>
 
 /// What the atom of a mark can do without another, by an event of a kind or of any.
 fn lone_in(code: &Code, atoms: &Index<Held>, kind: Kind, mark: Name) -> Option<Ready>
-    ensures { (agent : Named) → result ≡ lone_in (length code.now.sites) (mapped (seen_as code.now.processes agent) atoms.now.items) kind mark }
+    ensures { (agent : Named) → result ≡ lone_in (length code.now.sites)
+        (mapped (seen_as code.now.processes agent) atoms.now.items) kind mark }
 {
     match kind {
         Kind::Post => post_in(code, atoms, mark),

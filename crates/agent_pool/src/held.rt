@@ -24,7 +24,8 @@ impl Drop for Held {
 /// The node of an atom and its frame, unless it is an output that came from outside.
 #[tactic(auto, using(crate::proofs::Layers::layers))]
 pub fn node_of<'a>(code: &'a Code, held: &'a Held) -> Option<(&'a Node, &'a Frame)>
-    ensures { MatchOption result (IsOutput (layer (proc_of code.now.processes held.now))) (λ found. IsNode code.now.processes held.now found.0.now found.1.now) }
+    ensures { MatchOption result (IsOutput (layer (proc_of code.now.processes held.now)))
+        (λ found. IsNode code.now.processes held.now found.0.now found.1.now) }
 {
     match held {
         Held::Node(id, frame) => Some((code.node(*id), frame)),

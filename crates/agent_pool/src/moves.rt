@@ -25,7 +25,8 @@ impl Agent {
     #[tactic(auto, using(crate::proofs::Maps::maps))]
     pub fn depart(&mut self, alloc: Global, code: &Code, r: Ready) -> Result<u32, Memory>
         requires { IsMet kind.Depart code.now self.old r made.Nothing }
-        ensures row { IfOk result (λ to. Reduces kind.Depart code.now self.old self.new r made.Nothing (record still { places = put self.old.name (place.Way to) ∷ [] })) }
+        ensures row { IfOk result (λ to. Reduces kind.Depart code.now self.old self.new r made.Nothing
+            (record still { places = put self.old.name (place.Way to) ∷ [] })) }
         ensures name { self.new.name ≡ self.old.name }
         ensures filed { IsFiled code.now.processes self.old.atoms → IsFiled code.now.processes self.new.atoms }
         ensures err { OnErr result (Unchanged self.old self.new) }
@@ -56,7 +57,8 @@ impl Agent {
     #[tactic(auto, using(crate::proofs::Maps::maps))]
     pub fn send(&mut self, alloc: Global, code: &Code, r: Ready) -> Result<Packet, Memory>
         requires { IsMet kind.Send code.now self.old r made.Nothing }
-        ensures row { IfOk result (λ packet. Reduces kind.Send code.now self.old self.new r made.Nothing (record still { packets = put r.actor packet ∷ [] })) }
+        ensures row { IfOk result (λ packet. Reduces kind.Send code.now self.old self.new r made.Nothing
+            (record still { packets = put r.actor packet ∷ [] })) }
         ensures name { self.new.name ≡ self.old.name }
         ensures filed { IsFiled code.now.processes self.old.atoms → IsFiled code.now.processes self.new.atoms }
         ensures err { OnErr result (Unchanged self.old self.new) }
@@ -126,7 +128,8 @@ impl Agent {
         here: bool,
         mark: Name,
     ) -> Result<Option<Packet>, Memory>
-        requires { IsSome (change_in kind.Local (own_sight code.now self.old here) (event_of 0 r (cond here (made.One mark) made.Nothing))) }
+        requires { IsSome (change_in kind.Local (own_sight code.now self.old here)
+            (event_of 0 r (cond here (made.One mark) made.Nothing))) }
         ensures row { IfOk result (λ told. LocalLeaves code.now self.old self.new r mark here told) }
         ensures name { self.new.name ≡ self.old.name }
         ensures filed { IsFiled code.now.processes self.old.atoms → IsFiled code.now.processes self.new.atoms }

@@ -34,7 +34,8 @@ pub fn pair_in(code: &Code, atoms: &Index<Held>, mark: Name, other: Name) -> Opt
 /// What any of the atoms can do alone. It walks over them.
 pub fn any_alone(code: &Code, atoms: &Index<Held>) -> Option<Ready>
     ensures some { (agent : Named) → IfSome result (IsReady code.now (mapped (seen_as code.now.processes agent) atoms.now.items)) }
-    ensures none { (agent : Named) → IfNone result (NoneAlone (length code.now.sites) (mapped (seen_as code.now.processes agent) atoms.now.items)) }
+    ensures none { (agent : Named) → IfNone result
+        (NoneAlone (length code.now.sites) (mapped (seen_as code.now.processes agent) atoms.now.items)) }
 {
     for at in 0..atoms.len() {
         if let Some(ready) = alone_in(code, atoms, atoms.key(at)) {
@@ -47,7 +48,8 @@ pub fn any_alone(code: &Code, atoms: &Index<Held>) -> Option<Ready>
 /// What the atom of a mark can do with any of the others. It walks over them.
 pub fn any_with(code: &Code, atoms: &Index<Held>, mark: Name) -> Option<Ready>
     ensures some { (agent : Named) → IfSome result (IsReady code.now (mapped (seen_as code.now.processes agent) atoms.now.items)) }
-    ensures none { (agent : Named) → IfNone result ((other : Named) → pair_in (mapped (seen_as code.now.processes agent) atoms.now.items) mark other ≡ None) }
+    ensures none { (agent : Named) → IfNone result
+        ((other : Named) → pair_in (mapped (seen_as code.now.processes agent) atoms.now.items) mark other ≡ None) }
 {
     for at in 0..atoms.len() {
         if let Some(ready) = pair_in(code, atoms, mark, atoms.key(at)) {

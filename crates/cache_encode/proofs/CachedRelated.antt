@@ -10,7 +10,7 @@ use Rattle.cache_encode.specs.Related.{CachedTranslatesItself, CachedEncodesItse
 use Rattle.cache_encode.proofs.Forms.{cached-form, form-agent, form-post}
 use Rattle.cache_encode.proofs.KeptForms.{cached-keeps}
 
-cached-related : (n from : ℕ) → IsRelated Infrastructure.cached n from (cached n)
+pub cached-related : (n from : ℕ) → IsRelated Infrastructure.cached n from (cached n)
 cached-related n from = record {
   keeps = cached-keeps n;
   creation = λ tag at b p q c d a next above.

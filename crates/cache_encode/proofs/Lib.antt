@@ -9,4 +9,5 @@ pub mod ProgramsTyped
 pub mod CachedSounds
 pub mod CachedRuns
 pub mod CachedRelated
+pub mod Numbers
 pub mod ExampleTexts

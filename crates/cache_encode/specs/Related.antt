@@ -9,7 +9,8 @@ use Rattle.cache_encode.specs.Encoded.{cached, encoded_cached}
 
 -- the translation of a process is one of it by the infrastructure with caches, where binders are made from any number up to the next on
 abbrev pub CachedTranslatesItself : Type 0
-CachedTranslatesItself = (n from : ℕ) (a : Expr) (p : Proc) (next : ℕ) → from ≤ next → Translates Infrastructure.cached n from a p (cached n p a next).proc
+CachedTranslatesItself = (n from : ℕ) (a : Expr) (p : Proc) (next : ℕ) → from ≤ next
+    → Translates Infrastructure.cached n from a p (cached n p a next).proc
 
 -- the low program of a program is one of it
 abbrev pub CachedEncodesItself : Type 0

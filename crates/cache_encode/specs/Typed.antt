@@ -11,11 +11,16 @@ use Rattle.np_calculus.specs.Well.{WellAlong}
 use Rattle.np_check.specs.Faults.{IsAccepted}
 use Rattle.np_safety.specs.Low.{IsFaultless, infrastructure}
 use Rattle.np_safety.specs.Typed.{TypedAlong}
+use Rattle.daemon_encode.specs.LowSound.{IsLowSound}
 use Rattle.cache_encode.specs.Encoded.{encoded_cached}
 
 -- neither main's process nor the daemon's has a fault under the types of the infrastructure's channels
 abbrev pub CachedFaultless : Type 0
 CachedFaultless = (p : Program) → IsAccepted p → IsFaultless (encoded_cached p)
+
+-- uses, sites, values and the types at each `new` are as a low program has them
+abbrev pub CachedSound : Type 0
+CachedSound = (p : Program) → IsAccepted p → IsLowSound (encoded_cached p)
 
 -- every run from its low start is typed throughout, and meets no value of a wrong type: so it is after each prefix
 abbrev pub CachedWellTyped : Type 0

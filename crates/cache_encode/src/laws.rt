@@ -1,6 +1,6 @@
 ghost use Rattle.cache_encode.specs.Examples.{LowTextOfSeven, TextOfCreation, TextOfPost};
 ghost use Rattle.cache_encode.specs.Related.{CachedEncodesItself, CachedTranslatesItself};
-ghost use Rattle.cache_encode.specs.Typed.{CachedFaultless, CachedRunsWell, CachedWellTyped};
+ghost use Rattle.cache_encode.specs.Typed.{CachedFaultless, CachedRunsWell, CachedSound, CachedWellTyped};
 
 /// What the translation makes is a low process of what it is made from, and so is a low program, where agents have caches.
 pub fn law_cached_translates()
@@ -9,9 +9,11 @@ pub fn law_cached_translates()
 {}
 
 /// The low program of an accepted program, whose agents have caches, has no fault under the types of the infrastructure's
-/// channels. So it is typed after each prefix of each of its runs, and no value of a wrong type is ever met.
+/// channels, and its uses, sites, values and types are as a low program has them. So it is typed after each prefix of each of
+/// its runs, and no value of a wrong type is ever met.
 pub fn law_cached_typed()
     ensures faultless { CachedFaultless }
+    ensures sound { CachedSound }
     ensures along { CachedWellTyped }
 {}
 

@@ -1,12 +1,12 @@
 //! The translation of processes.
 
-ghost use Rattle.std.specs.Prelude.{◌≡◌, ◌+◌, IfOk};
+ghost use Rattle.std.specs.Prelude.{◌≡◌, ◌<◌, ◌+◌, ◌^◌, IfOk};
 ghost use Rattle.daemon_encode.specs.Encoded as central;
 ghost use Rattle.infrastructure_texts.specs.Pieces as piece;
 ghost use Rattle.cache_encode.specs.Encoded as spec;
 ghost use Rattle.infrastructure_texts.specs.CacheTexts as text;
 
-use daemon_encode::{Translated, Translator, behind};
+use daemon_encode::{Translated, Translator};
 use infrastructure_texts::cached_creations::agent_text;
 use migration_texts::cached_post_text;
 use np_syntax::{Expr, Memory, Proc, ProcForm, Tag};
@@ -15,6 +15,7 @@ use np_syntax::{Expr, Memory, Proc, ProcForm, Tag};
 #[cycle(translate)]
 #[tactic(auto, using(crate::proofs::Forms::forms))]
 pub fn translate(forms: Translator, p: &Proc, agent: &Expr, next: u32) -> Result<Translated, Memory>
+    requires { (spec.cached forms.sites p.now agent.now next).next < 2 ^ 32 }
     ensures { IfOk result (λ t. t ≡ spec.cached forms.sites p.now agent.now next) }
 {
     form(forms, p.form.get(), p.tag, p.at, agent, next)
@@ -30,6 +31,7 @@ fn form(
     agent: &Expr,
     next: u32,
 ) -> Result<Translated, Memory>
+    requires { (spec.cached_form forms.sites form.now tag at agent.now next).next < 2 ^ 32 }
     ensures { IfOk result (λ t. t ≡ spec.cached_form forms.sites form.now tag at agent.now next) }
 {
     match form {
@@ -91,19 +93,19 @@ fn form(
 /// What a new agent does, behind the binder for its site.
 #[cycle(translate)]
 fn new_agent(forms: Translator, p: &Proc, child: u32, next: u32) -> Result<Translated, Memory>
+    requires { (spec.cached forms.sites p.now (piece.variable child) (next + 1)).next < 2 ^ 32 }
     ensures { IfOk result (λ t. t ≡ spec.cached forms.sites p.now (piece.variable child) (next + 1)) }
 {
-    let first = behind(next, 1)?;
-    translate(forms, p, &forms.variable(child)?, first)
+    translate(forms, p, &forms.variable(child)?, next + 1)
 }
 
 /// What the agent that makes another does then, behind the binders of the other's server and cache.
 #[cycle(translate)]
 fn maker(forms: Translator, p: &Proc, agent: &Expr, first: u32) -> Result<Translated, Memory>
+    requires { (spec.cached forms.sites p.now agent.now (first + 7)).next < 2 ^ 32 }
     ensures { IfOk result (λ t. t ≡ spec.cached forms.sites p.now agent.now (first + 7)) }
 {
-    let behind = behind(first, 7)?;
-    translate(forms, p, agent, behind)
+    translate(forms, p, agent, first + 7)
 }
 
 fn post(
@@ -115,11 +117,14 @@ fn post(
     value: &Expr,
     next: u32,
 ) -> Result<Translated, Memory>
+    requires { next + 4 < 2 ^ 32 }
     ensures { IfOk result (λ t. t ≡ spec.posting forms.sites tag.node to.now chan.now value.now from.now next) }
 {
-    let behind = behind(next, 4)?;
     let proc = cached_post_text(forms.writer(tag), from, to, chan, value, next)?;
-    Ok(Translated { proc, next: behind })
+    Ok(Translated {
+        proc,
+        next: next + 4,
+    })
 }
 
 fn creation(
@@ -131,11 +136,12 @@ fn creation(
     body: Translated,
     rest: Translated,
 ) -> Result<Translated, Memory>
-    ensures { IfOk result (λ t. t ≡ central.becomes (text.agent_text forms.sites tag.node agent.now child at body.next (body.next + 1) (body.next + 2) body.proc rest.proc) rest.next) }
+    requires { body.next + 6 < 2 ^ 32 }
+    ensures { IfOk result (λ t. t ≡ central.becomes
+        (text.agent_text forms.sites tag.node agent.now child at body.next (body.next + 1) (body.next + 2) body.proc rest.proc) rest.next) }
 {
     let next = rest.next;
     let first = body.next;
-    let _behind = behind(first, 6)?;
     let writer = forms.writer(tag);
     let proc = agent_text(writer, agent, child, at, first, body.proc, rest.proc)?;
     Ok(Translated { proc, next })

@@ -37,6 +37,7 @@ has_first code here agent mark root p old new env is name none stored settled = 
       let first : f p ≡ alone agent mark (nth code.processes root) = ap₂ (λ n m. mapped (seen_as code.processes n) m) name atoms ∙ first-atoms code.processes agent mark root in
       ap (mapped f) settled.agents ∙ mapped-put f old.agents p.name p ∙ ap₂ (λ n a. table.insert (mapped f old.agents) n a) name first
       ∙ ap (λ t. with_if t (mapped f old.agents) agent (alone agent mark (nth code.processes root))) (sym is);
+  quiet = settled.quiet code;
   same = settled.same;
   outgoing = settled.outgoing;
 }
@@ -45,6 +46,7 @@ has_first code here agent mark root p old new env is name none stored settled = 
 pub has_none : (code : ProgramTable) (here : Bool) (agent mark : Name) (root : ℕ) (s : Standing) → here ≡ false → HasFirst code here agent mark root s s
 has_none code here agent mark root s is = record {
   agents = ap (λ t. with_if t (mapped (atoms_of code.processes) s.agents) agent (alone agent mark (nth code.processes root))) (sym is);
+  quiet = λ h. h;
   same = record { site = refl; next = refl; clock = refl; history = refl };
   outgoing = refl;
 }
@@ -81,6 +83,9 @@ agents_apart n = is-false (same_name (daemon_agent n) (main_agent n)) (λ e.
 pub none_there : (s : Standing) (q : Name) → s.agents ≡ table.empty → table.get s.agents q ≡ None
 none_there s q e = ap (λ m. table.get m q) e ∙ get-none q
 
+none-at : {X : Type 0} (m : NameMap X) (q : Name) → m ≡ table.empty → table.get m q ≡ None
+none-at m q e = ap (λ v. table.get v q) e ∙ get-none q
+
 -- both agents of the start
 pub first_is : (code : ProgramTable) (budget number : ℕ) (a b c : Standing) → IsNew number (length code.sites) budget a
     → HasFirst code (a.site == code.at) (main_agent (length code.sites)) (main_mark (length code.sites)) code.main a b
@@ -105,6 +110,7 @@ first_is code budget number a b c new main daemon low =
       holding = rw (site, two, next, history, apart) refl;
       clock = daemon.same.clock ∙ main.same.clock ∙ new.clock;
       history = history;
+      quiet = daemon.quiet (main.quiet (record { each = λ q p found at. absurd (let none : None ≡ Some true = sym (none-at a.quiet q new.quiet) ∙ found in cc) }));
       outgoing = rw (daemon.outgoing ∙ main.outgoing) new.outgoing;
     }
 

@@ -8,12 +8,14 @@ use Rattle.np_code.specs.Trees.{nth}
 use Rattle.agent_pool.specs.Pools.{atoms_of}
 use Rattle.np_site_runs.specs.Starting.{alone, start_holding, with_if}
 use Rattle.site_state.specs.Lines.{AreEmpty}
-use Rattle.site_state.specs.Standings.{SameRecords, Standing, holding_of}
+use Rattle.site_state.specs.Standings.{IsQuiet, KeepsQuiet, SameRecords, Standing, holding_of}
 use Rattle.site_turn.specs.declared.seat.Seat.{Seat}
 
 -- if it is to stand there, an agent with one atom is new at the site
 pub record HasFirst (code : ProgramTable) (here : Bool) (agent mark : Name) (root : ℕ) (old new : Standing) : Type 0 where
-  pub agents : mapped (atoms_of code.processes) new.agents ≡ with_if here (mapped (atoms_of code.processes) old.agents) agent (alone agent mark (nth code.processes root))
+  pub agents : mapped (atoms_of code.processes) new.agents
+      ≡ with_if here (mapped (atoms_of code.processes) old.agents) agent (alone agent mark (nth code.processes root))
+  pub quiet : KeepsQuiet code old new
   pub same : SameRecords old new
   pub outgoing : new.outgoing ≡ old.outgoing
 
@@ -23,6 +25,8 @@ pub record IsFirstSite (code : ProgramTable) (limit k : ℕ) (s : Standing) : Ty
   pub holding : holding_of code s ≡ start_holding (program code) k
   pub clock : s.clock ≡ 0
   pub history : s.history ≡ without_events k limit
+  -- no agent was found to be quiet
+  pub quiet : IsQuiet code s
   pub outgoing : AreEmpty (length code.sites) s.outgoing
 
 -- at its port

@@ -67,7 +67,8 @@ fn settle_if(
 fn settle_main(alloc: Global, code: &Code, site: &mut Site) -> Result<(), Memory>
     requires sites { length code.now.sites < 2 ^ 32 }
     requires free { map.get site.old.agents (main_agent (length code.now.sites)) ≡ None }
-    ensures { OnOk result (HasFirst code.now (site.old.site == code.now.at) (main_agent (length code.now.sites)) (main_mark (length code.now.sites)) code.now.main site.old site.new) }
+    ensures { OnOk result (HasFirst code.now (site.old.site == code.now.at) (main_agent (length code.now.sites))
+        (main_mark (length code.now.sites)) code.now.main site.old site.new) }
 {
     let here = site.number() == code.at();
     let agent = own(code, MAIN);
@@ -79,7 +80,8 @@ fn settle_main(alloc: Global, code: &Code, site: &mut Site) -> Result<(), Memory
 fn settle_daemon(alloc: Global, code: &Code, site: &mut Site) -> Result<(), Memory>
     requires sites { length code.now.sites < 2 ^ 32 }
     requires free { map.get site.old.agents (daemon_agent (length code.now.sites)) ≡ None }
-    ensures { OnOk result (HasFirst code.now (site.old.site == 0) (daemon_agent (length code.now.sites)) (daemon_mark (length code.now.sites)) code.now.daemon site.old site.new) }
+    ensures { OnOk result (HasFirst code.now (site.old.site == 0) (daemon_agent (length code.now.sites))
+        (daemon_mark (length code.now.sites)) code.now.daemon site.old site.new) }
 {
     let here = site.number() == 0;
     let agent = own(code, DAEMON);

@@ -44,7 +44,8 @@ pub record Woven (n k : ℕ) (seats : List Seat) : Type 0 where
   pub count : length seats ≡ n
   pub unused : (i : ℕ) (s : Seat) → slice_get seats i ≡ Some s → HasMade n k s
   pub long : (i : ℕ) (s : Seat) → slice_get seats i ≡ Some s → i < k → length s.ways.items ≡ n
-  pub fresh : (i m : ℕ) (s t : Seat) (way : Outlet Item) → slice_get seats i ≡ Some s → slice_get seats m ≡ Some t → slice_get s.ways.items m ≡ Some way → IsFreshWay n i t way
+  pub fresh : (i m : ℕ) (s t : Seat) (way : Outlet Item) → slice_get seats i ≡ Some s → slice_get seats m ≡ Some t
+      → slice_get s.ways.items m ≡ Some way → IsFreshWay n i t way
 
 -- the seat that stood at a place, with the same ways and the same queue
 pub record Was (before : List Seat) (i : ℕ) (s : Seat) : Type 0 where

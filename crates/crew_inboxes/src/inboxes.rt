@@ -34,7 +34,8 @@ impl Drop for Inboxes {
 }
 
 impl<R: Wait> Port<R, Item> for Inboxes {
-    ghost use Rattle.std.specs.Prelude.{◌≡◌, ◌≢◌, ℕ, ◌+◌, ◌-◌, ◌<◌, ◌≤◌, List, [], ◌∷◌, ◌++◌, length, slice_get, IfOk, IfErr, OnOk, Some, MatchOption};
+    ghost use Rattle.std.specs.Prelude.{◌≡◌, ◌≢◌, ℕ, ◌+◌, ◌-◌, ◌<◌, ◌≤◌, List, [], ◌∷◌, ◌++◌, length, slice_get, IfOk, IfErr, OnOk, Some};
+    ghost use Rattle.std.specs.Prelude.{MatchOption};
     ghost use Rattle.crew_inboxes.specs.Ways.{site_in, among_in, sent_for, got_from, known_from, room_for, Linked};
 
     ghost site = { site_in };

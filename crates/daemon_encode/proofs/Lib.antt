@@ -12,4 +12,6 @@ pub mod ProgramsTyped
 pub mod LowSounds
 pub mod LowAgents
 pub mod Encodes
+pub mod Sizes
+pub mod Numbers
 pub mod ExampleTexts

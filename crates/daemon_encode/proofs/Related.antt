@@ -147,7 +147,7 @@ numbered-low i p f parts t =
       daemon = refl;
     }
 
-is-related : (n from : ℕ) → IsRelated Infrastructure.central n from (translated n)
+pub is-related : (n from : ℕ) → IsRelated Infrastructure.central n from (translated n)
 is-related n from = record {
   keeps = translated-keeps n;
   creation = λ tag at b p q c d a next above.

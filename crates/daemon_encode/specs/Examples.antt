@@ -13,7 +13,11 @@ abbrev pub prints_seven : Program
 prints_seven = record {
   sites = codes "home" ∷ [];
   at = 0;
-  main = record { tag = record { node = 1; role = role.Plain }; at = 28; form = form.Print (record { at = 34; form = expr.Val (value.Int (pos 7)) }) };
+  main = record {
+    tag = record { node = 1; role = role.Plain };
+    at = 28;
+    form = form.Print (record { at = 34; form = expr.Val (value.Int (pos 7)) });
+  };
   binders = 0;
 }
 

@@ -42,9 +42,11 @@ mutual
     constant : {at : ℕ} {v : Value} → IsLowValue n v → IsLowExpr n scope (expression at (expr.Val v))
     variable : {at x : ℕ} → Among x scope → IsLowExpr n scope (expression at (expr.Var x))
     tuple : {at : ℕ} {es : List Expr} → AreLowExprs n scope es → IsLowExpr n scope (expression at (expr.Tuple es))
-    operation : {at : ℕ} {o : Op} {a b : Expr} → IsLowExpr n scope a → IsLowExpr n scope b → IsLowExpr n scope (expression at (expr.Bin o a b))
+    operation : {at : ℕ} {o : Op} {a b : Expr} → IsLowExpr n scope a → IsLowExpr n scope b
+        → IsLowExpr n scope (expression at (expr.Bin o a b))
     letter : {at : ℕ} {c v : Expr} → IsLowExpr n scope c → IsLowExpr n scope v → IsLowExpr n scope (expression at (expr.Pack c v))
-    with_lock : {at : ℕ} {m a l : Expr} → IsLowExpr n scope m → IsLowExpr n scope a → IsLowExpr n scope l → IsLowExpr n scope (expression at (expr.With m a l))
+    with_lock : {at : ℕ} {m a l : Expr} → IsLowExpr n scope m → IsLowExpr n scope a → IsLowExpr n scope l
+        → IsLowExpr n scope (expression at (expr.With m a l))
 
   pub data AreLowExprs (n : ℕ) (scope : List ℕ) : List Expr → Type 0 where
     none : AreLowExprs n scope []
@@ -64,26 +66,37 @@ mutual
 -- of n sites and with these binders in scope
 pub data IsLowProc (n : ℕ) : List ℕ → Proc → Type 0 where
   stop : {scope : List ℕ} {k : Tag} {at : ℕ} → IsLowProc n scope (source k at form.Stop)
-  parallel : {scope : List ℕ} {k : Tag} {at : ℕ} {p q : Proc} → IsLowProc n scope p → IsLowProc n scope q → IsLowProc n scope (source k at (form.Par p q))
-  channel : {scope : List ℕ} {k : Tag} {at c : ℕ} {t : Ty} {p : Proc} → IsChannelType t → IsLowProc n (c ∷ scope) p → IsLowProc n scope (source k at (form.New c t p))
-  output : {scope : List ℕ} {k : Tag} {at : ℕ} {c e : Expr} → IsLowExpr n scope c → IsLowExpr n scope e → IsLowProc n scope (source k at (form.Out c e))
-  input : {scope inner : List ℕ} {k : Tag} {at : ℕ} {c : Expr} {x : Pat} {p : Proc} → IsLowExpr n scope c → Enters scope x inner → IsLowProc n inner p
+  parallel : {scope : List ℕ} {k : Tag} {at : ℕ} {p q : Proc} → IsLowProc n scope p → IsLowProc n scope q
+      → IsLowProc n scope (source k at (form.Par p q))
+  channel : {scope : List ℕ} {k : Tag} {at c : ℕ} {t : Ty} {p : Proc} → IsChannelType t → IsLowProc n (c ∷ scope) p
+      → IsLowProc n scope (source k at (form.New c t p))
+  output : {scope : List ℕ} {k : Tag} {at : ℕ} {c e : Expr} → IsLowExpr n scope c → IsLowExpr n scope e
+      → IsLowProc n scope (source k at (form.Out c e))
+  input : {scope inner : List ℕ} {k : Tag} {at : ℕ} {c : Expr} {x : Pat} {p : Proc} → IsLowExpr n scope c → Enters scope x inner
+      → IsLowProc n inner p
       → IsLowProc n scope (source k at (form.Inp c x p))
-  replicated : {scope inner : List ℕ} {k : Tag} {at : ℕ} {c : Expr} {x : Pat} {p : Proc} → IsLowExpr n scope c → Enters scope x inner → IsLowProc n inner p
+  replicated : {scope inner : List ℕ} {k : Tag} {at : ℕ} {c : Expr} {x : Pat} {p : Proc} → IsLowExpr n scope c → Enters scope x inner
+      → IsLowProc n inner p
       → IsLowProc n scope (source k at (form.Rep c x p))
-  agent : {scope : List ℕ} {k : Tag} {at b : ℕ} {p q : Proc} → IsLowProc n (b ∷ scope) p → IsLowProc n (b ∷ scope) q → IsLowProc n scope (source k at (form.Agent b p q))
-  migrate : {scope : List ℕ} {k : Tag} {at : ℕ} {s : Expr} {p : Proc} → IsLowExpr n scope s → IsLowProc n scope p → IsLowProc n scope (source k at (form.Migrate s p))
-  iflocal : {scope : List ℕ} {k : Tag} {at : ℕ} {b c e : Expr} {p q : Proc} → IsLowExpr n scope b → IsLowExpr n scope c → IsLowExpr n scope e
+  agent : {scope : List ℕ} {k : Tag} {at b : ℕ} {p q : Proc} → IsLowProc n (b ∷ scope) p → IsLowProc n (b ∷ scope) q
+      → IsLowProc n scope (source k at (form.Agent b p q))
+  migrate : {scope : List ℕ} {k : Tag} {at : ℕ} {s : Expr} {p : Proc} → IsLowExpr n scope s → IsLowProc n scope p
+      → IsLowProc n scope (source k at (form.Migrate s p))
+  iflocal : {scope : List ℕ} {k : Tag} {at : ℕ} {b c e : Expr} {p q : Proc} → IsLowExpr n scope b → IsLowExpr n scope c
+      → IsLowExpr n scope e
       → IsLowProc n scope p → IsLowProc n scope q → IsLowProc n scope (source k at (form.IfLocal b c e p q))
-  send : {scope : List ℕ} {k : Tag} {at : ℕ} {b s c e : Expr} → IsLowExpr n scope b → IsLowExpr n scope s → IsLowExpr n scope c → IsLowExpr n scope e
+  send : {scope : List ℕ} {k : Tag} {at : ℕ} {b s c e : Expr} → IsLowExpr n scope b → IsLowExpr n scope s → IsLowExpr n scope c
+      → IsLowExpr n scope e
       → IsLowProc n scope (source k at (form.Send b s c e))
   test : {scope : List ℕ} {k : Tag} {at : ℕ} {e : Expr} {p q : Proc} → IsLowExpr n scope e → IsLowProc n scope p → IsLowProc n scope q
       → IsLowProc n scope (source k at (form.If e p q))
-  bind : {scope inner : List ℕ} {k : Tag} {at : ℕ} {x : Pat} {e : Expr} {p : Proc} → IsLowExpr n scope e → Enters scope x inner → IsLowProc n inner p
+  bind : {scope inner : List ℕ} {k : Tag} {at : ℕ} {x : Pat} {e : Expr} {p : Proc} → IsLowExpr n scope e → Enters scope x inner
+      → IsLowProc n inner p
       → IsLowProc n scope (source k at (form.Let x e p))
   print : {scope : List ℕ} {k : Tag} {at : ℕ} {e : Expr} → IsLowExpr n scope e → IsLowProc n scope (source k at (form.Print e))
   open_letter : {scope : List ℕ} {k : Tag} {at : ℕ} {e : Expr} → IsLowExpr n scope e → IsLowProc n scope (source k at (form.Open e))
-  lookup : {scope : List ℕ} {k : Tag} {at x : ℕ} {a m : Expr} {p q : Proc} → IsLowExpr n scope a → IsLowExpr n scope m → IsLowProc n (x ∷ scope) p → IsLowProc n scope q
+  lookup : {scope : List ℕ} {k : Tag} {at x : ℕ} {a m : Expr} {p q : Proc} → IsLowExpr n scope a → IsLowExpr n scope m
+      → IsLowProc n (x ∷ scope) p → IsLowProc n scope q
       → IsLowProc n scope (source k at (form.Lookup a m x p q))
 
 -- main's site is one of the program, and this stands in its two processes, with no binder in scope

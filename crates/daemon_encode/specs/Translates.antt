@@ -20,7 +20,8 @@ use Rattle.daemon_encode.specs.Encoded.{translated, encoded}
 abbrev pub source : Tag → ℕ → ProcForm → Proc
 source tag at f = record { tag = tag; at = at; form = f }
 
--- Of an infrastructure, of n sites and with binders made from a number on: the agent that a process stands in, the process, and a low process of it.
+-- Of an infrastructure, of n sites and with binders made from a number on: the agent that a process stands in, the process, and a low
+-- process of it.
 pub data Translates (i : Infrastructure) (n from : ℕ) : Expr → Proc → Proc → Type 0 where
   stop : {a : Expr} {k : Tag} {at : ℕ} → Translates i n from a (source k at form.Stop) (source k at form.Stop)
   parallel : {a : Expr} {k : Tag} {at : ℕ} {p p' q q' : Proc} → Translates i n from a p p' → Translates i n from a q q'
@@ -40,8 +41,10 @@ pub data Translates (i : Infrastructure) (n from : ℕ) : Expr → Proc → Proc
       → Translates i n from a (source k at (form.Migrate e p)) (migrate_text n k.node a e p')
   iflocal : {a : Expr} {k : Tag} {at : ℕ} {b c e : Expr} {p p' q q' : Proc} → Translates i n from a p p' → Translates i n from a q q'
       → Translates i n from a (source k at (form.IfLocal b c e p q)) (source k at (form.IfLocal b c e p' q'))
-  send : {a : Expr} {k : Tag} {at : ℕ} {b s c e : Expr} → Translates i n from a (source k at (form.Send b s c e)) (source k at (form.Send b s c e))
-  post : {a : Expr} {k : Tag} {at m : ℕ} {b c v : Expr} → from ≤ m → Translates i n from a (source k at (form.Post b c v)) (post_of i n k.node a b c v m)
+  send : {a : Expr} {k : Tag} {at : ℕ} {b s c e : Expr}
+      → Translates i n from a (source k at (form.Send b s c e)) (source k at (form.Send b s c e))
+  post : {a : Expr} {k : Tag} {at m : ℕ} {b c v : Expr} → from ≤ m
+      → Translates i n from a (source k at (form.Post b c v)) (post_of i n k.node a b c v m)
   test : {a : Expr} {k : Tag} {at : ℕ} {e : Expr} {p p' q q' : Proc} → Translates i n from a p p' → Translates i n from a q q'
       → Translates i n from a (source k at (form.If e p q)) (source k at (form.If e p' q'))
   bind : {a : Expr} {k : Tag} {at : ℕ} {x : Pat} {e : Expr} {p p' : Proc} → Translates i n from a p p'
@@ -74,7 +77,8 @@ pub record IsLowOf (i : Infrastructure) (p : Program) (q : LowProgram) : Type 0 
 
 -- the translation of a process is one of it by the central infrastructure, where binders are made from any number up to the next on
 abbrev pub TranslatesItself : Type 0
-TranslatesItself = (n from : ℕ) (a : Expr) (p : Proc) (next : ℕ) → from ≤ next → Translates Infrastructure.central n from a p (translated n p a next).proc
+TranslatesItself = (n from : ℕ) (a : Expr) (p : Proc) (next : ℕ) → from ≤ next
+    → Translates Infrastructure.central n from a p (translated n p a next).proc
 
 -- the low program of a program is one of it
 abbrev pub EncodesItself : Type 0

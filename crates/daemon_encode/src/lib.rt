@@ -16,4 +16,4 @@ mod translator;
 pub use laws::{law_encodes_typed, law_examples, law_low_runs_well, law_translates};
 pub use programs::encode;
 pub use translated::Translated;
-pub use translator::{Translator, behind};
+pub use translator::Translator;

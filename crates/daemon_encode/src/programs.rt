@@ -1,11 +1,11 @@
 //! The low program of a checked program.
 
-ghost use Rattle.std.specs.Prelude.{◌≡◌, ◌<◌, ◌^◌, length, IfOk};
+ghost use Rattle.std.specs.Prelude.{◌≡◌, ◌<◌, ◌+◌, ◌^◌, length, IfOk};
 ghost use Rattle.np_safety.specs.Low.{IsFaultless};
 ghost use Rattle.daemon_encode.specs.Encoded.{encoded, main_of};
 ghost use Rattle.daemon_encode.specs.LowSound.{IsLowSound};
 
-use super::translator::{Translator, behind};
+use super::translator::Translator;
 use daemon_texts::daemon;
 use infrastructure_texts::Writer;
 use np_calculus::MAIN;
@@ -15,6 +15,7 @@ use std::alloc::Global;
 
 /// Main's process in the low program, and the number of the next binder.
 fn main_of(alloc: Global, sites: u32, p: &Program) -> Result<(Proc, u32), Memory>
+    requires { (main_of sites p.now).1 < 2 ^ 32 }
     ensures { IfOk result (λ r. main_of sites p.now ≡ (r.0, r.1)) }
 {
     let writer = Writer {
@@ -25,15 +26,14 @@ fn main_of(alloc: Global, sites: u32, p: &Program) -> Result<(Proc, u32), Memory
     let translator = Translator { alloc, sites };
     let body = translator.translate(&p.main, &writer.agent(MAIN)?, p.binders)?;
     let letter = body.next;
-    let place = behind(letter, 1)?;
-    let next = behind(letter, 2)?;
-    let main = writer.main_text(p.at, letter, place, body.proc)?;
-    Ok((main, next))
+    let main = writer.main_text(p.at, letter, letter + 1, body.proc)?;
+    Ok((main, letter + 2))
 }
 
 /// The low program of a program.
 fn low_program(alloc: Global, p: &Program) -> Result<LowProgram, Memory>
-    requires { length p.now.sites < 2 ^ 32 }
+    requires sites { length p.now.sites < 2 ^ 32 }
+    requires numbers { (main_of (length p.now.sites) p.now).1 + 20 < 2 ^ 32 }
     ensures { IfOk result (λ low. low ≡ encoded p.now) }
 {
     let count = p.sites.len() as u32;

@@ -1,6 +1,6 @@
 //! The translation of processes.
 
-ghost use Rattle.std.specs.Prelude.{◌≡◌, ◌+◌, IfOk};
+ghost use Rattle.std.specs.Prelude.{◌≡◌, ◌<◌, ◌+◌, ◌^◌, IfOk};
 ghost use Rattle.daemon_encode.specs.Encoded as spec;
 ghost use Rattle.infrastructure_texts.specs.Texts as text;
 ghost use Rattle.infrastructure_texts.specs.Pieces as piece;
@@ -19,16 +19,6 @@ use std::alloc::Global;
 pub struct Translator {
     pub alloc: Global,
     pub sites: u32,
-}
-
-/// The binder behind so many more. Want of numbers is answered as want of memory.
-pub fn behind(next: u32, count: u32) -> Result<u32, Memory>
-    ensures { IfOk result (λ after. after ≡ next + count) }
-{
-    match next.checked_add(count) {
-        Some(after) => Ok(after),
-        None => Err(Memory),
-    }
 }
 
 impl Translator {
@@ -69,6 +59,7 @@ impl Translator {
     #[cycle(translate)]
     #[tactic(auto, using(crate::proofs::Forms::forms))]
     pub fn translate(self, p: &Proc, agent: &Expr, next: u32) -> Result<Translated, Memory>
+        requires { (spec.translated self.sites p.now agent.now next).next < 2 ^ 32 }
         ensures { IfOk result (λ t. t ≡ spec.translated self.sites p.now agent.now next) }
     {
         self.form(p.form.get(), p.tag, p.at, agent, next)
@@ -84,6 +75,7 @@ impl Translator {
         agent: &Expr,
         next: u32,
     ) -> Result<Translated, Memory>
+        requires { (spec.translated_form self.sites form.now tag at agent.now next).next < 2 ^ 32 }
         ensures { IfOk result (λ t. t ≡ spec.translated_form self.sites form.now tag at agent.now next) }
     {
         match form {
@@ -145,19 +137,19 @@ impl Translator {
     /// What a new agent does, behind the binder for its site.
     #[cycle(translate)]
     fn child(self, p: &Proc, child: u32, next: u32) -> Result<Translated, Memory>
+        requires { (spec.translated self.sites p.now (piece.variable child) (next + 1)).next < 2 ^ 32 }
         ensures { IfOk result (λ t. t ≡ spec.translated self.sites p.now (piece.variable child) (next + 1)) }
     {
-        let first = behind(next, 1)?;
-        self.translate(p, &self.variable(child)?, first)
+        self.translate(p, &self.variable(child)?, next + 1)
     }
 
     /// What the agent that makes another does then, behind the binders of the other's server.
     #[cycle(translate)]
     fn rest(self, p: &Proc, agent: &Expr, letter: u32) -> Result<Translated, Memory>
+        requires { (spec.translated self.sites p.now agent.now (letter + 2)).next < 2 ^ 32 }
         ensures { IfOk result (λ t. t ≡ spec.translated self.sites p.now agent.now (letter + 2)) }
     {
-        let first = behind(letter, 2)?;
-        self.translate(p, agent, first)
+        self.translate(p, agent, letter + 2)
     }
 
     /// A form without processes in it.
@@ -306,11 +298,13 @@ impl Translator {
         body: Translated,
         rest: Translated,
     ) -> Result<Translated, Memory>
-        ensures { IfOk result (λ t. t ≡ spec.becomes (text.agent_text self.sites tag.node agent.now child at body.next (body.next + 1) body.proc rest.proc) rest.next) }
+        requires { body.next + 1 < 2 ^ 32 }
+        ensures { IfOk result (λ t. t ≡ spec.becomes
+            (text.agent_text self.sites tag.node agent.now child at body.next (body.next + 1) body.proc rest.proc) rest.next) }
     {
         let next = rest.next;
         let letter = body.next;
-        let place = behind(letter, 1)?;
+        let place = letter + 1;
         let made = Made { at, letter, place };
         let proc = self
             .writer(tag)

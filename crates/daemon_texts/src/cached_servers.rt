@@ -8,17 +8,13 @@ use super::servers::{daemon_text, frees, notes};
 use infrastructure_texts::own_names::{FOUND, WHERE};
 use infrastructure_texts::pieces::{name, pair, two_names};
 use infrastructure_texts::{Writer, Written};
-use np_syntax::Memory;
 use std::alloc::Global;
 
 /// The daemon of a program of so many sites, whose main agent stands at a site: its binders are numbered from the first on.
-/// Want of numbers is answered as want of memory.
 pub fn cached_daemon(alloc: Global, sites: u32, at: u32, first_binder: u32) -> Written
+    requires { first_binder + 27 ≤ u32.MAX }
     ensures { Writes result (spec.cached_daemon sites at first_binder) }
 {
-    if first_binder > u32::MAX - 27 {
-        return Err(Memory);
-    }
     let writer = Writer {
         alloc,
         sites,

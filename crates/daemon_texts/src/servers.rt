@@ -17,13 +17,10 @@ use np_syntax::{ExprForm, List, Memory, Pat, Value};
 use std::alloc::Global;
 
 /// The daemon of a program of so many sites, whose main agent stands at a site: its binders are numbered from the first on.
-/// Want of numbers is answered as want of memory.
 pub fn daemon(alloc: Global, sites: u32, at: u32, first_binder: u32) -> Written
+    requires { first_binder + 20 ≤ u32.MAX }
     ensures { Writes result (spec.daemon_text sites at first_binder) }
 {
-    if first_binder > u32::MAX - 20 {
-        return Err(Memory);
-    }
     let writer = Writer {
         alloc,
         sites,
@@ -86,7 +83,8 @@ pub fn notes(
     body: Written,
 ) -> Written
     requires { writer.node ≡ 0 }
-    ensures { (n : Pat) (p : Proc) → Writes names n → Writes body p → Writes result (spec.notes writer.sites (piece.channel writer.sites chan) n places p) }
+    ensures { (n : Pat) (p : Proc) → Writes names n → Writes body p
+        → Writes result (spec.notes writer.sites (piece.channel writer.sites chan) n places p) }
 {
     let locked = writer.takes(writer.channel(LOCK), name(places), body);
     writer.serves(writer.channel(chan), names, locked)
@@ -103,7 +101,8 @@ fn looks_up(
     body: Written,
 ) -> Written
     requires { writer.node ≡ 0 }
-    ensures { (n : Pat) (p : Proc) → Writes names n → Writes body p → Writes result (spec.looks_up writer.sites (piece.channel writer.sites chan) n agent places lock p) }
+    ensures { (n : Pat) (p : Proc) → Writes names n → Writes body p
+        → Writes result (spec.looks_up writer.sites (piece.channel writer.sites chan) n agent places lock p) }
 {
     let both = writer.beside(body, frees(writer, places));
     let found = writer.finds(agent, places, lock, both);

@@ -8,7 +8,8 @@ use Rattle.history_text.specs.Histories.{Fits, IsHistory, IsRefused}
 
 -- the text of events whose numbers are below 2 ^ 32 is a history of them, in each format
 abbrev pub WrittenIsHistory : Type 0
-WrittenIsHistory = (format : Format) (events : List Event) → AllByRecursion Fits events → IsHistory (history_text format events) format events
+WrittenIsHistory = (format : Format) (events : List Event) → AllByRecursion Fits events
+    → IsHistory (history_text format events) format events
 
 -- the text is a history of some events
 pub record IsSomeHistory (text : List ℕ) : Type 0 where

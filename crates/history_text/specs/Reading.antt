@@ -164,7 +164,8 @@ event_then (Some event) number later = after (event ∷ []) later
 -- The events of the lines up to the line `end`, or the number of the line that is at fault. So many lines stand before.
 abbrev pub events_from : Format → ℕ → List (List ℕ) → Result (List Event) ℕ
 events_from format number [] = Err (number + 1)
-events_from format number (line ∷ lines) = if is_end line then Ok [] else event_then (event_of format line) number (events_from format (number + 1) lines)
+events_from format number (line ∷ lines) = if is_end line then Ok []
+    else event_then (event_of format line) number (events_from format (number + 1) lines)
 
 abbrev pub format_then : Option Format → Result (List Event) ℕ → (Format → Result (List Event) ℕ) → Result (List Event) ℕ
 format_then None skipped begun = skipped
@@ -173,7 +174,8 @@ format_then (Some format) skipped begun = begun format
 -- the same, where the first line of the history is to come
 abbrev pub history_from : ℕ → List (List ℕ) → Result (List Event) ℕ
 history_from number [] = Err (number + 1)
-history_from number (line ∷ lines) = format_then (format_of line) (history_from (number + 1) lines) (λ format. events_from format (number + 1) lines)
+history_from number (line ∷ lines) = format_then (format_of line) (history_from (number + 1) lines)
+    (λ format. events_from format (number + 1) lines)
 
 -- what a reader of the code answers is what reading gives, unless memory runs out
 abbrev pub Fails : HistFail → Result (List Event) ℕ → Type 0

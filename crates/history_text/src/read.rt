@@ -63,7 +63,8 @@ struct Begun<'a> {
 /// Skips the lines before the first line of the history, and that line.
 fn begin(bytes: &[u8]) -> Result<Begun<'_>, HistFail>
     requires { length bytes.now ≤ 2147483648 }
-    ensures { MatchResult result (λ b. spec.IsBegun bytes.now b.format b.number b.rest.now) (λ e. spec.Fails e (spec.history_from 0 (lines bytes.now))) }
+    ensures { MatchResult result (λ b. spec.IsBegun bytes.now b.format b.number b.rest.now)
+        (λ e. spec.Fails e (spec.history_from 0 (lines bytes.now))) }
 {
     let mut number = 0;
     let mut rest = bytes;
@@ -127,9 +128,11 @@ fn history_of(alloc: Global, bytes: &[u8]) -> Result<List<Event>, HistFail>
 pub fn read_history(alloc: Global, bytes: &[u8]) -> Result<List<Event>, HistFail>
     requires { length bytes.now ≤ 2147483648 }
     ensures found { IfOk result (λ events. (format : OneFormat) × IsHistory bytes.now format events) }
-    ensures only { IfOk result (λ events. (format : OneFormat) (others : Items OneEvent) → IsHistory bytes.now format others → others ≡ events) }
+    ensures only { IfOk result (λ events. (format : OneFormat) (others : Items OneEvent) → IsHistory bytes.now format others
+        → others ≡ events) }
     ensures refused { IfErr result (λ e. IsRefusal bytes.now e) }
-    ensures none { IfErr result (λ e. e ≢ fail.Memory → (format : OneFormat) (events : Items OneEvent) → IsHistory bytes.now format events → ⊥) }
+    ensures none { IfErr result (λ e. e ≢ fail.Memory → (format : OneFormat) (events : Items OneEvent) → IsHistory bytes.now format events
+        → ⊥) }
     ensures room { IfOk result (λ events. length events ≤ length bytes.now) }
 {
     history_of(alloc, bytes)

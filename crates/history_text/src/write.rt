@@ -38,7 +38,8 @@ fn put_optional(text: &mut Text, name: Option<Name>) -> Result<(), Memory>
 
 /// The names that an event makes, or `-` for each that it does not make.
 fn put_made(text: &mut Text, made: Made) -> Result<(), Memory>
-    ensures { OnOk result (text.new ≡ text.old ++ spec.optional_text (spec.first_made made) ++ codes " " ++ spec.optional_text (spec.second_made made)) }
+    ensures { OnOk result (text.new ≡ text.old ++ spec.optional_text (spec.first_made made) ++ codes " "
+        ++ spec.optional_text (spec.second_made made)) }
 {
     let (first, second) = match made {
         Made::Nothing => (None, None),

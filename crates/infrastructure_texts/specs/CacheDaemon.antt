@@ -8,11 +8,13 @@ use Rattle.infrastructure_texts.specs.CacheTexts.{asking, found}
 
 -- (k!u | <a@u>found![b s])
 abbrev pub hints : ℕ → ℕ → ℕ → ℕ → ℕ → ℕ → Proc
-hints n a b k s u = beside 0 (gives 0 (variable k) (variable u)) (sends 0 (variable a) (variable u) (found n) (pair (variable b) (variable s)))
+hints n a b k s u = beside 0 (gives 0 (variable k) (variable u))
+    (sends 0 (variable a) (variable u) (found n) (pair (variable b) (variable s)))
 
 -- l?s -> (l!s | k?u -> (k!u | <a@u>found![b s])), which reads both locks, one after the other
 abbrev pub reads_locks : ℕ → ℕ → ℕ → ℕ → ℕ → ℕ → ℕ → Proc
-reads_locks n a b l k s u = takes 0 (variable l) (name s) (beside 0 (gives 0 (variable l) (variable s)) (takes 0 (variable k) (name u) (hints n a b k s u)))
+reads_locks n a b l k s u = takes 0 (variable l) (name s)
+    (beside 0 (gives 0 (variable l) (variable s)) (takes 0 (variable k) (name u) (hints n a b k s u)))
 
 -- *where?[a b] -> lock?m -> lookup b in m then l -> lookup a in m then k -> (l?s -> (l!s | k?u -> (k!u | <a@u>found![b s])) | lock!m)
 --     else 0 else 0

@@ -84,7 +84,8 @@ makes_messenger n k a b c v s t = process k role.Post (form.Agent t (messenger_t
 
 -- (l?s -> (P | l!s) | cache!m), which has the site s of a hint
 abbrev pub reads_hint : ℕ → ℕ → ℕ → Proc → Proc
-reads_hint n k m p = beside k (takes k (variable (m + 1)) (name (m + 2)) (beside k p (gives k (variable (m + 1)) (variable (m + 2))))) (keeps n k m)
+reads_hint n k m p = beside k (takes k (variable (m + 1)) (name (m + 2)) (beside k p (gives k (variable (m + 1)) (variable (m + 2)))))
+    (keeps n k m)
 
 -- (l?s -> (agent t = M in 0 | l!s) | cache!m)
 abbrev pub goes_by_hint : ℕ → ℕ → Expr → Expr → Expr → Expr → ℕ → Proc

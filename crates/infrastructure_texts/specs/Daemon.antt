@@ -8,8 +8,8 @@ use Rattle.np_syntax.specs.declared.process.Proc.{Proc}
 use Rattle.np_syntax.specs.declared.process.ProcForm as form
 use Rattle.np_calculus.specs.Starts.{own}
 use Rattle.np_check.specs.Faults.{lock_type}
-use Rattle.infrastructure_texts.specs.Pieces.{expression, variable, name, unit, pair, two_names, site, register, migrating, migrated, message, deliver, ack, dack}
-use Rattle.infrastructure_texts.specs.Pieces.{lock, here, infra, beside, gives, takes, serves, sends, finds}
+use Rattle.infrastructure_texts.specs.Pieces.{expression, variable, name, unit, pair, two_names, site, register, migrating, migrated}
+use Rattle.infrastructure_texts.specs.Pieces.{message, deliver, ack, dack, lock, here, infra, beside, gives, takes, serves, sends, finds}
 
 -- lock!{main here}
 abbrev pub first_places : ℕ → Proc

@@ -7,8 +7,9 @@ use Rattle.np_syntax.specs.declared.expression.ExprForm as expr
 use Rattle.np_syntax.specs.declared.process.Role.TheVariants as role
 use Rattle.np_syntax.specs.declared.process.Proc.{Proc}
 use Rattle.np_syntax.specs.declared.process.ProcForm as form
-use Rattle.infrastructure_texts.specs.Pieces.{expression, variable, name, nothing, unit, pair, two_names, site, main, daemon, register, migrating, migrated, message}
-use Rattle.infrastructure_texts.specs.Pieces.{deliver, ack, dack, currentloc, process, infra, beside, gives, takes, serves, sends, posts, tells}
+use Rattle.infrastructure_texts.specs.Pieces.{expression, variable, name, nothing, unit, pair, two_names, site, main, daemon, register}
+use Rattle.infrastructure_texts.specs.Pieces.{migrating, migrated, message, deliver, ack, dack, currentloc, process, infra, beside, gives}
+use Rattle.infrastructure_texts.specs.Pieces.{takes, serves, sends, posts, tells}
 
 abbrev pub letter : Expr → Expr → Expr
 letter c v = expression (expr.Pack c v)
@@ -35,7 +36,8 @@ migrate_text n k a e p =
 
 -- *deliver?[l t] -> (open l | <D@SD>dack![b t]), which takes the letters of the agent b
 abbrev pub server_text : ℕ → ℕ → Expr → ℕ → ℕ → Proc
-server_text n k b l t = serves k (deliver n) (two_names l t) (beside k (infra k (form.Open (variable l))) (tells n k (dack n) (pair b (variable t))))
+server_text n k b l t = serves k (deliver n) (two_names l t)
+    (beside k (infra k (form.Open (variable l))) (tells n k (dack n) (pair b (variable t))))
 
 -- ack?_ -> (P | <a@S>ack![] | currentloc!S)
 abbrev pub begins : ℕ → ℕ → Expr → ℕ → Proc → Proc
@@ -50,7 +52,8 @@ child_text n k a b s l t p =
     (tells n k (register n) (pair (variable b) (variable s)))
 
 -- agent b = P in Q becomes
--- currentloc?S -> agent b = (ack?_ -> (P | <a@S>ack![] | currentloc!S) | *deliver?[l t] -> (open l | <D@SD>dack![b t]) | <D@SD>register![b S])
+-- currentloc?S -> agent b = (ack?_ -> (P | <a@S>ack![] | currentloc!S) | *deliver?[l t] -> (open l | <D@SD>dack![b t]) |
+-- <D@SD>register![b S])
 --     in ack?_ -> (Q | currentloc!S)
 abbrev pub agent_text : ℕ → ℕ → Expr → ℕ → ℕ → ℕ → ℕ → Proc → Proc → Proc
 agent_text n k a b s l t p q =

@@ -29,7 +29,8 @@ fn child_text(
     body: Written,
 ) -> Written
     requires { first + 6 ≤ u32.MAX }
-    ensures { (p : Proc) → Writes body p → Writes result (spec.child_text writer.sites writer.node parent.now agent at first (first + 1) (first + 2) p) }
+    ensures { (p : Proc) → Writes body p → Writes result
+        (spec.child_text writer.sites writer.node parent.now agent at first (first + 1) (first + 2) p) }
 {
     let begins = writer.begins(parent, at, body);
     let server = writer.server_text(writer.variable(agent), first, first + 1);

@@ -27,7 +27,8 @@ pub fn looks(
     met: Written,
     unmet: Written,
 ) -> Written
-    ensures { (a : Expr) (p q : Proc) → Writes agent a → Writes met p → Writes unmet q → Writes result (spec.looks writer.node a places lock p q) }
+    ensures { (a : Expr) (p q : Proc) → Writes agent a → Writes met p → Writes unmet q
+        → Writes result (spec.looks writer.node a places lock p q) }
 {
     let places = writer.variable(places);
     writer.infra(ProcForm::Lookup(agent?, places?, lock, met?, unmet?))

@@ -68,7 +68,8 @@ impl Writer {
 
     /// What a new agent does.
     fn child_text(self, parent: &Expr, agent: u32, made: Made, body: Written) -> Written
-        ensures { (p : Proc) → Writes body p → Writes result (spec.child_text self.sites self.node parent.now agent made.at made.letter made.place p) }
+        ensures { (p : Proc) → Writes body p → Writes result
+            (spec.child_text self.sites self.node parent.now agent made.at made.letter made.place p) }
     {
         let begins = self.begins(parent, made.at, body);
         let server = self.server_text(self.variable(agent), made.letter, made.place);
@@ -96,7 +97,8 @@ impl Writer {
 
     /// `agent b = P in Q`
     pub fn creates(self, agent: u32, child: Written, rest: Written) -> Written
-        ensures { (p q : Proc) → Writes child p → Writes rest q → Writes result (piece.process self.node role.Plain (form.Agent agent p q)) }
+        ensures { (p q : Proc) → Writes child p → Writes rest q
+            → Writes result (piece.process self.node role.Plain (form.Agent agent p q)) }
     {
         self.plain(ProcForm::Agent(agent, child?, rest?))
     }

@@ -108,7 +108,8 @@ impl Writer {
         chan: WrittenExpr,
         value: WrittenExpr,
     ) -> Written
-        ensures { (b s c e : Expr) → Writes agent b → Writes at s → Writes chan c → Writes value e → Writes result (spec.posts self.node b s c e) }
+        ensures { (b s c e : Expr) → Writes agent b → Writes at s → Writes chan c → Writes value e
+            → Writes result (spec.posts self.node b s c e) }
     {
         self.process(Role::Post, ProcForm::Send(agent?, at?, chan?, value?))
     }
@@ -136,7 +137,8 @@ impl Writer {
 
     /// `*c?p -> P`
     pub fn serves(self, chan: WrittenExpr, names: Result<Pat, Memory>, body: Written) -> Written
-        ensures { (c : Expr) (n : Pat) (p : Proc) → Writes chan c → Writes names n → Writes body p → Writes result (spec.serves self.node c n p) }
+        ensures { (c : Expr) (n : Pat) (p : Proc) → Writes chan c → Writes names n → Writes body p
+            → Writes result (spec.serves self.node c n p) }
     {
         self.infra(ProcForm::Rep(chan?, names?, body?))
     }
@@ -156,7 +158,8 @@ impl Writer {
         chan: WrittenExpr,
         value: WrittenExpr,
     ) -> Written
-        ensures { (b s c e : Expr) → Writes agent b → Writes at s → Writes chan c → Writes value e → Writes result (spec.sends self.node b s c e) }
+        ensures { (b s c e : Expr) → Writes agent b → Writes at s → Writes chan c → Writes value e
+            → Writes result (spec.sends self.node b s c e) }
     {
         self.infra(ProcForm::Send(agent?, at?, chan?, value?))
     }
@@ -180,7 +183,8 @@ impl Writer {
 
     /// `iflocal <b>c!e then 0 else P`
     pub fn meets(self, agent: &Expr, chan: &Expr, value: &Expr, unmet: Written) -> Written
-        ensures { (p : Proc) → Writes unmet p → Writes result (spec.infra self.node (form.IfLocal agent.now chan.now value.now (spec.stop self.node) p)) }
+        ensures { (p : Proc) → Writes unmet p → Writes result
+            (spec.infra self.node (form.IfLocal agent.now chan.now value.now (spec.stop self.node) p)) }
     {
         let stop = self.infra(ProcForm::Stop);
         let tried = iflocal(self.alloc, agent, chan, value, stop?, unmet?)?;
@@ -189,14 +193,16 @@ impl Writer {
 
     /// `migrate to e -> P`
     pub fn goes(self, to: WrittenExpr, body: Written) -> Written
-        ensures { (e : Expr) (p : Proc) → Writes to e → Writes body p → Writes result (spec.process self.node role.Plain (form.Migrate e p)) }
+        ensures { (e : Expr) (p : Proc) → Writes to e → Writes body p
+            → Writes result (spec.process self.node role.Plain (form.Migrate e p)) }
     {
         self.plain(ProcForm::Migrate(to?, body?))
     }
 
     /// `agent c = P in 0`, a messenger for a post
     pub fn hires(self, messenger: u32, body: Written) -> Written
-        ensures { (p : Proc) → Writes body p → Writes result (spec.process self.node role.Post (form.Agent messenger p (spec.stop self.node))) }
+        ensures { (p : Proc) → Writes body p → Writes result
+            (spec.process self.node role.Post (form.Agent messenger p (spec.stop self.node))) }
     {
         let stop = self.infra(ProcForm::Stop);
         self.process(Role::Post, ProcForm::Agent(messenger, body?, stop?))

@@ -27,7 +27,8 @@ body_in atoms mark = map.get atoms mark >>= λ a. body_at (layer a.proc)
 
 -- an atom goes on as its body, under another frame
 pub record Enters (old new : NameMap Atom) (actor : Name) (env : Env) : Type 0 where
-  pub each : (a : Atom) (body : Proc) → map.get old actor ≡ Some a → body_at (layer a.proc) ≡ Some body → new ≡ map.insert old actor (goes_under a body env)
+  pub each : (a : Atom) (body : Proc) → map.get old actor ≡ Some a → body_at (layer a.proc) ≡ Some body
+      → new ≡ map.insert old actor (goes_under a body env)
 
 -- the process that the atom of a mark goes on as: of two it is the first or the second
 abbrev pub way_in : NameMap Atom → Name → Bool → Option Proc
@@ -35,11 +36,13 @@ way_in atoms mark first = map.get atoms mark >>= λ a. way_at (layer a.proc) fir
 
 -- an atom goes on as a process in it, under the frame that it has
 pub record GoesOn (old new : NameMap Atom) (actor : Name) (first : Bool) : Type 0 where
-  pub each : (a : Atom) (p : Proc) → map.get old actor ≡ Some a → way_at (layer a.proc) first ≡ Some p → new ≡ map.insert old actor (goes a p)
+  pub each : (a : Atom) (p : Proc) → map.get old actor ≡ Some a → way_at (layer a.proc) first ≡ Some p
+      → new ≡ map.insert old actor (goes a p)
 
 -- an atom goes on as a process in it, under another frame
 pub record GoesUnder (old new : NameMap Atom) (actor : Name) (first : Bool) (env : Env) : Type 0 where
-  pub each : (a : Atom) (p : Proc) → map.get old actor ≡ Some a → way_at (layer a.proc) first ≡ Some p → new ≡ map.insert old actor (goes_under a p env)
+  pub each : (a : Atom) (p : Proc) → map.get old actor ≡ Some a → way_at (layer a.proc) first ≡ Some p
+      → new ≡ map.insert old actor (goes_under a p env)
 
 -- the binder and the parts of the atom of a mark that makes an agent
 abbrev pub agent_in : NameMap Atom → Name → Option (ℕ × Proc × Proc)

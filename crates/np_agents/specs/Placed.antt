@@ -18,7 +18,8 @@ pub record Placed : Type 0 where
   pub gates : ℕ
 
 abbrev pub placed_code : Coded Placed
-placed_code = code_by (NameMap Place × (ℕ × ℕ)) (coded× (map.code name.the_row.coded places.the_row.coded) (coded× coded_ℕ coded_ℕ)) (λ p. (p.items, (p.spare, p.gates)))
+placed_code = code_by (NameMap Place × (ℕ × ℕ)) (coded× (map.code name.the_row.coded places.the_row.coded) (coded× coded_ℕ coded_ℕ))
+    (λ p. (p.items, (p.spare, p.gates)))
     (λ p. record { items = p.0; spare = p.1.0; gates = p.1.1 }) (λ _. refl)
 
 abbrev pub travels : Option Place → Bool

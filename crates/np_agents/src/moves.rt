@@ -134,7 +134,8 @@ pub fn go_under(atoms: &mut Table<Atom>, actor: Name, first: bool, env: Frame)
 
 /// The new agent's atom and the one that goes on, moved out of the atom that makes the agent.
 fn agent_halves(atom: Atom, agent: Name, env: Frame, own: Frame) -> Option<(Atom, Atom)>
-    ensures { result ≡ option_map (λ parts. (record { agent = agent; proc = parts.1; env = env }, goes_under atom parts.2 own)) (as_agent_form (layer atom.proc)) }
+    ensures { result ≡ option_map (λ parts. (record { agent = agent; proc = parts.1; env = env }, goes_under atom parts.2 own))
+        (as_agent_form (layer atom.proc)) }
 {
     let Atom {
         agent: at,

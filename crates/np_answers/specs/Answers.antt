@@ -76,7 +76,8 @@ pub record NothingWritten (to_out to_err : Writing) (answer : Answer) : Type 0 w
 -- what comes of what a call made, or of its refusal
 abbrev pub Answers : Result Job Refusal → Writing → Writing → Answer → Type 0
 Answers (Ok job) to_out to_err answer = TextWritten job to_out to_err answer ⊎ TextCut job to_out to_err answer
-Answers (Err refusal) to_out to_err answer = LineWritten refusal to_out to_err answer ⊎ LineCut refusal to_out to_err answer ⊎ NothingWritten to_out to_err answer
+Answers (Err refusal) to_out to_err answer = LineWritten refusal to_out to_err answer ⊎ LineCut refusal to_out to_err answer
+    ⊎ NothingWritten to_out to_err answer
 
 -- ---- what is told of an answer
 

@@ -56,7 +56,15 @@ made_by c site env _ first second = made.Nothing
 
 -- the event of an agent that arrives, and the one of a packet that lands, with the packet's tag
 abbrev pub arrival : Name → ℕ → Event
-arrival agent site = record { site = site; kind = kind.Arrive; actor = agent; other = None; tag = record { node = 0; role = role.Plain }; made = made.Nothing }
+arrival agent site =
+    record {
+      site = site;
+      kind = kind.Arrive;
+      actor = agent;
+      other = None;
+      tag = record { node = 0; role = role.Plain };
+      made = made.Nothing;
+    }
 
 abbrev pub landing : Name → Packet → Event
 landing mark p = record { site = p.to; kind = kind.Land; actor = mark; other = None; tag = p.tag; made = made.Nothing }

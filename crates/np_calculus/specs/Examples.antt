@@ -76,7 +76,8 @@ atom a f env = record { agent = a; proc = process f; env = env }
 
 -- one agent of a program of n sites, with these atoms
 abbrev pub agent_with : ℕ → Place → Name → NameMap Atom → Config
-agent_with n p a atoms = record { sites = n; places = map.insert map.empty a p; atoms = atoms; packets = map.empty; born = set.insert set.empty a; said = [] }
+agent_with n p a atoms =
+    record { sites = n; places = map.insert map.empty a p; atoms = atoms; packets = map.empty; born = set.insert set.empty a; said = [] }
 
 abbrev pub one : Name → Atom → NameMap Atom
 one j x = map.insert map.empty j x
@@ -91,31 +92,38 @@ event s row actor other = record { site = s; kind = row; actor = actor; other = 
 -- two prints, one after the other: both numbers were said, in order, and no atom is left
 abbrev pub TwoPrints : Type 0
 TwoPrints = (n s : ℕ) (a j k : Name) → same_name j k ≡ false →
-    run (agent_with n (place.At s) a (two j k (atom a (prints 1) map.empty) (atom a (prints 2) map.empty))) (event s kind.Print j None ∷ event s kind.Print k None ∷ [])
+    run (agent_with n (place.At s) a (two j k (atom a (prints 1) map.empty) (atom a (prints 2) map.empty)))
+    (event s kind.Print j None ∷ event s kind.Print k None ∷ [])
     ≡ Some (record (agent_with n (place.At s) a map.empty) { said = (s, number 1) ∷ (s, number 2) ∷ [] })
 
 -- c!5 meets c?x -> print x: the output is gone, and the input goes on with 5 for x
 abbrev pub Communication : Type 0
 Communication = (n s x : ℕ) (a c j k : Name) → same_name j k ≡ false →
-    apply (agent_with n (place.At s) a (two j k (atom a (gives_five c) map.empty) (atom a (takes_it c x) map.empty))) (event s kind.Comm k (Some j))
+    apply (agent_with n (place.At s) a (two j k (atom a (gives_five c) map.empty) (atom a (takes_it c x) map.empty)))
+    (event s kind.Comm k (Some j))
     ≡ Some (agent_with n (place.At s) a (one k (atom a (prints_it x) (map.insert map.empty x (number 5)))))
 
 -- the same with a replicated input: it stays, and its body goes on under the output's mark
 abbrev pub Replication : Type 0
 Replication = (n s x : ℕ) (a c j k : Name) → same_name j k ≡ false →
-    apply (agent_with n (place.At s) a (two j k (atom a (gives_five c) map.empty) (atom a (keeps_taking c x) map.empty))) (event s kind.Rep k (Some j))
-    ≡ Some (agent_with n (place.At s) a (two j k (atom a (prints_it x) (map.insert map.empty x (number 5))) (atom a (keeps_taking c x) map.empty)))
+    apply (agent_with n (place.At s) a (two j k (atom a (gives_five c) map.empty) (atom a (keeps_taking c x) map.empty)))
+    (event s kind.Rep k (Some j))
+    ≡ Some (agent_with n (place.At s) a (two j k (atom a (prints_it x) (map.insert map.empty x (number 5)))
+    (atom a (keeps_taking c x) map.empty)))
 
 -- a migration: the agent is under way to the site, and then at it
 abbrev pub Migration : Type 0
 Migration = (n s t : ℕ) (a j : Name) (f : ProcForm) → nat_lt t n ≡ true →
-    (apply (agent_with n (place.At s) a (one j (atom a (leaves t f) map.empty))) (event s kind.Depart j None) ≡ Some (agent_with n (place.Way t) a (one j (atom a f map.empty))))
-    × (apply (agent_with n (place.Way t) a (one j (atom a f map.empty))) (event t kind.Arrive a None) ≡ Some (agent_with n (place.At t) a (one j (atom a f map.empty))))
+    (apply (agent_with n (place.At s) a (one j (atom a (leaves t f) map.empty))) (event s kind.Depart j None)
+    ≡ Some (agent_with n (place.Way t) a (one j (atom a f map.empty))))
+    × (apply (agent_with n (place.Way t) a (one j (atom a f map.empty))) (event t kind.Arrive a None)
+    ≡ Some (agent_with n (place.At t) a (one j (atom a f map.empty))))
 
 -- a letter that is opened: the output of its value on its channel stands there
 abbrev pub Opening : Type 0
 Opening = (n s : ℕ) (a c j : Name) →
-    apply (agent_with n (place.At s) a (one j (atom a (opens_five c) map.empty))) (event s kind.Open j None) ≡ Some (agent_with n (place.At s) a (one j (atom a (gives_five c) map.empty)))
+    apply (agent_with n (place.At s) a (one j (atom a (opens_five c) map.empty))) (event s kind.Open j None)
+    ≡ Some (agent_with n (place.At s) a (one j (atom a (gives_five c) map.empty)))
 
 -- an agent that is looked up: with its lock channel l where the map has it, and without where it has not
 abbrev pub LookingUp : Type 0

@@ -84,4 +84,5 @@ KeepsLodged = (c d : Config) (e : Event) → (e.kind ≡ kind.Post → ⊥) → 
 
 -- and what is of a site stays of it
 abbrev pub KeepsOfSite : Type 0
-KeepsOfSite = (c d : Config) (e : Event) → (e.kind ≡ kind.Post → ⊥) → IsOfSite e.site (inside c) → apply c e ≡ Some d → IsOfSite e.site (inside d)
+KeepsOfSite = (c d : Config) (e : Event) → (e.kind ≡ kind.Post → ⊥) → IsOfSite e.site (inside c) → apply c e ≡ Some d
+    → IsOfSite e.site (inside d)

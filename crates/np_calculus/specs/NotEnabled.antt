@@ -22,7 +22,8 @@ use Rattle.np_tables.specs.Names.{same_name}
 use Rattle.np_calculus.specs.Config.{Config}
 use Rattle.np_eval.specs.Eval.{Env, eval, bind, as_site, agent_of, chan_of, letter_of, places_of, truth_of}
 use Rattle.np_eval.specs.Forms.{Layer, layer}
-use Rattle.np_eval.specs.FormParts.{as_stop, as_par, as_new, as_inp, as_rep, as_agent_form, as_migrate, as_iflocal, as_send, as_post, as_if, as_let, as_print, as_open, as_lookup}
+use Rattle.np_eval.specs.FormParts.{as_stop, as_par, as_new, as_inp, as_rep, as_agent_form, as_migrate, as_iflocal, as_send, as_post, as_if}
+use Rattle.np_eval.specs.FormParts.{as_let, as_print, as_open, as_lookup}
 use Rattle.np_calculus.specs.Reductions.{same_tag, sends, row}
 use Rattle.np_calculus.specs.Seen.{acting}
 
@@ -73,15 +74,18 @@ pub record NoActor : Type 0 where
 pub record NotEnabled : Type 0 where
   pub no_actor : NoActor
   -- a print does not stop
-  pub print_to_stop : (c : Config) (e : Event) (a : Atom) (x : Expr) → acting c e ≡ Some a → a.proc.form ≡ form.Print x → row kind.Stop c e ≡ None
+  pub print_to_stop : (c : Config) (e : Event) (a : Atom) (x : Expr) → acting c e ≡ Some a → a.proc.form ≡ form.Print x
+      → row kind.Stop c e ≡ None
   -- no packet has the mark
   pub no_packet : (c : Config) (e : Event) → map.get c.packets e.actor ≡ None → row kind.Land c e ≡ None
   -- the agent that is to arrive is at a site
   pub not_travelling : (c : Config) (e : Event) (s : ℕ) → map.get c.places e.actor ≡ Some (place.At s) → row kind.Arrive c e ≡ None
   -- the packet goes to another site
-  pub packet_elsewhere : (c : Config) (e : Event) (p : Packet) → map.get c.packets e.actor ≡ Some p → nat_eq p.to e.site ≡ false → row kind.Land c e ≡ None
+  pub packet_elsewhere : (c : Config) (e : Event) (p : Packet) → map.get c.packets e.actor ≡ Some p → nat_eq p.to e.site ≡ false
+      → row kind.Land c e ≡ None
   -- the agent is under way to another site
-  pub bound_elsewhere : (c : Config) (e : Event) (s : ℕ) → map.get c.places e.actor ≡ Some (place.Way s) → nat_eq s e.site ≡ false → row kind.Arrive c e ≡ None
+  pub bound_elsewhere : (c : Config) (e : Event) (s : ℕ) → map.get c.places e.actor ≡ Some (place.Way s) → nat_eq s e.site ≡ false
+      → row kind.Arrive c e ≡ None
   -- a stop makes no name
   pub name_made : (c : Config) (e : Event) (m : Name) → e.made ≡ made.One m → row kind.Stop c e ≡ None
   -- a fork makes one name
@@ -95,7 +99,8 @@ pub record NotEnabled : Type 0 where
   -- a communication takes an output
   pub no_output : (c : Config) (e : Event) → e.other ≡ None → row kind.Comm c e ≡ None
   -- the output is on another channel than the input
-  pub other_channel : (c : Config) (e : Event) (a b : Atom) (parts : Expr × Pat × Proc) (n o : Name) (sent : Name × Value) → acting c e ≡ Some a
+  pub other_channel : (c : Config) (e : Event) (a b : Atom) (parts : Expr × Pat × Proc) (n o : Name) (sent : Name × Value)
+      → acting c e ≡ Some a
       → as_inp (layer a.proc) ≡ Some parts → chan_of parts.0 a.env ≡ Some n → e.other ≡ Some o → map.get c.atoms o ≡ Some b
       → same_name a.agent b.agent ≡ true → sends b ≡ Some sent → same_name n sent.0 ≡ false → row kind.Comm c e ≡ None
   -- the output is in another agent than the input
@@ -109,7 +114,8 @@ pub record NotEnabled : Type 0 where
   pub no_truth : (c : Config) (e : Event) (a : Atom) (parts : Expr × Proc × Proc) → acting c e ≡ Some a → as_if (layer a.proc) ≡ Some parts
       → truth_of parts.0 a.env ≡ None → row kind.If c e ≡ None
   -- the expression of a print has no value
-  pub no_value : (c : Config) (e : Event) (a : Atom) (x : Expr) → acting c e ≡ Some a → as_print (layer a.proc) ≡ Some x → eval x a.env ≡ None
+  pub no_value : (c : Config) (e : Event) (a : Atom) (x : Expr) → acting c e ≡ Some a → as_print (layer a.proc) ≡ Some x
+      → eval x a.env ≡ None
       → row kind.Print c e ≡ None
   -- the program does not have the site to which the agent is to go
   pub no_site : (c : Config) (e : Event) (a : Atom) (parts : Expr × Proc) (v : Value) (t : ℕ) → acting c e ≡ Some a
@@ -119,14 +125,17 @@ pub record NotEnabled : Type 0 where
 -- the reasons of the two rows that only the low level has, beside those of every acting atom
 pub record LowNotEnabled : Type 0 where
   -- what is opened is no letter
-  pub no_letter : (c : Config) (e : Event) (a : Atom) (x : Expr) → acting c e ≡ Some a → as_open (layer a.proc) ≡ Some x → letter_of x a.env ≡ None
+  pub no_letter : (c : Config) (e : Event) (a : Atom) (x : Expr) → acting c e ≡ Some a → as_open (layer a.proc) ≡ Some x
+      → letter_of x a.env ≡ None
       → row kind.Open c e ≡ None
   -- what is looked up is no agent
-  pub no_agent : (c : Config) (e : Event) (a : Atom) (parts : Expr × Expr × ℕ × Proc × Proc) → acting c e ≡ Some a → as_lookup (layer a.proc) ≡ Some parts
+  pub no_agent : (c : Config) (e : Event) (a : Atom) (parts : Expr × Expr × ℕ × Proc × Proc) → acting c e ≡ Some a
+      → as_lookup (layer a.proc) ≡ Some parts
       → agent_of parts.0 a.env ≡ None → row kind.Lookup c e ≡ None
   -- where it is looked up is no map of places
   pub no_places : (c : Config) (e : Event) (a : Atom) (parts : Expr × Expr × ℕ × Proc × Proc) (b : Name) → acting c e ≡ Some a
-      → as_lookup (layer a.proc) ≡ Some parts → agent_of parts.0 a.env ≡ Some b → places_of parts.1 a.env ≡ None → row kind.Lookup c e ≡ None
+      → as_lookup (layer a.proc) ≡ Some parts → agent_of parts.0 a.env ≡ Some b → places_of parts.1 a.env ≡ None
+      → row kind.Lookup c e ≡ None
   -- neither makes a name, and neither takes an output
   pub open_makes : (c : Config) (e : Event) (m : Name) → e.made ≡ made.One m → row kind.Open c e ≡ None
   pub open_takes : (c : Config) (e : Event) (o : Name) → e.other ≡ Some o → row kind.Open c e ≡ None
@@ -138,4 +147,5 @@ pub record NoValue : Type 0 where
   -- a variable that nothing stands for has no value
   pub unbound : (x at : ℕ) (env : Env) → map.get env x ≡ None → eval (record { at = at; form = expr.Var x }) env ≡ None
   -- a pattern of a tuple does not match a number
-  pub tuple_to_number : (ps : List Pat) (at : ℕ) (i : ℤ) (env : Env) → bind (record { at = at; form = pat.Tuple ps }) (value.Int i) env ≡ None
+  pub tuple_to_number : (ps : List Pat) (at : ℕ) (i : ℤ) (env : Env)
+      → bind (record { at = at; form = pat.Tuple ps }) (value.Int i) env ≡ None

@@ -89,7 +89,8 @@ becomes e a = record still { atoms = put e.actor a ∷ [] }
 
 -- the output that an event makes: its channel and value stand in it as values
 abbrev pub output : Name → Value → Tag → Proc
-output c v tag = record { tag = tag; at = 0; form = form.Out (record { at = 0; form = expr.Val (value.Chan c) }) (record { at = 0; form = expr.Val v }) }
+output c v tag =
+    record { tag = tag; at = 0; form = form.Out (record { at = 0; form = expr.Val (value.Chan c) }) (record { at = 0; form = expr.Val v }) }
 
 abbrev pub output_in : Name → Name → Value → Tag → Atom
 output_in agent c v tag = record { agent = agent; proc = output c v tag; env = map.empty }
@@ -100,11 +101,18 @@ sends a = do (chan, sent) ← as_out (layer a.proc); n ← chan_of chan a.env; v
 
 -- the value that the atom of a mark, in this agent, outputs on this channel
 abbrev pub offered_in : (Name → Option Atom) → Name → Name → Name → Option Value
-offered_in atom mark agent chan = do b ← atom mark; need (same_name agent b.agent); sent ← sends b; need (same_name chan sent.0); Some sent.1
+offered_in atom mark agent chan = do
+  b ← atom mark
+  need (same_name agent b.agent)
+  sent ← sends b
+  need (same_name chan sent.0)
+  Some sent.1
 
 -- a location test that finds its agent, in which the output is made, and one that does not
 unfoldable pub here_row : Event → Atom → Proc → Name → Name → Value → Option Change
-here_row e a met b n v = do m ← one_made e.made; Some (record still { atoms = put m (output_in b n v e.tag) ∷ put e.actor (goes a met) ∷ [] })
+here_row e a met b n v = do
+  m ← one_made e.made
+  Some (record still { atoms = put m (output_in b n v e.tag) ∷ put e.actor (goes a met) ∷ [] })
 
 unfoldable pub away_row : Event → Atom → Proc → Option Change
 away_row e a unmet = do none_made e.made; Some (becomes e (goes a unmet))
@@ -118,7 +126,10 @@ act kind.Fork (ProcForm-F.Par left right) w e a = do
   Some (record still { atoms = put m (goes a right) ∷ put e.actor (goes a left) ∷ [] })
 act kind.New (ProcForm-F.New x ty body) w e a =
     do n ← one_made e.made; no_other e.other; Some (becomes e (goes_under a body (map.insert a.env x (value.Chan n))))
-act kind.Let (ProcForm-F.Let pat bound body) w e a = do v ← eval bound a.env; env ← bind pat v a.env; alone e (becomes e (goes_under a body env))
+act kind.Let (ProcForm-F.Let pat bound body) w e a = do
+  v ← eval bound a.env
+  env ← bind pat v a.env
+  alone e (becomes e (goes_under a body env))
 act kind.If (ProcForm-F.If test met unmet) w e a = do t ← truth_of test a.env; alone e (becomes e (goes a (cond t met unmet)))
 act kind.Comm (ProcForm-F.Inp chan pat body) w e a = do
   n ← chan_of chan a.env
@@ -155,7 +166,10 @@ act kind.Send (ProcForm-F.Send agent to chan sent) w e a = do
   t ← site_in w.sites to a.env
   n ← chan_of chan a.env
   v ← eval sent a.env
-  alone e (record still { atoms = cut e.actor ∷ []; packets = put e.actor (record { to = t; agent = b; chan = n; value = v; tag = e.tag }) ∷ [] })
+  alone e (record still {
+    atoms = cut e.actor ∷ [];
+    packets = put e.actor (record { to = t; agent = b; chan = n; value = v; tag = e.tag }) ∷ [];
+  })
 act kind.Print (ProcForm-F.Print x) w e a = do v ← eval x a.env; alone e (record still { atoms = cut e.actor ∷ []; said = Some v })
 act kind.Open (ProcForm-F.Open x) w e a = do (n, v) ← letter_of x a.env; alone e (becomes e (output_in a.agent n v e.tag))
 act kind.Lookup (ProcForm-F.Lookup agent among x met unmet) w e a =
@@ -179,7 +193,10 @@ land_row comes w e = do
   p ← comes
   need (nat_eq p.to e.site)
   need (same_tag p.tag e.tag)
-  alone e (record still { packets = cut e.actor ∷ []; atoms = cond (w.here p.agent) (put e.actor (output_in p.agent p.chan p.value e.tag) ∷ []) [] })
+  alone e (record still {
+    packets = cut e.actor ∷ [];
+    atoms = cond (w.here p.agent) (put e.actor (output_in p.agent p.chan p.value e.tag) ∷ []) [];
+  })
 
 -- the row of each kind
 abbrev pub change : Kind → ℕ → Contents → Event → Option Change

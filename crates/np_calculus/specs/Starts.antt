@@ -62,4 +62,5 @@ start_high p = let n : ℕ = length p.sites in with_agent (names_alone n) (main_
 -- main at its site and the daemon at the first one, each with its process
 unfoldable pub start_low : LowProgram → Config
 start_low q =
-    let n : ℕ = length q.sites in with_agent (with_agent (names_alone n) (main_agent n) q.at (main_mark n) q.main) (daemon_agent n) 0 (daemon_mark n) q.daemon
+    let n : ℕ = length q.sites in with_agent (with_agent (names_alone n) (main_agent n) q.at (main_mark n) q.main) (daemon_agent n) 0
+    (daemon_mark n) q.daemon

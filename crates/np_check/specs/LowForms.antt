@@ -29,11 +29,14 @@ looks_up k a m b p q = process k (form.Lookup (variable 10 a) (variable 11 m) b 
 
 pub record LowForms : Type 0 where
   pub letter : (w : World) (env : Types) (k : Tag) (x : ℕ) → table.get env x ≡ Some ty.Letter → check w (opens k x) env ≡ Ok tt
-  pub no_letter : (w : World) (env : Types) (k : Tag) (x : ℕ) → table.get env x ≡ Some ty.Int → check w (opens k x) env ≡ Err (record { at = 10; rule = rule.Mismatch })
+  pub no_letter : (w : World) (env : Types) (k : Tag) (x : ℕ) → table.get env x ≡ Some ty.Int
+      → check w (opens k x) env ≡ Err (record { at = 10; rule = rule.Mismatch })
   -- the binder, a lock channel, is in the first process alone
-  pub places : (w : World) (env : Types) (k : Tag) (a m b : ℕ) (p q : Proc) → table.get env a ≡ Some ty.Agent → table.get env m ≡ Some ty.Places
+  pub places : (w : World) (env : Types) (k : Tag) (a m b : ℕ) (p q : Proc) → table.get env a ≡ Some ty.Agent
+      → table.get env m ≡ Some ty.Places
       → check w (looks_up k a m b p q) env ≡ (check w p (table.insert env b lock_type) >> check w q env)
   pub no_agent : (w : World) (env : Types) (k : Tag) (a m b : ℕ) (p q : Proc) → table.get env a ≡ Some ty.Site
       → check w (looks_up k a m b p q) env ≡ Err (record { at = 10; rule = rule.NotAgent })
-  pub no_places : (w : World) (env : Types) (k : Tag) (a m b : ℕ) (p q : Proc) → table.get env a ≡ Some ty.Agent → table.get env m ≡ Some ty.Site
+  pub no_places : (w : World) (env : Types) (k : Tag) (a m b : ℕ) (p q : Proc) → table.get env a ≡ Some ty.Agent
+      → table.get env m ≡ Some ty.Site
       → check w (looks_up k a m b p q) env ≡ Err (record { at = 11; rule = rule.Mismatch })

@@ -1,4 +1,4 @@
-ghost use Rattle.std.specs.Prelude.{◌≡◌, ◌<◌, ◌≤◌, ◌+◌, Err, length, IfOk, OnOk, IfErr};
+ghost use Rattle.std.specs.Prelude.{◌≡◌, ◌<◌, ◌≤◌, ◌+◌, ◌^◌, Err, length, IfOk, OnOk, IfErr};
 ghost use Rattle.std.specs.Option.{option_copied};
 ghost use Rattle.np_code.specs.Trees.{nth, Stands, Grows};
 ghost use Rattle.np_code.specs.Sizes.{nodes, part_nodes, program_nodes, capped};
@@ -57,13 +57,11 @@ fn lay_part(alloc: Global, table: &mut Nodes, part: Option<&Proc>) -> Result<u32
 /// The table of a low program whose nodes are not too many.
 #[tactic(auto, using(crate::proofs::Growth::growth))]
 fn tabled(alloc: Global, p: &LowProgram) -> Result<Code, Memory>
-    requires { program_nodes p.now ≤ MOST_CODE_NODES }
+    requires sites { length p.now.sites < 2 ^ 32 }
+    requires few { program_nodes p.now ≤ MOST_CODE_NODES }
     ensures program { IfOk result (λ code. program code ≡ p.now) }
     ensures size { IfOk result (λ code. length code.processes ≡ program_nodes p.now) }
 {
-    if p.sites.len() > u32::MAX as usize {
-        return Err(Memory);
-    }
     let mut nodes = Nodes::new(alloc)?;
     let main = lay(alloc, &mut nodes, &p.main)?;
     let daemon = lay(alloc, &mut nodes, &p.daemon)?;
@@ -77,9 +75,10 @@ fn tabled(alloc: Global, p: &LowProgram) -> Result<Code, Memory>
     })
 }
 
-/// The code of a low program. More sites than a `u32` counts are answered as want of memory.
+/// The code of a low program.
 #[tactic(auto, unfolding(crate::specs::Sizes::capped))]
 pub fn flatten(alloc: Global, p: &LowProgram) -> Result<Code, CodeFail>
+    requires { length p.now.sites < 2 ^ 32 }
     ensures program { IfOk result (λ code. program code ≡ p.now) }
     ensures size { IfOk result (λ code. length code.processes ≡ program_nodes p.now) }
     ensures many { MOST_CODE_NODES < program_nodes p.now → result ≡ Err (fail.TooManyNodes (capped (program_nodes p.now))) }

@@ -21,7 +21,8 @@ Parts = ℕ × (NameMap Place × (NameMap Atom × (NameMap Packet × (NameSet ×
 abbrev pub parts_code : Coded Parts
 parts_code =
     coded× coded_ℕ (coded× (map.code name.the_row.coded place.the_row.coded) (coded× (map.code name.the_row.coded atom.the_row.coded)
-    (coded× (map.code name.the_row.coded packet.the_row.coded) (coded× (set.code name.the_row.coded) (coded_list (coded× coded_ℕ datum.the_row.coded))))))
+    (coded× (map.code name.the_row.coded packet.the_row.coded)
+    (coded× (set.code name.the_row.coded) (coded_list (coded× coded_ℕ datum.the_row.coded))))))
 
 abbrev pub config_code : Coded Config
 config_code =

@@ -18,7 +18,8 @@ use Rattle.np_tables.specs.declared.errand.Errand.{Errand}
 use Rattle.np_eval.specs.Eval.{Env, agent_of, chan_of, eval, find_place, letter_of, places_of, truth_of}
 use Rattle.np_eval.specs.Errands.{errand_at}
 use Rattle.np_eval.specs.Forms.{Layer, layer}
-use Rattle.np_eval.specs.FormParts.{as_stop, as_par, as_new, as_inp, as_rep, as_agent_form, as_migrate, as_iflocal, as_send, as_post, as_if, as_let, as_print, as_open, as_lookup}
+use Rattle.np_eval.specs.FormParts.{as_stop, as_par, as_new, as_inp, as_rep, as_agent_form, as_migrate, as_iflocal, as_send, as_post, as_if}
+use Rattle.np_eval.specs.FormParts.{as_let, as_print, as_open, as_lookup}
 use Rattle.np_calculus.specs.declared.config.Atom.{Atom}
 use Rattle.np_calculus.specs.declared.config.Packet.{Packet}
 use Rattle.np_calculus.specs.declared.config.Place.TheVariants as place
@@ -142,7 +143,10 @@ rep_row c e = do (a, p, s) ← rep_found c e; Some (stood c s.0 s.1)
 -- ---- an atom goes on as a process in it
 
 abbrev pub if_more : Config → Event → Atom → Expr × Proc × Proc → Option (Bool × Errand)
-if_more c e a (test, met, unmet) = do t ← truth_of test a.env; need (is_alone e); Some (t, errand_at a.agent a.env (layer (cond t met unmet)))
+if_more c e a (test, met, unmet) = do
+  t ← truth_of test a.env
+  need (is_alone e)
+  Some (t, errand_at a.agent a.env (layer (cond t met unmet)))
 
 abbrev pub if_found : Config → Event → Option (Atom × (Expr × Proc × Proc) × (Bool × Errand))
 if_found = found_by as_if if_more
@@ -151,7 +155,10 @@ abbrev pub if_row : Config → Event → Option Config
 if_row c e = do (a, p, s) ← if_found c e; Some (record c { atoms = map.insert c.atoms e.actor (goes a (cond s.0 p.1 p.2)) })
 
 abbrev pub depart_more : Config → Event → Atom → Expr × Proc → Option Departure
-depart_more c e a (site, body) = do t ← site_of c site a.env; need (is_alone e); Some (record { agent = a.agent; to = t; errand = errand_at a.agent a.env (layer body) })
+depart_more c e a (site, body) = do
+  t ← site_of c site a.env
+  need (is_alone e)
+  Some (record { agent = a.agent; to = t; errand = errand_at a.agent a.env (layer body) })
 
 abbrev pub depart_found : Config → Event → Option (Atom × (Expr × Proc) × Departure)
 depart_found = found_by as_migrate depart_more
@@ -162,7 +169,12 @@ depart_row c e = do
   Some (record c { atoms = map.insert c.atoms e.actor (goes a p.1); places = map.insert c.places d.agent (place.Way d.to) })
 
 abbrev pub lookup_by : Atom → ℕ → Proc → Proc → Option Name → Lookup
-lookup_by a x met unmet o = record { first = is_some o; env = found_env a.env x o; errand = errand_at a.agent (found_env a.env x o) (layer (cond (is_some o) met unmet)) }
+lookup_by a x met unmet o =
+    record {
+      first = is_some o;
+      env = found_env a.env x o;
+      errand = errand_at a.agent (found_env a.env x o) (layer (cond (is_some o) met unmet));
+    }
 
 abbrev pub lookup_more : Config → Event → Atom → Expr × Expr × ℕ × Proc × Proc → Option Lookup
 lookup_more c e a (agent, among, x, met, unmet) = do
@@ -220,7 +232,8 @@ fork_row c e = do
   Some (record c { atoms = map.insert (map.insert c.atoms f.mark (goes a p.1)) e.actor (goes a p.0); born = set.insert c.born f.mark })
 
 abbrev pub agent_by : Atom → Proc → Proc → Name → Name → Env → NewAgent
-agent_by a body rest b m env = record { agent = b; mark = m; env = env; own = env; comes = errand_at b env (layer body); stays = errand_at a.agent env (layer rest) }
+agent_by a body rest b m env =
+    record { agent = b; mark = m; env = env; own = env; comes = errand_at b env (layer body); stays = errand_at a.agent env (layer rest) }
 
 abbrev pub agent_more : Config → Event → Atom → ℕ × Proc × Proc → Option NewAgent
 agent_more c e a (x, body, rest) = do (b, m) ← two_new c e; Some (agent_by a body rest b m (map.insert a.env x (value.Agent b)))
@@ -255,7 +268,10 @@ local_found = found_by as_iflocal local_more
 abbrev pub here_way : Config → Event → Atom → Proc → Local → Option Config
 here_way c e a met l = do
   m ← (do n ← one_made e.made; fresh c n; Some n)
-  Some (record c { atoms = map.insert (map.insert c.atoms m (output_in l.agent l.chan l.value e.tag)) e.actor (goes a met); born = set.insert c.born m })
+  Some (record c {
+    atoms = map.insert (map.insert c.atoms m (output_in l.agent l.chan l.value e.tag)) e.actor (goes a met);
+    born = set.insert c.born m;
+  })
 
 abbrev pub away_way : Config → Event → Atom → Proc → Option Config
 away_way c e a unmet = do none_made e.made; Some (record c { atoms = map.insert c.atoms e.actor (goes a unmet) })

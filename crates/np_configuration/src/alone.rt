@@ -1,6 +1,7 @@
 ghost use Rattle.std.specs.Prelude.{◌≡◌, Some};
 ghost use Rattle.np_configuration.specs.Found.{ended, spoken};
-ghost use Rattle.np_configuration.specs.Rows.{IsFound, fork_found, fork_row, if_found, if_row, let_found, let_row, new_found, new_row, print_row, stop_row};
+ghost use Rattle.np_configuration.specs.Rows.{IsFound, fork_found, fork_row, if_found, if_row, let_found, let_row, new_found, new_row};
+ghost use Rattle.np_configuration.specs.Rows.{print_row, stop_row};
 ghost use Rattle.np_configuration.specs.Applied.{Applied, Finds};
 
 use super::cfg::Cfg;
@@ -180,7 +181,8 @@ impl Cfg {
 
     /// The value that an atom prints, where the row is met.
     fn find_print(&self, alloc: Global, e: &Event) -> Result<Value, ApplyFail>
-        ensures { Finds (print_row self.now e.now) (λ value. print_row self.now e.now ≡ Some (spoken self.now e.now.actor e.now.site value)) result }
+        ensures { Finds (print_row self.now e.now) (λ value. print_row self.now e.now
+            ≡ Some (spoken self.now e.now.actor e.now.site value)) result }
     {
         let Some(atom) = self.acting(e) else {
             return Err(NotEnabled);

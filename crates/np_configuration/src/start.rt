@@ -1,6 +1,7 @@
 ghost use Rattle.std.specs.Prelude.{◌≡◌, ◌<◌, ◌^◌, true, length, map, IfOk, OnOk};
 ghost use Rattle.std.specs.FinSet as set;
-ghost use Rattle.np_calculus.specs.Starts.{start_high, start_low, first_atom, main_agent, main_mark, names_alone, own, with_agent, with_all};
+ghost use Rattle.np_calculus.specs.Starts.{start_high, start_low, first_atom, main_agent, main_mark, names_alone, own, with_agent};
+ghost use Rattle.np_calculus.specs.Starts.{with_all};
 
 use super::cfg::{Cfg, Near};
 use super::filing::put_filed;

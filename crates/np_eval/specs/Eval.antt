@@ -85,7 +85,11 @@ pack chan v = as_chan (out-Value chan) >>= λ c. Some (value.Letter c v)
 
 abbrev pub with_place : Value → Value → Value → Option Value
 with_place places agent lock =
-    do ps ← as_places (out-Value places); a ← as_agent (out-Value agent); l ← as_chan (out-Value lock); Some (value.Places (put_place ps a l))
+    do
+      ps ← as_places (out-Value places)
+      a ← as_agent (out-Value agent)
+      l ← as_chan (out-Value lock)
+      Some (value.Places (put_place ps a l))
 
 abbrev pub eval_step : Env → ExprForm-F (Option Value) (Option Value) → Option Value
 eval_step env (ExprForm-F.Val v) = Some v

@@ -9,13 +9,13 @@ use Rattle.np_syntax.specs.declared.event.Event.{Event}
 use Rattle.np_example_files.specs.Changes.{ArrivesBetween, FirstDeparture, HasNoDeparture, HasNoEarlyPlace, IsArrivalOf, IsEarlyPlace}
 
 -- the event at a place is the one that stands there
-same_kind : (events : List Event) (at k : ℕ) (event other : Event) → slice_get events at ≡ Some event → k ≡ at → slice_get events k ≡ Some other → event.kind ≡ other.kind
+pub same_kind : (events : List Event) (at k : ℕ) (event other : Event) → slice_get events at ≡ Some event → k ≡ at → slice_get events k ≡ Some other → event.kind ≡ other.kind
 same_kind events at k event other here e there = ap (λ (x : Event). x.kind) (same_Some event other (sym here ∙ ap (slice_get events) (sym e) ∙ there))
 
-same_event : (events : List Event) (at k : ℕ) (event other : Event) → slice_get events at ≡ Some event → k ≡ at → slice_get events k ≡ Some other → other ≡ event
+pub same_event : (events : List Event) (at k : ℕ) (event other : Event) → slice_get events at ≡ Some event → k ≡ at → slice_get events k ≡ Some other → other ≡ event
 same_event events at k event other here e there = same_Some other event (sym there ∙ ap (slice_get events) e ∙ here)
 
-last_or_before : (k at : ℕ) → k < at + 1 → (k < at) ⊎ (k ≡ at)
+pub last_or_before : (k at : ℕ) → k < at + 1 → (k < at) ⊎ (k ≡ at)
 last_or_before k at h = let le : k ≤ at = omega arith in elim (eq-or-lt_of_le le) [ inl same ↦ inr same | inr before ↦ inl before ]
 
 later : (events : List Event) (agent : Name) (k at : ℕ) → ArrivesBetween events agent k at → ArrivesBetween events agent k (at + 1)

@@ -1,5 +1,6 @@
 -- Changes of a list of events (crates/np_examples/data/README.md, "The format").
-use Rattle.std.specs.Prelude.{◌≡◌, ◌≢◌, ℕ, ◌+◌, ◌<◌, ◌&&◌, nat_le, if◌then◌else◌, List, [], ◌++◌, length, take, drop, remove, slice_get, slice_range, Option, Some, MatchOption}
+use Rattle.std.specs.Prelude.{◌≡◌, ◌≢◌, ℕ, ◌+◌, ◌<◌, ◌&&◌, nat_le, if◌then◌else◌, List, [], ◌++◌, length, take, drop, remove, slice_get}
+use Rattle.std.specs.Prelude.{slice_range, Option, Some, MatchOption}
 use Rattle.np_syntax.specs.declared.value.Name.{Name}
 use Rattle.np_syntax.specs.declared.event.Kind.TheVariants as kind
 use Rattle.np_syntax.specs.declared.event.Event.{Event}
@@ -81,7 +82,8 @@ pub record IsFirstDeparture (events : List Event) (agent : Name) (place early : 
   pub departs : departure.kind ≡ kind.Depart
   pub before : early < place
   pub last : ArrivesBetween events agent early place → ⊥
-  pub first : (k : ℕ) (event : Event) → k < early → slice_get events k ≡ Some event → event.kind ≡ kind.Depart → ArrivesBetween events agent k early
+  pub first : (k : ℕ) (event : Event) → k < early → slice_get events k ≡ Some event → event.kind ≡ kind.Depart
+      → ArrivesBetween events agent k early
 
 -- the agent arrives behind each Depart before the place
 abbrev pub HasNoDeparture : List Event → Name → ℕ → Type 0
@@ -103,3 +105,33 @@ pub record IsEarlyPlace (events : List Event) (place early : ℕ) : Type 0 where
 abbrev pub HasNoEarlyPlace : List Event → ℕ → Type 0
 HasNoEarlyPlace events place = (arrival : Event) → slice_get events place ≡ Some arrival → arrival.kind ≡ kind.Arrive
     → HasNoDeparture events arrival.actor place
+
+-- ---- where a packet is sent
+
+-- the last event of the actor before a place
+pub record IsLatest (events : List Event) (actor : Name) (place early : ℕ) : Type 0 where
+  pub event : Event
+  pub event_at : slice_get events early ≡ Some event
+  pub same : event.actor ≡ actor
+  pub before : early < place
+  pub last : (k : ℕ) (passed : Event) → early < k → k < place → slice_get events k ≡ Some passed → passed.actor ≢ actor
+
+-- no event before the place has the actor
+abbrev pub HasNoneOf : List Event → Name → ℕ → Type 0
+HasNoneOf events actor place = (k : ℕ) (event : Event) → k < place → slice_get events k ≡ Some event → event.actor ≢ actor
+
+-- that place, if there is one
+abbrev pub Latest : List Event → Name → ℕ → Option ℕ → Type 0
+Latest events actor place found = MatchOption found (HasNoneOf events actor place) (IsLatest events actor place)
+
+-- a Land stands at the place, and the last event of its actor before it at the early place
+pub record IsSentPlace (events : List Event) (place early : ℕ) : Type 0 where
+  pub landing : Event
+  pub landing_at : slice_get events place ≡ Some landing
+  pub lands : landing.kind ≡ kind.Land
+  pub sent : IsLatest events landing.actor place early
+
+-- a Land at the place has no such event before it
+abbrev pub HasNoSentPlace : List Event → ℕ → Type 0
+HasNoSentPlace events place = (landing : Event) → slice_get events place ≡ Some landing → landing.kind ≡ kind.Land
+    → HasNoneOf events landing.actor place

@@ -1,5 +1,6 @@
 -- What an example says, and what it says after one more line (crates/np_examples/data/README.md, "The format").
-use Rattle.std.specs.Prelude.{◌≡◌, ℕ, Bool, true, false, List, [], ◌∷◌, ◌++◌, map, find, codes, string_bytes, if◌then◌else◌, Option, Some, None}
+use Rattle.std.specs.Prelude.{◌≡◌, ℕ, Bool, true, false, List, [], ◌∷◌, ◌++◌, map, find, codes, string_bytes, if◌then◌else◌, Option, Some}
+use Rattle.std.specs.Prelude.{None}
 use Rattle.std.specs.Option.{option_map}
 use Rattle.std.specs.Str.{bytes_eq}
 use Rattle.np_syntax.specs.Options.{◌>>=◌}
@@ -36,6 +37,8 @@ pub record Said : Type 0 where
   pub status : ℕ
   pub events : Option ℕ
   pub opens : Option ℕ
+  pub first : Option ℕ
+  pub moves : Option ℕ
   pub lines : Option ℕ
   pub outcome : List ℕ × List ℕ
   pub others : List (List ℕ × List ℕ)
@@ -69,6 +72,8 @@ said example = record {
   status = example.status;
   events = example.events;
   opens = example.opens;
+  first = example.first;
+  moves = example.moves;
   lines = example.lines;
   outcome = outcome_said example.outcome;
   others = map outcome_said example.others.items;
@@ -95,6 +100,8 @@ begun title line = record {
   status = 0;
   events = None;
   opens = None;
+  first = None;
+  moves = None;
   lines = None;
   outcome = ([], []);
   others = [];
@@ -103,7 +110,8 @@ begun title line = record {
 
 -- the bytes of the first text of that name
 abbrev pub text_of : List NamedText → List ℕ → Option (List ℕ)
-text_of texts name = option_map (λ (text : NamedText). text.bytes.items) (find (λ (text : NamedText). bytes_eq (string_bytes text.name) name) texts)
+text_of texts name = option_map (λ (text : NamedText). text.bytes.items)
+    (find (λ (text : NamedText). bytes_eq (string_bytes text.name) name) texts)
 
 -- ---- words
 
@@ -121,6 +129,8 @@ key_word key.Piece = codes "piece"
 key_word key.Status = codes "status"
 key_word key.Events = codes "events"
 key_word key.Opens = codes "opens"
+key_word key.First = codes "first"
+key_word key.Moves = codes "moves"
 key_word key.Lines = codes "lines"
 key_word key.Out = codes "out"
 key_word key.Unordered = codes "unordered"
@@ -130,7 +140,7 @@ key_word key.Or = codes "or"
 -- all of them
 abbrev pub keys : List Key
 keys = key.Words ∷ key.Main ∷ key.Source ∷ key.Text ∷ key.Low ∷ key.Replays ∷ key.Resumes ∷ key.Fail ∷ key.Piece
-    ∷ key.Status ∷ key.Events ∷ key.Opens ∷ key.Lines ∷ key.Out ∷ key.Unordered ∷ key.Err ∷ key.Or ∷ []
+    ∷ key.Status ∷ key.Events ∷ key.Opens ∷ key.First ∷ key.Moves ∷ key.Lines ∷ key.Out ∷ key.Unordered ∷ key.Err ∷ key.Or ∷ []
 
 -- the key that a word is
 abbrev pub keyed : List ℕ → Option Key
@@ -143,12 +153,13 @@ change_word change.Cut = codes "cut"
 change_word change.Without = codes "without one"
 change_word change.Swapped = codes "swapped"
 change_word change.Early = codes "early"
+change_word change.Landed = codes "landed early"
 change_word change.Past = codes "pasts"
 change_word change.Resumed = []
 
 -- those that a line `replays` names
 abbrev pub changes : List Change
-changes = change.Whole ∷ change.Cut ∷ change.Without ∷ change.Swapped ∷ change.Early ∷ change.Past ∷ []
+changes = change.Whole ∷ change.Cut ∷ change.Without ∷ change.Swapped ∷ change.Early ∷ change.Landed ∷ change.Past ∷ []
 
 -- the change that a word is
 abbrev pub change_of : List ℕ → Option Change
@@ -201,6 +212,8 @@ followed key.Piece rest s = count_of rest >>= (λ count. Some (record s { piece 
 followed key.Status rest s = byte_of rest >>= (λ status. Some (record s { status = status }))
 followed key.Events rest s = count_of rest >>= (λ count. Some (record s { events = Some count }))
 followed key.Opens rest s = count_of rest >>= (λ count. Some (record s { opens = Some count }))
+followed key.First rest s = count_of rest >>= (λ count. Some (record s { first = Some count }))
+followed key.Moves rest s = count_of rest >>= (λ count. Some (record s { moves = Some count }))
 followed key.Lines rest s = count_of rest >>= (λ count. Some (record s { lines = Some count }))
 followed key.Out rest s = Some (record s { outcome = (s.outcome.0, s.outcome.1 ++ (rest ++ 10 ∷ [])) })
 followed key.Unordered rest s = Some (record s { outcome = (s.outcome.0 ++ (rest ++ 10 ∷ []), s.outcome.1) })

@@ -1,6 +1,6 @@
 -- The pieces that make up a text (crates/np_examples/data/README.md, "The format").
-use Rattle.std.specs.Prelude.{◌≡◌, ℕ, ◌-◌, ◌^◌, ◌<◌, Bool, ◌||◌, ◌==◌, nat_eq, nat_lt, if◌then◌else◌, List, [], ◌∷◌, ◌++◌, length, take, drop, map, slice_index, codes, zero, suc}
-use Rattle.std.specs.Prelude.{Option, Some, None}
+use Rattle.std.specs.Prelude.{◌≡◌, ℕ, ◌-◌, ◌^◌, ◌<◌, Bool, ◌||◌, ◌==◌, nat_eq, nat_lt, if◌then◌else◌, List, [], ◌∷◌, ◌++◌, length, take}
+use Rattle.std.specs.Prelude.{drop, map, slice_index, codes, zero, suc, Option, Some, None}
 use Rattle.std.specs.Char.{is_ascii_digit, is_whitespace, is_not_whitespace}
 use Rattle.std.specs.List.{starts_with, before_first, after_first, position_or_len, flat_map}
 use Rattle.std.specs.Str.{bytes_eq, NoCharPasses, EmptyOrStartsWithPassing}

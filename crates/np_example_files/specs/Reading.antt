@@ -1,5 +1,6 @@
 -- What a file of examples says, line by line (crates/np_examples/data/README.md, "The format").
-use Rattle.std.specs.Prelude.{◌≡◌, ℕ, ◌+◌, ◌⊎◌, min, Bool, true, false, ◌||◌, ◌==◌, nat_eq, if◌then◌else◌, List, [], ◌∷◌, ◌++◌, length, drop, slice_index, codes, Option, Some, None}
+use Rattle.std.specs.Prelude.{◌≡◌, ℕ, ◌+◌, ◌⊎◌, min, Bool, true, false, ◌||◌, ◌==◌, nat_eq, if◌then◌else◌, List, [], ◌∷◌, ◌++◌, length}
+use Rattle.std.specs.Prelude.{drop, slice_index, codes, Option, Some, None}
 use Rattle.std.specs.Bool.{MatchBool}
 use Rattle.std.specs.List.{starts_with}
 use Rattle.std.specs.Str.Lines.{lines}
@@ -71,7 +72,8 @@ is_silent line = length line == 0 || slice_index line 0 == 35
 
 -- what examples say after a line of that number
 pub data Reads (number : ℕ) (line : List ℕ) : List Said → List Said → Type 0 where
-  begins : (examples : List Said) (title : List ℕ) → title_of line ≡ Some title → Reads number line examples (examples ++ begun title number ∷ [])
+  begins : (examples : List Said) (title : List ℕ) → title_of line ≡ Some title
+      → Reads number line examples (examples ++ begun title number ∷ [])
   passes : (examples : List Said) → title_of line ≡ None → is_silent line ≡ true → Reads number line examples examples
   says : (front : List Said) (old new : Said) → title_of line ≡ None → is_silent line ≡ false → Says line old new
       → Reads number line (front ++ old ∷ []) (front ++ new ∷ [])
@@ -79,7 +81,8 @@ pub data Reads (number : ℕ) (line : List ℕ) : List Said → List Said → Ty
 -- a line before any example, or one that the last example does not have
 pub data IsNoLine (line : List ℕ) : List Said → Type 0 where
   before : title_of line ≡ None → is_silent line ≡ false → IsNoLine line []
-  within : (front : List Said) (last : Said) → title_of line ≡ None → is_silent line ≡ false → IsNoLineOf line last → IsNoLine line (front ++ last ∷ [])
+  within : (front : List Said) (last : Said) → title_of line ≡ None → is_silent line ≡ false → IsNoLineOf line last
+      → IsNoLine line (front ++ last ∷ [])
 
 -- the same of a line of a file
 abbrev pub IsFaultAt : ℕ → List ℕ → List Said → ExampleFail → Type 0
@@ -96,7 +99,8 @@ number_behind lines = min (length lines + 1) LARGEST_NUMBER
 -- what the examples of these lines say
 pub data AreRead : List (List ℕ) → List Said → Type 0 where
   none : AreRead [] []
-  more : (front : List (List ℕ)) (line : List ℕ) (old new : List Said) → AreRead front old → Reads (number_behind front) line old new → AreRead (front ++ line ∷ []) new
+  more : (front : List (List ℕ)) (line : List ℕ) (old new : List Said) → AreRead front old → Reads (number_behind front) line old new
+      → AreRead (front ++ line ∷ []) new
 
 -- the first line of a text at which the reading fails, and why
 pub record FailsAtLine (text : List ℕ) (failing : ExampleFail) : Type 0 where

@@ -1,8 +1,11 @@
 //! Changes of a list of events.
 
-ghost use Rattle.std.specs.Prelude.{◌≡◌, ◌+◌, ◌<◌, ◌≤◌, ◌↔◌, IsTrue, Some, slice_get, insert, remove, swap, IfOk, MatchOption, length, drop};
+ghost use Rattle.std.specs.Prelude.{◌≡◌, ◌+◌, ◌<◌, ◌≤◌, ◌↔◌, IsTrue, Some, slice_get, insert, remove, swap, IfOk, MatchOption, length};
+ghost use Rattle.std.specs.Prelude.{drop};
 ghost use Rattle.np_example_files.specs.Changes as spec;
-ghost use Rattle.np_example_files.specs.Changes.{AreAlike, FirstDeparture, HasNoEarlyPlace, HasNoNextOfActor, HasNoNextUnlike, IsArrivalOf, IsEarlyPlace, IsNextOfActor, IsNextUnlike};
+ghost use Rattle.np_example_files.specs.Changes.{AreAlike, FirstDeparture, HasNoEarlyPlace, HasNoNextOfActor, HasNoNextUnlike};
+ghost use Rattle.np_example_files.specs.Changes.{HasNoSentPlace, IsArrivalOf, IsEarlyPlace, IsNextOfActor, IsNextUnlike, IsSentPlace};
+ghost use Rattle.np_example_files.specs.Changes.{Latest};
 
 use np_syntax::{Event, Kind, List, Memory, Name};
 use std::alloc::Global;
@@ -20,6 +23,8 @@ pub enum Change {
     Swapped,
     /// The Arrive at the place is moved to where its agent has not yet departed.
     Early,
+    /// The Land at the place is moved in front of the Send of its packet.
+    Landed,
     /// Not at all, but the past of the line at the place, counted from 1, is asked for, and replayed.
     Past,
     /// Not at all, but a run on sites which a budget of that number cuts off is resumed.
@@ -190,6 +195,42 @@ pub fn early_place(events: &[Event], place: usize) -> Option<usize>
     let arrival = events.get(place)?;
     match arrival.kind {
         Kind::Arrive => first_departure(events, arrival.actor, place),
+        _ => None,
+    }
+}
+
+/// The last event of the actor before the next place, where it is this before a place.
+fn latest_behind(events: &[Event], actor: Name, at: usize, latest: Option<usize>) -> Option<usize>
+    requires place { at < length events.now }
+    requires before { Latest events.now actor at latest }
+    ensures { Latest events.now actor (at + 1) result }
+{
+    if is_of_actor(&events[at], actor) {
+        Some(at)
+    } else {
+        latest
+    }
+}
+
+/// The place of the last event of the actor before a place.
+fn latest_of_actor(events: &[Event], actor: Name, place: usize) -> Option<usize>
+    requires { place < length events.now }
+    ensures { Latest events.now actor place result }
+{
+    let mut latest = None;
+    for at in 0..place {
+        latest = latest_behind(events, actor, at, latest);
+    }
+    latest
+}
+
+/// Where the event at the place is a Land: the place of the last event of the same actor before it. In a run it is the Send of the packet.
+pub fn sent_place(events: &[Event], place: usize) -> Option<usize>
+    ensures { MatchOption result (HasNoSentPlace events.now place) (IsSentPlace events.now place) }
+{
+    let landing = events.get(place)?;
+    match landing.kind {
+        Kind::Land => latest_of_actor(events, landing.actor, place),
         _ => None,
     }
 }

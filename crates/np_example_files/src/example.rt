@@ -64,6 +64,10 @@ pub struct Example {
     pub status: u8,
     pub events: Option<usize>,
     pub opens: Option<usize>,
+    /// How many events the first site makes.
+    pub first: Option<usize>,
+    /// How often an agent departs and then arrives, where no other departs before it does.
+    pub moves: Option<usize>,
     pub lines: Option<usize>,
     pub outcome: Outcome,
     /// Outcomes that would do as well.
@@ -88,6 +92,8 @@ impl Drop for Example {
             status: _,
             events: _,
             opens: _,
+            first: _,
+            moves: _,
             lines: _,
             outcome: _,
             others: _,
@@ -124,6 +130,8 @@ impl Example {
             status: 0,
             events: None,
             opens: None,
+            first: None,
+            moves: None,
             lines: None,
             outcome: Outcome::new(alloc),
             others: Vec::new(alloc),

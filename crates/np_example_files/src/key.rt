@@ -18,6 +18,8 @@ pub enum Key {
     Status,
     Events,
     Opens,
+    First,
+    Moves,
     Lines,
     Out,
     Unordered,
@@ -25,7 +27,7 @@ pub enum Key {
     Or,
 }
 
-const KEYS: [Key; 17] = [
+const KEYS: [Key; 19] = [
     Key::Words,
     Key::Main,
     Key::Source,
@@ -38,6 +40,8 @@ const KEYS: [Key; 17] = [
     Key::Status,
     Key::Events,
     Key::Opens,
+    Key::First,
+    Key::Moves,
     Key::Lines,
     Key::Out,
     Key::Unordered,
@@ -61,6 +65,8 @@ fn key_word(key: Key) -> &'static str
         Key::Status => "status",
         Key::Events => "events",
         Key::Opens => "opens",
+        Key::First => "first",
+        Key::Moves => "moves",
         Key::Lines => "lines",
         Key::Out => "out",
         Key::Unordered => "unordered",
@@ -77,12 +83,13 @@ pub fn key_of(word: &str) -> Option<Key>
 }
 
 /// The changes that a line `replays` names.
-const CHANGES: [Change; 6] = [
+const CHANGES: [Change; 7] = [
     Change::Whole,
     Change::Cut,
     Change::Without,
     Change::Swapped,
     Change::Early,
+    Change::Landed,
     Change::Past,
 ];
 
@@ -95,6 +102,7 @@ fn change_word(change: Change) -> &'static str
         Change::Without => "without one",
         Change::Swapped => "swapped",
         Change::Early => "early",
+        Change::Landed => "landed early",
         Change::Past => "pasts",
         Change::Resumed => "",
     }

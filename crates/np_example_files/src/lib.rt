@@ -18,7 +18,9 @@ mod number;
 mod pieces;
 mod reader;
 
-pub use change::{Change, between, early_place, exchanged, moved, next_unlike, without};
+pub use change::{
+    Change, between, early_place, exchanged, moved, next_unlike, sent_place, without,
+};
 pub use example::{Devices, Example, NamedText, Outcome};
 pub use fail::ExampleFail;
 pub use reader::examples_of;

@@ -1,7 +1,8 @@
 //! What an example says after one more line.
 
 ghost use Rattle.std.specs.Prelude.{◌≡◌, ◌++◌, [], ◌∷◌, IfErr, OnOk, Some, codes, map, string_bytes};
-ghost use Rattle.np_example_files.specs.Examples.{IsKeyFault, fail_said, failing_said, followed, low_said, replay_said, resumed_said, said, text_said};
+ghost use Rattle.np_example_files.specs.Examples.{IsKeyFault, fail_said, failing_said, followed, low_said, replay_said, resumed_said, said};
+ghost use Rattle.np_example_files.specs.Examples.{text_said};
 
 use super::change::Change;
 use super::example::{Example, NamedText, Outcome};
@@ -43,6 +44,8 @@ pub fn read_key(
         Key::Status => read_status(example, rest, number),
         Key::Events => read_events(example, rest, number),
         Key::Opens => read_opens(example, rest, number),
+        Key::First => read_first(example, rest, number),
+        Key::Moves => read_moves(example, rest, number),
         Key::Lines => read_lines(example, rest, number),
     }
 }
@@ -57,7 +60,8 @@ fn add_text(alloc: Global, texts: &mut Vec<String>, text: &str) -> Result<(), Ex
 
 /// A program at one site.
 fn add_main(alloc: Global, texts: &mut Vec<String>, text: &str) -> Result<(), ExampleFail>
-    ensures made { OnOk result (map (λ s. string_bytes s) texts.new.items ≡ map (λ s. string_bytes s) texts.old.items ++ (codes "sites home ; main at home = " ++ text.now) ∷ []) }
+    ensures made { OnOk result (map (λ s. string_bytes s) texts.new.items
+        ≡ map (λ s. string_bytes s) texts.old.items ++ (codes "sites home ; main at home = " ++ text.now) ∷ []) }
     ensures refused { IfErr result (λ e. e ≡ ExampleFail.Memory) }
 {
     texts.push(format!(in alloc; "{HEAD}{text}")?)?;
@@ -202,6 +206,24 @@ fn read_opens(example: &mut Example, rest: &str, number: u32) -> Result<(), Exam
 {
     let count = count_of(rest, number)?;
     example.opens = Some(count);
+    Ok(())
+}
+
+fn read_first(example: &mut Example, rest: &str, number: u32) -> Result<(), ExampleFail>
+    ensures made { OnOk result (followed Key.First rest.now (said example.old) ≡ Some (said example.new)) }
+    ensures refused { IfErr result (IsKeyFault (followed Key.First rest.now (said example.old)) number) }
+{
+    let count = count_of(rest, number)?;
+    example.first = Some(count);
+    Ok(())
+}
+
+fn read_moves(example: &mut Example, rest: &str, number: u32) -> Result<(), ExampleFail>
+    ensures made { OnOk result (followed Key.Moves rest.now (said example.old) ≡ Some (said example.new)) }
+    ensures refused { IfErr result (IsKeyFault (followed Key.Moves rest.now (said example.old)) number) }
+{
+    let count = count_of(rest, number)?;
+    example.moves = Some(count);
     Ok(())
 }
 

@@ -1,9 +1,11 @@
 //! The pieces that make up a text: lines, quoted texts, repetitions, trees, bytes by their numbers, files and lines of files.
 
-ghost use Rattle.std.specs.Prelude.{◌≡◌, ◌++◌, IfErr, IfOk, MatchOption, MatchResult, None, OnOk, Some, nat_eq, string_bytes, ℕ, ◌≢◌, [], ◌∷◌};
+ghost use Rattle.std.specs.Prelude.{◌≡◌, ◌++◌, IfErr, IfOk, MatchOption, MatchResult, None, OnOk, Some, nat_eq, string_bytes, ℕ, ◌≢◌, []};
+ghost use Rattle.std.specs.Prelude.{◌∷◌};
 ghost use Rattle.std.specs.List.{starts_with};
 ghost use Rattle.np_example_files.specs.Pieces as spec;
-ghost use Rattle.np_example_files.specs.Pieces.{Adds, IsFault, IsLonger, File, Numbered, lines_between, part_or_refused, piece_of, quoted, these_or_refused, times};
+ghost use Rattle.np_example_files.specs.Pieces.{Adds, IsFault, IsLonger, File, Numbered, lines_between, part_or_refused, piece_of, quoted};
+ghost use Rattle.np_example_files.specs.Pieces.{these_or_refused, times};
 
 use super::fail::ExampleFail;
 use super::form::{Form, form_of, key_and_rest};

@@ -5,7 +5,7 @@ use super::counting::count_of;
 use super::trial::{Check, Then, Trial, Wanted, Way, add};
 use history_text::write_history;
 use np_example_files::{
-    Change, ExampleFail, between, early_place, exchanged, moved, next_unlike, without,
+    Change, ExampleFail, between, early_place, exchanged, moved, next_unlike, sent_place, without,
 };
 use np_syntax::{Event, Kind, List, Memory, Text};
 use std::alloc::{AllocError, Global};
@@ -31,7 +31,8 @@ pub(crate) fn add_change(
         Change::Resumed => return add_runs(alloc, case, check, place, left),
         Change::Without => without_one(alloc, case, place)?,
         Change::Swapped => swapped(alloc, case, place)?,
-        Change::Early => arrived_early(alloc, case, place)?,
+        Change::Early => moved_early(alloc, case, place, early_place(case.events, place))?,
+        Change::Landed => moved_early(alloc, case, place, sent_place(case.events, place))?,
     };
     add_changed(alloc, case, check, changed, left)
 }
@@ -156,13 +157,15 @@ fn swapped(alloc: Global, case: &Case<'_>, place: usize) -> Result<Option<Change
     }
 }
 
-/// The Arrive that is brought forward is the first that is not enabled: at its new place its agent is not under way.
-fn arrived_early(
+/// The Arrive or the Land that is brought forward, if one is, is the first event that is not enabled: at its new place its agent or
+/// its packet is not under way.
+fn moved_early(
     alloc: Global,
     case: &Case<'_>,
     place: usize,
+    earlier: Option<usize>,
 ) -> Result<Option<Changed>, ExampleFail> {
-    match early_place(case.events, place) {
+    match earlier {
         Some(earlier) => {
             let events = moved(alloc, case.events, earlier, place)?;
             Ok(Some(refused_at(alloc, events, earlier)?))

@@ -1,5 +1,6 @@
 //! The run of the source that is read off a run on sites: it is made again at the high level.
 
+use super::counting::moves_in;
 use np_check::Checked;
 use np_configuration::{Cfg, start_high};
 use np_lift::lift_cached;
@@ -15,6 +16,10 @@ use std::alloc::Global;
 pub(crate) struct Reading {
     /// How many letters are opened: each is a message that was handed over.
     pub opens: usize,
+    /// How many events the first site makes, if there is one.
+    pub first: Option<usize>,
+    /// How often an agent departs and then arrives, if no other departs before it does.
+    pub moves: Option<usize>,
     /// Whether what is read off is a run of the source that prints the same; at no place more messages are handed over than
     /// sent; and at rest that run rests, and as many are handed over as sent.
     pub is_run: bool,
@@ -163,6 +168,12 @@ fn is_high_run(
     is_run
 }
 
+/// How many events the first site makes.
+fn first_site(record: &Record) -> Option<usize> {
+    let history = record.histories.as_slice().first()?;
+    Some(history.len() as usize)
+}
+
 /// What is seen of a run on the sites of this source.
 pub(crate) fn reading_of(alloc: Global, source: &[u8], record: &Record) -> Result<Reading, Memory> {
     let events = merge(alloc, record.histories.as_slice())?;
@@ -171,6 +182,8 @@ pub(crate) fn reading_of(alloc: Global, source: &[u8], record: &Record) -> Resul
     let is_run = is_high_run(alloc, source, record, events.as_slice())?;
     Ok(Reading {
         opens: letters.opens,
+        first: first_site(record),
+        moves: moves_in(events.as_slice()),
         is_run: is_run && all && !letters.early,
     })
 }

@@ -30,6 +30,8 @@ impl LowMade {
             status: self.status,
             events: is_run.then_some(events.len()),
             opens: is_run.then_some(count_of(events, Kind::Open)),
+            first: None,
+            moves: None,
             reads_off: None,
             out: self.out.as_slice(),
             err: self.err.as_slice(),

@@ -83,6 +83,7 @@ fn key_of(change: Change) -> &'static str {
         Change::Without => "replays without one, place",
         Change::Swapped => "replays swapped, place",
         Change::Early => "replays early, place",
+        Change::Landed => "replays landed early, place",
         Change::Past => "replays pasts, line",
         Change::Resumed => "resumes, budget",
     }
@@ -117,6 +118,8 @@ fn tell_said(rt: &impl Print, example: &Example) -> io::Result<()> {
     tell_number(rt, "wanted status", example.status as usize)?;
     tell_count(rt, "wanted a run, of events", example.events)?;
     tell_count(rt, "wanted letters opened", example.opens)?;
+    tell_count(rt, "wanted events of the first site", example.first)?;
+    tell_count(rt, "wanted moves in turn", example.moves)?;
     tell_count(rt, "wanted lines on out", example.lines)?;
     match example.text("out") {
         Some(bytes) => tell_bytes(rt, "wanted out", bytes)?,
@@ -144,6 +147,8 @@ fn tell_came(rt: &impl Print, came: &Came<'_>) -> io::Result<()> {
     tell_number(rt, "came status", came.status as usize)?;
     tell_count(rt, "came a run, of events", came.events)?;
     tell_count(rt, "came letters opened", came.opens)?;
+    tell_count(rt, "came events of the first site", came.first)?;
+    tell_count(rt, "came moves in turn", came.moves)?;
     if came.reads_off == Some(false) {
         tell(
             rt,

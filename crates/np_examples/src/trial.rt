@@ -139,6 +139,10 @@ pub(crate) struct Came<'a> {
     pub events: Option<usize>,
     /// How many letters are opened in it, if it is the run of a low program.
     pub opens: Option<usize>,
+    /// How many of them the first site makes, if it is a run on sites of a text of the call.
+    pub first: Option<usize>,
+    /// How often an agent departs and then arrives in such a run, where no other departs before it does.
+    pub moves: Option<usize>,
     /// Whether what is read off it is a run of the source, if it is a run on sites of a text of the call.
     pub reads_off: Option<bool>,
     pub out: &'a [u8],

@@ -231,6 +231,8 @@ fn is_passed_into<R: Print + Threads + Wait + Sync>(
         status,
         events: events.map(|count| count as usize),
         opens: reading.map(|reading| reading.opens),
+        first: reading.and_then(|reading| reading.first),
+        moves: reading.and_then(|reading| reading.moves),
         reads_off: reading.map(|reading| reading.is_run),
         out: out.bytes(),
         err: err.bytes(),

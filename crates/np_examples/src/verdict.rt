@@ -152,6 +152,8 @@ fn meets(example: &Example, came: &Came<'_>) -> bool {
     came.status == example.status
         && meets_count(example.events, came.events)
         && meets_count(example.opens, came.opens)
+        && meets_count(example.first, came.first)
+        && meets_count(example.moves, came.moves)
         && came.reads_off != Some(false)
         && meets_out(example, came)
         && meets_err(example, came.err)

@@ -17,7 +17,8 @@ agent_line agent = codes "agent " ++ name agent ++ codes " = *go?k -> migrate to
     ++ codes " -> (<" ++ next agent ++ codes "@?>go!k + 1 | <main@?>tick!k) in"
 
 unfoldable pub last_line : ℕ → List ℕ
-last_line agents = codes "(*tick?k -> print k | *go?k -> if k < " ++ decimal (10 * agents) ++ codes " then <" ++ name agents ++ codes "@?>go!k else 0 | go!0)"
+last_line agents = codes "(*tick?k -> print k | *go?k -> if k < " ++ decimal (10 * agents) ++ codes " then <" ++ name agents
+    ++ codes "@?>go!k else 0 | go!0)"
 
 -- the first two lines, a line for each agent, and the last line
 abbrev pub lines : ℕ → List (List ℕ)

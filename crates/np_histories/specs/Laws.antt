@@ -15,6 +15,9 @@ pub record HaveOneAnswer : Type 0 where
   pub status : (bytes : List ℕ) (refusal : Refusal) → HasNoEvents bytes refusal → status_of refusal ≡ BAD_HISTORY
   pub same_events : (bytes : List ℕ) (a b : List Event) → IsRead bytes a → IsRead bytes b → a ≡ b
   -- its replay
-  pub run_not_both : (low : LowProgram) (shown : View) (bytes : List ℕ) (refusal : Refusal) → HasRun low shown bytes → IsFaulty low shown bytes refusal → ⊥
-  pub same_run_fault : (low : LowProgram) (shown : View) (bytes : List ℕ) (a b : Refusal) → IsFaulty low shown bytes a → IsFaulty low shown bytes b → a ≡ b
-  pub run_status : (low : LowProgram) (shown : View) (bytes : List ℕ) (refusal : Refusal) → IsFaulty low shown bytes refusal → status_of refusal ≡ BAD_HISTORY
+  pub run_not_both : (low : LowProgram) (shown : View) (bytes : List ℕ) (refusal : Refusal) → HasRun low shown bytes
+      → IsFaulty low shown bytes refusal → ⊥
+  pub same_run_fault : (low : LowProgram) (shown : View) (bytes : List ℕ) (a b : Refusal) → IsFaulty low shown bytes a
+      → IsFaulty low shown bytes b → a ≡ b
+  pub run_status : (low : LowProgram) (shown : View) (bytes : List ℕ) (refusal : Refusal) → IsFaulty low shown bytes refusal
+      → status_of refusal ≡ BAD_HISTORY

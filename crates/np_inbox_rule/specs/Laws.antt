@@ -5,7 +5,8 @@ use Rattle.site_links.specs.declared.places.TheConstants.{PLACES}
 use Rattle.np_inbox_rule.specs.declared.views.View.{View}
 use Rattle.np_inbox_rule.specs.declared.views.View.TheVariants.{Spent}
 use Rattle.np_inbox_rule.specs.Rule.{Holds}
-use Rattle.np_inbox_rule.specs.Steps.{first_view, IsOwner, IsSender, sent_in, last_in, put, HasSpace, IsFreed, one_site, one_made, new_sender, note_sent, note_got, join_sent, join_got, Taken, IsTold}
+use Rattle.np_inbox_rule.specs.Steps.{first_view, IsOwner, IsSender, sent_in, last_in, put, HasSpace, IsFreed, one_site, one_made}
+use Rattle.np_inbox_rule.specs.Steps.{new_sender, note_sent, note_got, join_sent, join_got, Taken, IsTold}
 
 module _ {I : Type 0} (sender : I → ℕ) where
   abbrev pub RuleBegins : Type 0
@@ -13,7 +14,8 @@ module _ {I : Type 0} (sender : I → ℕ) where
 
   -- a sender that knows of a free place may push an item of its own
   abbrev pub PutKeeps : Type 0
-  PutKeeps = (n pass sites number : ℕ) (v : View I) (x : I) → IsSender sites number v → sender x ≡ number → length (sent_in v) < length (last_in v) + PLACES
+  PutKeeps = (n pass sites number : ℕ) (v : View I) (x : I) → IsSender sites number v → sender x ≡ number
+      → length (sent_in v) < length (last_in v) + PLACES
       → Pushes (Holds sender) n pass v x (λ w. w ≡ put v x)
 
   abbrev pub PutLearns : Type 0
@@ -33,7 +35,8 @@ module _ {I : Type 0} (sender : I → ℕ) where
   SiteForks = (pass sites : ℕ) (v : View I) → IsOwner sites 0 v → Forks (Holds sender) pass v (one_site v) Spent
 
   abbrev pub SenderForks : Type 0
-  SenderForks = (pass sites made : ℕ) (v : View I) → IsOwner sites made v → made < sites → Forks (Holds sender) pass v (one_made v) (new_sender v)
+  SenderForks = (pass sites made : ℕ) (v : View I) → IsOwner sites made v → made < sites
+      → Forks (Holds sender) pass v (one_made v) (new_sender v)
 
   abbrev pub SentForks : Type 0
   SentForks = (pass : ℕ) (v : View I) → Forks (Holds sender) pass v v (note_sent v)

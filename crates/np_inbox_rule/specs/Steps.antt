@@ -87,7 +87,8 @@ module _ {I : Type 0} where
 
 module _ {I : Type 0} (sender : I → ℕ) where
   abbrev pub join_got : View I → View I → View I
-  join_got (Sender v) (OfOwner note) = Sender (record v { freed = longer v.freed (items_of sender v.number note.got); last = items_of sender v.number note.got })
+  join_got (Sender v) (OfOwner note) =
+      Sender (record v { freed = longer v.freed (items_of sender v.number note.got); last = items_of sender v.number note.got })
   join_got v _ = v
 
   -- ---- pop

@@ -1,4 +1,5 @@
-ghost use Rattle.np_inbox_rule.specs.Laws.{RuleBegins, PutKeeps, PutLearns, TakeKeeps, TakeLearns, LookLearns, SiteForks, SenderForks, SentForks, GotForks, SentMerges, GotMerges};
+ghost use Rattle.np_inbox_rule.specs.Laws.{RuleBegins, PutKeeps, PutLearns, TakeKeeps, TakeLearns, LookLearns, SiteForks, SenderForks};
+ghost use Rattle.np_inbox_rule.specs.Laws.{SentForks, GotForks, SentMerges, GotMerges};
 
 use site_links::Addressed;
 

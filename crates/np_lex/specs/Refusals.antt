@@ -8,7 +8,8 @@ use Rattle.np_lex.specs.Tokens.{Stuck}
 -- the refusal at this offset, where these bytes stand
 abbrev pub refusal : ℕ → List ℕ → LexFail
 refusal place [] = fail.BadChar place
-refusal place (byte ∷ rest) = if byte == 34 then fail.BadString place else (if is_ascii_digit byte then fail.BigNumber place else fail.BadChar place)
+refusal place (byte ∷ rest) = if byte == 34 then fail.BadString place
+    else (if is_ascii_digit byte then fail.BigNumber place else fail.BadChar place)
 
 -- the first place of the source where no token begins has this refusal
 pub record IsRefused (source : List ℕ) (e : LexFail) : Type 0 where

@@ -15,7 +15,8 @@ meant_by (escape ∷ others) letter = if letter == escape.1 then part.Byte escap
 -- what a byte is within the quotes, behind a backslash or not
 abbrev pub part_of : Bool → ℕ → Part
 part_of true byte = meant_by escapes byte
-part_of false byte = if byte == 34 then part.Close else (if byte == 92 then part.Backslash else (if is_plain byte then part.Byte byte else part.Wrong))
+part_of false byte = if byte == 34 then part.Close
+    else (if byte == 92 then part.Backslash else (if is_plain byte then part.Byte byte else part.Wrong))
 
 -- behind so many bytes, which wrote this text
 abbrev pub behind : ℕ → List ℕ → Option (ℕ × List ℕ) → Option (ℕ × List ℕ)

@@ -122,10 +122,12 @@ pub data IsForm : List ℕ → Type 0 where
 -- the text is this token: it is of a form, and within the limit of its form
 pub data IsToken : List ℕ → What → Type 0 where
   key : (k : Key) → IsToken (key_text k) (what.Word k)
-  name : {byte : ℕ} {bytes : List ℕ} → is_letter byte ≡ true → Each goes_on bytes → length (byte ∷ bytes) ≤ LONGEST_NAME → ((k : Key) → key_text k ≢ byte ∷ bytes)
+  name : {byte : ℕ} {bytes : List ℕ} → is_letter byte ≡ true → Each goes_on bytes → length (byte ∷ bytes) ≤ LONGEST_NAME
+      → ((k : Key) → key_text k ≢ byte ∷ bytes)
       → IsToken (byte ∷ bytes) (what.Ident (byte ∷ bytes))
   nought : IsToken (48 ∷ []) (what.Number (pos 0))
-  number : {byte n : ℕ} {bytes : List ℕ} → is_ascii_digit byte ≡ true → byte ≢ 48 → Each is_ascii_digit bytes → value (byte ∷ bytes) ≡ n → n ≤ LARGEST_INTEGER
+  number : {byte n : ℕ} {bytes : List ℕ} → is_ascii_digit byte ≡ true → byte ≢ 48 → Each is_ascii_digit bytes → value (byte ∷ bytes) ≡ n
+      → n ≤ LARGEST_INTEGER
       → IsToken (byte ∷ bytes) (what.Number (pos n))
   string : {bytes text : List ℕ} → IsBody bytes text → length text ≤ LONGEST_STRING → IsToken (34 ∷ (bytes ++ 34 ∷ [])) (what.Str text)
   sign : (s : Sign) → IsToken (sign_text s) (what.Sign s)
@@ -161,15 +163,19 @@ skip_len (byte ∷ rest) = if is_blank byte then 1 else (if byte == 45 then comm
 -- the bytes, of which the first stands at this offset, are these tokens, with blanks and comments between them
 pub data Lexes : ℕ → List ℕ → List Token → Type 0 where
   end : {at : ℕ} → Lexes at [] (token at at what.End ∷ [])
-  skip : {at : ℕ} {bytes : List ℕ} {tokens : List Token} → 0 < skip_len bytes → Lexes (at + skip_len bytes) (drop (skip_len bytes) bytes) tokens → Lexes at bytes tokens
+  skip : {at : ℕ} {bytes : List ℕ} {tokens : List Token} → 0 < skip_len bytes
+      → Lexes (at + skip_len bytes) (drop (skip_len bytes) bytes) tokens → Lexes at bytes tokens
   next : {at : ℕ} {bytes : List ℕ} {tokens : List Token} {w : What} (len : ℕ) → skip_len bytes ≡ 0 → Begins bytes len w
       → Lexes (at + len) (drop len bytes) tokens → Lexes at bytes (token at (at + len) w ∷ tokens)
 
 -- no token, blank or comment begins at the last of these offsets, and the bytes before it are tokens, blanks and comments
 pub data Stuck : ℕ → List ℕ → ℕ → Type 0 where
-  here : {at byte : ℕ} {rest : List ℕ} → skip_len (byte ∷ rest) ≡ 0 → ((len : ℕ) (w : What) → Begins (byte ∷ rest) len w → ⊥) → Stuck at (byte ∷ rest) at
-  skip : {at place : ℕ} {bytes : List ℕ} → 0 < skip_len bytes → Stuck (at + skip_len bytes) (drop (skip_len bytes) bytes) place → Stuck at bytes place
-  next : {at place : ℕ} {bytes : List ℕ} {w : What} (len : ℕ) → skip_len bytes ≡ 0 → Begins bytes len w → Stuck (at + len) (drop len bytes) place → Stuck at bytes place
+  here : {at byte : ℕ} {rest : List ℕ} → skip_len (byte ∷ rest) ≡ 0 → ((len : ℕ) (w : What) → Begins (byte ∷ rest) len w → ⊥)
+      → Stuck at (byte ∷ rest) at
+  skip : {at place : ℕ} {bytes : List ℕ} → 0 < skip_len bytes → Stuck (at + skip_len bytes) (drop (skip_len bytes) bytes) place
+      → Stuck at bytes place
+  next : {at place : ℕ} {bytes : List ℕ} {w : What} (len : ℕ) → skip_len bytes ≡ 0 → Begins bytes len w
+      → Stuck (at + len) (drop len bytes) place → Stuck at bytes place
 
 -- ---- lists of tokens
 

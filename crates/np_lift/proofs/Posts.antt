@@ -60,7 +60,7 @@ begins c (e ∷ h) k = begins-on c e (apply c e) (λ m. deeds m (h ++ k)) (λ m.
 alternate-prefix : (ds es : List Deed) → Alternate (ds ++ es) → Alternate ds
 alternate-prefix [] es a = Alternate.nothing
 alternate-prefix (d ∷ []) [] Alternate.under_way = Alternate.under_way
-alternate-prefix (d ∷ []) (e ∷ es) (Alternate.handed h rest) = Alternate.under_way
+alternate-prefix (d ∷ []) (e ∷ es) (Alternate.handed h rest) = subst (λ p. Alternate (Deed.posts p ∷ [])) (sym h.posted) Alternate.under_way
 alternate-prefix (d ∷ e ∷ ds) es (Alternate.handed h rest) = Alternate.handed h (alternate-prefix ds es rest)
 
 pub prefix-is-paired : PrefixIsPaired

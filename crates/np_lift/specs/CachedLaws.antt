@@ -12,7 +12,8 @@ use Rattle.np_syntax.specs.declared.event.Made.{Made}
 use Rattle.np_syntax.specs.declared.event.Made.TheVariants as made
 use Rattle.np_tables.specs.Names.{same_name}
 use Rattle.np_lift.specs.Lift.{lift}
-use Rattle.np_lift.specs.CachedLift.{Lifted, Standing, at_first, lift_cached, lift_from, lifted, posted, renamed, standing_after, stands_for, with_mark, with_messenger}
+use Rattle.np_lift.specs.CachedLift.{Lifted, Standing, at_first, lift_cached, lift_from, lifted, posted, renamed, standing_after}
+use Rattle.np_lift.specs.CachedLift.{stands_for, with_mark, with_messenger}
 
 -- whether a new mark stands for another after an event: the creation of a messenger for a post, and its location test that finds the agent
 abbrev pub adds_mark : Role → Kind → Made → Bool
@@ -36,25 +37,30 @@ pub record LiftedByTable : Type 0 where
   pub messenger : (s : Standing) (e : Event) (t m : Name) → e.tag.role ≡ role.Post → e.kind ≡ kind.Agent → e.made ≡ made.Two t m
       → lifted s e ≡ becomes (with_messenger s t m e.actor) (posted s e)
   -- the messenger finds the agent, and the output that was posted is made
-  pub found : (s : Standing) (e : Event) (m : Name) → e.tag.role ≡ role.Infra → e.kind ≡ kind.Local → e.made ≡ made.One m → lifted s e ≡ nothing (with_mark s m e.actor)
+  pub found : (s : Standing) (e : Event) (m : Name) → e.tag.role ≡ role.Infra → e.kind ≡ kind.Local → e.made ≡ made.One m
+      → lifted s e ≡ nothing (with_mark s m e.actor)
   -- a post is sent to the daemon
   pub sent : (s : Standing) (e : Event) → e.tag.role ≡ role.Post → e.kind ≡ kind.Send → lifted s e ≡ becomes s (posted s e)
   pub landing : (s : Standing) (e : Event) → e.tag.role ≡ role.Post → e.kind ≡ kind.Land → lifted s e ≡ nothing s
   pub infra : (s : Standing) (e : Event) → e.tag.role ≡ role.Infra → AddsNoMark e → lifted s e ≡ nothing s
   pub arrival : (s : Standing) (e : Event) → e.kind ≡ kind.Arrive → set.contains s.messengers e.actor ≡ true → lifted s e ≡ nothing s
   -- all others
-  pub plain : (s : Standing) (e : Event) → e.tag.role ≡ role.Plain → (e.kind ≡ kind.Arrive → set.contains s.messengers e.actor ≡ false) → lifted s e ≡ becomes s (renamed s e)
+  pub plain : (s : Standing) (e : Event) → e.tag.role ≡ role.Plain → (e.kind ≡ kind.Arrive → set.contains s.messengers e.actor ≡ false)
+      → lifted s e ≡ becomes s (renamed s e)
   pub other : (s : Standing) (e : Event) → e.tag.role ≡ role.Post → AddsNoMark e → (e.kind ≡ kind.Send → ⊥) → (e.kind ≡ kind.Land → ⊥)
       → (e.kind ≡ kind.Arrive → set.contains s.messengers e.actor ≡ false) → lifted s e ≡ becomes s (renamed s e)
 
--- what a mark stands for: itself at first, what the other stands for where it was added, and else what it stood for before; and who is a messenger
+-- what a mark stands for: itself at first, what the other stands for where it was added, and else what it stood for before; and who is
+-- a messenger
 pub record StandingByTable : Type 0 where
   pub itself : (q : Name) → stands_for at_first q ≡ q
   pub added : (s : Standing) (mark other : Name) → stands_for (with_mark s mark other) mark ≡ stands_for s other
   pub others : (s : Standing) (mark other q : Name) → same_name q mark ≡ false → stands_for (with_mark s mark other) q ≡ stands_for s q
-  pub created : (s : Standing) (t mark other q : Name) → stands_for (with_messenger s t mark other) q ≡ stands_for (with_mark s mark other) q
+  pub created : (s : Standing) (t mark other q : Name)
+      → stands_for (with_messenger s t mark other) q ≡ stands_for (with_mark s mark other) q
   pub no_messenger : (q : Name) → set.contains at_first.messengers q ≡ false
-  pub messengers : (s : Standing) (t mark other q : Name) → set.contains (with_messenger s t mark other).messengers q ≡ (same_name q t || set.contains s.messengers q)
+  pub messengers : (s : Standing) (t mark other q : Name)
+      → set.contains (with_messenger s t mark other).messengers q ≡ (same_name q t || set.contains s.messengers q)
 
 -- the lift of two lists is that of the first, and then that of the second from what stands for what after the first
 abbrev pub LiftOfParts : Type 0

@@ -66,7 +66,8 @@ is_dropped r k of_messenger = false
 
 -- by its role, its kind, the names that it makes, and whether it is dropped where no case before is met: the cases are tried in this order
 abbrev pub lifted_by : Role → Kind → Made → Bool → Standing → Event → Lifted
-lifted_by role.Post kind.Agent (made.Two messenger mark) dropped s e = record { event = Some (posted s e); standing = with_messenger s messenger mark e.actor }
+lifted_by role.Post kind.Agent (made.Two messenger mark) dropped s e =
+    record { event = Some (posted s e); standing = with_messenger s messenger mark e.actor }
 lifted_by role.Infra kind.Local (made.One mark) dropped s e = record { event = None; standing = with_mark s mark e.actor }
 lifted_by role.Post kind.Send names dropped s e = record { event = Some (posted s e); standing = s }
 lifted_by r k names true s e = record { event = None; standing = s }

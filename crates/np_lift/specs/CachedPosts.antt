@@ -46,8 +46,9 @@ letter_hired c mark = map.get c.atoms mark >>= λ a. letter_given (layer a.proc)
 
 -- ---- deeds
 
--- The deed of an event between two configurations, to the mark for which its own stands: a post is sent to the daemon, or a messenger is made for it; it is
--- handed over where a letter is opened, or where the messenger finds the agent, and then the output has a mark of its own.
+-- The deed of an event between two configurations, to the mark for which its own stands: a post is sent to the daemon, or a messenger
+-- is made for it; it is handed over where a letter is opened, or where the messenger finds the agent, and then the output has a mark of
+-- its own.
 abbrev pub deed_from : Standing → Kind → Role → Made → Config → Config → Event → Option (Name × Deed)
 deed_from s kind.Send role.Post names c d e = Some (stands_for s e.actor, Deed.posts (letter_at c e.actor))
 deed_from s kind.Agent role.Post (made.Two messenger mark) c d e = Some (stands_for s e.actor, Deed.posts (letter_hired c e.actor))

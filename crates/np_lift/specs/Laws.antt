@@ -41,4 +41,5 @@ is_post kind.Post = true
 is_post _ = false
 
 abbrev pub PostsAreLifted : Type 0
-PostsAreLifted = (h : List Event) → All (λ e. is_post e.kind ≡ false) h → count_by (λ e. is_post e.kind) (lift h) ≡ count_by (λ e. is_sent e.kind e.tag.role) h
+PostsAreLifted = (h : List Event) → All (λ e. is_post e.kind ≡ false) h
+    → count_by (λ e. is_post e.kind) (lift h) ≡ count_by (λ e. is_sent e.kind e.tag.role) h

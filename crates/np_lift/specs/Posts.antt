@@ -27,7 +27,10 @@ pub record Letter : Type 0 where
 
 -- the letter in [b pack(c, v)]
 abbrev pub letter_of_parts : List Value → Option Letter
-letter_of_parts (b ∷ l ∷ []) = do agent ← as_agent (out-Value b); inner ← as_letter (out-Value l); Some (record { agent = agent; chan = inner.0; value = inner.1 })
+letter_of_parts (b ∷ l ∷ []) = do
+  agent ← as_agent (out-Value b)
+  inner ← as_letter (out-Value l)
+  Some (record { agent = agent; chan = inner.0; value = inner.1 })
 letter_of_parts _ = None
 
 abbrev pub letter_sent : Layer → Env → Option Letter
@@ -76,10 +79,11 @@ pub record Hands (post : Option Letter) (opened : Option Atom) : Type 0 where
   pub tag : Tag
   pub is : opened ≡ Some (output_in letter.agent letter.chan letter.value tag)
 
--- posts and openings take turns, a post first, and each opening hands over the post before it: the last post may be under way
+-- Posts and openings take turns, a post first, and each opening hands over the post before it. The last post may be under way: it has
+-- posted a letter.
 pub data Alternate : List Deed → Type 0 where
   nothing : Alternate []
-  under_way : {p : Option Letter} → Alternate (Deed.posts p ∷ [])
+  under_way : {l : Letter} → Alternate (Deed.posts (Some l) ∷ [])
   handed : {p : Option Letter} {o : Option Atom} {ds : List Deed} → Hands p o → Alternate ds → Alternate (Deed.posts p ∷ Deed.opens o ∷ ds)
 
 -- the same where no post is under way

@@ -7,7 +7,8 @@ use Rattle.np_syntax.specs.declared.value.Name.{Name}
 use Rattle.np_syntax.specs.declared.value.Value.{Value}
 use Rattle.np_syntax.specs.declared.value.Value as value
 use Rattle.np_syntax.specs.declared.expression.Expr.{Expr}
-use Rattle.np_syntax.specs.declared.expression.ExprForm.{ExprForm, Row_of-Expr, end_of-Expr, more_of-Expr, Row_of-ExprForm, end_of-ExprForm, more_of-ExprForm}
+use Rattle.np_syntax.specs.declared.expression.ExprForm.{ExprForm, Row_of-Expr, end_of-Expr, more_of-Expr, Row_of-ExprForm, end_of-ExprForm}
+use Rattle.np_syntax.specs.declared.expression.ExprForm.{more_of-ExprForm}
 use Rattle.np_syntax.specs.declared.expression.ExprForm as expr
 use Rattle.np_syntax.specs.declared.pattern.Pat.{Pat}
 use Rattle.np_syntax.specs.declared.pattern.PatForm.{PatForm, Row_of-Pat, end_of-Pat, more_of-Pat}
@@ -33,7 +34,8 @@ binder_text x = codes "x" ++ decimal x
 -- the words of the program's own names, by their numbers: the first marks of main and of the daemon have none
 abbrev pub own_words : List (List ℕ)
 own_words =
-    codes "main" ∷ codes "daemon" ∷ codes "register" ∷ codes "migrating" ∷ codes "migrated" ∷ codes "message" ∷ codes "deliver" ∷ codes "ack" ∷ codes "dack"
+    codes "main" ∷ codes "daemon" ∷ codes "register" ∷ codes "migrating" ∷ codes "migrated" ∷ codes "message" ∷ codes "deliver"
+    ∷ codes "ack" ∷ codes "dack"
     ∷ codes "currentloc" ∷ codes "lock" ∷ [] ∷ [] ∷ codes "here" ∷ codes "cache" ∷ codes "where" ∷ codes "found" ∷ []
 
 abbrev pub word : ℕ → List ℕ
@@ -79,8 +81,10 @@ abbrev mutual
   expr_form_text sites level (expr.Val v) = constant_text sites v
   expr_form_text sites level (expr.Var x) = binder_text x
   expr_form_text sites level (expr.Tuple' shape xs) = squared (expr_texts sites xs)
-  expr_form_text sites level (expr.Bin' o _ a x _ b y) = bracketed (nat_lt (strength o) level) (joined o (part_text sites (left o) x) (part_text sites (right o) y))
-  expr_form_text sites level (expr.Pack' _ a c _ b v) = codes "pack(" ++ part_text sites 0 c ++ codes ", " ++ part_text sites 0 v ++ codes ")"
+  expr_form_text sites level (expr.Bin' o _ a x _ b y) = bracketed (nat_lt (strength o) level)
+      (joined o (part_text sites (left o) x) (part_text sites (right o) y))
+  expr_form_text sites level (expr.Pack' _ a c _ b v) = codes "pack(" ++ part_text sites 0 c ++ codes ", " ++ part_text sites 0 v
+      ++ codes ")"
   expr_form_text sites level (expr.With' _ a m _ b x _ c l) =
       codes "(" ++ part_text sites 0 m ++ codes " with " ++ part_text sites 0 x ++ codes " -> " ++ part_text sites 0 l ++ codes ")"
 
@@ -105,25 +109,34 @@ abbrev mutual
   -- the text of a process. A composition has its bracket, but not where it is the left part of another.
   pub proc_form_text : Sites → Bool → ProcForm → List ℕ
   proc_form_text sites bracket form.Stop = codes "0"
-  proc_form_text sites bracket (form.Par' _ _ a p _ _ b q) = bracketed bracket (inner_text sites false p ++ codes " | " ++ inner_text sites true q)
-  proc_form_text sites bracket (form.New' c t _ _ a p) = codes "new " ++ binder_text c ++ codes " : " ++ type_text t ++ codes " in " ++ inner_text sites true p
+  proc_form_text sites bracket (form.Par' _ _ a p _ _ b q) = bracketed bracket
+      (inner_text sites false p ++ codes " | " ++ inner_text sites true q)
+  proc_form_text sites bracket (form.New' c t _ _ a p) = codes "new " ++ binder_text c ++ codes " : " ++ type_text t ++ codes " in "
+      ++ inner_text sites true p
   proc_form_text sites bracket (form.Out c x) = message_text sites c x
-  proc_form_text sites bracket (form.Inp' c q _ _ a p) = expr_text sites 3 c ++ codes "?" ++ pat_text q ++ codes " -> " ++ inner_text sites true p
-  proc_form_text sites bracket (form.Rep' c q _ _ a p) = codes "*" ++ expr_text sites 3 c ++ codes "?" ++ pat_text q ++ codes " -> " ++ inner_text sites true p
+  proc_form_text sites bracket (form.Inp' c q _ _ a p) = expr_text sites 3 c ++ codes "?" ++ pat_text q ++ codes " -> "
+      ++ inner_text sites true p
+  proc_form_text sites bracket (form.Rep' c q _ _ a p) = codes "*" ++ expr_text sites 3 c ++ codes "?" ++ pat_text q ++ codes " -> "
+      ++ inner_text sites true p
   proc_form_text sites bracket (form.Agent' c _ _ a p _ _ b q) =
       codes "agent " ++ binder_text c ++ codes " = " ++ inner_text sites true p ++ codes " in " ++ inner_text sites true q
-  proc_form_text sites bracket (form.Migrate' x _ _ a p) = codes "migrate to " ++ expr_text sites 0 x ++ codes " -> " ++ inner_text sites true p
+  proc_form_text sites bracket (form.Migrate' x _ _ a p) = codes "migrate to " ++ expr_text sites 0 x ++ codes " -> "
+      ++ inner_text sites true p
   proc_form_text sites bracket (form.IfLocal' x c z _ _ a p _ _ b q) =
-      codes "iflocal <" ++ expr_text sites 3 x ++ codes ">" ++ message_text sites c z ++ codes " then " ++ inner_text sites true p ++ codes " else " ++ inner_text sites true q
-  proc_form_text sites bracket (form.Send x y c z) = codes "<" ++ expr_text sites 3 x ++ codes "@" ++ expr_text sites 3 y ++ codes ">" ++ message_text sites c z
+      codes "iflocal <" ++ expr_text sites 3 x ++ codes ">" ++ message_text sites c z ++ codes " then " ++ inner_text sites true p
+      ++ codes " else " ++ inner_text sites true q
+  proc_form_text sites bracket (form.Send x y c z) = codes "<" ++ expr_text sites 3 x ++ codes "@" ++ expr_text sites 3 y ++ codes ">"
+      ++ message_text sites c z
   proc_form_text sites bracket (form.Post x c z) = codes "<" ++ expr_text sites 3 x ++ codes "@?>" ++ message_text sites c z
   proc_form_text sites bracket (form.If' x _ _ a p _ _ b q) =
       codes "if " ++ expr_text sites 0 x ++ codes " then " ++ inner_text sites true p ++ codes " else " ++ inner_text sites true q
-  proc_form_text sites bracket (form.Let' q x _ _ a p) = codes "let " ++ pat_text q ++ codes " = " ++ expr_text sites 0 x ++ codes " in " ++ inner_text sites true p
+  proc_form_text sites bracket (form.Let' q x _ _ a p) = codes "let " ++ pat_text q ++ codes " = " ++ expr_text sites 0 x ++ codes " in "
+      ++ inner_text sites true p
   proc_form_text sites bracket (form.Print x) = codes "print " ++ expr_text sites 0 x
   proc_form_text sites bracket (form.Open x) = codes "open " ++ expr_text sites 0 x
   proc_form_text sites bracket (form.Lookup' x m c _ _ a p _ _ b q) =
-      codes "lookup " ++ expr_text sites 0 x ++ codes " in " ++ expr_text sites 0 m ++ codes " then " ++ binder_text c ++ codes " -> " ++ inner_text sites true p ++ codes " else " ++ inner_text sites true q
+      codes "lookup " ++ expr_text sites 0 x ++ codes " in " ++ expr_text sites 0 m ++ codes " then " ++ binder_text c ++ codes " -> "
+      ++ inner_text sites true p ++ codes " else " ++ inner_text sites true q
 
   pub inner_text : Sites → Bool → {m : _} → Row_of-ProcForm m → List ℕ
   inner_text sites bracket end_of-ProcForm = []

@@ -36,7 +36,8 @@ fn put_send(
     c: &Expr,
     x: &Expr,
 ) -> Result<(), Memory>
-    ensures { OnOk result (text.new ≡ text.old ++ codes "<" ++ expr_text sites.now 3 agent.now ++ codes "@" ++ expr_text sites.now 3 site.now ++ codes ">" ++ message_text sites.now c.now x.now) }
+    ensures { OnOk result (text.new ≡ text.old ++ codes "<" ++ expr_text sites.now 3 agent.now ++ codes "@"
+        ++ expr_text sites.now 3 site.now ++ codes ">" ++ message_text sites.now c.now x.now) }
 {
     text.append(b"<")?;
     put_expr(alloc, text, sites, 3, agent)?;
@@ -55,7 +56,8 @@ fn put_post(
     c: &Expr,
     x: &Expr,
 ) -> Result<(), Memory>
-    ensures { OnOk result (text.new ≡ text.old ++ codes "<" ++ expr_text sites.now 3 agent.now ++ codes "@?>" ++ message_text sites.now c.now x.now) }
+    ensures { OnOk result (text.new ≡ text.old ++ codes "<" ++ expr_text sites.now 3 agent.now ++ codes "@?>"
+        ++ message_text sites.now c.now x.now) }
 {
     text.append(b"<")?;
     put_expr(alloc, text, sites, 3, agent)?;
@@ -86,7 +88,8 @@ fn put_lookup(
     places: &Expr,
     found: u32,
 ) -> Result<(), Memory>
-    ensures { OnOk result (text.new ≡ text.old ++ codes "lookup " ++ expr_text sites.now 0 who.now ++ codes " in " ++ expr_text sites.now 0 places.now ++ codes " then " ++ binder_text found ++ codes " -> ") }
+    ensures { OnOk result (text.new ≡ text.old ++ codes "lookup " ++ expr_text sites.now 0 who.now ++ codes " in "
+        ++ expr_text sites.now 0 places.now ++ codes " then " ++ binder_text found ++ codes " -> ") }
 {
     text.append(b"lookup ")?;
     put_expr(alloc, text, sites, 0, who)?;
@@ -131,7 +134,8 @@ fn put_iflocal(
     c: &Expr,
     x: &Expr,
 ) -> Result<(), Memory>
-    ensures { OnOk result (text.new ≡ text.old ++ codes "iflocal <" ++ expr_text sites.now 3 agent.now ++ codes ">" ++ message_text sites.now c.now x.now ++ codes " then ") }
+    ensures { OnOk result (text.new ≡ text.old ++ codes "iflocal <" ++ expr_text sites.now 3 agent.now ++ codes ">"
+        ++ message_text sites.now c.now x.now ++ codes " then ") }
 {
     text.append(b"iflocal <")?;
     put_expr(alloc, text, sites, 3, agent)?;
@@ -212,7 +216,8 @@ fn put_new(
     c: u32,
     ty: &Ty,
 ) -> Result<(), Memory>
-    ensures { OnOk result (text.new ≡ text.old ++ codes "new " ++ binder_text c ++ codes " : " ++ type_text ty.now ++ codes " in " ++ proc_text sites.now true p.now) }
+    ensures { OnOk result (text.new ≡ text.old ++ codes "new " ++ binder_text c ++ codes " : " ++ type_text ty.now ++ codes " in "
+        ++ proc_text sites.now true p.now) }
 {
     text.append(b"new ")?;
     put_binder(text, c)?;
@@ -232,7 +237,8 @@ fn put_input(
     c: &Expr,
     pat: &Pat,
 ) -> Result<(), Memory>
-    ensures { OnOk result (text.new ≡ text.old ++ expr_text sites.now 3 c.now ++ codes "?" ++ pat_text pat.now ++ codes " -> " ++ proc_text sites.now true p.now) }
+    ensures { OnOk result (text.new ≡ text.old ++ expr_text sites.now 3 c.now ++ codes "?" ++ pat_text pat.now ++ codes " -> "
+        ++ proc_text sites.now true p.now) }
 {
     put_taking(alloc, text, sites, c, pat)?;
     put_proc(alloc, text, sites, true, p)
@@ -248,7 +254,8 @@ fn put_always(
     c: &Expr,
     pat: &Pat,
 ) -> Result<(), Memory>
-    ensures { OnOk result (text.new ≡ text.old ++ codes "*" ++ expr_text sites.now 3 c.now ++ codes "?" ++ pat_text pat.now ++ codes " -> " ++ proc_text sites.now true p.now) }
+    ensures { OnOk result (text.new ≡ text.old ++ codes "*" ++ expr_text sites.now 3 c.now ++ codes "?" ++ pat_text pat.now ++ codes " -> "
+        ++ proc_text sites.now true p.now) }
 {
     text.append(b"*")?;
     put_taking(alloc, text, sites, c, pat)?;
@@ -264,7 +271,8 @@ fn put_migrate(
     p: &Proc,
     site: &Expr,
 ) -> Result<(), Memory>
-    ensures { OnOk result (text.new ≡ text.old ++ codes "migrate to " ++ expr_text sites.now 0 site.now ++ codes " -> " ++ proc_text sites.now true p.now) }
+    ensures { OnOk result (text.new ≡ text.old ++ codes "migrate to " ++ expr_text sites.now 0 site.now ++ codes " -> "
+        ++ proc_text sites.now true p.now) }
 {
     text.append(b"migrate to ")?;
     put_expr(alloc, text, sites, 0, site)?;
@@ -282,7 +290,8 @@ fn put_let(
     pat: &Pat,
     x: &Expr,
 ) -> Result<(), Memory>
-    ensures { OnOk result (text.new ≡ text.old ++ codes "let " ++ pat_text pat.now ++ codes " = " ++ expr_text sites.now 0 x.now ++ codes " in " ++ proc_text sites.now true p.now) }
+    ensures { OnOk result (text.new ≡ text.old ++ codes "let " ++ pat_text pat.now ++ codes " = " ++ expr_text sites.now 0 x.now
+        ++ codes " in " ++ proc_text sites.now true p.now) }
 {
     text.append(b"let ")?;
     put_pat(text, pat)?;

@@ -27,7 +27,8 @@ fn put_line(
     at: u32,
     p: &Proc,
 ) -> Result<(), Memory>
-    ensures { OnOk result (text.new ≡ text.old ++ codes " at " ++ site_text sites.now at ++ codes " = " ++ proc_text sites.now true p.now ++ codes "\n") }
+    ensures { OnOk result (text.new ≡ text.old ++ codes " at " ++ site_text sites.now at ++ codes " = " ++ proc_text sites.now true p.now
+        ++ codes "\n") }
 {
     text.append(b" at ")?;
     put_site(text, sites.as_slice(), at)?;

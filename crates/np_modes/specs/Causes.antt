@@ -1,5 +1,5 @@
 -- What a call makes of its texts, and the cause of each refusal (docs/COMMANDS.md, "Reports and refusals").
-use Rattle.std.specs.Prelude.{◌≡◌, ℕ, ◌+◌, ◌<◌, ◌≤◌, ◌⊎◌, List, length, Option, Some, None, IsSome}
+use Rattle.std.specs.Prelude.{◌≡◌, ℕ, ◌+◌, ◌<◌, ◌≤◌, ◌⊎◌, List, [], length, Option, Some, None, IsSome}
 use Rattle.np_syntax.specs.declared.limits.TheConstants.{LONGEST_SOURCE, MOST_SITES}
 use Rattle.np_syntax.specs.declared.event.Event.{Event}
 use Rattle.np_syntax.specs.declared.program.LowProgram.{LowProgram}
@@ -31,13 +31,15 @@ use Rattle.np_on_sites.specs.declared.record.Record.{Record}
 -- ---- what is made
 
 -- the source was read, and this was made of it
-pub record OfSource (texts : Reading) (file : List ℕ) (task : Task) (kept : Option Record) (high : Option MadeRun) (text : List ℕ) : Type 0 where
+pub record OfSource (texts : Reading) (file : List ℕ) (task : Task) (kept : Option Record) (high : Option MadeRun)
+    (text : List ℕ) : Type 0 where
   pub bytes : List ℕ
   pub read : IsRead texts file LONGEST_SOURCE bytes
   pub does : DoesTask task bytes kept high text
 
 -- the history was read and replayed, and this is the report of what is shown of it
-pub record OfRun (texts : Reading) (history : List ℕ) (infrastructure : Infrastructure) (low : LowProgram) (view : View) (kept : Option Record) (high : Option MadeRun) (text : List ℕ) : Type 0 where
+pub record OfRun (texts : Reading) (history : List ℕ) (infrastructure : Infrastructure) (low : LowProgram) (view : View)
+    (kept : Option Record) (high : Option MadeRun) (text : List ℕ) : Type 0 where
   pub bytes : List ℕ
   pub read : IsRead texts history LONGEST_HISTORY bytes
   pub replays : Replays infrastructure low view bytes text
@@ -51,7 +53,8 @@ pub record IsLowered (texts : Reading) (source : List ℕ) (infrastructure : Inf
   pub lowers : IsLowOf infrastructure bytes low
 
 -- both were read, and the history was replayed
-pub record OfReplay (texts : Reading) (source history : List ℕ) (infrastructure : Infrastructure) (view : View) (kept : Option Record) (high : Option MadeRun) (text : List ℕ) : Type 0 where
+pub record OfReplay (texts : Reading) (source history : List ℕ) (infrastructure : Infrastructure) (view : View) (kept : Option Record)
+    (high : Option MadeRun) (text : List ℕ) : Type 0 where
   pub low : LowProgram
   pub lowered : IsLowered texts source infrastructure low
   pub run : OfRun texts history infrastructure low view kept high text
@@ -92,13 +95,15 @@ pub record OfNumber (agents : ℕ) (kept : Option Record) (high : Option MadeRun
   pub is_high : high ≡ None
 
 -- the generated source, which is no longer than a source may be, was run
-pub record OfLoad (infrastructure : Infrastructure) (agents : ℕ) (kept : Option Record) (high : Option MadeRun) (text : List ℕ) : Type 0 where
+pub record OfLoad (infrastructure : Infrastructure) (agents : ℕ) (kept : Option Record) (high : Option MadeRun)
+    (text : List ℕ) : Type 0 where
   pub short : length (generated agents) ≤ LONGEST_SOURCE
   pub does : DoesLoad infrastructure agents kept high text
 
 abbrev pub Does : Reading → Plan → Option Record → Option MadeRun → List ℕ → Type 0
 Does texts (plans.Source file task) kept high text = OfSource texts file task kept high text
-Does texts (plans.Replay source history infrastructure view) kept high text = OfReplay texts source history infrastructure view kept high text
+Does texts (plans.Replay source history infrastructure view) kept high text =
+    OfReplay texts source history infrastructure view kept high text
 Does texts (plans.Resume source saved budget history shows serial links infrastructure) kept high text =
     OfResume texts source saved infrastructure budget (shown.Printed history (in_two_steps shows)) kept high text
 Does texts (plans.Upgrade history) kept high text = OfUpgrade texts history kept high text
@@ -110,6 +115,20 @@ pub record HasMade (words : List (List ℕ)) (texts : Reading) (kept : Option Re
   pub asked : Plan
   pub planned : plan words ≡ Some asked
   pub does : Does texts asked kept high text
+
+-- the bytes of the source of which this was made; none where it was made of none
+abbrev pub source_in : (texts : Reading) (asked : Plan) (kept : Option Record) (high : Option MadeRun) (text : List ℕ)
+    → Does texts asked kept high text → List ℕ
+source_in texts (plans.Source file task) kept high text does = does.bytes
+source_in texts (plans.Replay source history infrastructure view) kept high text does = does.lowered.bytes
+source_in texts (plans.Resume source saved budget history shows serial links infrastructure) kept high text does = does.bytes
+source_in texts (plans.Upgrade history) kept high text does = []
+source_in texts (plans.Generate agents) kept high text does = []
+source_in texts (plans.Load agents serial links infrastructure) kept high text does = generated agents
+
+abbrev pub source_of : {words : List (List ℕ)} {texts : Reading} {kept : Option Record} {high : Option MadeRun} {text : List ℕ}
+    → HasMade words texts kept high text → List ℕ
+source_of {words} {texts} {kept} {high} {text} made = source_in texts made.asked kept high text made.does
 
 -- ---- what is refused
 
@@ -131,10 +150,12 @@ pub record IsFaultyRun (texts : Reading) (history : List ℕ) (low : LowProgram)
   pub faulty : IsFaulty low view bytes refusal
 
 abbrev pub RefusesRun : Reading → List ℕ → LowProgram → View → Refusal → Type 0
-RefusesRun texts history low view refusal = IsUnread texts history LONGEST_HISTORY HistoryTooLong refusal ⊎ IsFaultyRun texts history low view refusal
+RefusesRun texts history low view refusal = IsUnread texts history LONGEST_HISTORY HistoryTooLong refusal
+    ⊎ IsFaultyRun texts history low view refusal
 
 -- the source is accepted, and the history is refused
-pub record RefusesReplay (texts : Reading) (source history : List ℕ) (infrastructure : Infrastructure) (view : View) (refusal : Refusal) : Type 0 where
+pub record RefusesReplay (texts : Reading) (source history : List ℕ) (infrastructure : Infrastructure) (view : View)
+    (refusal : Refusal) : Type 0 where
   pub low : LowProgram
   pub lowered : IsLowered texts source infrastructure low
   pub run : RefusesRun texts history low view refusal
@@ -154,7 +175,8 @@ pub record StopsThere (budget : ℕ) (low : LowProgram) (bytes : List ℕ) (refu
 
 -- the events are no run of the low program, from the index of the refusal on, or one from which its sites do not go on
 abbrev pub StopsFrom : ℕ → LowProgram → List Event → Refusal → Type 0
-StopsFrom budget low events refusal = Stops (start_low low) events refusal ⊎ (IsSome (run (start_low low) events) × CannotGoOn budget low events refusal)
+StopsFrom budget low events refusal = Stops (start_low low) events refusal
+    ⊎ (IsSome (run (start_low low) events) × CannotGoOn budget low events refusal)
 
 -- the bytes are a history of a run of the low program from which its sites can go on
 pub record IsFit (budget : ℕ) (low : LowProgram) (bytes : List ℕ) : Type 0 where
@@ -175,10 +197,12 @@ pub record IsUnfitSaved (texts : Reading) (saved : List ℕ) (low : LowProgram) 
   pub unfit : IsUnfit budget low bytes refusal
 
 abbrev pub RefusesSaved : Reading → List ℕ → LowProgram → ℕ → Refusal → Type 0
-RefusesSaved texts saved low budget refusal = IsUnread texts saved LONGEST_HISTORY HistoryTooLong refusal ⊎ IsUnfitSaved texts saved low budget refusal
+RefusesSaved texts saved low budget refusal = IsUnread texts saved LONGEST_HISTORY HistoryTooLong refusal
+    ⊎ IsUnfitSaved texts saved low budget refusal
 
 -- the source is accepted, and the history is refused
-pub record RefusesResume (texts : Reading) (source saved : List ℕ) (infrastructure : Infrastructure) (budget : ℕ) (refusal : Refusal) : Type 0 where
+pub record RefusesResume (texts : Reading) (source saved : List ℕ) (infrastructure : Infrastructure) (budget : ℕ)
+    (refusal : Refusal) : Type 0 where
   pub low : LowProgram
   pub lowered : IsLowered texts source infrastructure low
   pub run : RefusesSaved texts saved low budget refusal

@@ -24,9 +24,11 @@ pub(crate) fn upgrade<T: Texts>(
     history: &Word,
 ) -> Result<Job, Refusal>
     ensures begins { T.begins texts.new ≤ T.begins texts.old + 1 }
-    ensures made { let seen = seen (T.held texts.old) (T.faults texts.old) (T.faults texts.new) (T.taken texts.new) (T.begins texts.old) (T.begins texts.new)
+    ensures made { let seen = seen (T.held texts.old) (T.faults texts.old) (T.faults texts.new) (T.taken texts.new) (T.begins texts.old)
+        (T.begins texts.new)
         in IfOk result (λ job. OfUpgrade seen history.now job.kept job.high job.text) }
-    ensures refused { let seen = seen (T.held texts.old) (T.faults texts.old) (T.faults texts.new) (T.taken texts.new) (T.begins texts.old) (T.begins texts.new)
+    ensures refused { let seen = seen (T.held texts.old) (T.faults texts.old) (T.faults texts.new) (T.taken texts.new) (T.begins texts.old)
+        (T.begins texts.new)
         in IfErr result (λ refusal. refusal ≢ Refusal.Memory → RefusesHistory seen history.now refusal) }
 {
     let bytes = read_text(
@@ -51,11 +53,14 @@ pub(crate) fn replay<T: Texts>(
 ) -> Result<Job, Refusal>
     requires { HasLine view }
     ensures begins { T.begins texts.new ≤ T.begins texts.old + 2 }
-    ensures made { let seen = seen (T.held texts.old) (T.faults texts.old) (T.faults texts.new) (T.taken texts.new) (T.begins texts.old) (T.begins texts.new)
+    ensures made { let seen = seen (T.held texts.old) (T.faults texts.old) (T.faults texts.new) (T.taken texts.new) (T.begins texts.old)
+        (T.begins texts.new)
         in IfOk result (λ job. OfReplay seen source.now history.now infrastructure view job.kept job.high job.text) }
-    ensures refused { let seen = seen (T.held texts.old) (T.faults texts.old) (T.faults texts.new) (T.taken texts.new) (T.begins texts.old) (T.begins texts.new)
+    ensures refused { let seen = seen (T.held texts.old) (T.faults texts.old) (T.faults texts.new) (T.taken texts.new) (T.begins texts.old)
+        (T.begins texts.new)
         in IfErr result (λ refusal. refusal ≢ Refusal.Memory
-        → RefusesSource seen source.now (Reach.low infrastructure) refusal ⊎ RefusesReplay seen source.now history.now infrastructure view refusal) }
+        → RefusesSource seen source.now (Reach.low infrastructure) refusal
+        ⊎ RefusesReplay seen source.now history.now infrastructure view refusal) }
 {
     match read_low(alloc, texts, infrastructure, source) {
         Ok(low) => replay_low(alloc, texts, infrastructure, &low, history, view),
@@ -73,10 +78,12 @@ fn read_low<T: Texts>(
     ensures held { StayHeld (T.held texts.old) (T.held texts.new) }
     ensures later { NoneFell (T.faults texts.old) (T.faults texts.new) }
     ensures begins { T.begins texts.new ≤ T.begins texts.old + 1 }
-    ensures made { let seen = seen (T.held texts.old) (T.faults texts.old) (T.faults texts.new) (T.taken texts.new) (T.begins texts.old) (T.begins texts.new)
+    ensures made { let seen = seen (T.held texts.old) (T.faults texts.old) (T.faults texts.new) (T.taken texts.new) (T.begins texts.old)
+        (T.begins texts.new)
         in IfOk result (IsLowered seen source.now infrastructure) }
     ensures few { IfOk result (λ low. length low.sites < 2 ^ 32) }
-    ensures refused { let seen = seen (T.held texts.old) (T.faults texts.old) (T.faults texts.new) (T.taken texts.new) (T.begins texts.old) (T.begins texts.new)
+    ensures refused { let seen = seen (T.held texts.old) (T.faults texts.old) (T.faults texts.new) (T.taken texts.new) (T.begins texts.old)
+        (T.begins texts.new)
         in IfErr result (λ refusal. refusal ≢ Refusal.Memory → RefusesSource seen source.now (Reach.low infrastructure) refusal) }
 {
     let bytes = read_text(alloc, texts, source, LONGEST_SOURCE, Refusal::TooLong)?;
@@ -95,9 +102,11 @@ fn replay_low<T: Texts>(
     requires sites { length low.now.sites < 2 ^ 32 }
     requires line { HasLine view }
     ensures begins { T.begins texts.new ≤ T.begins texts.old + 1 }
-    ensures made { let seen = seen (T.held texts.old) (T.faults texts.old) (T.faults texts.new) (T.taken texts.new) (T.begins texts.old) (T.begins texts.new)
+    ensures made { let seen = seen (T.held texts.old) (T.faults texts.old) (T.faults texts.new) (T.taken texts.new) (T.begins texts.old)
+        (T.begins texts.new)
         in IfOk result (λ job. OfRun seen history.now infrastructure low.now view job.kept job.high job.text) }
-    ensures refused { let seen = seen (T.held texts.old) (T.faults texts.old) (T.faults texts.new) (T.taken texts.new) (T.begins texts.old) (T.begins texts.new)
+    ensures refused { let seen = seen (T.held texts.old) (T.faults texts.old) (T.faults texts.new) (T.taken texts.new) (T.begins texts.old)
+        (T.begins texts.new)
         in IfErr result (λ refusal. refusal ≢ Refusal.Memory → RefusesRun seen history.now low.now view refusal) }
 {
     let bytes = read_text(

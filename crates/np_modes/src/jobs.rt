@@ -29,9 +29,11 @@ pub fn work<R: Threads + Wait + Sync, G: Gate, T: Texts>(
     texts: &mut T,
 ) -> Result<Job, Refusal>
     ensures begins { T.begins texts.new ≤ T.begins texts.old + texts_read (plan words.now) }
-    ensures made { let seen = seen (T.held texts.old) (T.faults texts.old) (T.faults texts.new) (T.taken texts.new) (T.begins texts.old) (T.begins texts.new)
+    ensures made { let seen = seen (T.held texts.old) (T.faults texts.old) (T.faults texts.new) (T.taken texts.new) (T.begins texts.old)
+        (T.begins texts.new)
         in IfOk result (λ job. HasMade words.now seen job.kept job.high job.text) }
-    ensures refused { let seen = seen (T.held texts.old) (T.faults texts.old) (T.faults texts.new) (T.taken texts.new) (T.begins texts.old) (T.begins texts.new)
+    ensures refused { let seen = seen (T.held texts.old) (T.faults texts.old) (T.faults texts.new) (T.taken texts.new) (T.begins texts.old)
+        (T.begins texts.new)
         in IfErr result (λ refusal. refusal ≢ Refusal.Memory → Stands words.now seen refusal) }
 {
     match plan_of(alloc, words) {
@@ -51,9 +53,11 @@ fn done<R: Threads + Wait + Sync, G: Gate, T: Texts>(
 ) -> Result<Job, Refusal>
     requires { IsWithinLimits plan.now }
     ensures begins { T.begins texts.new ≤ T.begins texts.old + texts_of plan.now }
-    ensures made { let seen = seen (T.held texts.old) (T.faults texts.old) (T.faults texts.new) (T.taken texts.new) (T.begins texts.old) (T.begins texts.new)
+    ensures made { let seen = seen (T.held texts.old) (T.faults texts.old) (T.faults texts.new) (T.taken texts.new) (T.begins texts.old)
+        (T.begins texts.new)
         in IfOk result (λ job. Does seen plan.now job.kept job.high job.text) }
-    ensures refused { let seen = seen (T.held texts.old) (T.faults texts.old) (T.faults texts.new) (T.taken texts.new) (T.begins texts.old) (T.begins texts.new)
+    ensures refused { let seen = seen (T.held texts.old) (T.faults texts.old) (T.faults texts.new) (T.taken texts.new) (T.begins texts.old)
+        (T.begins texts.new)
         in IfErr result (λ refusal. refusal ≢ Refusal.Memory → RefusesPlan seen plan.now refusal) }
 {
     match plan {
@@ -108,9 +112,11 @@ fn on_source<R: Threads + Wait + Sync, G: Gate, T: Texts>(
 ) -> Result<Job, Refusal>
     requires { HasBudget task }
     ensures begins { T.begins texts.new ≤ T.begins texts.old + 1 }
-    ensures made { let seen = seen (T.held texts.old) (T.faults texts.old) (T.faults texts.new) (T.taken texts.new) (T.begins texts.old) (T.begins texts.new)
+    ensures made { let seen = seen (T.held texts.old) (T.faults texts.old) (T.faults texts.new) (T.taken texts.new) (T.begins texts.old)
+        (T.begins texts.new)
         in IfOk result (λ job. OfSource seen file.now task job.kept job.high job.text) }
-    ensures refused { let seen = seen (T.held texts.old) (T.faults texts.old) (T.faults texts.new) (T.taken texts.new) (T.begins texts.old) (T.begins texts.new)
+    ensures refused { let seen = seen (T.held texts.old) (T.faults texts.old) (T.faults texts.new) (T.taken texts.new) (T.begins texts.old)
+        (T.begins texts.new)
         in IfErr result (λ refusal. refusal ≢ Refusal.Memory → RefusesSource seen file.now (reach_of task) refusal) }
 {
     let bytes = read_text(alloc, texts, file, LONGEST_SOURCE, Refusal::TooLong)?;

@@ -21,9 +21,11 @@ pub(crate) fn read_text<T: Texts>(
     ensures held { StayHeld (T.held texts.old) (T.held texts.new) }
     ensures later { NoneFell (T.faults texts.old) (T.faults texts.new) }
     ensures begins { T.begins texts.new ≤ T.begins texts.old + 1 }
-    ensures read { let seen = seen (T.held texts.old) (T.faults texts.old) (T.faults texts.new) (T.taken texts.new) (T.begins texts.old) (T.begins texts.new)
+    ensures read { let seen = seen (T.held texts.old) (T.faults texts.old) (T.faults texts.new) (T.taken texts.new) (T.begins texts.old)
+        (T.begins texts.new)
         in IfOk result (λ bytes. IsRead seen name.now limit bytes) }
-    ensures refused { let seen = seen (T.held texts.old) (T.faults texts.old) (T.faults texts.new) (T.taken texts.new) (T.begins texts.old) (T.begins texts.new)
+    ensures refused { let seen = seen (T.held texts.old) (T.faults texts.old) (T.faults texts.new) (T.taken texts.new) (T.begins texts.old)
+        (T.begins texts.new)
         in IfErr result (λ refusal. refusal ≢ Refusal.Memory → IsUnread seen name.now limit long refusal) }
 {
     match read_all(alloc, texts, name, limit) {

@@ -9,14 +9,15 @@ ghost use Rattle.np_sources.specs.Reaches.{Reach, IsCompiled, barred};
 ghost use Rattle.np_sources.specs.declared.sites.Shown.TheVariants as shown;
 ghost use Rattle.np_verdict.specs.Faults.{IsWellTyped};
 ghost use Rattle.np_modes.specs.Readings.{IsText, seen};
-ghost use Rattle.np_modes.specs.Causes.{CanRun, GoesOnFrom, IsUnfit, OfResume, OfSaved, RefusesResume, RefusesSaved, RefusesSource, StopsFrom};
+ghost use Rattle.np_modes.specs.Causes.{CanRun, GoesOnFrom, IsUnfit, OfResume, OfSaved, RefusesResume, RefusesSaved, RefusesSource};
+ghost use Rattle.np_modes.specs.Causes.{StopsFrom};
 
 use super::reading::read_text;
 use np_check::Checked;
 use np_histories::{LONGEST_HISTORY, check_run, events_of};
 use np_io::{Texts, Word};
 use np_on_sites::Gate;
-use np_sources::{Compiled, Course, Job, Shown, compiled_of, job_redone, job_resumed};
+use np_sources::{Compiled, Course, Job, Shown, compiled_of, job_redone, stop_of};
 use np_syntax::{Event, LONGEST_SOURCE, List, LowProgram};
 use np_verdict::Refusal;
 use np_words::{HighText, Infrastructure};
@@ -64,9 +65,12 @@ pub(crate) fn resume<R: Threads + Wait + Sync, G: Gate, T: Texts>(
     requires some { 1 ≤ course.budget }
     requires within { course.budget ≤ LARGEST_BUDGET }
     ensures begins { T.begins texts.new ≤ T.begins texts.old + 2 }
-    ensures made { let seen = seen (T.held texts.old) (T.faults texts.old) (T.faults texts.new) (T.taken texts.new) (T.begins texts.old) (T.begins texts.new)
-        in IfOk result (λ job. OfResume seen source.now saved.now course.infrastructure course.budget (shown.Printed report.history (in_two_steps report.high)) job.kept job.high job.text) }
-    ensures refused { let seen = seen (T.held texts.old) (T.faults texts.old) (T.faults texts.new) (T.taken texts.new) (T.begins texts.old) (T.begins texts.new)
+    ensures made { let seen = seen (T.held texts.old) (T.faults texts.old) (T.faults texts.new) (T.taken texts.new) (T.begins texts.old)
+        (T.begins texts.new)
+        in IfOk result (λ job. OfResume seen source.now saved.now course.infrastructure course.budget
+        (shown.Printed report.history (in_two_steps report.high)) job.kept job.high job.text) }
+    ensures refused { let seen = seen (T.held texts.old) (T.faults texts.old) (T.faults texts.new) (T.taken texts.new) (T.begins texts.old)
+        (T.begins texts.new)
         in IfErr result (λ refusal. refusal ≢ Refusal.Memory
         → RefusesSource seen source.now (Reach.low course.infrastructure) refusal
         ⊎ RefusesResume seen source.now saved.now course.infrastructure course.budget refusal) }
@@ -91,12 +95,14 @@ fn read_source<T: Texts>(
     ensures held { StayHeld (T.held texts.old) (T.held texts.new) }
     ensures later { NoneFell (T.faults texts.old) (T.faults texts.new) }
     ensures begins { T.begins texts.new ≤ T.begins texts.old + 1 }
-    ensures read { let seen = seen (T.held texts.old) (T.faults texts.old) (T.faults texts.new) (T.taken texts.new) (T.begins texts.old) (T.begins texts.new)
+    ensures read { let seen = seen (T.held texts.old) (T.faults texts.old) (T.faults texts.new) (T.taken texts.new) (T.begins texts.old)
+        (T.begins texts.new)
         in IfOk result (λ made. IsText seen name.now LONGEST_SOURCE made.bytes) }
     ensures typed { IfOk result (λ made. IsWellTyped made.bytes made.checked) }
     ensures compiled { IfOk result (λ made. IsCompiled infrastructure made.checked made.low) }
     ensures runs { IfOk result (λ made. CanRun made.low) }
-    ensures refused { let seen = seen (T.held texts.old) (T.faults texts.old) (T.faults texts.new) (T.taken texts.new) (T.begins texts.old) (T.begins texts.new)
+    ensures refused { let seen = seen (T.held texts.old) (T.faults texts.old) (T.faults texts.new) (T.taken texts.new) (T.begins texts.old)
+        (T.begins texts.new)
         in IfErr result (λ refusal. refusal ≢ Refusal.Memory → RefusesSource seen name.now (Reach.low infrastructure) refusal) }
 {
     let bytes = read_text(alloc, texts, name, LONGEST_SOURCE, Refusal::TooLong)?;
@@ -127,9 +133,12 @@ fn resume_source<R: Threads + Wait + Sync, G: Gate, T: Texts>(
     requires some { 1 ≤ course.budget }
     requires within { course.budget ≤ LARGEST_BUDGET }
     ensures begins { T.begins texts.new ≤ T.begins texts.old + 1 }
-    ensures made { let seen = seen (T.held texts.old) (T.faults texts.old) (T.faults texts.new) (T.taken texts.new) (T.begins texts.old) (T.begins texts.new)
-        in IfOk result (λ job. OfSaved seen saved.now course.infrastructure course.budget (shown.Printed report.history (in_two_steps report.high)) source.now.bytes job.kept job.high job.text) }
-    ensures refused { let seen = seen (T.held texts.old) (T.faults texts.old) (T.faults texts.new) (T.taken texts.new) (T.begins texts.old) (T.begins texts.new)
+    ensures made { let seen = seen (T.held texts.old) (T.faults texts.old) (T.faults texts.new) (T.taken texts.new) (T.begins texts.old)
+        (T.begins texts.new)
+        in IfOk result (λ job. OfSaved seen saved.now course.infrastructure course.budget
+        (shown.Printed report.history (in_two_steps report.high)) source.now.bytes job.kept job.high job.text) }
+    ensures refused { let seen = seen (T.held texts.old) (T.faults texts.old) (T.faults texts.new) (T.taken texts.new) (T.begins texts.old)
+        (T.begins texts.new)
         in IfErr result (λ refusal. refusal ≢ Refusal.Memory → RefusesSaved seen saved.now source.now.low course.budget refusal) }
 {
     let bytes = read_text(
@@ -158,7 +167,8 @@ fn resume_from<R: Threads + Wait + Sync, G: Gate>(
     requires runs { CanRun source.now.low }
     requires some { 1 ≤ course.budget }
     requires within { course.budget ≤ LARGEST_BUDGET }
-    ensures made { IfOk result (λ job. GoesOnFrom course.infrastructure course.budget (shown.Printed report.history (in_two_steps report.high)) source.now.bytes saved.now job.kept job.high job.text) }
+    ensures made { IfOk result (λ job. GoesOnFrom course.infrastructure course.budget
+        (shown.Printed report.history (in_two_steps report.high)) source.now.bytes saved.now job.kept job.high job.text) }
     ensures refused { IfErr result (λ refusal. refusal ≢ Refusal.Memory → IsUnfit course.budget source.now.low saved.now refusal) }
 {
     let shown = Shown::Printed {
@@ -169,8 +179,8 @@ fn resume_from<R: Threads + Wait + Sync, G: Gate>(
     job_from(alloc, rt, gate, source, events.as_slice(), course, shown)
 }
 
-/// Goes on with the run of a source from events: the sites do them again by themselves. Where they cannot, it is told why; that takes a
-/// second, serial run of the events.
+/// Goes on with the run of a source from events: the sites do them again by themselves. Where they cannot, it is told why; for that the
+/// events are gone through again, as a run of one configuration.
 fn job_from<R: Threads + Wait + Sync, G: Gate>(
     alloc: Global,
     rt: &R,
@@ -187,7 +197,8 @@ fn job_from<R: Threads + Wait + Sync, G: Gate>(
     requires runs { CanRun source.now.low }
     requires some { 1 ≤ course.budget }
     requires within { course.budget ≤ LARGEST_BUDGET }
-    ensures made { IfOk result (λ job. KeepsResumed course.infrastructure course.budget shown source.now.bytes events.now job.kept job.high job.text) }
+    ensures made { IfOk result
+        (λ job. KeepsResumed course.infrastructure course.budget shown source.now.bytes events.now job.kept job.high job.text) }
     ensures refused { IfErr result (λ refusal. refusal ≢ Refusal.Memory → StopsFrom course.budget source.now.low events.now refusal) }
 {
     let bytes = source.bytes.as_slice();
@@ -196,7 +207,7 @@ fn job_from<R: Threads + Wait + Sync, G: Gate>(
         Some(job) => Ok(job),
         None => {
             check_run(alloc, low, events)?;
-            job_resumed(alloc, rt, gate, course, shown, bytes, checked, low, events)
+            Err(stop_of(alloc, course.budget, low, events))
         }
     }
 }

@@ -11,6 +11,7 @@ use Rattle.np_lift.specs.Lift.{lift}
 use Rattle.np_lift.specs.Posts.{IsAllHanded, IsPaired}
 use Rattle.np_lift.specs.CachedLift.{lift_cached}
 use Rattle.np_lift.specs.CachedPosts.{IsAllHandedCached, IsPairedCached}
+use Rattle.simulate_laws.specs.simulation.HeldLetters.{ArePlaced, ArePlacedCached}
 use Rattle.np_words.specs.declared.modes.Infrastructure.{Infrastructure}
 use Rattle.np_words.specs.declared.modes.Infrastructure.TheVariants.{Cache, Central}
 
@@ -28,6 +29,12 @@ lift_by Cache events = lift_cached events
 abbrev pub IsPairedBy : Infrastructure → Config → List Event → Type 0
 IsPairedBy Central start events = IsPaired start events
 IsPairedBy Cache start events = IsPairedCached start events
+
+-- the letter of each that was not handed over is in its one place: a packet, or an atom of the daemon or of the agent that it is for,
+-- and with caches of a messenger
+abbrev pub ArePlacedBy : Infrastructure → Config → List Event → Type 0
+ArePlacedBy Central start events = ArePlaced start events
+ArePlacedBy Cache start events = ArePlacedCached start events
 
 -- and each was handed over
 abbrev pub IsAllHandedBy : Infrastructure → Config → List Event → Type 0

@@ -1,4 +1,5 @@
 pub mod Beginnings
 pub mod ByInfrastructure
+pub mod Safe
 pub mod SitesRuns
 pub mod SourceRuns

@@ -1,15 +1,15 @@
 //! How a crew begins: with no event, or with events that it does again.
 
-ghost use Rattle.std.specs.Prelude.{◌≡◌, false, IfErr, IfOk, IfSome};
+ghost use Rattle.std.specs.Prelude.{◌≡◌, false, IfNone, IfOk, IfSome};
 ghost use Rattle.np_code.specs.Programs.{program};
 ghost use Rattle.site_crew.specs.Crews.{HasEnded};
 ghost use Rattle.site_crew.specs.Seats.{event_count};
-ghost use Rattle.np_on_sites.specs.Beginnings.{CanBegin, HasBegun, IsStopped};
+ghost use Rattle.np_on_sites.specs.Beginnings.{HasBegun, IsStopped};
 
 use agent_move::Item;
-use crew_resumes::{redone, resumed};
+use crew_resumes::redone;
 use np_syntax::{End, Event, LowProgram, Memory};
-use site_crew::{Crew, FollowFail};
+use site_crew::Crew;
 use site_links::Port;
 use site_turn::Gate;
 use std::thread::Threads;
@@ -21,8 +21,6 @@ pub(crate) enum Beginning {
     Anew,
     /// They do events again, if they can.
     Again,
-    /// They do the events of a run again.
-    GoingOn,
 }
 
 /// A crew that has made no event begins so, and runs to its end. None where it cannot do the events again.
@@ -34,29 +32,21 @@ pub(crate) fn begin<R: Threads + Sync, P: Port<R, Item>, G: Gate>(
     beginning: Beginning,
     events: &[Event],
     serial: bool,
-) -> Result<Option<End>, FollowFail>
+) -> Result<Option<End>, Memory>
     requires code { program crew.old.code ≡ low.now }
     requires none { event_count crew.old.histories ≡ 0 }
     requires sound { crew.old.failed ≡ false }
-    requires events { CanBegin beginning low.now events.now }
     ensures code { crew.new.code ≡ crew.old.code }
     ensures budget { crew.new.budget ≡ crew.old.budget }
     ensures ended { IfOk result (λ made. IfSome made (HasEnded crew.new)) }
     ensures begun { IfOk result (λ made. IfSome made (λ _. HasBegun beginning low.now crew.old.budget events.now crew.new.histories)) }
-    ensures stopped { IfErr result (IsStopped beginning low.now crew.old.budget events.now) }
+    ensures stopped { IfOk result (λ made. IfNone made (IsStopped beginning low.now crew.old.budget events.now)) }
 {
     match beginning {
         Beginning::Anew => match crew.run(rt, gate, serial) {
             Ok(end) => Ok(Some(end)),
-            Err(Memory) => Err(FollowFail::Memory),
+            Err(memory) => Err(memory),
         },
-        Beginning::Again => match redone(crew, rt, gate, low, events, serial) {
-            Ok(made) => Ok(made),
-            Err(Memory) => Err(FollowFail::Memory),
-        },
-        Beginning::GoingOn => match resumed(crew, rt, gate, low, events, serial) {
-            Ok(end) => Ok(Some(end)),
-            Err(fail) => Err(fail),
-        },
+        Beginning::Again => redone(crew, rt, gate, low, events, serial),
     }
 }

@@ -1,14 +1,18 @@
+ghost use Rattle.np_on_sites.specs.Safe.{LowRunsSafely};
 ghost use Rattle.np_on_sites.specs.SourceRuns.{SitesRunsAreSourceRuns};
 
 use cache_encode::{law_cached_runs_well, law_cached_translates};
 use daemon_encode::{law_low_runs_well, law_translates};
+use simulate_laws::levels::law_roles;
 use simulate_laws::simulation::{
-    law_all_handed, law_cached_runs_are_lifted, law_posts_are_paired, law_rest, law_runs_are_lifted,
+    law_all_handed, law_cached_runs_are_lifted, law_one_place, law_posts_are_paired,
+    law_rests_together, law_runs_are_lifted,
 };
 
 /// By each infrastructure: in the merged histories of a run of the low program of an accepted source no value of a wrong type
 /// is met. The events that are read off them are a run of the source that prints the same, and where the low level is at rest,
-/// the high level is. Each message to an agent wherever it is was handed over once at most, and at rest each was.
+/// the high level is. Each message to an agent wherever it is was handed over once at most, or its letter is in its one place;
+/// at rest each was handed over, and the locks of the daemon are free.
 pub fn law_source_runs()
     ensures { SitesRunsAreSourceRuns }
 {
@@ -18,7 +22,21 @@ pub fn law_source_runs()
     law_cached_runs_well();
     law_runs_are_lifted();
     law_cached_runs_are_lifted();
-    law_rest();
+    law_rests_together();
     law_posts_are_paired();
+    law_one_place();
     law_all_handed();
+}
+
+/// By each infrastructure: no run of the low program of an accepted source meets a value of a wrong type, or makes a post as the
+/// high level does.
+pub fn law_low_runs_safely()
+    ensures { LowRunsSafely }
+{
+    law_translates();
+    law_cached_translates();
+    law_low_runs_well();
+    law_cached_runs_well();
+    law_roles();
+    law_cached_runs_are_lifted();
 }

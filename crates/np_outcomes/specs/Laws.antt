@@ -35,7 +35,8 @@ pub data HasSource (call : Call) : Plan → Reach → List ℕ → Type 0 where
   alone : (file bytes : List ℕ) (task : Task) → IsTold call file bytes → HasSource call (plans.Source file task) (reach_of task) bytes
   replayed : (source history bytes : List ℕ) (infrastructure : Infrastructure) (view : View) → IsTold call source bytes
       → HasSource call (plans.Replay source history infrastructure view) (Reach.low infrastructure) bytes
-  resumed : (source saved bytes : List ℕ) (budget : ℕ) (history high serial : Bool) (links : Links) (infrastructure : Infrastructure) → IsTold call source bytes
+  resumed : (source saved bytes : List ℕ) (budget : ℕ) (history high serial : Bool) (links : Links) (infrastructure : Infrastructure)
+      → IsTold call source bytes
       → HasSource call (plans.Resume source saved budget history high serial links infrastructure) (Reach.low infrastructure) bytes
   made : (agents : ℕ) (serial : Bool) (links : Links) (infrastructure : Infrastructure)
       → HasSource call (plans.Load agents serial links infrastructure) (Reach.sites infrastructure LOAD_BUDGET) (generated agents)
@@ -47,7 +48,8 @@ pub record Reads (call : Call) (asked : Plan) (reach : Reach) (bytes : List ℕ)
 
 -- a history is read behind the source
 pub data ReadsBoth : Plan → Type 0 where
-  replayed : (source history : List ℕ) (infrastructure : Infrastructure) (view : View) → ReadsBoth (plans.Replay source history infrastructure view)
+  replayed : (source history : List ℕ) (infrastructure : Infrastructure) (view : View)
+      → ReadsBoth (plans.Replay source history infrastructure view)
   resumed : (source saved : List ℕ) (budget : ℕ) (history high serial : Bool) (links : Links) (infrastructure : Infrastructure)
       → ReadsBoth (plans.Resume source saved budget history high serial links infrastructure)
 
@@ -60,8 +62,8 @@ pub record Replays (asked : Plan) (bytes : List ℕ) : Type 0 where
 
 -- ---- histories
 
--- What a history is read for: for its events alone; or to replay it from the start of a low program, and to show this of it; or to go on from it, where
--- each site makes at most so many events.
+-- What a history is read for: for its events alone; or to replay it from the start of a low program, and to show this of it; or to go
+-- on from it, where each site makes at most so many events.
 pub data Purpose : Type 0 where
   events : Purpose
   replay : LowProgram → View → Purpose
@@ -73,7 +75,8 @@ pub data ReadsHistory (call : Call) : Plan → List ℕ → Purpose → Type 0 w
   replayed : (source history bytes : List ℕ) (infrastructure : Infrastructure) (view : View) (low : LowProgram) → IsTold call source bytes
       → length bytes ≤ LONGEST_SOURCE → IsLowOf infrastructure bytes low
       → ReadsHistory call (plans.Replay source history infrastructure view) history (Purpose.replay low view)
-  resumed : (source saved bytes : List ℕ) (budget : ℕ) (history high serial : Bool) (links : Links) (infrastructure : Infrastructure) (low : LowProgram)
+  resumed : (source saved bytes : List ℕ) (budget : ℕ) (history high serial : Bool) (links : Links) (infrastructure : Infrastructure)
+      (low : LowProgram)
       → IsTold call source bytes → length bytes ≤ LONGEST_SOURCE → IsLowOf infrastructure bytes low
       → ReadsHistory call (plans.Resume source saved budget history high serial links infrastructure) saved (Purpose.resume low budget)
 
@@ -131,7 +134,8 @@ pub record AcceptsHistory (call : Call) (history : List ℕ) : Type 0 where
 abbrev pub Accepts : Call → Plan → Type 0
 Accepts call (plans.Source file task) = AcceptsSource call file (reach_of task)
 Accepts call (plans.Replay source history infrastructure view) = AcceptsReplay call source history infrastructure view
-Accepts call (plans.Resume source saved budget history high serial links infrastructure) = AcceptsResume call source saved infrastructure budget
+Accepts call (plans.Resume source saved budget history high serial links infrastructure) =
+    AcceptsResume call source saved infrastructure budget
 Accepts call (plans.Upgrade history) = AcceptsHistory call history
 Accepts call (plans.Generate agents) = Unit {0}
 Accepts call (plans.Load agents serial links infrastructure) = TakenTo (Reach.sites infrastructure LOAD_BUDGET) (generated agents)
@@ -151,19 +155,22 @@ RefusesWords = (call : Call) (answer : Answer) → HasCauses call answer → ¬ 
 
 -- a source is refused as too long exactly where it is
 abbrev pub RefusesLong : Type 0
-RefusesLong = (call : Call) (answer : Answer) (asked : Plan) (reach : Reach) (bytes : List ℕ) → HasCauses call answer → Reads call asked reach bytes
+RefusesLong = (call : Call) (answer : Answer) (asked : Plan) (reach : Reach) (bytes : List ℕ) → HasCauses call answer
+    → Reads call asked reach bytes
     → ¬ Rose call.err.before call.err.now → answer.status ≢ NO_MEMORY → IsRefused call answer TooLong ↔ (LONGEST_SOURCE < length bytes)
 
 -- where the words ask for something of a source alone, it is refused as too long exactly where more was read than a source may have
 abbrev pub CountsLong : Type 0
-CountsLong = (call : Call) (answer : Answer) (file : List ℕ) (task : Task) → HasCauses call answer → plan call.words ≡ Some (plans.Source file task)
+CountsLong = (call : Call) (answer : Answer) (file : List ℕ) (task : Task) → HasCauses call answer
+    → plan call.words ≡ Some (plans.Source file task)
     → ¬ Rose call.err.before call.err.now → answer.status ≢ NO_MEMORY → IsRefused call answer TooLong ↔ (LONGEST_SOURCE < call.texts.taken)
 
 -- a source that is not too long is refused exactly where the mode refuses it, and so; only a history behind it gets another refusal
 abbrev pub RefusesSources : Type 0
 RefusesSources = (call : Call) (answer : Answer) (asked : Plan) (reach : Reach) (bytes : List ℕ) (refusal : Refusal) → HasCauses call answer
     → Reads call asked reach bytes → ¬ Rose call.err.before call.err.now → answer.status ≢ NO_MEMORY → length bytes ≤ LONGEST_SOURCE
-    → (FaultyTo reach bytes refusal → IsRefused call answer refusal) × (IsRefused call answer refusal → FaultyTo reach bytes refusal ⊎ Replays asked bytes)
+    → (FaultyTo reach bytes refusal → IsRefused call answer refusal)
+    × (IsRefused call answer refusal → FaultyTo reach bytes refusal ⊎ Replays asked bytes)
 
 -- the answer is this refusal, of this status, and no other has its cause in the call
 pub record RefusesAlone (status : ℕ) (call : Call) (answer : Answer) (refusal : Refusal) : Type 0 where
@@ -173,7 +180,8 @@ pub record RefusesAlone (status : ℕ) (call : Call) (answer : Answer) (refusal 
 
 -- what is wrong with a source: it is too long, or the mode refuses it
 abbrev pub FailsWith : Reach → List ℕ → Refusal → Type 0
-FailsWith reach bytes refusal = ((refusal ≡ TooLong) × (LONGEST_SOURCE < length bytes)) ⊎ ((length bytes ≤ LONGEST_SOURCE) × FaultyTo reach bytes refusal)
+FailsWith reach bytes refusal = ((refusal ≡ TooLong) × (LONGEST_SOURCE < length bytes))
+    ⊎ ((length bytes ≤ LONGEST_SOURCE) × FaultyTo reach bytes refusal)
 
 -- a source with which something is wrong has this one refusal
 abbrev pub RefusesOnce : Type 0
@@ -183,13 +191,17 @@ RefusesOnce = (call : Call) (answer : Answer) (asked : Plan) (reach : Reach) (by
 
 -- a history is refused as too long exactly where it is
 abbrev pub RefusesLongHistories : Type 0
-RefusesLongHistories = (call : Call) (answer : Answer) (purpose : Purpose) (bytes : List ℕ) → HasCauses call answer → Follows call purpose bytes
-    → ¬ Rose call.err.before call.err.now → answer.status ≢ NO_MEMORY → IsRefused call answer HistoryTooLong ↔ (LONGEST_HISTORY < length bytes)
+RefusesLongHistories = (call : Call) (answer : Answer) (purpose : Purpose) (bytes : List ℕ) → HasCauses call answer
+    → Follows call purpose bytes
+    → ¬ Rose call.err.before call.err.now → answer.status ≢ NO_MEMORY
+    → IsRefused call answer HistoryTooLong ↔ (LONGEST_HISTORY < length bytes)
 
 -- where the words ask for something of a history alone, it is refused as too long exactly where more was read than a history may have
 abbrev pub CountsLongHistories : Type 0
-CountsLongHistories = (call : Call) (answer : Answer) (history : List ℕ) → HasCauses call answer → plan call.words ≡ Some (plans.Upgrade history)
-    → ¬ Rose call.err.before call.err.now → answer.status ≢ NO_MEMORY → IsRefused call answer HistoryTooLong ↔ (LONGEST_HISTORY < call.texts.taken)
+CountsLongHistories = (call : Call) (answer : Answer) (history : List ℕ) → HasCauses call answer
+    → plan call.words ≡ Some (plans.Upgrade history)
+    → ¬ Rose call.err.before call.err.now → answer.status ≢ NO_MEMORY
+    → IsRefused call answer HistoryTooLong ↔ (LONGEST_HISTORY < call.texts.taken)
 
 -- a history that is not too long is refused exactly where it is none, or of no run, or of one that has not what is to be shown, and so
 abbrev pub RefusesHistories : Type 0
@@ -201,4 +213,5 @@ RefusesHistories = (call : Call) (answer : Answer) (purpose : Purpose) (bytes : 
 abbrev pub RefusesHistoriesOnce : Type 0
 RefusesHistoriesOnce = (call : Call) (answer : Answer) (purpose : Purpose) (bytes : List ℕ) (refusal : Refusal) → HasCauses call answer
     → Follows call purpose bytes → ¬ Rose call.err.before call.err.now → answer.status ≢ NO_MEMORY → length bytes ≤ LONGEST_HISTORY
-    → FaultyHistory purpose bytes refusal → RefusesAlone (status_of refusal) call answer refusal × ((refusal ≡ TooManyEvents) ⊎ (status_of refusal ≡ BAD_HISTORY))
+    → FaultyHistory purpose bytes refusal → RefusesAlone (status_of refusal) call answer refusal
+    × ((refusal ≡ TooManyEvents) ⊎ (status_of refusal ≡ BAD_HISTORY))

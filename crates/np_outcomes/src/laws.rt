@@ -1,4 +1,5 @@
-ghost use Rattle.np_outcomes.specs.Laws.{Completes, CountsLong, CountsLongHistories, RefusesHistories, RefusesHistoriesOnce, RefusesLong, RefusesLongHistories, RefusesOnce, RefusesSources, RefusesWords};
+ghost use Rattle.np_outcomes.specs.Laws.{Completes, CountsLong, CountsLongHistories, RefusesHistories, RefusesHistoriesOnce, RefusesLong};
+ghost use Rattle.np_outcomes.specs.Laws.{RefusesLongHistories, RefusesOnce, RefusesSources, RefusesWords};
 
 /// Where no read or write failed, and each text that is read is accepted, the status is 0 or 1, or 6 if memory ran out.
 pub fn law_completes()

@@ -59,7 +59,8 @@ impl<'a> Cursor<'a> {
     /// What the next token is.
     #[tactic(auto, unfolding(crate::specs::Input::peek))]
     pub fn peek(&self) -> Result<&'a What, ParseFail>
-        ensures { MatchResult result (λ what. spec.peek self.now ≡ Ok (what.now, self.now)) (λ fail. spec.peek self.now ≡ Err (fail, self.now)) }
+        ensures { MatchResult result (λ what. spec.peek self.now ≡ Ok (what.now, self.now))
+            (λ fail. spec.peek self.now ≡ Err (fail, self.now)) }
     {
         match self.rest.split_first() {
             Some((token, _)) => Ok(&token.what),

@@ -185,7 +185,8 @@ fn chain(
 ) -> Result<(RawExpr, u32), ParseFail>
     requires levels { below < DEEPEST }
     requires first { first.1 ≤ below + 1 }
-    ensures reads { Reads (spec.chain (spec.operator rank) (spec.operand rank below) (suc below) (suc below) first tokens.old) result tokens.new }
+    ensures reads { Reads (spec.chain (spec.operator rank) (spec.operand rank below) (suc below)
+        (suc below) first tokens.old) result tokens.new }
     ensures within { IfOk result (λ x. x.1 ≤ below + 1) }
 {
     let mut left = first;

@@ -9,8 +9,9 @@ use Rattle.np_verdict.specs.Lines.{line_of, status_of}
 use Rattle.np_verdict.specs.declared.refusal.Refusal.{Refusal}
 use Rattle.np_verdict.specs.declared.refusal.Refusal.TheVariants.{Usage, ReadFault}
 use Rattle.np_modes.specs.Readings.{Reading}
-use Rattle.np_modes.specs.Causes.{Stands, HasMade, texts_read}
-use Rattle.np_verdict.specs.declared.statuses.TheConstants.{BAD_HISTORY, BAD_SOURCE, BAD_USAGE, BUDGET_SPENT, DONE, NO_MEMORY, READ_FAILED, WRITE_FAILED}
+use Rattle.np_modes.specs.Causes.{Stands, HasMade, source_of, texts_read}
+use Rattle.np_verdict.specs.declared.statuses.TheConstants.{BAD_HISTORY, BAD_SOURCE, BAD_USAGE, BUDGET_SPENT, DONE, NO_MEMORY, READ_FAILED}
+use Rattle.np_verdict.specs.declared.statuses.TheConstants.{WRITE_FAILED}
 use Rattle.np_answers.specs.Answers.{Writing, status_at}
 use Rattle.np_answers.specs.declared.answer.Answer.{Answer}
 use Rattle.np_run.specs.Headline.{Headline}
@@ -30,8 +31,9 @@ pub record Call : Type 0 where
 pub record IsDone (call : Call) (answer : Answer) : Type 0 where
   pub text : List ℕ
   pub made : HasMade call.words call.texts answer.kept answer.high text
-  -- of each run on sites that is kept: whatever the source, the sites, the schedule and the budget
-  pub headline : (kept : Record) → answer.kept ≡ Some kept → Headline call.words call.texts kept text
+  -- of each run on sites that is kept, and of the source of which this was made: whatever the source, the sites, the schedule and the
+  -- budget
+  pub headline : (kept : Record) → answer.kept ≡ Some kept → Headline call.words call.texts (source_of made) kept text
   pub status : answer.status ≡ status_at answer.kept answer.high
   pub out : Appends call.out.old call.out.new text
   pub err : Keeps call.err.old call.err.new

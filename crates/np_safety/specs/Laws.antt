@@ -31,7 +31,8 @@ TypedIsWell = (c : Config) (g : Channels) → Typed (world c.sites g) c → Well
 
 -- every run from what is typed is typed throughout, and meets no value of a wrong type
 abbrev pub StaysTyped : Type 0
-StaysTyped = (c : Config) (g : Channels) → Typed (world c.sites g) c → AreBorn c g → (events : List Event) (d : Config) → run c events ≡ Some d
+StaysTyped = (c : Config) (g : Channels) → Typed (world c.sites g) c → AreBorn c g → (events : List Event) (d : Config)
+    → run c events ≡ Some d
     → TypedAlong c g events × WellAlong c events
 
 -- a resolved program without a fault is typed at its start, where no channel is made yet

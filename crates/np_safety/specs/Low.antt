@@ -22,7 +22,8 @@ pair s t = ty.Tuple (s ∷ t ∷ [])
 -- currentloc, lock, here, cache, where and found
 abbrev pub carried : List (ℕ × Ty)
 carried =
-    (2, pair ty.Agent ty.Site) ∷ (3, ty.Agent) ∷ (4, pair ty.Agent ty.Site) ∷ (5, pair ty.Agent ty.Letter) ∷ (6, pair ty.Letter ty.Site) ∷ (7, ty.Tuple []) ∷ (8, pair ty.Agent ty.Site)
+    (2, pair ty.Agent ty.Site) ∷ (3, ty.Agent) ∷ (4, pair ty.Agent ty.Site) ∷ (5, pair ty.Agent ty.Letter) ∷ (6, pair ty.Letter ty.Site)
+    ∷ (7, ty.Tuple []) ∷ (8, pair ty.Agent ty.Site)
     ∷ (9, ty.Site) ∷ (10, ty.Places) ∷ (13, ty.Site) ∷ (14, ty.Places) ∷ (15, pair ty.Agent ty.Agent) ∷ (16, pair ty.Agent ty.Site) ∷ []
 
 -- channels of a program of n sites, of the capability ^

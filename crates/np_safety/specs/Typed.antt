@@ -37,4 +37,5 @@ AreBorn c g = (n : Name) (k : Cap × Ty) → map.get g n ≡ Some k → set.cont
 -- after each prefix of the events, from a configuration with these channels, they lead somewhere that is typed: in the world of
 -- its sites, of those channels and of those that were made
 pub record TypedAlong (c : Config) (g : Channels) (events : List Event) : Type 0 where
-  pub each : (first rest : List Event) → events ≡ first ++ rest → (d : Config) × (run c first ≡ Some d) × Typed (world c.sites (channels_after first g c)) d
+  pub each : (first rest : List Event) → events ≡ first ++ rest
+      → (d : Config) × (run c first ≡ Some d) × Typed (world c.sites (channels_after first g c)) d

@@ -114,7 +114,8 @@ bound_in_turn (p ∷ ps) scope next =
 abbrev pub pat_step : RawPatForm-F PatAt PatIn → PatAt
 pat_step RawPatForm-F.Any at scope next = bound (pattern at pat.Any) scope next
 pat_step (RawPatForm-F.Bind name) at scope next = bound (pattern at (pat.Bind next)) ((name.text, meaning.Binder next) ∷ scope) (next + 1)
-pat_step (RawPatForm-F.Tuple parts) at scope next = let inner = bound_in_turn parts scope next in bound (pattern at (pat.Tuple inner.it)) inner.scope inner.next
+pat_step (RawPatForm-F.Tuple parts) at scope next = let inner = bound_in_turn parts scope next
+    in bound (pattern at (pat.Tuple inner.it)) inner.scope inner.next
 
 unfoldable pub pat_of : RawPat → PatIn
 pat_of = fold-RawPat PatAt PatIn pat_step (λ p. p.form p.at)
@@ -293,7 +294,7 @@ proc_form_of n = fold-RawProcForm FormIn ProcIn (proc_step n) (λ p. at_place p.
 
 -- ---- programs
 
--- the names in scope with one more site of this number, which must be a new name, and the number at most 31
+-- the names in scope with one more site of this number, which must be a new name, and the number one that a site may have
 unfoldable pub with_site : Ident → ℕ → List Named → Outcome (List Named)
 with_site site number scope =
     if is_some (meaning_of scope site.text) then Err (fail.SiteTwice site.at)

@@ -48,7 +48,8 @@ mutual
     main : {at : ℕ} → IsSoundExpr n scope (expression at (expr.Val (value.Agent (main_name n))))
     variable : {at x : ℕ} → Among x scope → IsSoundExpr n scope (expression at (expr.Var x))
     tuple : {at : ℕ} {es : List Expr} → AreSoundExprs n scope es → IsSoundExpr n scope (expression at (expr.Tuple es))
-    operation : {at : ℕ} {o : Op} {a b : Expr} → IsSoundExpr n scope a → IsSoundExpr n scope b → IsSoundExpr n scope (expression at (expr.Bin o a b))
+    operation : {at : ℕ} {o : Op} {a b : Expr} → IsSoundExpr n scope a → IsSoundExpr n scope b
+        → IsSoundExpr n scope (expression at (expr.Bin o a b))
 
   pub data AreSoundExprs (n : ℕ) (scope : List ℕ) : List Expr → Type 0 where
     none : AreSoundExprs n scope []
@@ -61,11 +62,13 @@ mutual
   pub data Binds : List ℕ → Pat → List ℕ → List ℕ → Type 0 where
     any : {scope : List ℕ} {at : ℕ} → Binds scope (pattern at pat.Any) scope []
     name : {scope : List ℕ} {at x : ℕ} → Binds scope (pattern at (pat.Bind x)) (x ∷ scope) (x ∷ [])
-    tuple : {scope inner bound : List ℕ} {at : ℕ} {ps : List Pat} → BindAll scope ps inner bound → Binds scope (pattern at (pat.Tuple ps)) inner bound
+    tuple : {scope inner bound : List ℕ} {at : ℕ} {ps : List Pat} → BindAll scope ps inner bound
+        → Binds scope (pattern at (pat.Tuple ps)) inner bound
 
   pub data BindAll : List ℕ → List Pat → List ℕ → List ℕ → Type 0 where
     none : {scope : List ℕ} → BindAll scope [] scope []
-    more : {scope mid inner xs ys : List ℕ} {p : Pat} {ps : List Pat} → Binds scope p mid xs → BindAll mid ps inner ys → BindAll scope (p ∷ ps) inner (xs ++ ys)
+    more : {scope mid inner xs ys : List ℕ} {p : Pat} {ps : List Pat} → Binds scope p mid xs → BindAll mid ps inner ys
+        → BindAll scope (p ∷ ps) inner (xs ++ ys)
 
 -- ---- processes
 
@@ -77,32 +80,40 @@ process node at f = record { tag = record { node = node; role = role.Plain }; at
 -- binders that are bound in it, in reading order
 pub data IsSoundProc (n : ℕ) : List ℕ → ℕ → Proc → ℕ → List ℕ → Type 0 where
   stop : {scope : List ℕ} {node at : ℕ} → IsSoundProc n scope node (process node at form.Stop) (node + 1) []
-  parallel : {scope xs ys : List ℕ} {node mid after at : ℕ} {p q : Proc} → IsSoundProc n scope (node + 1) p mid xs → IsSoundProc n scope mid q after ys
+  parallel : {scope xs ys : List ℕ} {node mid after at : ℕ} {p q : Proc} → IsSoundProc n scope (node + 1) p mid xs
+      → IsSoundProc n scope mid q after ys
       → IsSoundProc n scope node (process node at (form.Par p q)) after (xs ++ ys)
-  channel : {scope xs : List ℕ} {node after at c : ℕ} {t : Ty} {p : Proc} → IsChannelType t → IsSoundProc n (c ∷ scope) (node + 1) p after xs
+  channel : {scope xs : List ℕ} {node after at c : ℕ} {t : Ty} {p : Proc} → IsChannelType t
+      → IsSoundProc n (c ∷ scope) (node + 1) p after xs
       → IsSoundProc n scope node (process node at (form.New c t p)) after (c ∷ xs)
   output : {scope : List ℕ} {node at : ℕ} {c e : Expr} → IsSoundExpr n scope c → IsSoundExpr n scope e
       → IsSoundProc n scope node (process node at (form.Out c e)) (node + 1) []
   input : {scope inner xs ys : List ℕ} {node after at : ℕ} {c : Expr} {x : Pat} {p : Proc} → IsSoundExpr n scope c → Binds scope x inner xs
       → IsSoundProc n inner (node + 1) p after ys → IsSoundProc n scope node (process node at (form.Inp c x p)) after (xs ++ ys)
-  replicated : {scope inner xs ys : List ℕ} {node after at : ℕ} {c : Expr} {x : Pat} {p : Proc} → IsSoundExpr n scope c → Binds scope x inner xs
+  replicated : {scope inner xs ys : List ℕ} {node after at : ℕ} {c : Expr} {x : Pat} {p : Proc} → IsSoundExpr n scope c
+      → Binds scope x inner xs
       → IsSoundProc n inner (node + 1) p after ys → IsSoundProc n scope node (process node at (form.Rep c x p)) after (xs ++ ys)
   agent : {scope xs ys : List ℕ} {node mid after at b : ℕ} {p q : Proc} → IsSoundProc n (b ∷ scope) (node + 1) p mid xs
       → IsSoundProc n (b ∷ scope) mid q after ys → IsSoundProc n scope node (process node at (form.Agent b p q)) after (b ∷ (xs ++ ys))
-  migrate : {scope xs : List ℕ} {node after at : ℕ} {s : Expr} {p : Proc} → IsSoundExpr n scope s → IsSoundProc n scope (node + 1) p after xs
+  migrate : {scope xs : List ℕ} {node after at : ℕ} {s : Expr} {p : Proc} → IsSoundExpr n scope s
+      → IsSoundProc n scope (node + 1) p after xs
       → IsSoundProc n scope node (process node at (form.Migrate s p)) after xs
-  iflocal : {scope xs ys : List ℕ} {node mid after at : ℕ} {b c e : Expr} {p q : Proc} → IsSoundExpr n scope b → IsSoundExpr n scope c → IsSoundExpr n scope e
+  iflocal : {scope xs ys : List ℕ} {node mid after at : ℕ} {b c e : Expr} {p q : Proc} → IsSoundExpr n scope b → IsSoundExpr n scope c
+      → IsSoundExpr n scope e
       → IsSoundProc n scope (node + 1) p mid xs → IsSoundProc n scope mid q after ys
       → IsSoundProc n scope node (process node at (form.IfLocal b c e p q)) after (xs ++ ys)
-  send : {scope : List ℕ} {node at : ℕ} {b s c e : Expr} → IsSoundExpr n scope b → IsSoundExpr n scope s → IsSoundExpr n scope c → IsSoundExpr n scope e
+  send : {scope : List ℕ} {node at : ℕ} {b s c e : Expr} → IsSoundExpr n scope b → IsSoundExpr n scope s → IsSoundExpr n scope c
+      → IsSoundExpr n scope e
       → IsSoundProc n scope node (process node at (form.Send b s c e)) (node + 1) []
   post : {scope : List ℕ} {node at : ℕ} {b c e : Expr} → IsSoundExpr n scope b → IsSoundExpr n scope c → IsSoundExpr n scope e
       → IsSoundProc n scope node (process node at (form.Post b c e)) (node + 1) []
-  test : {scope xs ys : List ℕ} {node mid after at : ℕ} {e : Expr} {p q : Proc} → IsSoundExpr n scope e → IsSoundProc n scope (node + 1) p mid xs
+  test : {scope xs ys : List ℕ} {node mid after at : ℕ} {e : Expr} {p q : Proc} → IsSoundExpr n scope e
+      → IsSoundProc n scope (node + 1) p mid xs
       → IsSoundProc n scope mid q after ys → IsSoundProc n scope node (process node at (form.If e p q)) after (xs ++ ys)
   bind : {scope inner xs ys : List ℕ} {node after at : ℕ} {x : Pat} {e : Expr} {p : Proc} → Binds scope x inner xs → IsSoundExpr n scope e
       → IsSoundProc n inner (node + 1) p after ys → IsSoundProc n scope node (process node at (form.Let x e p)) after (xs ++ ys)
-  print : {scope : List ℕ} {node at : ℕ} {e : Expr} → IsSoundExpr n scope e → IsSoundProc n scope node (process node at (form.Print e)) (node + 1) []
+  print : {scope : List ℕ} {node at : ℕ} {e : Expr} → IsSoundExpr n scope e
+      → IsSoundProc n scope node (process node at (form.Print e)) (node + 1) []
 
 -- ---- programs
 

@@ -215,7 +215,8 @@ impl Resolver {
         rest: &'a RawProc,
     ) -> Result<(ProcForm, Numbers), ScopeFail>
         requires { FormFits next (raw.Agent agent.now body.now rest.now) }
-        ensures gives { Gives (spec.agent_form agent.now (spec.proc_of self.sites body.now) (spec.proc_of self.sites rest.now) scope.old next) result }
+        ensures gives { Gives (spec.agent_form agent.now (spec.proc_of self.sites body.now)
+            (spec.proc_of self.sites rest.now) scope.old next) result }
         ensures scope { OnOk result (scope.new ≡ scope.old) }
         ensures behind { IfOk result (λ r. IsBehindForm next (raw.Agent agent.now body.now rest.now) r.1) }
     {
@@ -259,7 +260,8 @@ impl Resolver {
         unmet: &'a RawProc,
     ) -> Result<(ProcForm, Numbers), ScopeFail>
         requires { FormFits next (raw.IfLocal agent.now chan.now value.now met.now unmet.now) }
-        ensures gives { Gives (spec.iflocal_form self.sites agent.now chan.now value.now (spec.proc_of self.sites met.now) (spec.proc_of self.sites unmet.now) scope.old next) result }
+        ensures gives { Gives (spec.iflocal_form self.sites agent.now chan.now value.now (spec.proc_of self.sites met.now)
+            (spec.proc_of self.sites unmet.now) scope.old next) result }
         ensures scope { OnOk result (scope.new ≡ scope.old) }
         ensures behind { IfOk result (λ r. IsBehindForm next (raw.IfLocal agent.now chan.now value.now met.now unmet.now) r.1) }
     {
@@ -280,7 +282,8 @@ impl Resolver {
         unmet: &'a RawProc,
     ) -> Result<(ProcForm, Numbers), ScopeFail>
         requires { FormFits next (raw.If test.now met.now unmet.now) }
-        ensures gives { Gives (spec.if_form self.sites test.now (spec.proc_of self.sites met.now) (spec.proc_of self.sites unmet.now) scope.old next) result }
+        ensures gives { Gives (spec.if_form self.sites test.now (spec.proc_of self.sites met.now)
+            (spec.proc_of self.sites unmet.now) scope.old next) result }
         ensures scope { OnOk result (scope.new ≡ scope.old) }
         ensures behind { IfOk result (λ r. IsBehindForm next (raw.If test.now met.now unmet.now) r.1) }
     {

@@ -11,7 +11,8 @@ use Rattle.np_lex.specs.Tokens.{sign_text}
 use Rattle.np_tree.specs.declared.tree.Ident.{Ident}
 use Rattle.np_tree.specs.declared.tree.Tree.{Tree}
 use Rattle.np_tree.specs.declared.tree.RawExpr.{RawExpr}
-use Rattle.np_tree.specs.declared.tree.RawExprForm.{RawExprForm, Row_of-RawExpr, end_of-RawExpr, more_of-RawExpr, Row_of-RawExprForm, end_of-RawExprForm, more_of-RawExprForm}
+use Rattle.np_tree.specs.declared.tree.RawExprForm.{RawExprForm, Row_of-RawExpr, end_of-RawExpr, more_of-RawExpr, Row_of-RawExprForm}
+use Rattle.np_tree.specs.declared.tree.RawExprForm.{end_of-RawExprForm, more_of-RawExprForm}
 use Rattle.np_tree.specs.declared.tree.RawExprForm as expr
 use Rattle.np_tree.specs.declared.tree.RawPat.{RawPat}
 use Rattle.np_tree.specs.declared.tree.RawPatForm.{RawPatForm, Row_of-RawPat, end_of-RawPat, more_of-RawPat}
@@ -113,7 +114,8 @@ abbrev mutual
   expr_form_text level expr.Main = codes "main"
   expr_form_text level (expr.Var name) = name.text
   expr_form_text level (expr.Tuple' shape xs) = squared (expr_texts xs)
-  expr_form_text level (expr.Bin' o _ a x _ b y) = bracketed (nat_lt (strength o) level) (joined o (operand_text (left o) x) (operand_text (right o) y))
+  expr_form_text level (expr.Bin' o _ a x _ b y) = bracketed (nat_lt (strength o) level)
+      (joined o (operand_text (left o) x) (operand_text (right o) y))
 
   pub operand_text : ℕ → {m : _} → Row_of-RawExprForm m → List ℕ
   operand_text level end_of-RawExprForm = []
@@ -141,14 +143,18 @@ abbrev mutual
   proc_form_text bracket (form.Out c x) = message_text c x
   proc_form_text bracket (form.Inp' c q _ a p) = c.text ++ codes "?" ++ pat_text q ++ codes " -> " ++ part_text true p
   proc_form_text bracket (form.Rep' c q _ a p) = codes "*" ++ c.text ++ codes "?" ++ pat_text q ++ codes " -> " ++ part_text true p
-  proc_form_text bracket (form.Agent' c _ a p _ b q) = codes "agent " ++ c.text ++ codes " = " ++ part_text true p ++ codes " in " ++ part_text true q
+  proc_form_text bracket (form.Agent' c _ a p _ b q) = codes "agent " ++ c.text ++ codes " = " ++ part_text true p ++ codes " in "
+      ++ part_text true q
   proc_form_text bracket (form.Migrate' x _ a p) = codes "migrate to " ++ expr_text 0 x ++ codes " -> " ++ part_text true p
   proc_form_text bracket (form.IfLocal' x c z _ a p _ b q) =
-      codes "iflocal <" ++ expr_text 3 x ++ codes ">" ++ message_text c z ++ codes " then " ++ part_text true p ++ codes " else " ++ part_text true q
+      codes "iflocal <" ++ expr_text 3 x ++ codes ">" ++ message_text c z ++ codes " then " ++ part_text true p ++ codes " else "
+      ++ part_text true q
   proc_form_text bracket (form.Send x y c z) = codes "<" ++ expr_text 3 x ++ codes "@" ++ expr_text 3 y ++ codes ">" ++ message_text c z
   proc_form_text bracket (form.Post x c z) = codes "<" ++ expr_text 3 x ++ codes "@?>" ++ message_text c z
-  proc_form_text bracket (form.If' x _ a p _ b q) = codes "if " ++ expr_text 0 x ++ codes " then " ++ part_text true p ++ codes " else " ++ part_text true q
-  proc_form_text bracket (form.Let' q x _ a p) = codes "let " ++ pat_text q ++ codes " = " ++ expr_text 0 x ++ codes " in " ++ part_text true p
+  proc_form_text bracket (form.If' x _ a p _ b q) = codes "if " ++ expr_text 0 x ++ codes " then " ++ part_text true p ++ codes " else "
+      ++ part_text true q
+  proc_form_text bracket (form.Let' q x _ a p) = codes "let " ++ pat_text q ++ codes " = " ++ expr_text 0 x ++ codes " in "
+      ++ part_text true p
   proc_form_text bracket (form.Print x) = codes "print " ++ expr_text 0 x
 
   pub part_text : Bool → {m : _} → Row_of-RawProcForm m → List ℕ
@@ -165,4 +171,5 @@ name_text name = name.text
 
 -- the canonical text
 abbrev pub shown : Tree → List ℕ
-shown tree = codes "sites " ++ spaced (map name_text tree.sites) ++ codes " ; main at " ++ tree.at.text ++ codes " = " ++ proc_text true tree.main ++ codes "\n"
+shown tree = codes "sites " ++ spaced (map name_text tree.sites) ++ codes " ; main at " ++ tree.at.text ++ codes " = "
+    ++ proc_text true tree.main ++ codes "\n"

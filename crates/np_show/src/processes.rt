@@ -34,7 +34,8 @@ fn put_send(
     c: &Ident,
     x: &RawExpr,
 ) -> Result<(), Memory>
-    ensures { OnOk result (text.new ≡ text.old ++ codes "<" ++ expr_text 3 agent.now ++ codes "@" ++ expr_text 3 site.now ++ codes ">" ++ message_text c.now x.now) }
+    ensures { OnOk result (text.new ≡ text.old ++ codes "<" ++ expr_text 3 agent.now ++ codes "@" ++ expr_text 3 site.now ++ codes ">"
+        ++ message_text c.now x.now) }
 {
     text.append(b"<")?;
     put_expr(alloc, text, 3, agent)?;
@@ -94,7 +95,8 @@ fn put_iflocal(
     c: &Ident,
     x: &RawExpr,
 ) -> Result<(), Memory>
-    ensures { OnOk result (text.new ≡ text.old ++ codes "iflocal <" ++ expr_text 3 agent.now ++ codes ">" ++ message_text c.now x.now ++ codes " then ") }
+    ensures { OnOk result (text.new ≡ text.old ++ codes "iflocal <" ++ expr_text 3 agent.now ++ codes ">" ++ message_text c.now x.now
+        ++ codes " then ") }
 {
     text.append(b"iflocal <")?;
     put_expr(alloc, text, 3, agent)?;
@@ -156,7 +158,8 @@ pub fn put_proc(alloc: Global, text: &mut Text, bracket: bool, p: &RawProc) -> R
 /// `new c : ^Int in P`
 #[cycle(process)]
 fn put_new(alloc: Global, text: &mut Text, p: &RawProc, c: &Ident, ty: &Ty) -> Result<(), Memory>
-    ensures { OnOk result (text.new ≡ text.old ++ codes "new " ++ c.now.text ++ codes " : " ++ type_text ty.now ++ codes " in " ++ proc_text true p.now) }
+    ensures { OnOk result (text.new ≡ text.old ++ codes "new " ++ c.now.text ++ codes " : " ++ type_text ty.now ++ codes " in "
+        ++ proc_text true p.now) }
 {
     text.append(b"new ")?;
     put_name(text, c)?;
@@ -190,7 +193,8 @@ fn put_always(
     c: &Ident,
     pat: &RawPat,
 ) -> Result<(), Memory>
-    ensures { OnOk result (text.new ≡ text.old ++ codes "*" ++ c.now.text ++ codes "?" ++ pat_text pat.now ++ codes " -> " ++ proc_text true p.now) }
+    ensures { OnOk result (text.new ≡ text.old ++ codes "*" ++ c.now.text ++ codes "?" ++ pat_text pat.now ++ codes " -> "
+        ++ proc_text true p.now) }
 {
     text.append(b"*")?;
     put_taking(text, c, pat)?;
@@ -217,7 +221,8 @@ fn put_let(
     pat: &RawPat,
     x: &RawExpr,
 ) -> Result<(), Memory>
-    ensures { OnOk result (text.new ≡ text.old ++ codes "let " ++ pat_text pat.now ++ codes " = " ++ expr_text 0 x.now ++ codes " in " ++ proc_text true p.now) }
+    ensures { OnOk result (text.new ≡ text.old ++ codes "let " ++ pat_text pat.now ++ codes " = " ++ expr_text 0 x.now ++ codes " in "
+        ++ proc_text true p.now) }
 {
     text.append(b"let ")?;
     put_pat(text, pat)?;

@@ -1,6 +1,7 @@
 -- What each of n sites did, told by itself: of an item that it takes it knows on whose link it came, and not who sent it
 -- (docs/HISTORIES.md, "History text").
-use Rattle.std.specs.Prelude.{◌≡◌, ◌<◌, ◌↔◌, ◌==◌, ℕ, cond, nat_lt, ◌&&◌, List, [], ◌∷◌, ◌++◌, length, map, Some, IfSome, option_to_list, slice_index_or}
+use Rattle.std.specs.Prelude.{◌≡◌, ◌<◌, ◌↔◌, ◌==◌, ℕ, cond, nat_lt, ◌&&◌, List, [], ◌∷◌, ◌++◌, length, map, Some, IfSome, option_to_list}
+use Rattle.std.specs.Prelude.{slice_index_or}
 use Rattle.std.specs.List.{AllByRecursion, filter, flat_map}
 use Rattle.np_syntax.specs.declared.program.LowProgram.{LowProgram}
 use Rattle.np_calculus.specs.Config.{Config}
@@ -47,7 +48,8 @@ abbrev pub taken_on : ℕ → Deed → List Came
 taken_on from d = map (λ x. record { from = from; item = x }) (option_to_list d.taken)
 
 abbrev pub AccountGrows : Type 0
-AccountGrows = (n site : ℕ) (start old new : Holding) (ds : List Deed) (d : Deed) (came : List Came) (from : ℕ) → IsAccount n site start ds old came
+AccountGrows = (n site : ℕ) (start old new : Holding) (ds : List Deed) (d : Deed) (came : List Came) (from : ℕ)
+    → IsAccount n site start ds old came
     → IsNextDeed n site ds old d new → SendsLoad site d → IfSome d.taken (λ x. from < n)
     → IsAccount n site start (ds ++ d ∷ []) new (came ++ taken_on from d)
 
@@ -79,7 +81,8 @@ held_runs n start r = record {
 }
 
 abbrev pub SettledAreRuns : Type 0
-SettledAreRuns = (n : ℕ) (start : ℕ → Holding) (r : Accounts) → AreSettled n start r → AreHeldRuns n (held_runs n start r) × PutLoads (held_runs n start r)
+SettledAreRuns = (n : ℕ) (start : ℕ → Holding) (r : Accounts) → AreSettled n start r
+    → AreHeldRuns n (held_runs n start r) × PutLoads (held_runs n start r)
 
 -- ---- the end
 
@@ -94,8 +97,8 @@ pub record AreTheirs (n : ℕ) (r : Accounts) (hs : List Recorded) : Type 0 wher
   pub count : length hs ≡ n
   pub each : (s : ℕ) (d : Recorded) → s < n → IsItsHistory r s (slice_index_or hs s d)
 
--- The merged history is a run of the whole, and says what the histories have as printed. At its end each of n sites holds its part, and what is left
--- is on the links between them. The whole rests then just where what each site holds can do nothing, and nothing is left.
+-- The merged history is a run of the whole, and says what the histories have as printed. At its end each of n sites holds its part, and
+-- what is left is on the links between them. The whole rests then just where what each site holds can do nothing, and nothing is left.
 pub record SitesEnd (n : ℕ) (r : Accounts) (hs : List Recorded) (c : Config) : Type 0 where
   pub here : ℕ → Config
   pub parts : (s : ℕ) → s < n → IsPart (r.end s) (here s)

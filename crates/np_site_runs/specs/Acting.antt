@@ -20,9 +20,11 @@ pub record AreDirected (n : ℕ) (r : Accounts) : Type 0 where
 
 -- a site cannot act where what it holds can do nothing, and nothing is left on the links to it
 abbrev pub SiteIsStill : Type 0
-SiteIsStill = (n : ℕ) (r : Accounts) (hs : List Recorded) (c : Config) (e : SitesEnd n r hs c) (s : ℕ) → s < n → AreDirected n r → IsStill (r.end s)
+SiteIsStill = (n : ℕ) (r : Accounts) (hs : List Recorded) (c : Config) (e : SitesEnd n r hs c) (s : ℕ) → s < n → AreDirected n r
+    → IsStill (r.end s)
     → ((u : ℕ) → u < n → r.rest u s ≡ []) → ¬ Can e.whole s
 
 -- and what is no site cannot act
 abbrev pub OnlySitesCan : Type 0
-OnlySitesCan = (n : ℕ) (r : Accounts) (hs : List Recorded) (c : Config) (e : SitesEnd n r hs c) (s : ℕ) → AreDirected n r → Can e.whole s → s < n
+OnlySitesCan = (n : ℕ) (r : Accounts) (hs : List Recorded) (c : Config) (e : SitesEnd n r hs c) (s : ℕ) → AreDirected n r → Can e.whole s
+    → s < n

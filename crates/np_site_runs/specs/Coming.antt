@@ -24,12 +24,14 @@ Arrives = (h : Holding) (x : Stamped) (item : StampedItem) (agent : Name) (atoms
 
 -- a packet that lands is an output of its agent under its mark, where this stands here
 abbrev pub Lands : Type 0
-Lands = (h : Holding) (x : Stamped) (item : StampedItem) (mark : Name) (packet : Packet) (there : NameMap Atom) → x.event ≡ landing mark packet
+Lands = (h : Holding) (x : Stamped) (item : StampedItem) (mark : Name) (packet : Packet) (there : NameMap Atom)
+    → x.event ≡ landing mark packet
     → packet.to ≡ h.site
     → item.item.load ≡ packet_load mark packet → table.get h.agents packet.agent ≡ Some there
     → Does h (taking x item) (given h packet.agent there mark (output_of packet))
 
 -- and else nothing
 abbrev pub IsLost : Type 0
-IsLost = (h : Holding) (x : Stamped) (item : StampedItem) (mark : Name) (packet : Packet) → x.event ≡ landing mark packet → packet.to ≡ h.site
+IsLost = (h : Holding) (x : Stamped) (item : StampedItem) (mark : Name) (packet : Packet) → x.event ≡ landing mark packet
+    → packet.to ≡ h.site
     → item.item.load ≡ packet_load mark packet → table.get h.agents packet.agent ≡ None → Does h (taking x item) h

@@ -34,4 +34,5 @@ pub record IsOfAgent (h : Holding) (e : Event) : Type 0 where
 
 -- so it is with each event but a post that is enabled in what the site holds
 abbrev pub EnabledIsOfAgent : Type 0
-EnabledIsOfAgent = (h : Holding) (c next : Config) (e : Event) → IsPart h c → (e.kind ≡ kind.Post → ⊥) → apply c e ≡ Some next → IsOfAgent h e
+EnabledIsOfAgent = (h : Holding) (c next : Config) (e : Event) → IsPart h c → (e.kind ≡ kind.Post → ⊥) → apply c e ≡ Some next
+    → IsOfAgent h e

@@ -43,7 +43,8 @@ pub record EndsIn (n : ℕ) (r : HeldRuns) (hs : List Recorded) (c : Config) : T
   pub spread : IsSpread n (spread n (ending r here)) whole
 
 abbrev pub HeldRunsEnd : Type 0
-HeldRunsEnd = (n : ℕ) (r : HeldRuns) (hs : List Recorded) (here : ℕ → Config) (c : Config) → AreHeldRuns n r → AreKept hs r → ArePartsOf r.start here
+HeldRunsEnd = (n : ℕ) (r : HeldRuns) (hs : List Recorded) (here : ℕ → Config) (c : Config) → AreHeldRuns n r → AreKept hs r
+    → ArePartsOf r.start here
     → ((s : ℕ) → (r.start s).said ≡ []) → IsSpread n (record { here = here; air = [] }) c → EndsIn n r hs c
 
 -- so it is from the low start

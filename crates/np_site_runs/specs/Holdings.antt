@@ -38,12 +38,13 @@ pub record IsHeld (h : Holding) (m : Name) (a : Atom) : Type 0 where
   pub here : table.get h.agents a.agent ≡ Some atoms
   pub has : table.get atoms m ≡ Some a
 
--- The configuration is what the site holds: its agents are those that stand here, its atoms are theirs, no packet is under way, and of the names of
--- the site those are born that it has made.
+-- The configuration is what the site holds: its agents are those that stand here, its atoms are theirs, no packet is under way, and of
+-- the names of the site those are born that it has made.
 pub record IsPart (h : Holding) (c : Config) : Type 0 where
   pub sites : c.sites ≡ h.sites
   pub places : (q : Name) → table.get c.places q ≡ option_map (λ atoms. place.At h.site) (table.get h.agents q)
-  pub own : (q : Name) (atoms : NameMap Atom) (m : Name) (a : Atom) → table.get h.agents q ≡ Some atoms → table.get atoms m ≡ Some a → a.agent ≡ q
+  pub own : (q : Name) (atoms : NameMap Atom) (m : Name) (a : Atom) → table.get h.agents q ≡ Some atoms → table.get atoms m ≡ Some a
+      → a.agent ≡ q
   pub has : (m : Name) (a : Atom) → IsHeld h m a → table.get c.atoms m ≡ Some a
   pub only : (m : Name) (a : Atom) → table.get c.atoms m ≡ Some a → IsHeld h m a
   pub packets : (m : Name) → table.get c.packets m ≡ None
@@ -56,8 +57,8 @@ pub record AreMade (h : Holding) : Type 0 where
   pub agents : (k : ℕ) → IsSome (table.get h.agents (name_of h.site k)) → k < h.next
   pub marks : (k : ℕ) (a : Atom) → IsHeld h (name_of h.site k) a → k < h.next
 
--- where a configuration is what the site holds, and an item that the event takes is apart from it, the event is a step on to a configuration that is
--- what the site holds then
+-- where a configuration is what the site holds, and an item that the event takes is apart from it, the event is a step on to a
+-- configuration that is what the site holds then
 abbrev pub StepsOn : Holding → Deed → Holding → Type 0
 StepsOn h d then = (old : Config) → IsPart h old → Every IsItem (loads (plain d.taken)) → AreApart (inside old ∷ loads (plain d.taken))
     → (new : Config) × IsPart then new × IsStep d.event.event old (loads (plain d.taken)) new (loads (plain d.put))
@@ -72,8 +73,8 @@ Numbers h (made.Two m n) then = (m ≡ name_of h.site h.next) × (n ≡ name_of 
 abbrev pub IsOneWay : Deed → Type 0
 IsOneWay d = IfSome d.taken (λ x. d.put ≡ None)
 
--- What a site does: it stays the same site, and steps on, if the names that stand there are made. That they are, and that the item is apart, no site
--- can tell: the run of all sites tells it. It numbers its names, and does not both take an item and put one on its way.
+-- What a site does: it stays the same site, and steps on, if the names that stand there are made. That they are, and that the item is
+-- apart, no site can tell: the run of all sites tells it. It numbers its names, and does not both take an item and put one on its way.
 abbrev pub Does : Holding → Deed → Holding → Type 0
 Does h d then = (then.site ≡ h.site) × (AreMade h → StepsOn h d then) × Numbers h d.event.event.made then × IsOneWay d
 

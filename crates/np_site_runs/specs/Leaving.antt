@@ -24,12 +24,16 @@ without h agent = record h { agents = table.remove h.agents agent }
 
 -- a migration: the agent leaves with its new atoms
 abbrev pub Leaves : Type 0
-Leaves = (h : Holding) (x : Stamped) (item : StampedItem) (agent : Name) (to : ℕ) (old new : NameMap Atom) → IsOwnEvent h agent old kind.Depart x.event
-    → Goes kind.Depart h.sites old new x.event (record still { places = put agent (place.Way to) ∷ [] }) → item.item.load ≡ agent_load agent new to
+Leaves = (h : Holding) (x : Stamped) (item : StampedItem) (agent : Name) (to : ℕ) (old new : NameMap Atom)
+    → IsOwnEvent h agent old kind.Depart x.event
+    → Goes kind.Depart h.sites old new x.event (record still { places = put agent (place.Way to) ∷ [] })
+    → item.item.load ≡ agent_load agent new to
     → Does h (putting x item) (without h agent)
 
 -- a message: it leaves as a packet under the mark of the atom that sends it
 abbrev pub Sends : Type 0
-Sends = (h : Holding) (x : Stamped) (item : StampedItem) (agent : Name) (packet : Packet) (old new : NameMap Atom) → IsOwnEvent h agent old kind.Send x.event
-    → Goes kind.Send h.sites old new x.event (record still { packets = put x.event.actor packet ∷ [] }) → item.item.load ≡ packet_load x.event.actor packet
+Sends = (h : Holding) (x : Stamped) (item : StampedItem) (agent : Name) (packet : Packet) (old new : NameMap Atom)
+    → IsOwnEvent h agent old kind.Send x.event
+    → Goes kind.Send h.sites old new x.event (record still { packets = put x.event.actor packet ∷ [] })
+    → item.item.load ≡ packet_load x.event.actor packet
     → Does h (putting x item) (gone_on h agent new x.event None)

@@ -12,7 +12,8 @@ use Rattle.np_site_runs.specs.merged.Resting.{Brings}
 
 -- an agent under way to a site, with its atoms
 abbrev pub agent_load : Name → NameMap Atom → ℕ → Contents
-agent_load agent atoms to = record { place = λ q. cond (same_name q agent) (Some (place.Way to)) None; atom = table.get atoms; packet = λ m. None }
+agent_load agent atoms to =
+    record { place = λ q. cond (same_name q agent) (Some (place.Way to)) None; atom = table.get atoms; packet = λ m. None }
 
 -- a packet under a mark
 abbrev pub packet_load : Name → Packet → Contents

@@ -18,7 +18,7 @@ next_after next made.Nothing = next
 next_after next (made.One m) = next + 1
 next_after next (made.Two m n) = next + 2
 
--- Where sites and what is under way between them have the parts of one configuration, each name of a site's own that stands there is one that
--- it has made.
+-- Where sites and what is under way between them have the parts of one configuration, each name of a site's own that stands there is
+-- one that it has made.
 abbrev pub MadeInSpread : Type 0
 MadeInSpread = (n : ℕ) (g : Spread) (c : Config) (h : Holding) → IsSpread n g c → h.site < n → IsPart h (g.here h.site) → AreMade h

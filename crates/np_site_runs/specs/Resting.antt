@@ -26,7 +26,8 @@ pub record HasNothingToDo (sites : ℕ) (atoms : NameMap Atom) : Type 0 where
 
 -- where no agent here has anything to do, no event but a post is enabled in what the site holds
 abbrev pub NoEventHere : Type 0
-NoEventHere = (h : Holding) (c : Config) → IsPart h c → OfEach h (HasNothingToDo h.sites) → (e : Event) → (e.kind ≡ kind.Post → ⊥) → apply c e ≡ None
+NoEventHere = (h : Holding) (c : Config) → IsPart h c → OfEach h (HasNothingToDo h.sites) → (e : Event) → (e.kind ≡ kind.Post → ⊥)
+    → apply c e ≡ None
 
 -- the channel on which an atom is an output, and that on which it is an input, plain or replicated
 abbrev pub gives_on : Atom → Option Name

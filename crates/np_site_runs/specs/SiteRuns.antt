@@ -3,7 +3,8 @@ use Rattle.std.specs.Prelude.{◌≡◌, ◌≤◌, ℕ, List, [], ◌∷◌, �
 use Rattle.std.specs.List.{AllByRecursion}
 use Rattle.np_calculus.specs.Config.{Config}
 use Rattle.np_site_runs.specs.merged.Steps.{IsSpread}
-use Rattle.np_site_runs.specs.merged.Deeds.{AreSiteRuns, Deed, HasStamps, IsDeedOf, SiteRuns, StampedItem, Ticks, clock_after, put_for, taken_from}
+use Rattle.np_site_runs.specs.merged.Deeds.{AreSiteRuns, Deed, HasStamps, IsDeedOf, SiteRuns, StampedItem, Ticks, clock_after, put_for}
+use Rattle.np_site_runs.specs.merged.Deeds.{taken_from}
 use Rattle.np_site_runs.specs.Holdings.{Does, DoesAll, Holding, IsPart}
 
 -- what a site, one of n, did alone, from one holding on to another and from a clock that is 0
@@ -34,7 +35,8 @@ by_configs r start end = record { start = start; deeds = r.deeds; end = end; res
 abbrev pub ArePartsOf : (ℕ → Holding) → (ℕ → Config) → Type 0
 ArePartsOf holdings here = (s : ℕ) → IsPart (holdings s) (here s)
 
--- where the sites hold the parts of one configuration at first, and nothing is under way, what they did by their holdings are steps of configurations
+-- where the sites hold the parts of one configuration at first, and nothing is under way, what they did by their holdings are steps of
+-- configurations
 abbrev pub HeldRunsAreRuns : Type 0
 HeldRunsAreRuns = (n : ℕ) (r : HeldRuns) (here : ℕ → Config) (c : Config) → AreHeldRuns n r → ArePartsOf r.start here
     → IsSpread n (record { here = here; air = [] }) c → (end : ℕ → Config) × ArePartsOf r.end end × AreSiteRuns n (by_configs r here end)
@@ -51,5 +53,6 @@ pub record IsNextDeed (n site : ℕ) (ds : List Deed) (old : Holding) (d : Deed)
   pub stamps : HasStamps (clock_after 0 ds) d
 
 abbrev pub HeldRunGrows : Type 0
-HeldRunGrows = (n site : ℕ) (start old new : Holding) (ds : List Deed) (d : Deed) → IsHeldRun n site start ds old → IsNextDeed n site ds old d new
+HeldRunGrows = (n site : ℕ) (start old new : Holding) (ds : List Deed) (d : Deed) → IsHeldRun n site start ds old
+    → IsNextDeed n site ds old d new
     → IsHeldRun n site start (ds ++ d ∷ []) new

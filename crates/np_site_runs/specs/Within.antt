@@ -40,7 +40,8 @@ gone_on h agent atoms e value =
 
 -- an event within an agent: what else changes is at most that a value is said
 abbrev pub GoesOn : Type 0
-GoesOn = (h : Holding) (x : Stamped) (agent : Name) (old new : NameMap Atom) (k : Kind) (value : Option Value) → IsOwnEvent h agent old k x.event
+GoesOn = (h : Holding) (x : Stamped) (agent : Name) (old new : NameMap Atom) (k : Kind) (value : Option Value)
+    → IsOwnEvent h agent old k x.event
     → (k ≡ kind.Local → ⊥) → (k ≡ kind.Post → ⊥) → Goes k h.sites old new x.event (record still { said = value })
     → Does h (inner x) (gone_on h agent new x.event value)
 
@@ -56,13 +57,16 @@ given h agent atoms mark atom = record h { agents = table.insert h.agents agent 
 
 -- a location test whose agent is here, maybe the same: that one gets the output under the mark that is made
 abbrev pub Tells : Type 0
-Tells = (h : Holding) (x : Stamped) (agent mark : Name) (packet : Packet) (old new there : NameMap Atom) → IsOwnEvent h agent old kind.Local x.event
+Tells = (h : Holding) (x : Stamped) (agent mark : Name) (packet : Packet) (old new there : NameMap Atom)
+    → IsOwnEvent h agent old kind.Local x.event
     → GoesPast kind.Local h.sites true old new x.event (record still { atoms = put mark (output_of packet) ∷ [] })
     → table.get (table.insert h.agents agent new) packet.agent ≡ Some there
     → Does h (inner x) (given (gone_on h agent new x.event None) packet.agent there mark (output_of packet))
 
 -- the making of an agent: it stands here then with its one atom
 abbrev pub Makes : Type 0
-Makes = (h : Holding) (x : Stamped) (agent child mark : Name) (first : Atom) (old new : NameMap Atom) → IsOwnEvent h agent old kind.Agent x.event
-    → GoesPast kind.Agent h.sites false old new x.event (record still { places = put child (place.At h.site) ∷ []; atoms = put mark first ∷ [] })
+Makes = (h : Holding) (x : Stamped) (agent child mark : Name) (first : Atom) (old new : NameMap Atom)
+    → IsOwnEvent h agent old kind.Agent x.event
+    → GoesPast kind.Agent h.sites false old new x.event
+    (record still { places = put child (place.At h.site) ∷ []; atoms = put mark first ∷ [] })
     → Does h (inner x) (given (gone_on h agent new x.event None) child table.empty mark first)

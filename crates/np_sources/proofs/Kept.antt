@@ -2,7 +2,7 @@
 use Rattle.std.proofs.Common.{◌≡◌, ◌≢◌, ℕ, ◌*◌, ◌≤◌, ◌<◌, inr, refl, List, length, Result, Ok, Err, IfOk, IfErr, sym, subst, ◌∙◌, arith}
 use Rattle.np_syntax.specs.declared.program.LowProgram.{LowProgram}
 use Rattle.np_syntax.specs.declared.program.Program.{Program}
-use Rattle.np_syntax.specs.declared.limits.TheConstants.{MOST_EVENTS}
+use Rattle.np_syntax.specs.declared.limits.TheConstants.{MOST_EVENTS, MOST_SITES}
 use Rattle.np_calculus.specs.Runs.{RunsWell}
 use Rattle.np_calculus.specs.Starts.{start_low}
 use Rattle.np_check.specs.Faults.{IsAccepted}
@@ -58,3 +58,6 @@ makes_many infrastructure budget p low is many = inr (record {
 
 pub at_site : (low : LowProgram) → RunsWell (start_low low) low.at → low.at < length low.sites
 at_site low runs = omega (arith, runs.site, low-sites low)
+
+pub few_sites : (low : LowProgram) → RunsWell (start_low low) low.at → length low.sites ≤ MOST_SITES
+few_sites low runs = omega (arith, runs.sites, low-sites low)

@@ -125,21 +125,18 @@ not_usage (Reach.sites infrastructure budget) bytes (inr f) = let is = f.is in c
 not_usage (Reach.shown high reach) bytes (inl f) = let is = f.is in cc
 not_usage (Reach.shown high reach) bytes (inr f) = not_usage reach bytes f.1
 
-abbrev IsOfSource : Refusal → Type 0
-IsOfSource refusal = (status_of refusal ≡ 3) ⊎ (status_of refusal ≡ 6)
-
-low_status : (infrastructure : Infrastructure) (bytes : List ℕ) (refusal : Refusal) → HasNoLow infrastructure bytes refusal → IsOfSource refusal
+low_status : (infrastructure : Infrastructure) (bytes : List ℕ) (refusal : Refusal) → HasNoLow infrastructure bytes refusal → status_of refusal ≡ 3
 low_status infrastructure bytes refusal (inl f) = verdicts.faulty_status Stage.program bytes refusal f
-low_status infrastructure bytes refusal (inr f) = inl (ap status_of f.large.is)
+low_status infrastructure bytes refusal (inr f) = ap status_of f.large.is
 
--- the status of such a refusal is 3, but for want of memory
-pub faulty_status : (reach : Reach) (bytes : List ℕ) (refusal : Refusal) → FaultyTo reach bytes refusal → (status_of refusal ≡ 3) ⊎ (status_of refusal ≡ 6)
+-- the status of such a refusal is 3
+pub faulty_status : (reach : Reach) (bytes : List ℕ) (refusal : Refusal) → FaultyTo reach bytes refusal → status_of refusal ≡ 3
 faulty_status Reach.tree bytes refusal f = verdicts.faulty_status Stage.tree bytes refusal f
 faulty_status Reach.program bytes refusal f = verdicts.faulty_status Stage.program bytes refusal f
 faulty_status (Reach.low infrastructure) bytes refusal f = low_status infrastructure bytes refusal f
 faulty_status (Reach.sites infrastructure budget) bytes refusal (inl f) = low_status infrastructure bytes refusal f
-faulty_status (Reach.sites infrastructure budget) bytes refusal (inr f) = inl (ap status_of f.is)
-faulty_status (Reach.shown high reach) bytes refusal (inl f) = inl (ap status_of f.is)
+faulty_status (Reach.sites infrastructure budget) bytes refusal (inr f) = ap status_of f.is
+faulty_status (Reach.shown high reach) bytes refusal (inl f) = ap status_of f.is
 faulty_status (Reach.shown high reach) bytes refusal (inr f) = faulty_status reach bytes refusal f.1
 
 -- ---- saved events

@@ -40,8 +40,10 @@ promises law infrastructure budget report bytes p low kept text typed r written 
       lifted = source.lifted;
       same = source.said;
       paired = source.paired;
+      placed = source.placed;
       ended = source.rests;
       handed = source.handed;
+      locks = λ is. source.locks is r.ran.last r.ran.reaches;
       written = written;
     }
 

@@ -21,7 +21,8 @@ use Rattle.np_words.specs.declared.modes.Infrastructure.{Infrastructure}
 use Rattle.np_words.specs.declared.modes.HighText.{HighText}
 use Rattle.np_words.specs.declared.modes.HighText.TheVariants.{Absent, TwoSteps, OneStep}
 use Rattle.np_verdict.specs.Report.{load_text, report_text}
-use Rattle.np_on_sites.specs.ByInfrastructure.{IsAllHandedBy, IsPairedBy, lift_by}
+use Rattle.simulate_laws.specs.simulation.FreeLocks.{HasFreeLocks}
+use Rattle.np_on_sites.specs.ByInfrastructure.{ArePlacedBy, IsAllHandedBy, IsPairedBy, lift_by}
 use Rattle.np_on_sites.specs.SitesRuns.{IsSitesRun, events_of}
 use Rattle.np_on_sites.specs.declared.record.Record.{Record}
 use Rattle.np_sources.specs.Reaches.{IsLowOf}
@@ -34,15 +35,17 @@ merged kept = events_of (histories.past kept.histories)
 abbrev pub said : Record → List (ℕ × Value)
 said kept = histories.said (histories.past kept.histories)
 
--- Of a source of these bytes and an infrastructure, where each site makes at most so many events; `report` makes a text of the program and what is kept.
-pub record KeepsPromises (infrastructure : Infrastructure) (budget : ℕ) (report : Program → Record → List ℕ) (bytes : List ℕ) (kept : Record) (text : List ℕ) : Type 0 where
+-- Of a source of these bytes and an infrastructure, where each site makes at most so many events; `report` makes a text of the program
+-- and what is kept.
+pub record KeepsPromises (infrastructure : Infrastructure) (budget : ℕ) (report : Program → Record → List ℕ) (bytes : List ℕ)
+    (kept : Record) (text : List ℕ) : Type 0 where
   -- the source is accepted, and this is its low program
   pub low : LowProgram
   pub lowered : IsLowOf infrastructure bytes low
   -- its sites make few events together
   pub few : length low.sites * budget ≤ MOST_EVENTS
-  -- the histories of its sites, each within the budget, are merged a run of it that printed what they have; it is at rest exactly where the record
-  -- says so, and else only sites that have used their whole budget can act
+  -- the histories of its sites, each within the budget, are merged a run of it that printed what they have; it is at rest exactly where
+  -- the record says so, and else only sites that have used their whole budget can act
   pub ran : IsSitesRun low budget (histories.past kept.histories) kept.end
   -- in which no value of a wrong type is met
   pub well : WellAlong (start_low low) (merged kept)
@@ -52,9 +55,13 @@ pub record KeepsPromises (infrastructure : Infrastructure) (budget : ℕ) (repor
   pub same : high.said ≡ said kept
   -- each message to an agent wherever it is was handed over at most once, and as it was sent
   pub paired : IsPairedBy infrastructure (start_low low) (merged kept)
+  -- and one that was not is in its one place
+  pub placed : ArePlacedBy infrastructure (start_low low) (merged kept)
   -- and where the record says that it is at rest, that run has ended, and each message was handed over
   pub ended : kept.end ≡ Rest → Idle high
   pub handed : kept.end ≡ Rest → IsAllHandedBy infrastructure (start_low low) (merged kept)
+  -- and the daemon's lock is free, with the lock of each agent in its map
+  pub locks : kept.end ≡ Rest → HasFreeLocks ran.last high
   -- the text is the report of it
   pub written : text ≡ report lowered.program kept
 
@@ -81,7 +88,8 @@ load_report agents p kept = load_text agents (said kept) kept.end
 
 -- ---- migration in one step
 
--- what is shown with migration in one step is a run of the calculus where it is one step: it prints the same, and at its end everybody has arrived
+-- what is shown with migration in one step is a run of the calculus where it is one step: it prints the same, and at its end everybody
+-- has arrived
 abbrev pub IsShownSo : HighText → Program → List Event → Type 0
 IsShownSo OneStep p events = IsStepped p events (one_step (start_high p) events)
 IsShownSo _ p events = Unit {0}

@@ -91,7 +91,8 @@ high_of (shown.Printed history high) = high
 high_of (shown.Counted agents) = Absent
 
 -- the run of a program on its sites, with its report, is kept, and nothing else
-pub record KeepsRun (infrastructure : Infrastructure) (budget : ℕ) (how : Shown) (p : Program) (kept : Option Record) (high : Option MadeRun) (text : List ℕ) : Type 0 where
+pub record KeepsRun (infrastructure : Infrastructure) (budget : ℕ) (how : Shown) (p : Program) (kept : Option Record)
+    (high : Option MadeRun) (text : List ℕ) : Type 0 where
   pub low : LowProgram
   pub made : Record
   pub ran : RunsOnSites infrastructure budget p low made
@@ -101,7 +102,8 @@ pub record KeepsRun (infrastructure : Infrastructure) (budget : ℕ) (how : Show
   pub is_high : high ≡ None
 
 -- what a run on sites makes is kept, and nothing else
-pub record KeepsSites (infrastructure : Infrastructure) (budget : ℕ) (how : Shown) (bytes : List ℕ) (kept : Option Record) (high : Option MadeRun) (text : List ℕ) : Type 0 where
+pub record KeepsSites (infrastructure : Infrastructure) (budget : ℕ) (how : Shown) (bytes : List ℕ) (kept : Option Record)
+    (high : Option MadeRun) (text : List ℕ) : Type 0 where
   pub made : Record
   pub promises : KeepsPromises infrastructure budget (report_of infrastructure how) bytes made text
   pub free : IsFree (high_of how) bytes
@@ -109,8 +111,8 @@ pub record KeepsSites (infrastructure : Infrastructure) (budget : ℕ) (how : Sh
   pub is_kept : kept ≡ Some made
   pub is_high : high ≡ None
 
--- So it is with a run that goes on from these events, which are one of the low program, and which its sites can go on from: the merged histories begin
--- with them, and what comes behind them is stamped later.
+-- So it is with a run that goes on from these events, which are one of the low program, and which its sites can go on from: the merged
+-- histories begin with them, and what comes behind them is stamped later.
 pub record KeepsResumed (infrastructure : Infrastructure) (budget : ℕ) (how : Shown) (bytes : List ℕ) (events : List Event)
     (kept : Option Record) (high : Option MadeRun) (text : List ℕ) : Type 0 where
   pub keeps : KeepsSites infrastructure budget how bytes kept high text
@@ -119,7 +121,8 @@ pub record KeepsResumed (infrastructure : Infrastructure) (budget : ℕ) (how : 
   pub resumed : IsResumed events (past keeps.made.histories)
 
 -- the run is kept whole, and nothing else
-pub record KeepsHigh (budget : ℕ) (shown : HighText) (bytes : List ℕ) (kept : Option Record) (high : Option MadeRun) (text : List ℕ) : Type 0 where
+pub record KeepsHigh (budget : ℕ) (shown : HighText) (bytes : List ℕ) (kept : Option Record) (high : Option MadeRun)
+    (text : List ℕ) : Type 0 where
   pub made : MadeRun
   pub runs : Runs budget shown bytes made text
   pub is_kept : kept ≡ None
@@ -142,7 +145,8 @@ pub record Checks (bytes : List ℕ) (kept : Option Record) (high : Option MadeR
   pub is_high : high ≡ None
 
 -- the source has a low program, and this is its low text
-pub record Lowers (infrastructure : Infrastructure) (bytes : List ℕ) (kept : Option Record) (high : Option MadeRun) (text : List ℕ) : Type 0 where
+pub record Lowers (infrastructure : Infrastructure) (bytes : List ℕ) (kept : Option Record) (high : Option MadeRun)
+    (text : List ℕ) : Type 0 where
   pub low : LowProgram
   pub lowered : IsLowOf infrastructure bytes low
   pub lowers : text ≡ low_text low
@@ -160,4 +164,5 @@ DoesTask (task.Low infrastructure) bytes kept made text = Lowers infrastructure 
 
 -- the generated source of so many agents was run
 abbrev pub DoesLoad : Infrastructure → ℕ → Option Record → Option MadeRun → List ℕ → Type 0
-DoesLoad infrastructure agents kept made text = KeepsSites infrastructure LOAD_BUDGET (shown.Counted agents) (generated agents) kept made text
+DoesLoad infrastructure agents kept made text = KeepsSites infrastructure LOAD_BUDGET (shown.Counted agents)
+    (generated agents) kept made text

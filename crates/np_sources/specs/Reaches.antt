@@ -1,10 +1,11 @@
 -- How far a source is taken, and what is wrong with one that is not taken so far (docs/COMMANDS.md, "Reports and refusals" and
 -- "Limits").
-use Rattle.std.specs.Prelude.{◌≡◌, ℕ, ◌*◌, ◌<◌, ◌≤◌, ◌⊎◌, List, length, Option, None, Some, slice_get}
+use Rattle.std.specs.Prelude.{◌≡◌, ℕ, ◌*◌, ◌<◌, ◌≤◌, ◌⊎◌, ◌^◌, List, length, Option, None, Some, IsSome, slice_get}
 use Rattle.np_syntax.specs.declared.event.Event.{Event}
 use Rattle.np_syntax.specs.declared.program.LowProgram.{LowProgram}
 use Rattle.np_syntax.specs.declared.program.Program.{Program}
 use Rattle.np_syntax.specs.declared.limits.TheConstants.{MOST_EVENTS}
+use Rattle.np_calculus.specs.Reductions.{run}
 use Rattle.np_calculus.specs.Starts.{start_low}
 use Rattle.np_code.specs.Sizes.{capped, program_nodes}
 use Rattle.np_code.specs.declared.limits.TheConstants.{MOST_CODE_NODES}
@@ -22,7 +23,8 @@ use Rattle.np_words.specs.declared.planning.Task.{Task}
 use Rattle.np_words.specs.declared.planning.Task.TheVariants as task
 use Rattle.np_on_sites.specs.ByInfrastructure.{low_by}
 
--- to its tree, to its program, to a low program that has a code, to a run of that on its sites within a budget, or so far that a high text can be shown of it
+-- to its tree, to its program, to a low program that has a code, to a run of that on its sites within a budget, or so far that a high
+-- text can be shown of it
 pub data Reach : Type 0 where
   tree : Reach
   program : Reach
@@ -113,10 +115,12 @@ abbrev pub FaultyTo : Reach → List ℕ → Refusal → Type 0
 FaultyTo Reach.tree bytes refusal = Faulty Stage.tree bytes refusal
 FaultyTo Reach.program bytes refusal = Faulty Stage.program bytes refusal
 FaultyTo (Reach.low infrastructure) bytes refusal = HasNoLow infrastructure bytes refusal
-FaultyTo (Reach.sites infrastructure budget) bytes refusal = HasNoLow infrastructure bytes refusal ⊎ HasManyEvents infrastructure budget bytes refusal
+FaultyTo (Reach.sites infrastructure budget) bytes refusal = HasNoLow infrastructure bytes refusal
+    ⊎ HasManyEvents infrastructure budget bytes refusal
 FaultyTo (Reach.shown high reach) bytes refusal = IsBarred high bytes refusal ⊎ (IsFree high bytes × FaultyTo reach bytes refusal)
 
--- an accepted program is refused so, where it is to be run on its sites: its low program has too many nodes, or these could make too many events
+-- an accepted program is refused so, where it is to be run on its sites: its low program has too many nodes, or these could make too
+-- many events
 pub record MakesMany (infrastructure : Infrastructure) (budget : ℕ) (p : Program) (refusal : Refusal) : Type 0 where
   pub few : program_nodes (low_by infrastructure p) ≤ MOST_CODE_NODES
   pub many : MOST_EVENTS < length (low_by infrastructure p).sites * budget
@@ -155,4 +159,9 @@ pub record AreNotOurs (budget : ℕ) (low : LowProgram) (events : List Event) (r
 
 -- so it is refused to go on from them
 abbrev pub CannotGoOn : ℕ → LowProgram → List Event → Refusal → Type 0
-CannotGoOn budget q events refusal = CouldMakeMany budget q refusal ⊎ ArePastBudget budget q events refusal ⊎ AreNotOurs budget q events refusal
+CannotGoOn budget q events refusal = CouldMakeMany budget q refusal ⊎ ArePastBudget budget q events refusal
+    ⊎ AreNotOurs budget q events refusal
+
+-- they are no run of the low program from which its sites can go on
+abbrev pub NeverGoesOn : ℕ → LowProgram → List Event → Type 0
+NeverGoesOn budget q events = IsSome (run (start_low q) events) → length events < 2 ^ 32 → CanGoOn budget q events → ⊥

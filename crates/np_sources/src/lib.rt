@@ -7,8 +7,8 @@
 //! are few and which can run; `run_low` runs it in one thread. `Reach` says how far a mode takes a source. No source is both
 //! taken so far and refused, and none is refused in two ways.
 //!
-//! Contracts: `job_of` (`DoesTask`, `KeepsPromises`, `IsShownSo`, `FaultyTo`), `job_redone` (`KeepsResumed`), `load_of`
-//! (`DoesLoad`), `low_of` (`IsLowOf`), `run_low` (`RunsLow`), `law_one_answer` (`HaveOneAnswer`).
+//! Contracts: `job_of` (`DoesTask`, `KeepsPromises`, `IsShownSo`, `FaultyTo`), `job_redone` (`KeepsResumed`), `stop_of`
+//! (`CannotGoOn`), `load_of` (`DoesLoad`), `low_of` (`IsLowOf`), `run_low` (`RunsLow`), `law_one_answer` (`HaveOneAnswer`).
 #![tactic(auto)]
 
 mod high;
@@ -28,7 +28,7 @@ pub use limits::LOAD_BUDGET;
 pub use loads::load_of;
 pub use lowering::{Compiled, compiled_of, low_of};
 pub use np_on_sites::Record;
-pub use resuming::{job_redone, job_resumed};
+pub use resuming::{job_redone, stop_of};
 pub use runs::run_low;
 pub use sites::{Course, Shown};
 pub use sources::job_of;

@@ -33,7 +33,8 @@ pub fn load_of<R: Threads + Wait + Sync, G: Gate>(
     requires within { agents ≤ MOST_AGENTS }
     ensures short { length (generated agents) ≤ LONGEST_SOURCE }
     ensures made { IfOk result (λ job. DoesLoad infrastructure agents job.kept job.high job.text) }
-    ensures refused { IfErr result (λ refusal. refusal ≢ Refusal.Memory → FaultyTo (Reach.sites infrastructure LOAD_BUDGET) (generated agents) refusal) }
+    ensures refused { IfErr result (λ refusal. refusal ≢ Refusal.Memory
+        → FaultyTo (Reach.sites infrastructure LOAD_BUDGET) (generated agents) refusal) }
 {
     let course = Course {
         infrastructure,

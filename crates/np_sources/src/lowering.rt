@@ -1,6 +1,7 @@
 //! The low program of a source.
 
 ghost use Rattle.std.specs.Prelude.{◌≡◌, ◌≢◌, ◌≤◌, length, IfOk, IfErr};
+ghost use Rattle.np_syntax.specs.declared.limits.TheConstants.{MOST_SITES};
 ghost use Rattle.np_calculus.specs.Runs.{RunsWell};
 ghost use Rattle.np_calculus.specs.Starts.{start_low};
 ghost use Rattle.np_check.specs.Faults.{IsAccepted};
@@ -126,6 +127,7 @@ fn translated(
 
 /// The low program itself with its table, where it has one.
 fn coded(alloc: Global, low: LowProgram) -> Result<Lowered, Refusal>
+    requires { length low.sites ≤ MOST_SITES }
     ensures same { IfOk result (λ made. made.low ≡ low) }
     ensures code { IfOk result (λ made. program made.code ≡ made.low) }
     ensures few { IfOk result (λ made. program_nodes made.low ≤ MOST_CODE_NODES) }
@@ -140,6 +142,7 @@ fn coded(alloc: Global, low: LowProgram) -> Result<Lowered, Refusal>
 
 /// The table of a low program, or the refusal where its nodes are too many.
 pub(crate) fn code_of(alloc: Global, low: &LowProgram) -> Result<Code, Refusal>
+    requires { length low.now.sites ≤ MOST_SITES }
     ensures code { IfOk result (λ code. program code ≡ low.now) }
     ensures few { IfOk result (λ _. program_nodes low.now ≤ MOST_CODE_NODES) }
     ensures refused { IfErr result (λ refusal. refusal ≢ Refusal.Memory → HasManyNodes low.now refusal) }

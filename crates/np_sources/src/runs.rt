@@ -64,7 +64,8 @@ fn with_report(
 ) -> Result<(MadeRun, Text), Memory>
     requires free { barred high checked.now ≡ None }
     requires run { HasRun checked.now made.events made.last }
-    ensures { IfOk result (λ both. (both.0 ≡ record { events = made.events; end = made.end }) × IsReportOf high checked.now made.events made.last made.end both.1) }
+    ensures { IfOk result (λ both. (both.0 ≡ record { events = made.events; end = made.end })
+        × IsReportOf high checked.now made.events made.last made.end both.1) }
 {
     let text = report_of(alloc, high, checked, &made);
     reported(made, text)
@@ -138,7 +139,8 @@ fn with_low_report(
     low: &LowProgram,
     made: SerialRun,
 ) -> Result<(MadeRun, Text), Memory>
-    ensures { IfOk result (λ both. (both.0 ≡ record { events = made.events; end = made.end }) × (both.1 ≡ report_text low.now.sites made.last.said [] made.end)) }
+    ensures { IfOk result (λ both. (both.0 ≡ record { events = made.events; end = made.end })
+        × (both.1 ≡ report_text low.now.sites made.last.said [] made.end)) }
 {
     let text = report(alloc, &low.sites, made.last.get().said(), b"", made.end);
     reported(made, text)

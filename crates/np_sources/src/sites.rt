@@ -18,7 +18,7 @@ use super::lowering::{Lowered, low_with_code};
 use history_text::write_in;
 use np_check::Checked;
 use np_lift::lift_cached;
-use np_on_sites::{Gate, Record, law_source_runs, run_on_sites};
+use np_on_sites::{Gate, Record, law_low_runs_safely, law_source_runs, run_on_sites};
 use np_syntax::{Event, LARGEST_BUDGET, LONGEST_SOURCE, List, MOST_EVENTS, Memory, Text};
 use np_verdict::{Refusal, load_report, report};
 use np_words::{HighText, Infrastructure, Links, format_for};
@@ -68,7 +68,8 @@ pub(crate) fn job_on_sites<R: Threads + Wait + Sync, G: Gate>(
     requires some { 1 ≤ course.budget }
     requires within { course.budget ≤ LARGEST_BUDGET }
     ensures made { IfOk result (λ job. KeepsSites course.infrastructure course.budget shown bytes.now job.kept job.high job.text) }
-    ensures refused { IfErr result (λ refusal. refusal ≢ Refusal.Memory → FaultyTo (Reach.shown (high_of shown) (Reach.sites course.infrastructure course.budget)) bytes.now refusal) }
+    ensures refused { IfErr result (λ refusal. refusal ≢ Refusal.Memory
+        → FaultyTo (Reach.shown (high_of shown) (Reach.sites course.infrastructure course.budget)) bytes.now refusal) }
 {
     law_source_runs();
     let checked = checked_to_run(alloc, course, shown, bytes)?;
@@ -87,7 +88,8 @@ fn checked_to_run(
     requires { length bytes.now ≤ LONGEST_SOURCE }
     ensures found { IfOk result (IsWellTyped bytes.now) }
     ensures free { IfOk result (λ checked. barred (high_of shown) checked ≡ None) }
-    ensures refused { IfErr result (λ refusal. refusal ≢ Refusal.Memory → FaultyTo (Reach.shown (high_of shown) (Reach.sites _course.infrastructure _course.budget)) bytes.now refusal) }
+    ensures refused { IfErr result (λ refusal. refusal ≢ Refusal.Memory
+        → FaultyTo (Reach.shown (high_of shown) (Reach.sites _course.infrastructure _course.budget)) bytes.now refusal) }
 {
     checked_for(alloc, high_of(shown), bytes)
 }
@@ -105,7 +107,8 @@ fn job_of_program<R: Threads + Wait + Sync, G: Gate>(
     requires some { 1 ≤ course.budget }
     requires within { course.budget ≤ LARGEST_BUDGET }
     ensures made { IfOk result (λ job. KeepsRun course.infrastructure course.budget shown checked.now job.kept job.high job.text) }
-    ensures refused { IfErr result (λ refusal. refusal ≢ Refusal.Memory → CannotRun course.infrastructure course.budget checked.now refusal) }
+    ensures refused { IfErr result (λ refusal. refusal ≢ Refusal.Memory
+        → CannotRun course.infrastructure course.budget checked.now refusal) }
 {
     law_source_runs();
     let kept = run_of(alloc, rt, gate, course, checked)?;
@@ -151,8 +154,10 @@ fn run_of<R: Threads + Wait + Sync, G: Gate>(
 ) -> Result<Record, Refusal>
     requires some { 1 ≤ course.budget }
     requires within { course.budget ≤ LARGEST_BUDGET }
-    ensures made { IfOk result (λ kept. RunsOnSites course.infrastructure course.budget checked.now (low_by course.infrastructure checked.now) kept) }
-    ensures refused { IfErr result (λ refusal. refusal ≢ Refusal.Memory → CannotRun course.infrastructure course.budget checked.now refusal) }
+    ensures made { IfOk result (λ kept. RunsOnSites course.infrastructure course.budget checked.now
+        (low_by course.infrastructure checked.now) kept) }
+    ensures refused { IfErr result (λ refusal. refusal ≢ Refusal.Memory
+        → CannotRun course.infrastructure course.budget checked.now refusal) }
 {
     let Course {
         infrastructure,
@@ -160,6 +165,7 @@ fn run_of<R: Threads + Wait + Sync, G: Gate>(
         serial,
         links,
     } = course;
+    law_low_runs_safely();
     let Lowered { low, code } = lowered_within(alloc, infrastructure, budget, checked)?;
     let made = run_on_sites(alloc, rt, gate, &low, code, budget, serial, links);
     drop(low);
@@ -266,7 +272,8 @@ fn between(
 ) -> Result<Text, Memory>
     requires free { barred high checked.now ≡ None }
     requires run { IsSome (run (start_high checked.now) (lift_by infrastructure events.now)) }
-    ensures text { IfOk result (λ text. text ≡ history_part infrastructure history events.now ++ high_part high (start_high checked.now) (lift_by infrastructure events.now)) }
+    ensures text { IfOk result (λ text. text ≡ history_part infrastructure history events.now
+        ++ high_part high (start_high checked.now) (lift_by infrastructure events.now)) }
     ensures shown { IfOk result (λ _. IsShownSo high checked.now (lift_by infrastructure events.now)) }
 {
     let mut text = history_part(alloc, infrastructure, history, events)?;

@@ -59,7 +59,8 @@ module _ {S : Type 0} where
 
   -- the same, where one mark is in the line of another errand too
   pub record InLinesAnd (work : Work) (lines : IndexMap Errand NameSet S) (e : Errand) (mark : Name) : Type 0 where
-    pub at : (f : Errand) (q : Name) → set.contains (line_of lines f) q ≡ (is_filed (map.get work q) f || (same_errand e f && same_name q mark))
+    pub at : (f : Errand) (q : Name) → set.contains (line_of lines f) q
+        ≡ (is_filed (map.get work q) f || (same_errand e f && same_name q mark))
 
 module _ {S : Type 0} where
   -- the meeting is among the busy ones

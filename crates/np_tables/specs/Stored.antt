@@ -25,7 +25,8 @@ stored_code {X} x =
 
 abbrev pub stored_names_code : Coded StoredNames
 stored_names_code =
-    code_by (NameSet × ℕ) (coded× (set.code name.the_row.coded) coded_ℕ) (λ s. (s.members, s.spare)) (λ p. record { members = p.0; spare = p.1 }) (λ _. refl)
+    code_by (NameSet × ℕ) (coded× (set.code name.the_row.coded) coded_ℕ) (λ s. (s.members, s.spare))
+    (λ p. record { members = p.0; spare = p.1 }) (λ _. refl)
 
 -- the name stands in the list, at an index
 pub record Stands (names : List Name) (q : Name) : Type 0 where

@@ -223,7 +223,8 @@ impl Lines {
 fn open(lines: &Lines, busy: &mut IndexSet<Meeting>, errand: Errand) -> bool
     requires room { 0 < index_set.spare busy.old }
     requires own { has_some (line_of lines.now errand) ≡ true }
-    ensures busy { (meeting : Meeting) → is_busy busy.new meeting ≡ (is_busy busy.old meeting || (is_at errand meeting && has_both lines.now meeting)) }
+    ensures busy { (meeting : Meeting) → is_busy busy.new meeting
+        ≡ (is_busy busy.old meeting || (is_at errand meeting && has_both lines.now meeting)) }
     ensures told { (meeting : Meeting) → Some meeting ≡ meeting_of errand → result ≡ has_both lines.now meeting }
 {
     let Some(meeting) = errand.meeting() else {
@@ -275,7 +276,8 @@ impl ByErrand {
         ensures ok { OnOk result (SetsLine self.old.lines self.new.lines errand (set.insert (line_of self.old.lines errand) mark)) }
         ensures err { OnErr result (SameLines self.old.lines self.new.lines) }
         ensures busy { BusyAt self.new.lines self.new.busy }
-        ensures told { (meeting : Meeting) → Some meeting ≡ meeting_of errand → IfOk result (λ told. told ≡ has_both self.new.lines meeting) }
+        ensures told { (meeting : Meeting) → Some meeting ≡ meeting_of errand
+            → IfOk result (λ told. told ≡ has_both self.new.lines meeting) }
     {
         self.busy.reserve(1)?;
         self.lines.enter(errand, mark)?;

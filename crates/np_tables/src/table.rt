@@ -1,4 +1,5 @@
-ghost use Rattle.std.specs.Prelude.{◌≡◌, ◌<◌, ◌≤◌, ◌+◌, ◌↔◌, length, slice_index_or, OnOk, OnErr, IsOk, IsSome, IfSome, IsTrue, is_some, Some};
+ghost use Rattle.std.specs.Prelude.{◌≡◌, ◌<◌, ◌≤◌, ◌+◌, ◌↔◌, length, slice_index_or, OnOk, OnErr, IsOk, IsSome, IfSome, IsTrue, is_some};
+ghost use Rattle.std.specs.Prelude.{Some};
 ghost use Rattle.std.specs.Option.{option_copied, option_copied_mut};
 ghost use Rattle.std.specs.Borrow.{sem};
 ghost use Rattle.std.specs.FinMap as map;
@@ -31,7 +32,11 @@ impl<V> Model for Table<V> {
 
     ghost coded = { stored_code V.code };
 
-    ghost view = { λ table. record { items = map_of table.entries.entries; spare = indexed.spare table.entries; keys = indexed.keys table.entries } };
+    ghost view = { λ table. record {
+      items = map_of table.entries.entries;
+      spare = indexed.spare table.entries;
+      keys = indexed.keys table.entries;
+    } };
 }
 
 impl<V> Table<V> {

@@ -1,5 +1,7 @@
 //! Tables of nodes, each of which gives back the low program that it was made of.
 
+ghost use Rattle.std.specs.Prelude.{◌<◌, ◌^◌, length};
+
 use super::sources::{LETTER, SHOP, TOUR, checked};
 use daemon_encode::encode;
 use np_check::Checked;
@@ -18,7 +20,9 @@ fn text_of(alloc: Global, code: &Code) -> Result<Text, Memory> {
 }
 
 /// The text of a low program, by way of its table.
-fn text_by_table(alloc: Global, low: &LowProgram) -> Result<Text, Memory> {
+fn text_by_table(alloc: Global, low: &LowProgram) -> Result<Text, Memory>
+    requires { length low.now.sites < 2 ^ 32 }
+{
     match flatten(alloc, low) {
         Ok(code) => {
             let text = text_of(alloc, &code);
@@ -30,7 +34,9 @@ fn text_by_table(alloc: Global, low: &LowProgram) -> Result<Text, Memory> {
 }
 
 /// Whether a low program has the same text by way of its table.
-fn comes_back(alloc: Global, low: &LowProgram) -> Result<bool, Memory> {
+fn comes_back(alloc: Global, low: &LowProgram) -> Result<bool, Memory>
+    requires { length low.now.sites < 2 ^ 32 }
+{
     let text = print_low(alloc, low)?;
     let again = text_by_table(alloc, low)?;
     let same = text.as_slice() == again.as_slice();
@@ -41,6 +47,7 @@ fn comes_back(alloc: Global, low: &LowProgram) -> Result<bool, Memory> {
 
 /// The same of that of a program.
 fn encoded_comes_back(alloc: Global, program: &Checked) -> Result<bool, Memory> {
+    let _ = program.program();
     let low = encode(alloc, program)?;
     let same = comes_back(alloc, &low);
     drop(low);

@@ -15,7 +15,8 @@ pub(crate) const TOUR: &str =
     migrate to s1 -> (<main@?>r!1 | migrate to s2 -> (<main@?>r!2 | migrate to s3 -> (<main@?>r!3 | migrate to s4 -> (<main@?>r!4 | \
     migrate to s5 -> (<main@?>r!5 | migrate to s6 -> (<main@?>r!6 | migrate to s7 -> (<main@?>r!7 | migrate to s0 -> (<main@?>r!8 | \
     migrate to s1 -> (<main@?>r!9 | migrate to s2 -> (<main@?>r!10 | migrate to s3 -> (<main@?>r!11 | migrate to s4 -> (<main@?>r!12 | \
-    migrate to s5 -> (<main@?>r!13 | migrate to s6 -> (<main@?>r!14 | migrate to s7 -> (<main@?>r!15 | migrate to s0 -> (<main@?>r!16 | 0)))))))))))))))) in 0)";
+    migrate to s5 -> (<main@?>r!13 | migrate to s6 -> (<main@?>r!14 | migrate to s7 -> (<main@?>r!15 | \
+    migrate to s0 -> (<main@?>r!16 | 0)))))))))))))))) in 0)";
 
 /// A buyer asks shops at their sites, and a clerk from there.
 pub(crate) const SHOP: &str = "sites home shop1 shop2 shop3 ; main at home = \

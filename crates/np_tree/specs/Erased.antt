@@ -3,13 +3,15 @@ use Rattle.std.specs.Prelude.{List, [], ◌∷◌, map}
 use Rattle.np_tree.specs.declared.tree.Ident.{Ident}
 use Rattle.np_tree.specs.declared.tree.Tree.{Tree}
 use Rattle.np_tree.specs.declared.tree.RawExpr.{RawExpr}
-use Rattle.np_tree.specs.declared.tree.RawExprForm.{RawExprForm, Val, Main, Var, Tuple', Bin', Row_of-RawExpr, end_of-RawExpr, more_of-RawExpr, Row_of-RawExprForm, end_of-RawExprForm, more_of-RawExprForm}
+use Rattle.np_tree.specs.declared.tree.RawExprForm.{RawExprForm, Val, Main, Var, Tuple', Bin', Row_of-RawExpr, end_of-RawExpr}
+use Rattle.np_tree.specs.declared.tree.RawExprForm.{more_of-RawExpr, Row_of-RawExprForm, end_of-RawExprForm, more_of-RawExprForm}
 use Rattle.np_tree.specs.declared.tree.RawExprForm as expr
 use Rattle.np_tree.specs.declared.tree.RawPat.{RawPat}
 use Rattle.np_tree.specs.declared.tree.RawPatForm as pat
 use Rattle.np_tree.specs.declared.tree.RawPatForm.{RawPatForm, Row_of-RawPat, end_of-RawPat, more_of-RawPat}
 use Rattle.np_tree.specs.declared.tree.RawProc.{RawProc}
-use Rattle.np_tree.specs.declared.tree.RawProcForm.{RawProcForm, Stop, Par', New', Out, Inp', Rep', Agent', Migrate', IfLocal', Send, Post, If', Let', Print, Row_of-RawProcForm, end_of-RawProcForm, more_of-RawProcForm}
+use Rattle.np_tree.specs.declared.tree.RawProcForm.{RawProcForm, Stop, Par', New', Out, Inp', Rep', Agent', Migrate', IfLocal', Send, Post}
+use Rattle.np_tree.specs.declared.tree.RawProcForm.{If', Let', Print, Row_of-RawProcForm, end_of-RawProcForm, more_of-RawProcForm}
 use Rattle.np_tree.specs.declared.tree.RawProcForm as form
 use Rattle.np_tree.specs.Grammar.{ident, expression, pattern, process}
 
@@ -64,7 +66,8 @@ abbrev mutual
   erased_proc_form (Rep' c q _ a p) = form.Rep (erased_ident c) (erased_pat q) (process 0 (erased_part p))
   erased_proc_form (Agent' c _ a p _ b q) = form.Agent (erased_ident c) (process 0 (erased_part p)) (process 0 (erased_part q))
   erased_proc_form (Migrate' x _ a p) = form.Migrate (erased_expr x) (process 0 (erased_part p))
-  erased_proc_form (IfLocal' x c z _ a p _ b q) = form.IfLocal (erased_expr x) (erased_ident c) (erased_expr z) (process 0 (erased_part p)) (process 0 (erased_part q))
+  erased_proc_form (IfLocal' x c z _ a p _ b q) = form.IfLocal (erased_expr x) (erased_ident c) (erased_expr z) (process 0 (erased_part p))
+      (process 0 (erased_part q))
   erased_proc_form (Send x y c z) = Send (erased_expr x) (erased_expr y) (erased_ident c) (erased_expr z)
   erased_proc_form (Post x c z) = Post (erased_expr x) (erased_ident c) (erased_expr z)
   erased_proc_form (If' x _ a p _ b q) = form.If (erased_expr x) (process 0 (erased_part p)) (process 0 (erased_part q))

@@ -67,12 +67,14 @@ mutual
 
   -- chan = ("^" | "?" | "!") type
   pub data IsChan : ℕ → List Token → Ty → Type 0 where
-    carries : {d at end : ℕ} {c : Cap} {ts : List Token} {t : Ty} → IsType d ts t → IsChan (suc d) (sign_at at end (cap_sign c) ∷ ts) (ty.Chan c t)
+    carries : {d at end : ℕ} {c : Cap} {ts : List Token} {t : Ty} → IsType d ts t
+        → IsChan (suc d) (sign_at at end (cap_sign c) ∷ ts) (ty.Chan c t)
 
   -- {type}, no more than the first number
   pub data AreTypes : ℕ → ℕ → List Token → List Ty → Type 0 where
     none : {room d : ℕ} → AreTypes room d [] []
-    part : {room d : ℕ} {ts us : List Token} {x : Ty} {xs : List Ty} → AreTypes room d us xs → IsType d ts x → AreTypes (suc room) d (us ++ ts) (xs ++ x ∷ [])
+    part : {room d : ℕ} {ts us : List Token} {x : Ty} {xs : List Ty} → AreTypes room d us xs → IsType d ts x
+        → AreTypes (suc room) d (us ++ ts) (xs ++ x ∷ [])
 
 -- ---- patterns
 
@@ -87,7 +89,8 @@ mutual
   -- {pat}, no more than the first number
   pub data ArePats : ℕ → ℕ → List Token → List RawPat → Type 0 where
     none : {room d : ℕ} → ArePats room d [] []
-    part : {room d : ℕ} {ts us : List Token} {x : RawPat} {xs : List RawPat} → ArePats room d us xs → IsPat d ts x → ArePats (suc room) d (us ++ ts) (xs ++ x ∷ [])
+    part : {room d : ℕ} {ts us : List Token} {x : RawPat} {xs : List RawPat} → ArePats room d us xs → IsPat d ts x
+        → ArePats (suc room) d (us ++ ts) (xs ++ x ∷ [])
 
 -- ---- expressions
 
@@ -114,7 +117,8 @@ mutual
     literal : {d at end : ℕ} {w : What} {v : Value} → IsLiteral w v → IsAtom (suc d) (token at end w ∷ []) (expression at (expr.Val v))
     main : {d at end : ℕ} → IsAtom (suc d) (word_at at end key.Main ∷ []) (expression at expr.Main)
     variable : {d at end : ℕ} {text : List ℕ} → IsAtom (suc d) (name_at at end text ∷ []) (expression at (expr.Var (ident at text)))
-    round : {d at end : ℕ} {ts : List Token} {x : RawExpr} (a b : ℕ) → IsExpr d ts x → IsAtom (suc d) (sign_at at end sign.RoundOpen ∷ (ts ++ sign_at a b sign.RoundClose ∷ [])) x
+    round : {d at end : ℕ} {ts : List Token} {x : RawExpr} (a b : ℕ) → IsExpr d ts x
+        → IsAtom (suc d) (sign_at at end sign.RoundOpen ∷ (ts ++ sign_at a b sign.RoundClose ∷ [])) x
     tuple : {d at end : ℕ} {ts : List Token} {xs : List RawExpr} (a b : ℕ) → AreExprs MOST_PARTS d ts xs
         → IsAtom (suc d) (sign_at at end sign.SquareOpen ∷ (ts ++ sign_at a b sign.SquareClose ∷ [])) (expression at (expr.Tuple xs))
 
@@ -139,7 +143,8 @@ mutual
   -- {expr}, no more than the first number
   pub data AreExprs : ℕ → ℕ → List Token → List RawExpr → Type 0 where
     none : {room d : ℕ} → AreExprs room d [] []
-    part : {room d : ℕ} {ts us : List Token} {x : RawExpr} {xs : List RawExpr} → AreExprs room d us xs → IsExpr d ts x → AreExprs (suc room) d (us ++ ts) (xs ++ x ∷ [])
+    part : {room d : ℕ} {ts us : List Token} {x : RawExpr} {xs : List RawExpr} → AreExprs room d us xs → IsExpr d ts x
+        → AreExprs (suc room) d (us ++ ts) (xs ++ x ∷ [])
 
 -- ---- processes. The first number is how deep each expression, pattern and type in them may be.
 
@@ -151,44 +156,63 @@ mutual
     bracket : {d at end : ℕ} {ts : List Token} {x : RawProc} (a b : ℕ) → AreMany limit at d ts x
         → IsProc limit d (sign_at at end sign.RoundOpen ∷ (ts ++ sign_at a b sign.RoundClose ∷ [])) x
     -- "new" NAME ":" chan "in" proc
-    channel : {d at end m n i j : ℕ} {text : List ℕ} {ts us : List Token} {t : Ty} {x : RawProc} (a b : ℕ) → IsChan limit ts t → IsProc limit d us x
-        → IsProc limit (suc d) (word_at at end key.New ∷ name_at m n text ∷ sign_at i j sign.Colon ∷ (ts ++ word_at a b key.In ∷ us)) (process at (form.New (ident m text) t x))
+    channel : {d at end m n i j : ℕ} {text : List ℕ} {ts us : List Token} {t : Ty} {x : RawProc} (a b : ℕ) → IsChan limit ts t
+        → IsProc limit d us x
+        → IsProc limit (suc d) (word_at at end key.New ∷ name_at m n text ∷ sign_at i j sign.Colon ∷ (ts ++ word_at a b key.In ∷ us))
+        (process at (form.New (ident m text) t x))
     -- NAME "!" expr
     output : {d at end a b : ℕ} {text : List ℕ} {ts : List Token} {x : RawExpr} → IsExpr limit ts x
         → IsProc limit (suc d) (name_at at end text ∷ sign_at a b sign.Bang ∷ ts) (process at (form.Out (ident at text) x))
     -- NAME "?" pat "->" proc
-    input : {d at end m n : ℕ} {text : List ℕ} {ts us : List Token} {p : RawPat} {x : RawProc} (a b : ℕ) → IsPat limit ts p → IsProc limit d us x
-        → IsProc limit (suc d) (name_at at end text ∷ sign_at m n sign.Query ∷ (ts ++ sign_at a b sign.Arrow ∷ us)) (process at (form.Inp (ident at text) p x))
+    input : {d at end m n : ℕ} {text : List ℕ} {ts us : List Token} {p : RawPat} {x : RawProc} (a b : ℕ) → IsPat limit ts p
+        → IsProc limit d us x
+        → IsProc limit (suc d) (name_at at end text ∷ sign_at m n sign.Query ∷ (ts ++ sign_at a b sign.Arrow ∷ us))
+        (process at (form.Inp (ident at text) p x))
     -- "*" NAME "?" pat "->" proc
-    replicated : {d at end m n i j : ℕ} {text : List ℕ} {ts us : List Token} {p : RawPat} {x : RawProc} (a b : ℕ) → IsPat limit ts p → IsProc limit d us x
-        → IsProc limit (suc d) (sign_at at end sign.Star ∷ name_at m n text ∷ sign_at i j sign.Query ∷ (ts ++ sign_at a b sign.Arrow ∷ us)) (process at (form.Rep (ident m text) p x))
+    replicated : {d at end m n i j : ℕ} {text : List ℕ} {ts us : List Token} {p : RawPat} {x : RawProc} (a b : ℕ) → IsPat limit ts p
+        → IsProc limit d us x
+        → IsProc limit (suc d) (sign_at at end sign.Star ∷ name_at m n text ∷ sign_at i j sign.Query ∷ (ts ++ sign_at a b sign.Arrow ∷ us))
+        (process at (form.Rep (ident m text) p x))
     -- "agent" NAME "=" proc "in" proc
-    agent : {d at end m n i j : ℕ} {text : List ℕ} {ts us : List Token} {x y : RawProc} (a b : ℕ) → IsProc limit d ts x → IsProc limit d us y
-        → IsProc limit (suc d) (word_at at end key.AgentWord ∷ name_at m n text ∷ sign_at i j sign.Equals ∷ (ts ++ word_at a b key.In ∷ us)) (process at (form.Agent (ident m text) x y))
+    agent : {d at end m n i j : ℕ} {text : List ℕ} {ts us : List Token} {x y : RawProc} (a b : ℕ) → IsProc limit d ts x
+        → IsProc limit d us y
+        → IsProc limit (suc d) (word_at at end key.AgentWord ∷ name_at m n text ∷ sign_at i j sign.Equals
+        ∷ (ts ++ word_at a b key.In ∷ us)) (process at (form.Agent (ident m text) x y))
     -- "migrate" "to" expr "->" proc
     migrate : {d at end m n : ℕ} {ts us : List Token} {x : RawExpr} {y : RawProc} (a b : ℕ) → IsExpr limit ts x → IsProc limit d us y
-        → IsProc limit (suc d) (word_at at end key.Migrate ∷ word_at m n key.To ∷ (ts ++ sign_at a b sign.Arrow ∷ us)) (process at (form.Migrate x y))
+        → IsProc limit (suc d) (word_at at end key.Migrate ∷ word_at m n key.To ∷ (ts ++ sign_at a b sign.Arrow ∷ us))
+        (process at (form.Migrate x y))
     -- "iflocal" "<" atom ">" NAME "!" expr "then" proc "else" proc
     iflocal : {d at end m n : ℕ} {text : List ℕ} {ts us vs ws : List Token} {x z : RawExpr} {p q : RawProc} (a b i j e f g h k l : ℕ)
         → IsAtom limit ts x → IsExpr limit us z → IsProc limit d vs p → IsProc limit d ws q
-        → IsProc limit (suc d) (word_at at end key.IfLocal ∷ sign_at m n sign.Less ∷ (ts ++ sign_at a b sign.Greater ∷ name_at i j text ∷ sign_at e f sign.Bang
+        → IsProc limit (suc d) (word_at at end key.IfLocal ∷ sign_at m n sign.Less
+        ∷ (ts ++ sign_at a b sign.Greater ∷ name_at i j text ∷ sign_at e f sign.Bang
         ∷ (us ++ word_at g h key.Then ∷ (vs ++ word_at k l key.Else ∷ ws)))) (process at (form.IfLocal x (ident i text) z p q))
     -- "<" atom "@" "?" ">" NAME "!" expr
-    post : {d at end : ℕ} {text : List ℕ} {ts us : List Token} {x z : RawExpr} (a b m n i j e f g h : ℕ) → IsAtom limit ts x → IsExpr limit us z
-        → IsProc limit (suc d) (sign_at at end sign.Less ∷ (ts ++ sign_at a b sign.At ∷ sign_at m n sign.Query ∷ sign_at i j sign.Greater ∷ name_at e f text
+    post : {d at end : ℕ} {text : List ℕ} {ts us : List Token} {x z : RawExpr} (a b m n i j e f g h : ℕ) → IsAtom limit ts x
+        → IsExpr limit us z
+        → IsProc limit (suc d) (sign_at at end sign.Less
+        ∷ (ts ++ sign_at a b sign.At ∷ sign_at m n sign.Query ∷ sign_at i j sign.Greater ∷ name_at e f text
         ∷ sign_at g h sign.Bang ∷ us)) (process at (form.Post x (ident e text) z))
     -- "<" atom "@" atom ">" NAME "!" expr
-    send : {d at end : ℕ} {text : List ℕ} {ts us vs : List Token} {x y z : RawExpr} (a b i j e f g h : ℕ) → IsAtom limit ts x → IsAtom limit us y → IsExpr limit vs z
-        → IsProc limit (suc d) (sign_at at end sign.Less ∷ (ts ++ sign_at a b sign.At ∷ (us ++ sign_at i j sign.Greater ∷ name_at e f text ∷ sign_at g h sign.Bang ∷ vs)))
+    send : {d at end : ℕ} {text : List ℕ} {ts us vs : List Token} {x y z : RawExpr} (a b i j e f g h : ℕ) → IsAtom limit ts x
+        → IsAtom limit us y → IsExpr limit vs z
+        → IsProc limit (suc d) (sign_at at end sign.Less
+        ∷ (ts ++ sign_at a b sign.At ∷ (us ++ sign_at i j sign.Greater ∷ name_at e f text ∷ sign_at g h sign.Bang ∷ vs)))
         (process at (form.Send x y (ident e text) z))
     -- "if" expr "then" proc "else" proc
-    test : {d at end : ℕ} {ts us vs : List Token} {x : RawExpr} {p q : RawProc} (a b i j : ℕ) → IsExpr limit ts x → IsProc limit d us p → IsProc limit d vs q
-        → IsProc limit (suc d) (word_at at end key.If ∷ (ts ++ word_at a b key.Then ∷ (us ++ word_at i j key.Else ∷ vs))) (process at (form.If x p q))
+    test : {d at end : ℕ} {ts us vs : List Token} {x : RawExpr} {p q : RawProc} (a b i j : ℕ) → IsExpr limit ts x → IsProc limit d us p
+        → IsProc limit d vs q
+        → IsProc limit (suc d) (word_at at end key.If ∷ (ts ++ word_at a b key.Then ∷ (us ++ word_at i j key.Else ∷ vs)))
+        (process at (form.If x p q))
     -- "let" pat "=" expr "in" proc
-    bind : {d at end : ℕ} {ts us vs : List Token} {p : RawPat} {x : RawExpr} {y : RawProc} (a b i j : ℕ) → IsPat limit ts p → IsExpr limit us x → IsProc limit d vs y
-        → IsProc limit (suc d) (word_at at end key.Let ∷ (ts ++ sign_at a b sign.Equals ∷ (us ++ word_at i j key.In ∷ vs))) (process at (form.Let p x y))
+    bind : {d at end : ℕ} {ts us vs : List Token} {p : RawPat} {x : RawExpr} {y : RawProc} (a b i j : ℕ) → IsPat limit ts p
+        → IsExpr limit us x → IsProc limit d vs y
+        → IsProc limit (suc d) (word_at at end key.Let ∷ (ts ++ sign_at a b sign.Equals ∷ (us ++ word_at i j key.In ∷ vs)))
+        (process at (form.Let p x y))
     -- "print" expr
-    print : {d at end : ℕ} {ts : List Token} {x : RawExpr} → IsExpr limit ts x → IsProc limit (suc d) (word_at at end key.Print ∷ ts) (process at (form.Print x))
+    print : {d at end : ℕ} {ts : List Token} {x : RawExpr} → IsExpr limit ts x
+        → IsProc limit (suc d) (word_at at end key.Print ∷ ts) (process at (form.Print x))
 
   -- the processes of the bracket that stands at the offset, grouped to the left
   pub data AreMany (limit : ℕ) : ℕ → ℕ → List Token → RawProc → Type 0 where
@@ -202,11 +226,14 @@ mutual
 -- NAME {NAME}
 pub data AreSites : List Token → List Ident → Type 0 where
   one : {at end : ℕ} {text : List ℕ} → AreSites (name_at at end text ∷ []) (ident at text ∷ [])
-  more : {ts : List Token} {xs : List Ident} (at end : ℕ) (text : List ℕ) → AreSites ts xs → AreSites (ts ++ name_at at end text ∷ []) (xs ++ ident at text ∷ [])
+  more : {ts : List Token} {xs : List Ident} (at end : ℕ) (text : List ℕ) → AreSites ts xs
+      → AreSites (ts ++ name_at at end text ∷ []) (xs ++ ident at text ∷ [])
 
 -- program = "sites" NAME {NAME} ";" "main" "at" NAME "=" proc End, where each process, expression, pattern and type is so
 -- deep at most
 pub data IsProgram : ℕ → List Token → Tree → Type 0 where
-  program : {d at end : ℕ} {text : List ℕ} {ts us : List Token} {sites : List Ident} {x : RawProc} (a b e f g h i j k l m n : ℕ) → AreSites ts sites → IsProc d d us x
-      → IsProgram d (word_at at end key.Sites ∷ (ts ++ sign_at a b sign.Semi ∷ word_at e f key.Main ∷ word_at g h key.At ∷ name_at i j text ∷ sign_at k l sign.Equals
+  program : {d at end : ℕ} {text : List ℕ} {ts us : List Token} {sites : List Ident} {x : RawProc} (a b e f g h i j k l m n : ℕ)
+      → AreSites ts sites → IsProc d d us x
+      → IsProgram d (word_at at end key.Sites ∷ (ts ++ sign_at a b sign.Semi ∷ word_at e f key.Main ∷ word_at g h key.At ∷ name_at i j text
+      ∷ sign_at k l sign.Equals
       ∷ (us ++ token m n what.End ∷ []))) (record { sites = sites; at = ident i text; main = x })

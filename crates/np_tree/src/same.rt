@@ -108,7 +108,8 @@ fn same_message(c: &Ident, x: &RawExpr, d: &Ident, y: &RawExpr) -> bool
 }
 
 fn same_errand(b: &RawExpr, c: &Ident, x: &RawExpr, a: &RawExpr, d: &Ident, y: &RawExpr) -> bool
-    ensures { IsTrue result ↔ ((erased_expr b.now ≡ erased_expr a.now) × (erased_ident c.now ≡ erased_ident d.now) × (erased_expr x.now ≡ erased_expr y.now)) }
+    ensures { IsTrue result ↔ ((erased_expr b.now ≡ erased_expr a.now) × (erased_ident c.now ≡ erased_ident d.now)
+        × (erased_expr x.now ≡ erased_expr y.now)) }
 {
     same_expr(b, a) && same_message(c, x, d, y)
 }

@@ -1,2 +1,3 @@
 pub mod Verdicts
 mod Totals
+mod Resolving

@@ -1,5 +1,6 @@
 -- A source is accepted or refused, and refused in one way alone.
-use Rattle.std.proofs.Common.{◌≡◌, ℕ, ◌⊎◌, inl, inr, List, [], ◌∷◌, ◌++◌, Result, Ok, Err, drop, append_assoc, refl, sym, subst, ap, ◌∙◌, arith}
+use Rattle.std.proofs.Common.{◌≡◌, ◌≢◌, ◌==◌, ℕ, Bool, true, false, if◌then◌else◌, ◌⊎◌, inl, inr, List, [], ◌∷◌, ◌++◌, Result, Ok, Err, drop, append_assoc, refl, sym, subst, ap, ◌∙◌, arith}
+use Rattle.std.specs.Char.{is_ascii_digit}
 use Rattle.np_syntax.specs.declared.program.Program.{Program}
 use Rattle.np_syntax.specs.declared.limits.TheConstants.{DEEPEST}
 use Rattle.np_lex.specs.declared.fail.LexFail.{LexFail}
@@ -21,12 +22,14 @@ use Rattle.np_parse.proofs.SoundPrograms.{shorter}
 use Rattle.np_scope.specs.declared.fail.ScopeFail.{ScopeFail}
 use Rattle.np_scope.specs.declared.fail.ScopeFail.TheVariants as scope
 use Rattle.np_scope.specs.Resolved.{resolved}
+use Rattle.np_scope.proofs.FromGrammar.{written}
 use Rattle.np_types.specs.declared.fault.TypeFault.{TypeFault as FirstFault}
 use Rattle.np_check.specs.Faults.{faults}
 use Rattle.np_verdict.specs.Faults.{Stage, HasProgram, HasNoTree, HasNoProgram, IsIllTyped, IsWellTyped, IsNoProgram, Wrong, Accepted, Faulty, of_tokens, of_grammar, of_scope}
 use Rattle.np_verdict.specs.Lines.{status_of}
 use Rattle.np_verdict.specs.declared.refusal.Refusal.{Refusal}
 use Rattle.np_verdict.specs.declared.refusal.Refusal.TheVariants.{Usage, TooLong, TypeFault}
+use Rattle.np_verdict.proofs.Resolving.{resolving-tells}
 
 -- ---- two cuts of one list
 
@@ -234,40 +237,45 @@ not_long = not_source TooLong long_tokens long_grammar long_scope (λ fault e. c
 
 -- ---- the status of what is wrong with a source
 
-abbrev IsOfSource : ℕ → Type 0
-IsOfSource status = (status ≡ 3) ⊎ (status ≡ 6)
+by_tests : (string digit : Bool) (place : ℕ) → (if string then lex.BadString place else (if digit then lex.BigNumber place else lex.BadChar place)) ≡ lex.Memory → ⊥
+by_tests true digit place e = cc
+by_tests false true place e = cc
+by_tests false false place e = cc
 
-tokens_status : (e : LexFail) → IsOfSource (status_of (of_tokens e))
-tokens_status lex.Memory = inr refl
-tokens_status (lex.BadChar at) = inl refl
-tokens_status (lex.BadString at) = inl refl
-tokens_status (lex.BigNumber at) = inl refl
+stuck_tells : (place : ℕ) (rest : List ℕ) → tokens.refusal place rest ≡ lex.Memory → ⊥
+stuck_tells place [] e = cc
+stuck_tells place (byte ∷ rest) e = by_tests (byte == 34) (is_ascii_digit byte) place e
 
-grammar_status : (e : ParseFail) → IsOfSource (status_of (of_grammar e))
-grammar_status parse.Memory = inr refl
-grammar_status (parse.Syntax at) = inl refl
-grammar_status (parse.TooDeep at) = inl refl
+tokens_status : (bytes : List ℕ) (e : LexFail) → tokens.IsRefused bytes e → status_of (of_tokens e) ≡ 3
+tokens_status bytes lex.Memory r = absurd (stuck_tells r.place (drop r.place bytes) (sym r.is))
+tokens_status bytes (lex.BadChar at) r = refl
+tokens_status bytes (lex.BadString at) r = refl
+tokens_status bytes (lex.BigNumber at) r = refl
 
-scope_status : (e : ScopeFail) → IsOfSource (status_of (of_scope e))
-scope_status scope.Memory = inr refl
-scope_status (scope.Unbound at) = inl refl
-scope_status (scope.SiteTwice at) = inl refl
-scope_status (scope.TooManySites at) = inl refl
-scope_status (scope.NotASite at) = inl refl
+grammar_status : (ts : List Token) (e : ParseFail) → grammar.Refusal DEEPEST ts e → status_of (of_grammar e) ≡ 3
+grammar_status ts parse.Memory r = absurd r.why
+grammar_status ts (parse.Syntax at) r = refl
+grammar_status ts (parse.TooDeep at) r = refl
 
-same_status : (refusal of : Refusal) → refusal ≡ of → IsOfSource (status_of of) → IsOfSource (status_of refusal)
-same_status refusal of e h = subst (λ (x : Refusal). IsOfSource (status_of x)) (sym e) h
+scope_status : (e : ScopeFail) → e ≢ scope.Memory → status_of (of_scope e) ≡ 3
+scope_status scope.Memory some = absurd (some refl)
+scope_status (scope.Unbound at) some = refl
+scope_status (scope.SiteTwice at) some = refl
+scope_status (scope.TooManySites at) some = refl
+scope_status (scope.NotASite at) some = refl
 
-wrong_status : (ts : List Token) (refusal : Refusal) → IsNoProgram ts refusal → IsOfSource (status_of refusal)
-wrong_status ts refusal (inl f) = same_status refusal _ f.is (grammar_status f.fail)
-wrong_status ts refusal (inr (inl f)) = same_status refusal _ f.is (scope_status f.fail)
-wrong_status ts refusal (inr (inr f)) = same_status refusal _ f.is (inl refl)
+wrong_status : (ts : List Token) (refusal : Refusal) → IsNoProgram ts refusal → status_of refusal ≡ 3
+wrong_status ts refusal (inl f) = ap status_of f.is ∙ grammar_status ts f.fail f.refused
+wrong_status ts refusal (inr (inl f)) =
+    let tells = resolving-tells f.tree (written f.parsed) in
+    ap status_of f.is ∙ scope_status f.fail (λ e. tells.not (f.refused ∙ ap Err e))
+wrong_status ts refusal (inr (inr f)) = ap status_of f.is
 
--- the status of such a refusal is 3, but for want of memory
-pub faulty_status : (stage : Stage) (bytes : List ℕ) (refusal : Refusal) → Faulty stage bytes refusal → IsOfSource (status_of refusal)
-faulty_status stage bytes refusal (inl f) = same_status refusal _ f.is (tokens_status f.fail)
+-- the status of such a refusal is 3
+pub faulty_status : (stage : Stage) (bytes : List ℕ) (refusal : Refusal) → Faulty stage bytes refusal → status_of refusal ≡ 3
+faulty_status stage bytes refusal (inl f) = ap status_of f.is ∙ tokens_status bytes f.fail f.refused
 faulty_status Stage.tree bytes refusal (inr f) = wrong_status f.tokens refusal (inl f.wrong)
 faulty_status Stage.program bytes refusal (inr f) = wrong_status f.tokens refusal f.wrong
 
 pub not_usage : (stage : Stage) (bytes : List ℕ) → Faulty stage bytes Usage → ⊥
-not_usage stage bytes f = elim (faulty_status stage bytes Usage f) [ inl e ↦ omega (arith, e) | inr e ↦ omega (arith, e) ]
+not_usage stage bytes f = omega (arith, faulty_status stage bytes Usage f)

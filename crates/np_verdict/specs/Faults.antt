@@ -19,7 +19,8 @@ use Rattle.np_scope.specs.Resolved.{resolved}
 use Rattle.np_types.specs.declared.fault.TypeFault.{TypeFault as FirstFault}
 use Rattle.np_check.specs.Faults.{faults}
 use Rattle.np_verdict.specs.declared.refusal.Refusal.{Refusal}
-use Rattle.np_verdict.specs.declared.refusal.Refusal.TheVariants.{Memory, BadChar, BadString, BigNumber, Syntax, TooDeep, Unbound, SiteTwice, TooManySites, NotASite, TypeFault}
+use Rattle.np_verdict.specs.declared.refusal.Refusal.TheVariants.{Memory, BadChar, BadString, BigNumber, Syntax, TooDeep, Unbound}
+use Rattle.np_verdict.specs.declared.refusal.Refusal.TheVariants.{SiteTwice, TooManySites, NotASite, TypeFault}
 
 -- the refusals of tokens, of the grammar and of scope, as the program has them
 

@@ -4,9 +4,10 @@ use Rattle.std.specs.Fmt.{decimal}
 use Rattle.np_types.specs.declared.fault.Rule.{Rule}
 use Rattle.np_types.specs.declared.fault.Rule.TheVariants as rule
 use Rattle.np_verdict.specs.declared.refusal.Refusal.{Refusal}
-use Rattle.np_verdict.specs.declared.refusal.Refusal.TheVariants.{Memory, Usage, ReadFault, TooLong, BadChar, BadString, BigNumber, Syntax, TooDeep}
-use Rattle.np_verdict.specs.declared.refusal.Refusal.TheVariants.{Unbound, SiteTwice, TooManySites, NotASite, TypeFault, LocationTest, TooManyNodes, TooManyEvents}
-use Rattle.np_verdict.specs.declared.refusal.Refusal.TheVariants.{HistoryTooLong, HistSyntax, NotARun, NoLine, NotOurs, BudgetPast}
+use Rattle.np_verdict.specs.declared.refusal.Refusal.TheVariants.{Memory, Usage, ReadFault, TooLong, BadChar, BadString, BigNumber, Syntax}
+use Rattle.np_verdict.specs.declared.refusal.Refusal.TheVariants.{TooDeep, Unbound, SiteTwice, TooManySites, NotASite, TypeFault}
+use Rattle.np_verdict.specs.declared.refusal.Refusal.TheVariants.{LocationTest, TooManyNodes, TooManyEvents, HistoryTooLong, HistSyntax}
+use Rattle.np_verdict.specs.declared.refusal.Refusal.TheVariants.{NotARun, NoLine, NotOurs, BudgetPast}
 use Rattle.np_verdict.specs.declared.statuses.TheConstants.{BAD_HISTORY, BAD_SOURCE, BAD_USAGE, NO_MEMORY, READ_FAILED}
 
 -- the line of a refusal with its offset, line, index, count or site
@@ -30,7 +31,8 @@ rule_text rule.Wide = codes "Wide"
 -- what a refusal writes
 abbrev pub line_of : Refusal → List ℕ
 line_of Memory = []
-line_of Usage = codes "np: 22 Usage\nusage: np MODE FILE [SECOND] [--budget N] [--history] [--high] [--serial] [--links KIND] [--infra KIND] [--line K] [--one]\n"
+line_of Usage =
+    codes "np: 22 Usage\nusage: np MODE FILE [SECOND] [--budget N] [--history] [--high] [--serial] [--links KIND] [--infra KIND] [--line K] [--one]\n"
 line_of ReadFault = codes "np: 4 ReadFault\n"
 line_of TooLong = codes "np: 5 TooLong\n"
 line_of (BadChar at) = placed_line (codes "np: 7 BadChar at ") at

@@ -53,4 +53,5 @@ wrapped_total said = int_wrap w64 (total said)
 -- how many agents the source has, how many values were printed, their sum, and how the run ended
 unfoldable pub load_text : ℕ → List (ℕ × Value) → End → List ℕ
 load_text agents said how =
-    codes "agents " ++ decimal agents ++ codes "\nsaid " ++ decimal (length said) ++ codes "\nsum " ++ signed_decimal (wrapped_total said) ++ codes "\n" ++ last_line how
+    codes "agents " ++ decimal agents ++ codes "\nsaid " ++ decimal (length said) ++ codes "\nsum " ++ signed_decimal (wrapped_total said)
+    ++ codes "\n" ++ last_line how

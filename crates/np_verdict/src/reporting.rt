@@ -1,6 +1,7 @@
 ghost use Rattle.std.specs.Prelude.{◌≡◌, ◌++◌, ◌+ℤ◌, IfOk, OnOk};
 ghost use Rattle.std.specs.Int.{int_wrap, w64};
-ghost use Rattle.np_verdict.specs.Report.{said_line, said_text, last_line, load_text, number_of, past_text, report_text, replay_text, wrapped_total};
+ghost use Rattle.np_verdict.specs.Report.{said_line, said_text, last_line, load_text, number_of, past_text, report_text, replay_text};
+ghost use Rattle.np_verdict.specs.Report.{wrapped_total};
 
 use itoa::Buffer;
 use np_syntax::{End, List, Memory, Text, Value, print_value};

@@ -31,7 +31,8 @@ operands = operand (codes "mode") ∷ operand (codes "file") ∷ further (codes 
 -- how a run is made, and what is written of it
 abbrev pub run_options : List Rule
 run_options =
-    valued (codes "budget") ∷ flag (codes "history") ∷ flag (codes "high") ∷ flag (codes "serial") ∷ valued (codes "links") ∷ valued (codes "infra") ∷ []
+    valued (codes "budget") ∷ flag (codes "history") ∷ flag (codes "high") ∷ flag (codes "serial") ∷ valued (codes "links")
+    ∷ valued (codes "infra") ∷ []
 
 -- how a run is looked at
 abbrev pub view_options : List Rule

@@ -1,5 +1,6 @@
 -- The table of the modes that are built, and the words of the options (docs/COMMANDS.md, "Reports and refusals").
-use Rattle.std.specs.Prelude.{ℕ, Bool, true, false, ◌&&◌, nat_le, nat_lt, if◌then◌else◌, List, [], ◌∷◌, length, codes, find, Option, Some, None}
+use Rattle.std.specs.Prelude.{ℕ, Bool, true, false, ◌&&◌, nat_le, nat_lt, if◌then◌else◌, List, [], ◌∷◌, length, codes, find, Option, Some}
+use Rattle.std.specs.Prelude.{None}
 use Rattle.std.specs.Char.{is_ascii_digit}
 use Rattle.std.specs.List.{list_all}
 use Rattle.std.specs.Str.{bytes_eq}
@@ -29,10 +30,21 @@ mode_word mode.Gen = codes "gen"
 mode_word mode.Load = codes "load"
 
 abbrev pub no_options : Options
-no_options = record { budget = false; history = false; high = false; serial = false; links = false; infrastructure = false; line = false; one = false }
+no_options =
+    record {
+      budget = false;
+      history = false;
+      high = false;
+      serial = false;
+      links = false;
+      infrastructure = false;
+      line = false;
+      one = false;
+    }
 
 abbrev pub run_options : Options
-run_options = record no_options { budget = true; history = true; high = true; serial = true; links = true; infrastructure = true; one = true }
+run_options =
+    record no_options { budget = true; history = true; high = true; serial = true; links = true; infrastructure = true; one = true }
 
 abbrev pub high_options : Options
 high_options = record no_options { budget = true; history = true; one = true }

@@ -42,7 +42,8 @@ runs_so options given =
     && only options.infrastructure (is_some given.infrastructure)
 
 abbrev pub shows_so : Options → Given → Bool
-shows_so options given = only options.history given.history && only options.high given.high && only options.line (is_some given.line) && only options.one given.one
+shows_so options given = only options.history given.history && only options.high given.high && only options.line (is_some given.line)
+    && only options.one given.one
 
 -- SECOND stands there exactly where the mode has one, and no option that the mode does not have
 abbrev pub is_met : Entry → Given → Bool

@@ -13,7 +13,8 @@ fn with_operand<'a>(
     command: Result<Command<'a>, AllocError>,
     id: &'a str,
 ) -> Result<Command<'a>, AllocError>
-    ensures { (app : App) → IfOk command.entry (λ shorter. app_of shorter ≡ app) → IfOk result (λ longer. app_of longer ≡ with_rule app (spec.operand id.entry.now)) }
+    ensures { (app : App) → IfOk command.entry (λ shorter. app_of shorter ≡ app)
+        → IfOk result (λ longer. app_of longer ≡ with_rule app (spec.operand id.entry.now)) }
 {
     command?.arg(Arg::new(alloc, id).required(true))
 }
@@ -24,7 +25,8 @@ fn with_further<'a>(
     command: Result<Command<'a>, AllocError>,
     id: &'a str,
 ) -> Result<Command<'a>, AllocError>
-    ensures { (app : App) → IfOk command.entry (λ shorter. app_of shorter ≡ app) → IfOk result (λ longer. app_of longer ≡ with_rule app (spec.further id.entry.now)) }
+    ensures { (app : App) → IfOk command.entry (λ shorter. app_of shorter ≡ app)
+        → IfOk result (λ longer. app_of longer ≡ with_rule app (spec.further id.entry.now)) }
 {
     command?.arg(Arg::new(alloc, id))
 }
@@ -35,7 +37,8 @@ fn with_valued<'a>(
     command: Result<Command<'a>, AllocError>,
     id: &'a str,
 ) -> Result<Command<'a>, AllocError>
-    ensures { (app : App) → IfOk command.entry (λ shorter. app_of shorter ≡ app) → IfOk result (λ longer. app_of longer ≡ with_rule app (spec.valued id.entry.now)) }
+    ensures { (app : App) → IfOk command.entry (λ shorter. app_of shorter ≡ app)
+        → IfOk result (λ longer. app_of longer ≡ with_rule app (spec.valued id.entry.now)) }
 {
     command?.arg(Arg::new(alloc, id).long(id))
 }
@@ -46,7 +49,8 @@ fn with_flag<'a>(
     command: Result<Command<'a>, AllocError>,
     id: &'a str,
 ) -> Result<Command<'a>, AllocError>
-    ensures { (app : App) → IfOk command.entry (λ shorter. app_of shorter ≡ app) → IfOk result (λ longer. app_of longer ≡ with_rule app (spec.flag id.entry.now)) }
+    ensures { (app : App) → IfOk command.entry (λ shorter. app_of shorter ≡ app)
+        → IfOk result (λ longer. app_of longer ≡ with_rule app (spec.flag id.entry.now)) }
 {
     command?.arg(Arg::new(alloc, id).long(id).action(ArgAction::SetTrue))
 }
@@ -63,7 +67,8 @@ fn with_operands<'a>(
     alloc: Global,
     command: Result<Command<'a>, AllocError>,
 ) -> Result<Command<'a>, AllocError>
-    ensures { (app : App) → IfOk command.entry (λ shorter. app_of shorter ≡ app) → IfOk result (λ longer. app_of longer ≡ spec.with_rules app spec.operands) }
+    ensures { (app : App) → IfOk command.entry (λ shorter. app_of shorter ≡ app)
+        → IfOk result (λ longer. app_of longer ≡ spec.with_rules app spec.operands) }
 {
     let command = with_operand(alloc, command, "mode");
     let command = with_operand(alloc, command, "file");
@@ -75,7 +80,8 @@ fn with_run_options<'a>(
     alloc: Global,
     command: Result<Command<'a>, AllocError>,
 ) -> Result<Command<'a>, AllocError>
-    ensures { (app : App) → IfOk command.entry (λ shorter. app_of shorter ≡ app) → IfOk result (λ longer. app_of longer ≡ spec.with_rules app spec.run_options) }
+    ensures { (app : App) → IfOk command.entry (λ shorter. app_of shorter ≡ app)
+        → IfOk result (λ longer. app_of longer ≡ spec.with_rules app spec.run_options) }
 {
     let command = with_valued(alloc, command, "budget");
     let command = with_flag(alloc, command, "history");

@@ -2,10 +2,13 @@ pub mod Following
 pub mod Names
 pub mod Parts
 pub mod Resuming
+pub mod Coming
 pub mod Ending
 pub mod Moving
+pub mod Stamps
 pub mod Lists
 pub mod TravelNames
 pub mod Trips
 pub mod Turns
 pub mod Ways
+pub mod ByKind

@@ -65,5 +65,6 @@ pub record GoesOn (start : Config) (events : List Event) (e : Event) : Type 0 wh
 
 -- behind a run that is ours, an event leaves it ours exactly where this holds
 abbrev pub OursGoesOn : Type 0
-OursGoesOn = (start before after : Config) (events : List Event) (e : Event) → run start events ≡ Some before → apply before e ≡ Some after → IsOursFrom start events
+OursGoesOn = (start before after : Config) (events : List Event) (e : Event) → run start events ≡ Some before → apply before e ≡ Some after
+    → IsOursFrom start events
     → IsOursFrom start (events ++ e ∷ []) ↔ GoesOn start events e

@@ -13,4 +13,7 @@ mod laws;
 mod travel_laws;
 
 pub use laws::{law_enabled_in_part, law_next_is_counted, law_one_more_follows, law_resumes};
-pub use travel_laws::{law_links_are_told, law_settled_are_ours};
+pub use travel_laws::{
+    law_coming_is_first, law_deeds_are_of_kinds, law_links_are_told, law_settled_are_ours,
+    law_settled_take_later,
+};

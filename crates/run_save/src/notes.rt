@@ -146,7 +146,8 @@ impl Notes {
     /// Notes one event more, told with the configuration after it, and tells whether the sites make it so. Where they do not,
     /// the notes are of no use from then on.
     pub fn note(&mut self, after: &Cfg, e: &Event) -> Result<bool, Memory>
-        ensures { IfOk result (λ met. (start before : OneConfig) (events : Items OneEvent) → AreNoted self.old start events → run start events ≡ Some before
+        ensures { IfOk result (λ met. (start before : OneConfig) (events : Items OneEvent) → AreNoted self.old start events
+            → run start events ≡ Some before
             → apply before e.now ≡ Some after.now → IsOursFrom start events → IsNoted met self.new start (events ++ e.now ∷ [])) }
     {
         if !makes(&mut self.made, e.site, e.made)? {

@@ -61,5 +61,6 @@ pub record HasFound (found : List Causes) (i : ℕ) (places : ℕ → Bool) : Ty
 pub record AreMarked (found : List Causes) (i from : ℕ) (marked : List Bool) : Type 0 where
   pub count : length marked ≡ length found
   pub has : is_marked marked i ≡ true
-  pub causes : (j k : ℕ) (c : Causes) → from ≤ j → is_marked marked j ≡ true → slice_get found j ≡ Some c → IsOneOf k (places_of c) → is_marked marked k ≡ true
+  pub causes : (j k : ℕ) (c : Causes) → from ≤ j → is_marked marked j ≡ true → slice_get found j ≡ Some c → IsOneOf k (places_of c)
+      → is_marked marked k ≡ true
   pub least : (others : ℕ → Bool) → HasFound found i others → (j : ℕ) → is_marked marked j ≡ true → others j ≡ true

@@ -35,16 +35,19 @@ pub record HasSingleMarks (c : Config) : Type 0 where
 
 -- The past of a Print is a run, which says just the value of that Print, where the names that stand in the configuration are born.
 abbrev pub PastIsRun : Type 0
-PastIsRun = (c last : Config) (events past : List Event) (i : ℕ) (item : ℕ × Value) → AreBorn c → HasSingleMarks c → run c events ≡ Some last
+PastIsRun = (c last : Config) (events past : List Event) (i : ℕ) (item : ℕ × Value) → AreBorn c → HasSingleMarks c
+    → run c events ≡ Some last
     → Says c events i item → IsPastOf c events i past → SaysJust c past item
 
 -- in a run of a low program from its start
 abbrev pub LowPastIsRun : Type 0
-LowPastIsRun = (low : LowProgram) (last : Config) (events past : List Event) (i : ℕ) (item : ℕ × Value) → run (start_low low) events ≡ Some last
+LowPastIsRun = (low : LowProgram) (last : Config) (events past : List Event) (i : ℕ) (item : ℕ × Value)
+    → run (start_low low) events ≡ Some last
     → Says (start_low low) events i item → IsPastOf (start_low low) events i past
     → (after : Config) × (run (start_low low) past ≡ Some after) × (after.said ≡ item ∷ [])
 
 -- each Print of a run says a value
 abbrev pub PrintSays : Type 0
-PrintSays = (c last : Config) (events : List Event) (i : ℕ) (e : Event) → run c events ≡ Some last → slice_get events i ≡ Some e → e.kind ≡ kind.Print
+PrintSays = (c last : Config) (events : List Event) (i : ℕ) (e : Event) → run c events ≡ Some last → slice_get events i ≡ Some e
+    → e.kind ≡ kind.Print
     → (item : ℕ × Value) × Says c events i item

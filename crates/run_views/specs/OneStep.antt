@@ -25,7 +25,8 @@ ArrivesNext agent (e ∷ es) = (e.kind ≡ kind.Arrive) × (e.actor ≡ agent)
 -- each Depart is directly followed by the Arrive of its agent
 abbrev pub DepartsArrive : Config → List Event → Type 0
 DepartsArrive c [] = Unit {0}
-DepartsArrive c (e ∷ es) = (e.kind ≡ kind.Depart → (a : Atom) → map.get c.atoms e.actor ≡ Some a → ArrivesNext a.agent es) × ((d : Config) → apply c e ≡ Some d → DepartsArrive d es)
+DepartsArrive c (e ∷ es) = (e.kind ≡ kind.Depart → (a : Atom) → map.get c.atoms e.actor ≡ Some a → ArrivesNext a.agent es)
+    × ((d : Config) → apply c e ≡ Some d → DepartsArrive d es)
 
 -- a run of the one-step calculus, from one configuration to another
 pub record IsOneStepRun (c : Config) (events : List Event) (last : Config) : Type 0 where
@@ -36,7 +37,8 @@ pub record IsOneStepRun (c : Config) (events : List Event) (last : Config) : Typ
 
 -- the arrival of the agent that a Depart takes away, at the site to which it is under way after the event
 abbrev pub arrival_after : Config → Option Config → Event → List Event
-arrival_after c after e = each_of (map.get c.atoms e.actor) (λ a. each_of (after >>= λ d. map.get d.places a.agent >>= way) (λ site. arrival a.agent site ∷ []))
+arrival_after c after e = each_of (map.get c.atoms e.actor)
+    (λ a. each_of (after >>= λ d. map.get d.places a.agent >>= way) (λ site. arrival a.agent site ∷ []))
 
 -- what stands in place of an event. An Arrive is moved to its Depart; a Depart brings the Arrive of its agent along, which is the
 -- one that it has later in the run, if it has one there.
@@ -72,4 +74,5 @@ OneStepIsRun = (p : Program) (events : List Event) (last : Config) → tests p.m
 
 -- an agent has just one arrival: where it is under way
 abbrev pub OneArrival : Type 0
-OneArrival = (c d : Config) (e : Event) → e.kind ≡ kind.Arrive → apply c e ≡ Some d → (site : ℕ) × (map.get c.places e.actor ≡ Some (place.Way site)) × (e ≡ arrival e.actor site)
+OneArrival = (c d : Config) (e : Event) → e.kind ≡ kind.Arrive → apply c e ≡ Some d
+    → (site : ℕ) × (map.get c.places e.actor ≡ Some (place.Way site)) × (e ≡ arrival e.actor site)

@@ -15,12 +15,13 @@ use Rattle.cache_encode.specs.Encoded.{encoded_cached}
 use Rattle.cache_encode.proofs.CachedRelated.{cached-encodes-itself}
 use Rattle.np_lift.specs.CachedLift.{lift_cached}
 use Rattle.simulate_laws.proofs.simulation.Posts.{cached-letters-in-place, cached-posts-are-paired, cached-rests-all-handed}
+use Rattle.simulate_laws.specs.simulation.FreeLocks.{HasFreeLocks}
+use Rattle.simulate_laws.proofs.simulation.Placed.{cached-letters-have-one-place}
 use Rattle.simulate_laws.specs.simulation.RestLaws.{HasCacheRest}
 use Rattle.simulate_laws.proofs.simulation.Highs.{rests-together}
 use Rattle.simulate_laws.proofs.simulation.Lodged.{runs-are-lodged}
 use Rattle.simulate_laws.proofs.simulation.Runs.{runs-are-lifted, stays-well}
 use Rattle.simulate_laws.specs.Cached.{ShowsCached}
-use Rattle.simulate_laws.proofs.Locks.{free-locks}
 
 module _ (p : Program) (accepted : IsAccepted p) (events : List Event) where
   of : IsLowOf Infrastructure.cached p (encoded_cached p)
@@ -44,6 +45,7 @@ module _ (p : Program) (accepted : IsAccepted p) (events : List Event) where
         well = stays-well p accepted (lift_cached events) high leads;
         paired = cached-posts-are-paired p (encoded_cached p) of accepted events h.0 h.1;
         place = place.1;
+        placed = cached-letters-have-one-place p (encoded_cached p) of accepted events;
         rests = λ idle.
             let lodged = runs-are-lodged p (encoded_cached p) of accepted events h.0 h.1 in
             let r = rests-together Infrastructure.cached (length p.sites) p.binders of.first h.0 l.high l.view l.coupled lodged idle in
@@ -51,7 +53,7 @@ module _ (p : Program) (accepted : IsAccepted p) (events : List Event) where
               idle = subst Idle same r.0;
               handed = cached-rests-all-handed p (encoded_cached p) of accepted events h.0 h.1 idle;
               infrastructure = r.1;
-              locks = free-locks l.coupled lodged idle r.1;
+              locks = subst (λ d. HasFreeLocks h.0 d) same r.3;
               caches = subst (λ d. HasCacheRest h.0 d l.view) same (r.2 refl);
             };
       }

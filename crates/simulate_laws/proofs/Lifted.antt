@@ -15,10 +15,12 @@ use Rattle.daemon_encode.proofs.LowAgents.{encodes-runs-well}
 use Rattle.daemon_encode.proofs.Related.{encodes-itself}
 use Rattle.np_lift.specs.Lift.{lift}
 use Rattle.simulate_laws.proofs.simulation.Posts.{posts-are-paired, rests-all-handed}
+use Rattle.simulate_laws.proofs.simulation.Placed.{letters-have-one-place}
 use Rattle.simulate_laws.proofs.simulation.Highs.{rests-together}
 use Rattle.simulate_laws.proofs.simulation.Central.{central-runs-are-lifted}
 use Rattle.simulate_laws.proofs.simulation.Runs.{stays-well}
 use Rattle.simulate_laws.specs.Lifted.{EndsAtRest, ShowsHigh, ShowsRest}
+use Rattle.simulate_laws.specs.simulation.FreeLocks.{HasFreeLocks}
 
 module _ (p : Program) (accepted : IsAccepted p) (events : List Event) where
   -- the lifted events are a run
@@ -31,6 +33,7 @@ module _ (p : Program) (accepted : IsAccepted p) (events : List Event) where
     said = λ low is. (let l = central-runs-are-lifted p (encoded p) (encodes-itself p) accepted events low is in l.said ∙ ap (λ (d : Config). d.said) (done (sym leads ∙ l.runs)));
     well = stays-well p accepted (lift events) high leads;
     paired = posts-are-paired p (encoded p) (encodes-itself p) accepted events h.0 h.1;
+    placed = letters-have-one-place p (encoded p) (encodes-itself p) accepted events;
   }
 
   pub shows-rest : EndsAtRest p events → (high : Config) → ShowsHigh p events high → ShowsRest p events high
@@ -38,8 +41,13 @@ module _ (p : Program) (accepted : IsAccepted p) (events : List Event) where
       let l = central-runs-are-lifted p (encoded p) (encodes-itself p) accepted events ends.last ends.runs in
       let lodged = (encodes-runs-well p accepted).lodged events ends.last ends.runs in
       let same : high ≡ l.high = done (sym l.runs ∙ shows.runs) in
+      let rest = rests-together Infrastructure.central (length p.sites) p.binders (encodes-itself p).first ends.last l.high l.view l.coupled lodged ends.rests in
       record {
         shows = shows;
-        rests = subst Idle (sym same) (rests-together Infrastructure.central (length p.sites) p.binders (encodes-itself p).first ends.last l.high l.view l.coupled lodged ends.rests).0;
+        rests = subst Idle (sym same) rest.0;
         handed = rests-all-handed p (encoded p) (encodes-itself p) accepted events ends.last ends.runs ends.rests;
+        locks = λ low is.
+            let last : ends.last ≡ low = done (sym is ∙ ends.runs) in
+            let free : HasFreeLocks low l.high = subst (λ d. HasFreeLocks d l.high) last rest.3 in
+            subst (HasFreeLocks low) (sym same) free;
       }

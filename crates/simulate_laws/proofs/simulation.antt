@@ -7,6 +7,7 @@ pub mod Anys
 pub mod Begins
 pub mod Caches
 pub mod Highs
+pub mod Locks
 pub mod Phases
 pub mod Resting
 pub mod Standing
@@ -19,3 +20,5 @@ pub mod Plain
 pub mod Posts
 pub mod Turns
 pub mod Under
+pub mod Held
+pub mod Placed

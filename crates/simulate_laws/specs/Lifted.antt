@@ -10,6 +10,8 @@ use Rattle.np_calculus.specs.Well.{Well}
 use Rattle.daemon_encode.specs.Encoded.{encoded}
 use Rattle.np_lift.specs.Lift.{lift}
 use Rattle.np_lift.specs.Posts.{IsAllHanded, IsPaired}
+use Rattle.simulate_laws.specs.simulation.FreeLocks.{HasFreeLocks}
+use Rattle.simulate_laws.specs.simulation.HeldLetters.{ArePlaced}
 
 -- the configuration that the lifted events of a run of the compiled program leave
 pub record ShowsHigh (p : Program) (events : List Event) (high : Config) : Type 0 where
@@ -20,6 +22,8 @@ pub record ShowsHigh (p : Program) (events : List Event) (high : Config) : Type 
   pub well : Well high
   -- each post was handed over once at most
   pub paired : IsPaired (start_low (encoded p)) events
+  -- and the letter of one that was not is in its one place
+  pub placed : ArePlaced (start_low (encoded p)) events
 
 -- the events are a run of the compiled program, after which no site can act
 pub record EndsAtRest (p : Program) (events : List Event) : Type 0 where
@@ -27,8 +31,9 @@ pub record EndsAtRest (p : Program) (events : List Event) : Type 0 where
   pub runs : run (start_low (encoded p)) events ≡ Some last
   pub rests : Idle last
 
--- no site can act at the high level then, and each post was handed over
+-- no site can act at the high level then, each post was handed over, and the daemon's lock and that of each agent are free
 pub record ShowsRest (p : Program) (events : List Event) (high : Config) : Type 0 where
   pub shows : ShowsHigh p events high
   pub rests : Idle high
   pub handed : IsAllHanded (start_low (encoded p)) events
+  pub locks : (low : Config) → run (start_low (encoded p)) events ≡ Some low → HasFreeLocks low high

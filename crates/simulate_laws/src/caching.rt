@@ -14,10 +14,11 @@ use np_lift::lift_cached;
 use np_syntax::{Event, Memory};
 use std::alloc::Global;
 
-/// The configuration to which the lifted events lead from the high start, where the events are a run of the compiled program
-/// with caches. The run of that has printed the same, has handed over each of its posts once at most, and each that it has not
-/// handed over stands on one thing. Where it is at rest, no site can act at the high level, each post was handed over once, and
-/// the daemon's lock, the agents' locks, the caches and the hints are free.
+/// The configuration to which the lifted events lead from the high start, where the events are a run of the compiled
+/// program with caches. The run of that has printed the same, has handed over each of its posts once at most, and
+/// each that it has not handed over stands on one thing: a packet, or an atom of the daemon, of the letter's agent or
+/// of a messenger. Where it is at rest, no site can act at the high level, each post was handed over once, and the
+/// daemon's lock, the agents' locks, the caches and the hints are free.
 pub fn law_cached(alloc: Global, program: &Checked, events: &[Event]) -> Result<Cfg, Memory>
     requires run { Has (run (start_low (encoded_cached program.now)) events.now) }
     ensures { IfOk result (ShowsCached program.now events.now) }

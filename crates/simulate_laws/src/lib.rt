@@ -3,8 +3,8 @@
 //!
 //! Of merged histories that are a run, `law_merge` answers the configuration to which they lead. Of a run of a compiled
 //! program, `law_lift` answers the configuration to which its lifted list leads from the high start, with the same printed
-//! values and its posts paired; `law_rest` says that no site can act there if none can act below, and that each post was
-//! handed over; `law_cached` says the same with caches. Each replays what it speaks of.
+//! values and its posts paired; `law_rest` says that no site can act there if none can act below, that each post was handed
+//! over, and that the locks of the daemon are free; `law_cached` says the same with caches. Each replays what it speaks of.
 //!
 //! Contracts: `law_merge`, `law_lift` (`ShowsHigh`), `law_rest` (`ShowsRest`), `law_cached` (`ShowsCached`).
 #![tactic(auto)]

@@ -15,7 +15,8 @@ use run_merge::lift;
 use std::alloc::Global;
 
 /// The configuration to which the lifted events lead from the high start, where the events are a run of the compiled
-/// program. The run of that has printed the same, and has handed over each of its posts once at most.
+/// program. The run of that has printed the same, and has handed over each of its posts once at most. The letter of each
+/// that it has not handed over is in its one place.
 pub fn law_lift(alloc: Global, program: &Checked, events: &[Event]) -> Result<Cfg, Memory>
     requires run { Has (run (start_low (encoded program.now)) events.now) }
     ensures { IfOk result (ShowsHigh program.now events.now) }

@@ -10,7 +10,8 @@ use np_syntax::{Event, Memory};
 use std::alloc::Global;
 
 /// The configuration to which the lifted events lead from the high start, where the events are a run of the compiled
-/// program that ends at rest. No site can act there, and each post was handed over once.
+/// program that ends at rest. No site can act there, each post was handed over once, and the daemon's lock and the agents'
+/// locks are free.
 pub fn law_rest(alloc: Global, program: &Checked, events: &[Event]) -> Result<Cfg, Memory>
     requires run { EndsAtRest program.now events.now }
     ensures { IfOk result (ShowsRest program.now events.now) }

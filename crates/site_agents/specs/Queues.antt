@@ -1,5 +1,6 @@
 -- What contracts see of a queue of names.
-use Rattle.std.specs.Prelude.{◌≡◌, ◌⊎◌, ℕ, Bool, true, false, ◌||◌, List, [], ◌∷◌, ◌++◌, ◌<◌, length, slice_index_or, remove, Option, None, Some, refl}
+use Rattle.std.specs.Prelude.{◌≡◌, ◌⊎◌, ℕ, Bool, true, false, ◌||◌, List, [], ◌∷◌, ◌++◌, ◌<◌, length, slice_index_or, remove, Option, None}
+use Rattle.std.specs.Prelude.{Some, refl}
 use Rattle.std.specs.List.{list_any}
 use Rattle.std.specs.Coded.{Coded, code_by, coded×, coded_bool, coded_list}
 use Rattle.np_syntax.specs.declared.value.Name.{Name}
@@ -12,7 +13,8 @@ pub record Waiting : Type 0 where
   pub lost : Bool
 
 abbrev pub waiting_code : Coded Waiting
-waiting_code = code_by (List Name × Bool) (coded× (coded_list name.the_row.coded) coded_bool) (λ w. (w.names, w.lost)) (λ p. record { names = p.0; lost = p.1 }) (λ _. refl)
+waiting_code = code_by (List Name × Bool) (coded× (coded_list name.the_row.coded) coded_bool) (λ w. (w.names, w.lost))
+    (λ p. record { names = p.0; lost = p.1 }) (λ _. refl)
 
 -- the name is in the list
 abbrev pub listed : List Name → Name → Bool

@@ -19,7 +19,8 @@ pub record QuietCan (code : ProgramTable) (seats : NameMap Seat) : Type 0 where
   pub each : (q : Name) (s : Seat) → map.get seats q ≡ Some s → is_quiet s ≡ true → CanNothing code s.agent
 
 -- the agents stay, each with a turn waits for it, and those with none can do nothing
-pub record GoesOn (code : ProgramTable) (old : Stored Seat) (old_turns old_doubtful : Waiting) (new : Stored Seat) (new_turns new_doubtful : Waiting) : Type 0 where
+pub record GoesOn (code : ProgramTable) (old : Stored Seat) (old_turns old_doubtful : Waiting) (new : Stored Seat)
+    (new_turns new_doubtful : Waiting) : Type 0 where
   pub agents : agents_of new.items ≡ agents_of old.items
   pub spare : new.spare ≡ old.spare
   pub in_turn : InTurn old.items old_turns old_doubtful → InTurn new.items new_turns new_doubtful

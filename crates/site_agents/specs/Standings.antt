@@ -14,7 +14,8 @@ use Rattle.agent_pool.specs.Readies.{IsReady, NothingReady}
 use Rattle.agent_pool.specs.declared.ready.Ready.{Ready}
 use Rattle.site_agents.specs.declared.seat.Seat.{Seat}
 
--- the agents by their names, for each whether it was found to be quiet, for how many more there is room for sure, and the names in the order of a walk
+-- the agents by their names, for each whether it was found to be quiet, for how many more there is room for sure, and the names in the
+-- order of a walk
 pub record Standing : Type 0 where
   pub agents : NameMap Pool
   pub quiet : NameMap Bool
@@ -24,7 +25,8 @@ pub record Standing : Type 0 where
 abbrev pub standing_code : Coded Standing
 standing_code =
     code_by (NameMap Pool × (NameMap Bool × (ℕ × List Name)))
-    (coded× (map.code name.the_row.coded pool_code) (coded× (map.code name.the_row.coded coded_bool) (coded× coded_ℕ (coded_list name.the_row.coded))))
+    (coded× (map.code name.the_row.coded pool_code)
+    (coded× (map.code name.the_row.coded coded_bool) (coded× coded_ℕ (coded_list name.the_row.coded))))
     (λ s. (s.agents, (s.quiet, (s.room, s.keys)))) (λ p. record { agents = p.0; quiet = p.1.0; room = p.1.1.0; keys = p.1.1.1 }) (λ _. refl)
 
 -- an agent with no turn was found to be quiet

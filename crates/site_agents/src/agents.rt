@@ -1,4 +1,5 @@
-ghost use Rattle.std.specs.Prelude.{◌≡◌, ◌<◌, ◌≤◌, ◌+◌, ◌↔◌, false, length, slice_index_or, is_some, IfSome, IfNone, IsTrue, IsSome, OnOk, None};
+ghost use Rattle.std.specs.Prelude.{◌≡◌, ◌<◌, ◌≤◌, ◌+◌, ◌↔◌, false, length, slice_index_or, is_some, IfSome, IfNone, IsTrue, IsSome, OnOk};
+ghost use Rattle.std.specs.Prelude.{None};
 ghost use Rattle.std.specs.Option.{option_copied, option_copied_mut};
 ghost use Rattle.std.specs.Borrow.{sem};
 ghost use Rattle.std.specs.FinMap as map;
@@ -45,7 +46,12 @@ impl Model for Agents {
 
     ghost coded = { standing_code };
 
-    ghost view = { λ a. record { agents = agents_of a.seats.items; quiet = quiet_of a.seats.items; room = a.seats.spare; keys = a.seats.keys } };
+    ghost view = { λ a. record {
+      agents = agents_of a.seats.items;
+      quiet = quiet_of a.seats.items;
+      room = a.seats.spare;
+      keys = a.seats.keys;
+    } };
 
     ghost invariant = { λ a. InTurn a.seats.items a.turns a.doubtful };
 }

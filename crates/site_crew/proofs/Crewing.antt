@@ -1,5 +1,5 @@
 -- A crew goes on by rounds.
-use Rattle.std.proofs.Common.{◌≡◌, nat_lt, ◌<◌, ◌≤◌, ◌++◌, ℕ, Bool, true, false, List, length, take, drop, get_or, Option, None, Some, option_map, refl, sym, ap, subst, subst₂, ◌∙◌, arith, Result, Ok, Err, IfOk, IfSome}
+use Rattle.std.proofs.Common.{◌≡◌, nat_lt, ◌<◌, ◌≤◌, ◌++◌, ℕ, Bool, true, false, List, length, take, drop, get_or, Option, None, Some, option_map, refl, sym, ap, subst, subst₂, ◌∙◌, arith, Result, Ok, Err, IfOk, OnOk}
 use Rattle.std.specs.Prelude.{slice_get}
 use Rattle.std.proofs.lemmas.Grind.{common_steps}
 use Rattle.std.proofs.lemmas.Bool.Decides.{nat_tests}
@@ -19,13 +19,14 @@ use Rattle.site_crew.specs.Crews.{CrewState, IsCrew, IsJudged, IsRoundOf, NoneFa
 use Rattle.site_crew.specs.declared.round.Round.{Round}
 use Rattle.site_crew.specs.declared.round.Round.TheVariants as round
 use Rattle.site_crew.specs.Links.{AllStill}
-use Rattle.site_crew.specs.Runs.{IsCrewRun, IsProgram, OnlySpentCan}
+use Rattle.site_crew.specs.Runs.{IsCrewRun, IsProgram, OnlySpentCan, RunsSafely, SpentCan}
 use Rattle.crew_ends.specs.Starts.{AreFirst}
 use Rattle.site_crew.specs.Seats.{AllGrow, AllLater, AllTurned, Stand, clocks, event_count, histories}
+use Rattle.site_crew.specs.Shown.{seat_states}
 use Rattle.site_crew.proofs.Goings.{turned_at}
 use Rattle.site_crew.proofs.Standing.{stand_first}
 use Rattle.site_crew.proofs.Spending.{IsEndOf, crew_end}
-use Rattle.site_crew.proofs.CrewRuns.{crew_run}
+use Rattle.site_crew.proofs.Carrying.{HasEnd, carried_by, has_end}
 use Rattle.site_crew.proofs.Whole.{long-histories, not-past}
 
 pub slice_whole : {T : Type 0} (items new : List T) (n : ℕ) → n ≡ length items → length new ≡ length items → take n (new ++ drop (length new) items) ≡ new
@@ -90,22 +91,22 @@ module _ {P R : Type 0} {g : Port.Ghosts P R Item} {code : ProgramTable} where
       stand_first (subst (λ (m : ℕ). IsFullMake g.site g.among g.linked m ports) e make)
       (λ i p at. subst (λ (m : ℕ). IsUnused m (g.sent p) (g.got p) (g.known p) (g.room p)) e (unused i p at)) first
 
-  -- its merged histories are a run
-  pub has_run : {most : ℕ} {failed : Bool} {xs : List (Seat P)} → IsCrew g code most failed xs → (end : Config) × IsCrewRun (program code) most (histories xs) end
-  has_run {most} {failed} {xs} is = crew_run g code most xs is.stand is.program
+  -- its merged histories are a run, which ends in what it shows
+  pub has_run : {most : ℕ} {failed : Bool} {xs : List (Seat P)} → IsCrew g code most failed xs → HasEnd g code most xs
+  has_run {most} {failed} {xs} is = has_end g code most xs is.stand is.program
 
 pub none_failed : {P : Type 0} {code : ProgramTable} {most : ℕ} {ports : List P} {xs : List (Seat P)} → AreFirst code most ports xs → NoneFailed xs
 none_failed first = record { each = λ i s at. (first.each i s at).2.failed }
 
 -- what holds of a round that is told
-pub told_ok : (o : Option Round) (r : Result Round Memory) (P Q : Round → Type 0) → IfSome o P → IfOk r (λ x. o ≡ Some x) → ((x : Round) → P x → Q x) → IfOk r Q
-told_ok o (Ok x) P Q p e f = f x (subst (λ (o : Option Round). IfSome o P) e p)
-told_ok o (Err m) P Q p e f = tt
+pub told_ok : (round : Round) (r : Result Round Memory) (Sound : Type 0) (P Q : Round → Type 0) → (Sound → P round) → OnOk r Sound → IfOk r (λ x. round ≡ x) → ((x : Round) → P x → Q x) → IfOk r Q
+told_ok round (Ok x) Sound P Q p sound e f = f x (subst P e (p sound))
+told_ok round (Err m) Sound P Q p sound e f = tt
 
 less-tells : (m n : ℕ) → nat_lt m n ≡ true → m < n
 less-tells m n e = grind (arith, nat_tests)
 
-not-less-tells : (m n : ℕ) → nat_lt m n ≡ false → n ≤ m
+pub not-less-tells : (m n : ℕ) → nat_lt m n ≡ false → n ≤ m
 not-less-tells m n e = grind (arith, nat_tests)
 
 module _ {P : Type 0} (code : ProgramTable) (most : ℕ) (xs : List (Seat P)) (end : Config) (is : IsEndOf code most xs end) (before after : ℕ) where
@@ -114,20 +115,30 @@ module _ {P : Type 0} (code : ProgramTable) (most : ℕ) (xs : List (Seat P)) (e
   tells_of round.Rest h = (not-less-tells before after h.0, is.rests h.1)
   tells_of round.Spent h = (not-less-tells before after h.0, λ idle. h.1 (is.quiet idle))
 
-  spent_of : (r : Round) → IsJudged code most (nat_lt before after) xs r → r ≡ round.Spent → OnlySpentCan most (histories xs) end
-  spent_of round.Went h e = absurd (let f = e in cc)
-  spent_of round.Rest h e = absurd (let f = e in cc)
-  spent_of round.Spent h e = is.spent h.2
+  spent_of : RunsSafely (program code) → (r : Round) → IsJudged code most (nat_lt before after) xs r → r ≡ round.Spent → OnlySpentCan most (histories xs) end
+  spent_of safe round.Went h e = absurd (let f = e in cc)
+  spent_of safe round.Rest h e = absurd (let f = e in cc)
+  spent_of safe round.Spent h e = is.spent safe h.2
+
+  -- one that has can still act
+  still_of : RunsSafely (program code) → (r : Round) → IsJudged code most (nat_lt before after) xs r → r ≡ round.Spent → SpentCan most (histories xs) end
+  still_of safe round.Went h e = absurd (let f = e in cc)
+  still_of safe round.Rest h e = absurd (let f = e in cc)
+  still_of safe round.Spent h e =
+      let found = is.some (λ idle. h.1 (is.quiet idle)) in record { site = found.0; can = found.1; spent = is.spent safe h.2 found.0 found.1 }
 
 module _ {P R : Type 0} (g : Port.Ghosts P R Item) where
   -- what a round was judged to be is so
-  pub round_told : (code : ProgramTable) (most : ℕ) (old new : CrewState) (xs : List (Seat P)) → Stand g code most xs → IsProgram code → new.code ≡ code → new.budget ≡ most
-      → new.histories ≡ histories xs → (before after : ℕ) → before ≡ event_count old.histories → after ≡ event_count new.histories
+  pub round_told : (code : ProgramTable) (most : ℕ) (old new : CrewState) (xs : List (Seat P)) → Stand g code most xs → RunsSafely (program code) → IsProgram code → new.code ≡ code → new.budget ≡ most
+      → new.histories ≡ histories xs → new.seats ≡ seat_states g xs → (before after : ℕ) → before ≡ event_count old.histories → after ≡ event_count new.histories
       → (r : Round) → IsJudged code most (nat_lt before after) xs r → IsRoundOf old new r
-  round_told code most old new xs stand is c b h before after was now r judged =
+  round_told code most old new xs stand safe is c b h seats before after was now r judged =
       let e = crew_end g code most xs stand is in record {
         end = e.0;
         run = rw (c, b, h) e.1.run;
+        shown = rw (c, seats, h) e.2;
+        carried = rw (seats, h) (carried_by g code most xs stand is);
         tells = subst₂ (λ (m n : ℕ). Tells m n e.0 r) was now (tells_of code most xs e.0 e.1 before after r judged);
-        spent = λ is_spent. rw (b, h) (spent_of code most xs e.0 e.1 before after r judged is_spent);
+        spent = λ is_spent. rw (b, h) (spent_of code most xs e.0 e.1 before after safe r judged is_spent);
+        still = λ is_spent. rw (b, h) (still_of code most xs e.0 e.1 before after safe r judged is_spent);
       }

@@ -1,5 +1,5 @@
 -- The events of a list are done one after another.
-use Rattle.std.proofs.Common.{◌≡◌, ◌<◌, ◌≤◌, ◌+◌, inl, inr, ℕ, zero, suc, max, Bool, true, false, Result, Ok, Err, IfOk, OnOk, List, [], ◌∷◌, ◌++◌, length, get_or, Option, None, Some, option_map, refl, sym, ap, subst, ◌∙◌, arith, length-append}
+use Rattle.std.proofs.Common.{◌≡◌, ◌<◌, ◌≤◌, ◌+◌, inl, inr, ℕ, zero, suc, max, Bool, true, false, Result, Ok, Err, IfOk, List, [], ◌∷◌, ◌++◌, length, get_or, Option, None, Some, option_map, refl, sym, ap, subst, ◌∙◌, arith, length-append}
 use Rattle.std.specs.Prelude.{slice_get}
 use Rattle.std.proofs.lemmas.Bool.Decides.{eqb_tells}
 use Rattle.std.proofs.lemmas.Option.{slice_get-map}
@@ -10,13 +10,16 @@ use Rattle.stamp_history.specs.declared.stamped.Stamped.{Stamped}
 use Rattle.stamp_history.specs.Histories.{Recorded}
 use Rattle.site_links.specs.declared.port.Port as Port
 use Rattle.np_code.specs.Programs.{ProgramTable}
+use Rattle.run_save.specs.Ours.{IsOurs}
 use Rattle.run_save.specs.following.Following.{AreInPlace, AreOf, HaveOneMore}
 use Rattle.run_save.proofs.following.Following.{none_follow, one_more_follows}
 use Rattle.agent_move.specs.declared.item.Item.{Item}
 use Rattle.site_turn.specs.declared.seat.Seat.{Seat}
 use Rattle.site_crew.specs.Crews.{CrewState, NoneFailed}
-use Rattle.site_crew.specs.Lists.{AreWithin, HasFollowed, HasRedone, IsToFollow}
+use Rattle.site_crew.specs.Lists.{AreWithin, HasFollowed, HasRedone}
+use Rattle.site_crew.specs.Clocks.{low_count}
 use Rattle.site_crew.specs.Following.{AllRest, AreAt, AreLate, HaveAdded, HaveDone, IsNotEarly}
+use Rattle.site_crew.proofs.Clocks.{count_of, rest_histories}
 use Rattle.site_crew.specs.Seats.{Stand, clocks, event_count, histories}
 use Rattle.np_syntax.proofs.Options.{some_is}
 use Rattle.site_crew.proofs.Replacing.{rests_later, rests_trans, there_too}
@@ -82,16 +85,16 @@ more-of e stamp late xs ys added = record {
       ap (λ (r : Recorded). r.events) (b.2 ∙ (added.others i a.0 b.0 apart a.1 b.1).history ∙ sym a.2);
 }
 
-none-of : {P : Type 0} (xs : List (Seat P)) → event_count (histories xs) ≡ 0 → (i : ℕ) (s : Seat P) → slice_get xs i ≡ Some s → s.site.history.events ≡ []
-none-of [] none i s at = absurd (let e = at in cc)
-none-of (x ∷ xs) none zero s at =
+pub none_of : {P : Type 0} (xs : List (Seat P)) → event_count (histories xs) ≡ 0 → (i : ℕ) (s : Seat P) → slice_get xs i ≡ Some s → s.site.history.events ≡ []
+none_of [] none i s at = absurd (let e = at in cc)
+none_of (x ∷ xs) none zero s at =
     let same : x ≡ s = some_is (Some x) x s refl at in
     subst (λ (v : Seat _). v.site.history.events ≡ []) same (empty x.site.history.events (omega arith))
   where
     empty : (es : List Stamped) → length es ≡ 0 → es ≡ []
     empty [] e = refl
     empty (y ∷ ys) e = absurd (omega arith)
-none-of (x ∷ xs) none (suc i) s at = none-of xs (omega arith) i s at
+none_of (x ∷ xs) none (suc i) s at = none_of xs (omega arith) i s at
 
 module _ {P R : Type 0} {g : Port.Ghosts P R Item} {code : ProgramTable} where
   pub in_place : {budget : ℕ} {xs : List (Seat P)} → Stand g code budget xs → AreInPlace (histories xs)
@@ -135,8 +138,8 @@ module _ {P R : Type 0} {g : Port.Ghosts P R Item} {code : ProgramTable} where
   pub done_none : {budget : ℕ} {xs : List (Seat P)} → Stand g code budget xs → event_count (histories xs) ≡ 0 → NoneFailed xs → HaveDone g code budget [] xs
   done_none {budget} {xs} stand none sound = record {
     stand = stand;
-    of = none_follow (histories xs) (λ i h is. let s = seat-of xs i h is in ap (λ (r : Recorded). r.events) s.2 ∙ none-of xs none i s.0 s.1);
-    clocks = λ i s at. let zero : s.site.clock ≡ 0 = stand.fresh.clocks (none-of xs none) i s at in omega arith;
+    of = none_follow (histories xs) (λ i h is. let s = seat-of xs i h is in ap (λ (r : Recorded). r.events) s.2 ∙ none_of xs none i s.0 s.1);
+    clocks = λ i s at. let zero : s.site.clock ≡ 0 = stand.fresh.clocks (none_of xs none) i s at in omega arith;
     sound = sound;
   }
 
@@ -144,7 +147,7 @@ module _ {P R : Type 0} {g : Port.Ghosts P R Item} {code : ProgramTable} where
   pub done_late : {budget : ℕ} {events : List Event} {xs ys : List (Seat P)} → HaveDone g code budget events xs → Stand g code budget ys → AllRest (length events) xs ys
       → HaveDone g code budget events ys
   done_late {budget} {events} {xs} {ys} done stand rest =
-      let same : histories ys ≡ histories xs = same-histories xs ys rest in record {
+      let same : histories ys ≡ histories xs = rest_histories xs ys rest in record {
         stand = stand;
         of = subst (AreOf events) (sym same) done.of;
         clocks = λ i s at.
@@ -153,15 +156,6 @@ module _ {P R : Type 0} {g : Port.Ghosts P R Item} {code : ProgramTable} where
             let old : a.0.site.clock ≤ length events = done.clocks i a.0 a.1 in omega arith;
         sound = record { each = λ i s at. let a = there_too ys xs i s (sym rest.count) at in (rest.each i a.0 s a.1 at).failed ∙ done.sound.each i a.0 a.1 };
       }
-    where
-      same-histories : {late : ℕ} (xs ys : List (Seat P)) → AllRest late xs ys → histories ys ≡ histories xs
-      same-histories [] [] rest = refl
-      same-histories [] (y ∷ ys) rest = absurd (let e = rest.count in omega arith)
-      same-histories (x ∷ xs) [] rest = absurd (let e = rest.count in omega arith)
-      same-histories (x ∷ xs) (y ∷ ys) rest =
-          let first : y.site.history ≡ x.site.history = (rest.each 0 x y refl refl).history in
-          let more : histories ys ≡ histories xs = same-histories xs ys (record { count = let e = rest.count in omega arith; each = λ i a b s t. rest.each (suc i) a b s t }) in
-          ap (λ h. h ∷ histories ys) first ∙ ap (λ hs. x.site.history ∷ hs) more
 
   pub all_at : {budget : ℕ} {events : List Event} {ys : List (Seat P)} → HaveDone g code budget events ys → AreLate (length events) ys → AreAt (length events) ys
   all_at done late = record { each = λ i s at. let low = done.clocks i s at in let high = late.each i s at in omega arith }
@@ -173,6 +167,7 @@ module _ {P R : Type 0} {g : Port.Ghosts P R Item} {code : ProgramTable} where
         let empty = none_follow (histories xs) (λ i h at. let s = seat-of xs i h at in ap (λ (r : Recorded). r.events) s.2 ∙ none i s.0 s.1) in
         let zero : length events ≡ 0 = ap length (sym done.of.items ∙ empty.items) in
         is ∙ zero;
+    few = subst (λ (n : ℕ). n ≤ low_count n (histories xs)) (sym is) (count_of events (histories xs) done.of);
   }
 
 -- ---- what a crew shows that has done them
@@ -183,10 +178,11 @@ clocks_at n (x ∷ xs) at zero less = at.each 0 x refl
 clocks_at n (x ∷ xs) at (suc s) less = clocks_at n xs (record { each = λ i t is. at.each (suc i) t is }) s (omega arith)
 
 pub has_followed : {P R : Type 0} {g : Port.Ghosts P R Item} {code : ProgramTable} {budget : ℕ} (low : LowProgram) (events : List Event) (c : CrewState) (xs : List (Seat P)) → c.histories ≡ histories xs
-    → c.clocks ≡ clocks xs → c.failed ≡ false → IsToFollow low c.budget events → HaveDone g code budget events xs → AreAt (length events) xs → HasFollowed low events c
-has_followed low events c xs same times sound list done at = record {
-  within = list.within;
-  ours = list.ours;
+    → c.clocks ≡ clocks xs → c.failed ≡ false → AreWithin (length low.sites) c.budget events → IsOurs low events → HaveDone g code budget events xs → AreAt (length events) xs
+    → HasFollowed low events c
+has_followed low events c xs same times sound within ours done at = record {
+  within = within;
+  ours = ours;
   of = subst (AreOf events) (sym same) done.of;
   clocks = λ s less.
       let low : s < length xs = subst (λ (m : ℕ). s < m) (ap length same ∙ long-histories xs) less in
@@ -205,11 +201,7 @@ has_redone events c xs same times sound within done at = record {
   sound = sound;
 }
 
-pub on_redone : {A B : Type 0} (r : Result Bool Memory) (flag : Bool) (C : Type 0) → (A → B → flag ≡ true → C) → IfOk r (λ all. all ≡ true → A) → IfOk r (λ all. all ≡ true → B)
-    → IfOk r (λ all. flag ≡ all) → IfOk r (λ all. all ≡ true → C)
-on_redone (Ok all) flag C f a b is = λ yes. f (a yes) (b yes) (is ∙ yes)
-on_redone (Err m) flag C f a b is = tt
-
-pub on_followed : {A B : Type 0} (r : Result (Unit {0}) Memory) (failed : Bool) (C : Type 0) → (A → B → failed ≡ false → C) → OnOk r A → OnOk r B → OnOk r (failed ≡ false) → OnOk r C
-on_followed (Ok u) failed C f a b sound = f a b sound
-on_followed (Err m) failed C f a b sound = tt
+pub on_redone : {A B D : Type 0} (r : Result Bool Memory) (flag : Bool) (C : Type 0) → (A → B → D → flag ≡ true → C) → IfOk r (λ all. all ≡ true → A) → IfOk r (λ all. all ≡ true → B)
+    → IfOk r (λ all. all ≡ true → D) → IfOk r (λ all. flag ≡ all) → IfOk r (λ all. all ≡ true → C)
+on_redone (Ok all) flag C f a b d is = λ yes. f (a yes) (b yes) (d yes) (is ∙ yes)
+on_redone (Err m) flag C f a b d is = tt

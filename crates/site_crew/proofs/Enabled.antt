@@ -1,5 +1,5 @@
 -- The next event of a list is one that its site can do, where those before it were done.
-use Rattle.std.proofs.Common.{◌≡◌, ◌<◌, ◌≤◌, ◌+◌, ℕ, zero, suc, Bool, true, false, not, inl, inr, List, [], ◌∷◌, ◌++◌, length, map, take, get_or, nat_eq, None, Some, refl, sym, ap, subst, ◌∙◌, append_assoc, arith}
+use Rattle.std.proofs.Common.{◌≡◌, ◌<◌, ◌≤◌, ◌+◌, ℕ, zero, suc, Bool, true, false, not, inl, inr, List, [], ◌∷◌, ◌++◌, length, map, take, get_or, nat_eq, cond, Option, None, Some, refl, sym, ap, ap₂, subst, ◌∙◌, append_assoc, arith}
 use Rattle.std.specs.Prelude.{slice_get}
 use Rattle.std.specs.List.{AllByRecursion}
 use Rattle.std.proofs.lemmas.Bool.{eqb-true}
@@ -15,12 +15,15 @@ use Rattle.np_syntax.specs.declared.process.Role.TheVariants as role
 use Rattle.np_syntax.specs.declared.event.Made.{Made}
 use Rattle.np_syntax.specs.declared.event.Made.TheVariants as made
 use Rattle.np_syntax.specs.Options.{◌>>=◌}
-use Rattle.np_calculus.proofs.Common.{Change, change, inside, then, when, way}
+use Rattle.np_syntax.specs.declared.process.Proc.{Proc}
+use Rattle.np_syntax.specs.declared.value.Name.{Name}
+use Rattle.np_calculus.proofs.Common.{Change, change, inside, same_name, same_name-is, then, when, way}
 use Rattle.np_calculus.proofs.Common.{arrive_row, land_row}
 use Rattle.np_calculus.proofs.FrameRule.{not-false}
 use Rattle.np_calculus.proofs.Steps.{row-step}
 use Rattle.np_calculus.specs.declared.config.Place.{Place}
 use Rattle.np_calculus.specs.declared.config.Place.TheVariants as place
+use Rattle.np_calculus.specs.Begins.{arrival, landing}
 use Rattle.np_calculus.specs.Config.{Config}
 use Rattle.np_calculus.specs.Idle.{Can}
 use Rattle.np_calculus.specs.NotEnabled.{by_atom}
@@ -31,31 +34,51 @@ use Rattle.run_merge.specs.Laws.{HasOwnSite}
 use Rattle.run_merge.specs.Merged.{items, merged}
 use Rattle.run_merge.proofs.InOrder.{all_map, all_weaker}
 use Rattle.site_links.specs.declared.port.Port as Port
-use Rattle.np_site_runs.specs.merged.Deeds.{Deed, IsDeedOf}
+use Rattle.np_site_runs.specs.merged.Deeds.{Deed, IsDeedOf, StampedItem}
 use Rattle.np_syntax.proofs.Options.{there-is}
 use Rattle.np_site_runs.specs.Holdings.{Holding, IsPart}
 use Rattle.np_site_runs.specs.Making as holding
-use Rattle.np_site_runs.specs.Accounts.{SitesEnd}
+use Rattle.np_site_runs.specs.Accounts.{SitesEnd, came_on}
 use Rattle.np_site_runs.proofs.Acting.{only_sites_can}
 use Rattle.np_code.specs.Programs.{ProgramTable, program}
+use Rattle.run_save.specs.following.Coming.{IsComing}
+use Rattle.run_save.specs.following.TravelLaws.{PutsLead}
+use Rattle.run_save.proofs.RunLaws.{prefix-ours}
+use Rattle.run_save.proofs.following.Coming.{coming_is_first}
 use Rattle.run_save.proofs.following.Following.{room_is_left}
 use Rattle.run_save.proofs.following.Names.{next_is_counted}
 use Rattle.run_save.proofs.following.Parts.{enabled_in_part, event_is_of_site}
-use Rattle.run_save.specs.Ours.{AreNext, names_by, names_of}
+use Rattle.run_save.specs.Ours.{AreNext, IsOurs, names_by, names_of}
 use Rattle.run_save.proofs.NameLaws.{names-not, names-prefix}
 use Rattle.site_agents.proofs.deeds.Resting.{enabled_at}
 use Rattle.agent_move.specs.declared.item.Item.{Item}
-use Rattle.site_state.specs.Doing.{IsPossible}
+use Rattle.agent_move.specs.declared.load.Load.{Load}
+use Rattle.agent_move.specs.declared.load.Load.TheVariants as load
+use Rattle.agent_move.specs.Items.{contents_of, item_of}
+use Rattle.site_state.specs.Coming.{event_for}
+use Rattle.site_state.specs.Doing.{HasRoom, IsPossible}
+use Rattle.site_state.specs.Lines.{queue_at}
 use Rattle.site_state.specs.Standings.{holding_of}
 use Rattle.site_turn.specs.declared.seat.Seat.{Seat}
-use Rattle.site_crew.specs.Following.{CanForce, HaveAdded, HaveDone}
+use Rattle.site_turn.specs.Turns.{came_from, shown}
+use Rattle.site_crew.specs.Bringing.{AreClear, HasDue, HasNotBrought}
+use Rattle.site_crew.specs.Following.{HasNotRedone, HaveAdded, HaveDone, HaveMissed, StopsAt}
 use Rattle.site_crew.specs.Lists.{IsToFollow}
 use Rattle.site_crew.specs.Runs.{IsProgram}
 use Rattle.site_crew.specs.Seats.{AreSeats, Stand, histories}
-use Rattle.site_crew.proofs.Directed.{are_directed}
+use Rattle.site_crew.proofs.Clearing.{none_known}
+use Rattle.site_crew.proofs.Directed.{are_directed, puts_lead}
 use Rattle.site_crew.proofs.Doing.{done_more, history-at, in_place, seat-of}
 use Rattle.site_crew.proofs.Possible.{is_possible}
-use Rattle.site_crew.proofs.Whole.{accounts, end_of, sites_end}
+use Rattle.site_crew.proofs.Replacing.{there_too}
+use Rattle.site_crew.proofs.Whole.{SeatOf, accounts, are_settled, are_theirs, end_of, here, long-histories, rest_of, sites_end}
+use Rattle.site_crew.proofs.Whole as whole
+
+-- its site can do the event of its own, and record it with this stamp
+record CanForce {P : Type 0} (code : ProgramTable) (e : Event) (stamp : ℕ) (s : Seat P) : Type 0 where
+  room : HasRoom s.site
+  possible : IsPossible code s.site e
+  above : s.site.clock < stamp
 
 -- ---- lists and runs
 
@@ -121,6 +144,33 @@ module _ (c : Config) (e : Event) where
 
   coming-can : (d : Config) → by_atom e.kind ≡ false → apply c e ≡ Some d → Can c e.site
   coming-can d comes applies = let s = row-step c e d e.kind applies in coming-by e.kind comes s.made s.gives
+
+-- ---- items
+
+cond-some : {T : Type 0} (b : Bool) (x y : T) → cond b (Some x) None ≡ Some y → (b ≡ true) × (x ≡ y)
+cond-some true x y e = (refl, cc)
+cond-some false x y e = absurd (let f = e in cc)
+
+-- what comes is just the event
+is-event : (ts : List Proc) (e : Event) (l : Load) (to : ℕ) → IsComing e (contents_of ts l to) → event_for e.site l ≡ e
+is-event ts e (load.Agent agent) to (IsComing.agent comes is) =
+    let c = cond-some (same_name e.actor agent.name) (place.Way to) (place.Way e.site) comes in
+    ap (λ (n : Name). arrival n e.site) (sym (same_name-is e.actor agent.name c.0)) ∙ sym is
+is-event ts e (load.Agent agent) to (IsComing.packet p flies is) = absurd (let f = flies in cc)
+is-event ts e (load.Packet mark packet) to (IsComing.agent comes is) = absurd (let f = comes in cc)
+is-event ts e (load.Packet mark packet) to (IsComing.packet p flies is) =
+    let c = cond-some (same_name e.actor mark) packet p flies in
+    ap₂ landing (sym (same_name-is e.actor mark c.0)) c.1 ∙ sym is
+
+first-shown : (code : ProgramTable) (xs : List Item) (first : StampedItem) (later : List StampedItem) → shown code xs ≡ first ∷ later
+    → (x : Item) × (more : List Item) × (xs ≡ x ∷ more) × (item_of code x ≡ first)
+first-shown code [] first later e = absurd (let f = e in cc)
+first-shown code (x ∷ xs) first later e = let is : item_of code x ≡ first = cc in (x, xs, refl, is)
+
+place-in : {T : Type 0} (xs : List T) (i : ℕ) → i < length xs → (x : T) × (slice_get xs i ≡ Some x)
+place-in [] i less = absurd (omega arith)
+place-in (x ∷ xs) zero less = (x, refl)
+place-in (x ∷ xs) (suc i) less = place-in xs i (omega arith)
 
 -- ---- names
 
@@ -202,15 +252,86 @@ module _ {P R : Type 0} (g : Port.Ghosts P R Item) (code : ProgramTable) where
         (enabled_at code s.site.site s.site.agents s.site.next s.site.history.said (ends.here e.site) here.0 e part post here.1)
         (subst (λ (h : Holding). holding.AreNext h e.made) held next)
 
-    pub can_force : by_atom e.kind ≡ true → (e.kind ≡ kind.Post → ⊥) → (s : Seat P) → slice_get xs e.site ≡ Some s → CanForce code e (k + 1) s
-    can_force own post s there =
+    -- there is room for it
+    room_there : (s : Seat P) → slice_get xs e.site ≡ Some s → HasRoom s.site
+    room_there s there =
         let low : e.site < length code.sites = subst (λ (m : ℕ). e.site < m) done.stand.seats.count (slice_get_within xs e.site s there) in
         let seat = done.stand.seats.each e.site s there in
         let most : s.site.history.budget ≡ budget = sym seat.placed.budget ∙ seat.budget in
         let fewer = room_is_left events k e (histories xs) s.site.history (in_place done.stand) (own-events budget xs done.stand.seats) done.of.items at (history-at xs e.site s there) in
-        let within = list.within.each e.site low in
+        let within = list.within.each e.site low in omega arith
+
+    can_force : by_atom e.kind ≡ true → (e.kind ≡ kind.Post → ⊥) → (s : Seat P) → slice_get xs e.site ≡ Some s → CanForce code e (k + 1) s
+    can_force own post s there =
         let clock = done.clocks e.site s there in
-        record { room = omega arith; possible = possible_there own post s there; above = omega (arith, few) }
+        record { room = room_there s there; possible = possible_there own post s there; above = omega (arith, few) }
+
+    -- what is left on a link from a site, where nothing waits on it, is what the site has in its line
+    in-line : (from : ℕ) (o p : Option (Seat P)) (hp : SeatOf g code budget e.site p) (first : StampedItem) (later : List StampedItem) → slice_get xs from ≡ o → slice_get xs e.site ≡ p
+        → AreClear g xs → (o ≡ None → ⊥) → (p ≡ None → ⊥) → rest_of g code budget from e.site o p hp ≡ first ∷ later
+        → (s : Seat P) × (o ≡ Some s) × (shown code (queue_at s.site.outgoing e.site) ≡ first ∷ later)
+    in-line from None p hp first later at_from at_to clear sends takes left = absurd (sends refl)
+    in-line from (Some s) None hp first later at_from at_to clear sends takes left = absurd (takes refl)
+    in-line from (Some s) (Some t) hp first later at_from at_to clear sends takes left =
+        let none : t.aside ≡ None = clear.aside e.site t at_to in
+        let settled = (done.stand.settled.each e.site (slice_get_within xs e.site t at_to)).settled from in
+        let known : g.known t.port from ≡ [] = none_known clear from e.site settled s t at_from at_to in
+        let same : came_on from (came_from code hp.kept.from t.aside) ++ (shown code (g.known t.port from) ++ shown code (queue_at s.site.outgoing e.site)) ≡ shown code (queue_at s.site.outgoing e.site) =
+        ap₂ (λ (x : Option Item) (l : List Item). came_on from (came_from code hp.kept.from x) ++ (shown code l ++ shown code (queue_at s.site.outgoing e.site))) none known in
+        (s, refl, sym same ∙ left)
+
+    ours-then : IsOurs (program code) (items (merged (histories xs)) ++ e ∷ [])
+    ours-then =
+        let whole : take (suc k) events ≡ items (merged (histories xs)) ++ e ∷ [] = take-more events k e at ∙ ap (λ l. l ++ e ∷ []) (sym done.of.items) in
+        subst (IsOurs (program code)) whole (prefix-ours (start_low (program code)) events (suc k) list.ours)
+
+    -- so what comes by it is the first there
+    is_due : by_atom e.kind ≡ false → AreClear g xs → (from : ℕ) × (s : Seat P) × (slice_get xs from ≡ Some s) × HasDue e s
+    unfolding accounts
+    is_due comes clear =
+        let seats = done.stand.seats in
+        let lead : PutsLead (length code.sites) (accounts g code budget xs done.stand.seats) = record { each = puts_lead g code budget xs done.stand.seats done.stand.settled } in
+        let f = coming_is_first (program code) (accounts g code budget xs done.stand.seats) (histories xs) is.at (are_settled g code budget xs done.stand.seats done.stand.settled)
+        (are_theirs g code budget xs done.stand.seats done.stand.whole) lead ends e applies.0 comes applies.1 ours-then in
+        let to : e.site < length code.sites = subst (λ (m : ℕ). e.site < m) done.stand.seats.count (site_coming comes) in
+        let l = in-line f.from (slice_get xs f.from) (slice_get xs e.site) (here g code budget xs done.stand.seats e.site) f.first f.later refl refl clear
+        (whole.some g code budget xs done.stand.seats f.from f.within) (whole.some g code budget xs done.stand.seats e.site to) f.left in
+        let q = first-shown code (queue_at l.0.site.outgoing e.site) f.first f.later l.2 in (
+          f.from,
+          l.0,
+          l.1,
+          record {
+            item = q.0;
+            later = q.1;
+            first = q.2;
+            comes = is-event code.processes e q.0.load q.0.to (subst (λ (x : StampedItem). IsComing e x.item.load) (sym q.3) f.comes);
+          },
+        )
+
+    -- so it is done
+    pub never_missed : AreClear g xs → (ys : List (Seat P)) → length ys ≡ length xs → HaveMissed code e (k + 1) xs ys → ⊥
+    never_missed clear ys count missed = by missed
+      where
+        there : by_atom e.kind ≡ true → (s : Seat P) × (slice_get xs e.site ≡ Some s)
+        there own = place-in xs e.site (site_own own)
+
+        done-own : (a b : Seat P) → CanForce code e (k + 1) a → HasNotRedone code e (k + 1) a b → ⊥
+        done-own a b can (HasNotRedone.full full same) = full can.room
+        done-own a b can (HasNotRedone.unable none stays) = none.each can.possible.agent can.possible.can
+        done-own a b can (HasNotRedone.differs did differs) = differs (sym (can.possible.is did.agent did.can))
+
+        nowhere : (own : Bool) → by_atom e.kind ≡ own → length xs ≤ e.site → ⊥
+        nowhere true own past = let less : e.site < length xs = site_own own in omega arith
+        nowhere false comes past = let less : e.site < length xs = site_coming comes in omega arith
+
+        by : HaveMissed code e (k + 1) xs ys → ⊥
+        by (HaveMissed.nowhere past) = nowhere (by_atom e.kind) refl past
+        by (HaveMissed.coming comes (HasNotBrought.nowhere none)) = let d = is_due comes clear in none.none d.0 d.1 d.2 d.3
+        by (HaveMissed.coming comes (HasNotBrought.full full)) = let s = place-in xs e.site (site_coming comes) in full s.0 s.1 (room_there s.0 s.1)
+        by (HaveMissed.own own post missed) =
+            let s = there own in
+            let t = there_too xs ys e.site s.0 count s.1 in
+            done-own s.0 t.0 (can_force own post s.0 s.1) (missed.there s.0 t.0 s.1 t.1)
 
   -- once it was recorded, one event more was done
   pub followed_one : {budget : ℕ} {xs ys : List (Seat P)} (events : List Event) (k : ℕ) (e : Event) (late : ℕ) → HaveDone g code budget (take k events) xs → slice_get events k ≡ Some e
@@ -221,3 +342,10 @@ module _ {P R : Type 0} (g : Port.Ghosts P R Item) (code : ProgramTable) where
       let one : k + 1 ≡ suc k = omega arith in
       let more : take (k + 1) events ≡ take k events ++ e ∷ [] = ap (λ m. take m events) one ∙ take-more events k e at in
       subst (λ (l : List Event). HaveDone g code budget l ys) (sym more) (done_more done stand added (omega arith) (omega arith))
+
+  -- where the list is a run that the sites make by themselves, within the budget, they do not stop
+  pub never_stops : {budget : ℕ} {events : List Event} {xs : List (Seat P)} → IsProgram code → IsToFollow (program code) budget events → StopsAt g code budget events xs → ⊥
+  never_stops {budget} {events} {xs} is list stops =
+      let m = stops.missed in
+      let count : length xs ≡ length stops.mid = sym (long-histories xs) ∙ stops.grow.count ∙ long-histories stops.mid in
+      never_missed budget stops.mid events stops.place m.event stops.done is list m.at stops.clear xs count m.missed

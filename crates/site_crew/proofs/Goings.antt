@@ -1,5 +1,5 @@
 -- A round: turns, and the links settled.
-use Rattle.std.proofs.Common.{◌≡◌, ◌≢◌, ℕ, ◌+◌, ◌<◌, ◌≤◌, inl, inr, List, length, set, get_or, refl, sym, ◌∙◌, ap, subst, arith, Some, length-set}
+use Rattle.std.proofs.Common.{◌≡◌, ◌≢◌, ℕ, ◌+◌, ◌<◌, ◌≤◌, inl, inr, Bool, List, length, set, get_or, refl, sym, ◌∙◌, ap, subst, arith, Some, length-set}
 use Rattle.std.specs.Prelude.{slice_get, All}
 use Rattle.std.proofs.lemmas.List.{get_or-set_same, get_or-set_other}
 use Rattle.std.proofs.lemmas.Bool.Decides.{eqb_tells}
@@ -10,9 +10,9 @@ use Rattle.site_links.proofs.Kept.{joined_still}
 use Rattle.np_code.specs.Programs.{ProgramTable, program}
 use Rattle.np_site_runs.specs.Starting.{start_holding}
 use Rattle.agent_move.specs.declared.item.Item.{Item}
-use Rattle.site_state.specs.Standings.{Standing, holding_of}
+use Rattle.site_state.specs.Standings.{IsQuiet, Standing, holding_of}
 use Rattle.site_turn.specs.declared.seat.Seat.{Seat}
-use Rattle.site_turn.specs.Turns.{Seated, Turned}
+use Rattle.site_turn.specs.Turns.{Seated, TookTurn, Turned}
 use Rattle.site_turn.proofs.Steps as steps
 use Rattle.site_crew.specs.Links.{Still}
 use Rattle.site_crew.specs.Seats.{AllTurned, AreSeats, IsSeat}
@@ -29,16 +29,16 @@ serial_rest xs ys i c rest k d le lt =
 
 module _ {P R : Type 0} {g : Port.Ghosts P R Item} {code : ProgramTable} where
   -- one more turn of a row
-  pub serial_done : (xs ys : List (Seat P)) (i : ℕ) (r c : Seat P) → i < length ys
-      → ((k : ℕ) (d : Seat P) → k < i → Turned g code (get_or xs k d) (get_or ys k d))
+  pub serial_done : (walks : Bool) (xs ys : List (Seat P)) (i : ℕ) (r c : Seat P) → i < length ys
+      → ((k : ℕ) (d : Seat P) → k < i → TookTurn g code walks (get_or xs k d) (get_or ys k d))
       → ((k : ℕ) (d : Seat P) → i ≤ k → k < length ys → get_or ys k d ≡ get_or xs k d)
-      → Turned g code (get_or ys i r) c → (k : ℕ) (d : Seat P) → k < i + 1 → Turned g code (get_or xs k d) (get_or (set ys i c) k d)
-  serial_done xs ys i r c h done rest t k d lt =
+      → TookTurn g code walks (get_or ys i r) c → (k : ℕ) (d : Seat P) → k < i + 1 → TookTurn g code walks (get_or xs k d) (get_or (set ys i c) k d)
+  serial_done walks xs ys i r c h done rest t k d lt =
       elim (eqb_tells k i) [
         | inl w ↦
             let a : get_or ys i d ≡ get_or ys i r = get_or_from_slice_get ys i (get_or ys i r) d (slice_get-get_or ys i r h) in
             let e : get_or ys i r ≡ get_or xs i d = sym a ∙ rest i d (omega arith) h in
-            rw (w.1, get_or-set_same ys i c d h) (subst (λ (o : Seat P). Turned g code o c) e t)
+            rw (w.1, get_or-set_same ys i c d h) (subst (λ (o : Seat P). TookTurn g code walks o c) e t)
         | inr w ↦ rw (get_or-set_other ys i k c d w.1) (done k d (omega arith))
       ]
 
@@ -51,7 +51,7 @@ module _ {P R : Type 0} {g : Port.Ghosts P R Item} {code : ProgramTable} where
       (get_or xs k c, slice_get-get_or xs k c lx, subst (λ (o : Seat P). Turned g code (get_or xs k c) o) e (t.each k c lx))
 
   pub seat_seated : {budget i : ℕ} {s : Seat P} → IsSeat g code budget i s → Seated g code s
-  seat_seated {budget} {i} h = record { placed = h.placed; start = start_holding (program code) i; kept = h.kept }
+  seat_seated {budget} {i} h = record { placed = h.placed; quiet = h.quiet; start = start_holding (program code) i; kept = h.kept }
 
   pub all_seated : {budget : ℕ} {xs : List (Seat P)} → AreSeats g code budget xs → All (λ s. Seated g code s) xs
   all_seated {budget} {xs} h = all_of (λ s. Seated g code s) xs (λ i c at. seat_seated (h.each i c at))
@@ -64,6 +64,7 @@ module _ {P R : Type 0} {g : Port.Ghosts P R Item} {code : ProgramTable} where
           number = b.2.number ∙ old.number;
           owner = b.2.history.site ∙ old.owner;
           placed = (steps.seated_after b.2 (seat_seated old)).placed;
+          quiet = b.2.quiet old.quiet;
           kept = b.2.kept (start_holding (program code) i) old.kept;
           budget = b.2.budget ∙ old.budget;
           aside = b.2.aside old.aside;
@@ -98,6 +99,7 @@ module _ {P R : Type 0} {g : Port.Ghosts P R Item} {code : ProgramTable} where
       lines = ap (λ (v : Standing). length v.outgoing) s.site_same ∙ h.placed.lines;
       budget = s.budget_same ∙ (h.placed.budget ∙ sym (ap (λ (v : Standing). v.history.budget) s.site_same));
     };
+    quiet = subst (λ (v : Standing). IsQuiet code v) (sym s.site_same) h.quiet;
     kept = steps.kept_still (kept_settled s) (start_holding (program code) i) h.kept;
     budget = s.budget_same ∙ h.budget;
     aside = rw (s.failed_same, s.aside_same, s.site_same) h.aside;

@@ -1,5 +1,5 @@
 -- The links are settled one after another.
-use Rattle.std.proofs.Common.{◌≡◌, ◌≢◌, ℕ, ◌+◌, ◌-◌, ◌<◌, ◌⊎◌, inl, inr, Bool, true, false, List, [], ◌∷◌, ◌++◌, length, set, get_or, refl, sym, ◌∙◌, ap, subst, arith, Some, length-set, length-append}
+use Rattle.std.proofs.Common.{◌≡◌, ◌≢◌, ℕ, ◌+◌, ◌-◌, ◌<◌, ◌≤◌, ◌⊎◌, inl, inr, Bool, true, false, List, [], ◌∷◌, ◌++◌, length, set, get_or, refl, sym, ◌∙◌, ap, subst, arith, Some, length-set, length-append}
 use Rattle.std.specs.Prelude.{slice_get}
 use Rattle.std.proofs.lemmas.Option.{slice_get_within, slice_get-get_or}
 use Rattle.std.proofs.lemmas.List.{set-append_left, set-append_right, get_or_append_left, get_or-append-add}
@@ -7,11 +7,12 @@ use Rattle.std.proofs.lemmas.Bool.Decides.{eqb_tells}
 use Rattle.std.proofs.Math.Logic.{∥∥₁_map}
 use Rattle.np_syntax.proofs.Options.{some_is}
 use Rattle.site_links.specs.Words.{KeepsBut}
+use Rattle.site_links.specs.declared.places.TheConstants.{PLACES}
 use Rattle.site_links.specs.declared.port.Port as Port
 use Rattle.site_links.proofs.Rows.{get-set_same, get-set_other}
 use Rattle.agent_move.specs.declared.item.Item.{Item}
 use Rattle.site_turn.specs.declared.seat.Seat.{Seat}
-use Rattle.site_crew.specs.Links.{AllStill, AreLinked, AreSettledBelow, IsPairSettled, IsSettled, IsSettledTo, IsTold, IsToldBelow, Still, Was}
+use Rattle.site_crew.specs.Links.{AllStill, AreLinked, AreSettledBelow, EndsAgree, IsPairSettled, IsSettled, IsSettledTo, IsTold, IsToldBelow, Still, Was}
 
 -- ---- lists
 
@@ -55,6 +56,10 @@ read_back xs l r n d e len h =
     let b : n < length (l ++ r) = subst (λ (v : List _). n < length v) e h in
     rw e (slice_get-get_or (l ++ r) n d b ∙ ap (λ v. Some v) (subst (λ (m : ℕ). get_or (l ++ r) m d ≡ get_or r 0 d) z q))
 
+-- what is known to be free of all places
+places_of : (room waiting : ℕ) → room ≡ PLACES - waiting → PLACES ≤ room + waiting
+places_of room waiting e = omega arith
+
 none-long : {T : Type 0} (xs : List T) → length xs ≡ 0 → xs ≡ []
 none-long [] e = refl
 none-long (x ∷ xs) e = absurd (omega arith)
@@ -73,7 +78,10 @@ module _ {P R : Type 0} (g : Port.Ghosts P R Item) where
     pub got : (k : ℕ) → (g.got a' k ≡ g.got a k) × (g.got b' k ≡ g.got b k)
     pub known_out : (k : ℕ) → g.known a' k ≡ g.known a k
     pub known_in : (k : ℕ) → k ≢ i → g.known b' k ≡ g.known b k
+    pub room_out : (k : ℕ) → k ≢ j → g.room a' k ≡ g.room a k
+    pub room_in : (k : ℕ) → g.room b' k ≡ g.room b k
     pub settled : g.got b' i ++ g.known b' i ≡ g.sent a' j
+    pub free : g.room a' j ≡ PLACES - length (g.known b' i)
     pub waiting : many ≡ length (g.known b' i)
 
   -- a settle of a site's own link
@@ -82,7 +90,9 @@ module _ {P R : Type 0} (g : Port.Ghosts P R Item) where
     pub own : g.linked a a → g.linked a' a'
     pub same : (k : ℕ) → (g.sent a' k ≡ g.sent a k) × (g.got a' k ≡ g.got a k)
     pub known : (k : ℕ) → k ≢ i → g.known a' k ≡ g.known a k
+    pub room : (k : ℕ) → k ≢ i → g.room a' k ≡ g.room a k
     pub settled : g.got a' i ++ g.known a' i ≡ g.sent a' i
+    pub free : g.room a' i ≡ PLACES - length (g.known a' i)
     pub waiting : many ≡ length (g.known a' i)
 
 -- the seat with another port
@@ -197,6 +207,7 @@ module _ {P R : Type 0} {g : Port.Ghosts P R Item} where
                   still = record { site_same = refl; aside_same = refl; budget_same = refl; failed_same = refl; number = s.out_keeps.site_same; among = s.out_keeps.among_same; sent_same = λ m. (s.sent m).0; got_same = λ m. (s.got m).0 };
                   waits_same = refl;
                   known_same = λ m n. s.known_out m;
+                  room_same = λ m n. s.room_out m (λ e. n w.1 e);
                 })
             | inr w ↦ elim (eqb_tells k j) [
               | inl u ↦
@@ -207,15 +218,16 @@ module _ {P R : Type 0} {g : Port.Ghosts P R Item} where
                     still = record { site_same = refl; aside_same = refl; budget_same = refl; failed_same = refl; number = s.in_keeps.site_same; among = s.in_keeps.among_same; sent_same = λ m. (s.sent m).1; got_same = λ m. (s.got m).1 };
                     waits_same = refl;
                     known_same = λ m n. s.known_in m (λ e. n u.1 e);
+                    room_same = λ m n. s.room_in m;
                   })
-              | inr u ↦ record { before = v; was = sym (two.others k w.1 u.1) ∙ h; still = still_refl v; waits_same = refl; known_same = λ m n. refl }
+              | inr u ↦ record { before = v; was = sym (two.others k w.1 u.1) ∙ h; still = still_refl v; waits_same = refl; known_same = λ m n. refl; room_same = λ m n. refl }
             ]
           ];
       links = λ k l p r q t wp wr wq wt. links k l p.port r.port q.port t.port (part k p q wp wq) (part l r t wr wt) (linked.placed k p wp).0 (linked.placed l r wr).0;
       settled = λ v w a b.
           let is : with_port c a' ≡ v = some_is (slice_get ys i) (with_port c a') v two.at_i a in
           let js : with_port d b' ≡ w = some_is (slice_get ys j) (with_port d b') w two.at_j b in
-          subst (λ (o : Seat P). g.got o.port i ++ g.known o.port i ≡ g.sent v.port j) js (subst (λ (o : Seat P). g.got b' i ++ g.known b' i ≡ g.sent o.port j) is s.settled);
+          subst (λ (o : Seat P). EndsAgree g i j v o) js (subst (λ (o : Seat P). EndsAgree g i j o (with_port d b')) is (record { all = s.settled; free = places_of _ _ s.free }));
       waiting = λ w b.
           let js : with_port d b' ≡ w = some_is (slice_get ys j) (with_port d b') w two.at_j b in
           subst (λ (o : Seat P). waiting ≡ length (g.known o.port i)) js s.waiting;
@@ -267,14 +279,15 @@ module _ {P R : Type 0} {g : Port.Ghosts P R Item} where
                   still = record { site_same = refl; aside_same = refl; budget_same = refl; failed_same = refl; number = s.keeps.site_same; among = s.keeps.among_same; sent_same = λ m. (s.same m).0; got_same = λ m. (s.same m).1 };
                   waits_same = refl;
                   known_same = λ m n. s.known m (λ e. n w.1 e);
+                  room_same = λ m n. s.room m (λ e. n w.1 e);
                 })
-            | inr w ↦ record { before = v; was = sym (get-set_other xs i k (with_port c a') w.1) ∙ h; still = still_refl v; waits_same = refl; known_same = λ m n. refl }
+            | inr w ↦ record { before = v; was = sym (get-set_other xs i k (with_port c a') w.1) ∙ h; still = still_refl v; waits_same = refl; known_same = λ m n. refl; room_same = λ m n. refl }
           ];
       links = λ k l p r q t wp wr wq wt. own-links k l p.port r.port q.port t.port (own-part k p q wp wq) (own-part l r t wr wt) (linked.placed k p wp).0 (linked.placed l r wr).0;
       settled = λ v w a b.
           let is : with_port c a' ≡ v = some_is (slice_get now i) (with_port c a') v is_now a in
           let js : with_port c a' ≡ w = some_is (slice_get now i) (with_port c a') w is_now b in
-          subst (λ (o : Seat P). g.got o.port i ++ g.known o.port i ≡ g.sent v.port i) js (subst (λ (o : Seat P). g.got a' i ++ g.known a' i ≡ g.sent o.port i) is s.settled);
+          subst (λ (o : Seat P). EndsAgree g i i v o) js (subst (λ (o : Seat P). EndsAgree g i i o (with_port c a')) is (record { all = s.settled; free = places_of _ _ s.free }));
       waiting = λ w b.
           let js : with_port c a' ≡ w = some_is (slice_get now i) (with_port c a') w is_now b in
           subst (λ (o : Seat P). waiting ≡ length (g.known o.port i)) js s.waiting;
@@ -286,9 +299,10 @@ module _ {P R : Type 0} {g : Port.Ghosts P R Item} where
       → (g.linked c.port d.port → g.linked a' b') → (g.linked d.port c.port → g.linked b' a')
       → ((k : ℕ) → (g.sent a' k ≡ g.sent c.port k) × (g.sent b' k ≡ g.sent d.port k)) → ((k : ℕ) → (g.got a' k ≡ g.got c.port k) × (g.got b' k ≡ g.got d.port k))
       → ((k : ℕ) → (g.known a' k ≡ g.known c.port k) × (k ≢ g.site c.port → g.known b' k ≡ g.known d.port k))
-      → g.got b' (g.site c.port) ++ g.known b' (g.site c.port) ≡ g.sent a' (g.site d.port) → waiting ≡ length (g.known b' (g.site c.port))
-      → Settle g i j c.port d.port a' b' waiting
-  settles {xs} {i} {j} {c} {d} {a'} {b'} {waiting} linked ai bj ka kb there back sent got known settled wait =
+      → ((k : ℕ) → (k ≢ g.site d.port → g.room a' k ≡ g.room c.port k) × (g.room b' k ≡ g.room d.port k))
+      → g.got b' (g.site c.port) ++ g.known b' (g.site c.port) ≡ g.sent a' (g.site d.port) → g.room a' (g.site d.port) ≡ PLACES - length (g.known b' (g.site c.port))
+      → waiting ≡ length (g.known b' (g.site c.port)) → Settle g i j c.port d.port a' b' waiting
+  settles {xs} {i} {j} {c} {d} {a'} {b'} {waiting} linked ai bj ka kb there back sent got known room settled free wait =
       let p = (linked.placed i c ai).0 in let q = (linked.placed j d bj).0 in record {
         out_keeps = subst (λ (m : ℕ). KeepsBut g.site g.among g.linked m c.port a') q ka;
         in_keeps = subst (λ (m : ℕ). KeepsBut g.site g.among g.linked m d.port b') p kb;
@@ -298,6 +312,9 @@ module _ {P R : Type 0} {g : Port.Ghosts P R Item} where
         got = got;
         known_out = λ k. (known k).0;
         known_in = λ k n. (known k).1 (λ h. n (h ∙ p));
+        room_out = λ k n. (room k).0 (λ h. n (h ∙ q));
+        room_in = λ k. (room k).1;
+        free = subst (λ (m : ℕ). g.room a' j ≡ PLACES - length (g.known b' m)) p (subst (λ (m : ℕ). g.room a' m ≡ PLACES - length (g.known b' (g.site c.port))) q free);
         settled = subst (λ (m : ℕ). g.got b' m ++ g.known b' m ≡ g.sent a' j) p (subst (λ (m : ℕ). g.got b' (g.site c.port) ++ g.known b' (g.site c.port) ≡ g.sent a' m) q settled);
         waiting = subst (λ (m : ℕ). waiting ≡ length (g.known b' m)) p wait;
       }
@@ -306,14 +323,16 @@ module _ {P R : Type 0} {g : Port.Ghosts P R Item} where
       → KeepsBut g.site g.among g.linked (g.site c.port) c.port a' → (g.linked c.port c.port → g.linked a' a')
       → ((k : ℕ) → (g.sent a' k ≡ g.sent c.port k) × (g.got a' k ≡ g.got c.port k))
       → ((k : ℕ) → k ≢ g.site c.port → (g.known a' k ≡ g.known c.port k) × (g.room a' k ≡ g.room c.port k))
-      → g.got a' (g.site c.port) ++ g.known a' (g.site c.port) ≡ g.sent a' (g.site c.port) → waiting ≡ length (g.known a' (g.site c.port))
-      → SettleOwn g i c.port a' waiting
-  settles_own {xs} {i} {c} {a'} {waiting} linked ai keeps own same others settled wait =
+      → g.got a' (g.site c.port) ++ g.known a' (g.site c.port) ≡ g.sent a' (g.site c.port) → g.room a' (g.site c.port) ≡ PLACES - length (g.known a' (g.site c.port))
+      → waiting ≡ length (g.known a' (g.site c.port)) → SettleOwn g i c.port a' waiting
+  settles_own {xs} {i} {c} {a'} {waiting} linked ai keeps own same others settled free wait =
       let p = (linked.placed i c ai).0 in record {
         keeps = subst (λ (m : ℕ). KeepsBut g.site g.among g.linked m c.port a') p keeps;
         own = own;
         same = same;
         known = λ k n. (others k (λ h. n (h ∙ p))).0;
+        room = λ k n. (others k (λ h. n (h ∙ p))).1;
+        free = subst (λ (m : ℕ). g.room a' m ≡ PLACES - length (g.known a' m)) p free;
         settled = subst (λ (m : ℕ). g.got a' m ++ g.known a' m ≡ g.sent a' m) p settled;
         waiting = subst (λ (m : ℕ). waiting ≡ length (g.known a' m)) p wait;
       }
@@ -354,8 +373,10 @@ module _ {P R : Type 0} {g : Port.Ghosts P R Item} where
   pub settled_kept : {xs ys : List (Seat P)} {w : ℕ} (i j a b : ℕ) → IsPairSettled g i j xs ys w → (b ≡ j → a ≡ i → ⊥) → IsSettled g xs a b → IsSettled g ys a b
   settled_kept {xs} {ys} i j a b p ne h c d ec ed =
       let u = p.each a c ec in let v = p.each b d ed in
-      let old : g.got v.before.port a ++ g.known v.before.port a ≡ g.sent u.before.port b = h u.before v.before u.was v.was in
-      rw (v.still.got_same a, v.known_same a ne, u.still.sent_same b) old
+      let old = h u.before v.before u.was v.was in record {
+        all = rw (v.still.got_same a, v.known_same a ne, u.still.sent_same b) old.all;
+        free = rw (v.known_same a ne, u.room_same b (λ e f. ne f e)) old.free;
+      }
 
   pub told_same : (n : ℕ) (s t : Seat P) (w : Bool) → ((k : ℕ) → k < n → g.known t.port k ≡ g.known s.port k) → IsTold g n s w → IsTold g n t w
   told_same n s t w same told = record {
@@ -437,7 +458,7 @@ module _ {P R : Type 0} {g : Port.Ghosts P R Item} where
     settled_then : AllStill g xs (with_told xs j c w) → (a b : ℕ) → IsSettled g xs a b → IsSettled g (with_told xs j c w) a b
     settled_then still a b h s t at_a at_b =
         let u = was_then a s at_a in let v = was_then b t at_b in
-        rw (u.3, v.3) (h u.0 v.0 u.1 v.1)
+        let old = h u.0 v.0 u.1 v.1 in record { all = rw (u.3, v.3) old.all; free = rw (u.3, v.3) old.free }
 
     pub here_then : ((a : ℕ) → a < length xs → IsSettled g xs a j) → IsToldBelow g xs j (length xs) w → IsSettledTo g (with_told xs j c w) j
     here_then here told = record {

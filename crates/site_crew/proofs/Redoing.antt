@@ -1,5 +1,5 @@
 -- What one seat does where an event of a list is done again.
-use Rattle.std.proofs.Common.{◌≡◌, ◌<◌, ◌≤◌, ◌+◌, ◌-◌, ℕ, Bool, true, false, inl, inr, List, [], ◌∷◌, ◌++◌, length, set, get_or, Option, None, Some, Result, Ok, Err, IfOk, OnOk, OnErr}
+use Rattle.std.proofs.Common.{◌≡◌, ◌<◌, ◌≤◌, ◌+◌, ◌-◌, ℕ, zero, suc, Bool, true, false, inl, inr, List, [], ◌∷◌, ◌++◌, length, set, get_or, Option, None, Some, Result, Ok, Err, IfOk, OnOk, OnErr}
 use Rattle.std.proofs.Common.{refl, sym, ap, subst, ◌∙◌, arith, length-append, length-set}
 use Rattle.std.specs.Prelude.{max, slice_get}
 use Rattle.std.proofs.lemmas.Bool.{eqb-true}
@@ -32,18 +32,17 @@ use Rattle.site_state.specs.Doing.{HasDoneAsked, HasDoneEvent, HasTaken, IsRedon
 use Rattle.site_state.specs.Standings.{Standing, Stays, with_clock}
 use Rattle.site_turn.specs.declared.seat.Seat.{Seat}
 use Rattle.site_turn.specs.Turns.{Accepts, SetsAside, Turned}
-use Rattle.site_turn.proofs.Holdings.{later_weaker, not_recorded, recorded_events}
+use Rattle.site_turn.proofs.Holdings.{recorded_events}
 use Rattle.site_turn.proofs.Steps.{turned_done, turned_stays}
-use Rattle.site_crew.specs.Following.{Adds, AllRest, HasAccepted, HasNotAdded, HasNotRedone, HaveAdded, HaveNotRedone, IsLast, IsNotEarly, Moves, Rests, StandBut}
-use Rattle.site_crew.specs.Links.{AreSettledIn}
-use Rattle.site_crew.specs.Seats.{Stand}
-use Rattle.site_crew.proofs.Replacing.{at_clock, but_none, kept_later, none_but, replaced, rests_refl, stand_moved, there_too}
+use Rattle.site_crew.specs.Following.{Adds, AllRest, HasAccepted, HasNotRedone, HaveAdded, HaveNotRedone, IsNotEarly, Moves, Rests, StandBut, TurnsBy, at_clock}
+use Rattle.site_crew.specs.Bringing.{IsLast}
+use Rattle.site_crew.specs.Links.{AllStill, AreSettledIn}
+use Rattle.site_crew.specs.Clocks.{low_count}
+use Rattle.site_crew.specs.Seats.{AllGrow, Stand, histories}
+use Rattle.site_crew.proofs.Clocks.{rest_histories}
+use Rattle.site_crew.proofs.Replacing.{but_none, grows_by, grows_moved, none_but, replaced, rests_refl, stand_caught, stand_moved, there_too}
 
 -- ---- answers
-
-pub on_ok : {A : Type 0} {X Y : Type 0} (r : Result A Memory) → (X → Y) → OnOk r X → OnOk r Y
-on_ok (Ok a) f h = f h
-on_ok (Err m) f h = tt
 
 pub on_yes : {X Y : Type 0} (r : Result Bool Memory) → (X → Y) → IfOk r (λ is. is ≡ true → X) → IfOk r (λ is. is ≡ true → Y)
 on_yes (Ok is) f h = λ yes. f (h yes)
@@ -52,6 +51,10 @@ on_yes (Err m) f h = tt
 pub on_no : {X Y : Type 0} (r : Result Bool Memory) → (X → Y) → IfOk r (λ is. is ≡ false → X) → IfOk r (λ is. is ≡ false → Y)
 on_no (Ok is) f h = λ none. f (h none)
 on_no (Err m) f h = tt
+
+pub on_any : {X : Type 0} (r : Result Bool Memory) → X → IfOk r (λ is. is ≡ true → X)
+on_any (Ok is) x = λ yes. x
+on_any (Err m) x = tt
 
 -- ---- events are compared
 
@@ -145,36 +148,26 @@ last_missed xs d stamp e r told missed last =
     some_is (slice_get xs (length xs - 1)) (get_or xs (length xs - 1) d) x (slice_get-get_or xs (length xs - 1) d less) (subst (λ i. slice_get xs i ≡ Some x) place last.last) in
     let same : false ≡ true = sym missed ∙ told ∙ ap (λ (y : Stamped). events.eq-value.it y.event e) there ∙ event-itself e in absurd cc
 
+-- an element that is set twice
+set_twice : {T : Type 0} (xs : List T) (i : ℕ) (x y : T) → set (set xs i x) i y ≡ set xs i y
+set_twice [] i x y = refl
+set_twice (z ∷ xs) zero x y = refl
+set_twice (z ∷ xs) (suc i) x y = ap (λ ys. z ∷ ys) (set_twice xs i x y)
+
 -- ---- an event of the site's own
 
 module _ {P R : Type 0} {g : Port.Ghosts P R Item} {code : ProgramTable} where
-  -- the site has done an event at a later clock
-  turned_late : (a b : Seat P) (clock : ℕ) (e : Event) → a.site.clock ≤ clock → HasDoneEvent code (with_clock a.site clock) b.site e → length a.site.outgoing ≡ length code.sites
-      → b.port ≡ a.port → b.aside ≡ a.aside → b.budget ≡ a.budget → b.failed ≡ a.failed → Turned g code a b
-  turned_late a b clock e later done lines port aside budget failed =
-      let t : Turned g code (at_clock a clock) b = turned_done (record { event = e; out = done.out; did = done.did }) lines port aside budget failed in record {
-        keeps = t.keeps;
-        number = t.number;
-        lines = t.lines;
-        budget = t.budget;
-        history = t.history;
-        clock = λ same. absurd (not_recorded a.site.history _ done.did.value b.site.history.events (ap (λ (h : Recorded). h.events) done.did.history) same);
-        later = later_weaker later t.later;
-        aside = t.aside;
-        kept = λ start h. t.kept start (kept_later clock later h);
-      }
-
-  pub turned_forced : (a b : Seat P) (stamp : ℕ) (e : Event) (r : Result (Unit {0}) Memory) → a.site.clock < stamp
-      → OnOk r (HasDoneEvent code (with_clock a.site (stamp - 1)) b.site e) → OnErr r (Stays code a.site b.site) → length a.site.outgoing ≡ length code.sites
-      → b.port ≡ a.port → b.aside ≡ a.aside → b.budget ≡ a.budget → b.failed ≡ a.failed → Turned g code a b
-  turned_forced a b stamp e (Ok u) above done stays lines port aside budget failed = turned_late a b (stamp - 1) e (omega arith) done lines port aside budget failed
-  turned_forced a b stamp e (Err m) above done stays lines port aside budget failed = turned_stays stays.same port aside budget (λ h. sym failed ∙ h)
+  -- the site has done an event once its clock was set
+  turned_late : (a b : Seat P) (clock : ℕ) (e : Event) → HasDoneEvent code (with_clock a.site clock) b.site e → length a.site.outgoing ≡ length code.sites
+      → b.port ≡ a.port → b.aside ≡ a.aside → b.budget ≡ a.budget → b.failed ≡ a.failed → Turned g code (at_clock a clock) b
+  turned_late a b clock e done lines port aside budget failed = turned_done (record { event = e; out = done.out; did = done.did }) lines port aside budget failed
 
   -- a seat that has moved by itself alone
   pub moves_alone : {i to : ℕ} {a c : Seat P} → Turned g code a c → c.port ≡ a.port → c.waits ≡ a.waits → Moves g code i to a c
   moves_alone {i} {to} {a} {c} turned port waits = record {
     turned = turned;
     sent = λ k h. ap (λ (p : P). g.sent p k) port;
+    room = λ k h. let same : g.room c.port k ≡ g.room a.port k = ap (λ (p : P). g.room p k) port in omega arith;
     got = λ h k. (ap (λ (p : P). g.got p k) port, ap (λ (p : P). g.known p k) port);
     waits = λ h. waits;
   }
@@ -183,6 +176,21 @@ module _ {P R : Type 0} {g : Port.Ghosts P R Item} {code : ProgramTable} where
       → IsHistory c.site.history → Stand g code budget (set xs i c)
   stand_alone {budget} i {xs} {a} {c} stand at turned port waits history =
       none_but (stand_moved (but_none stand (length (set xs i c))) at (moves_alone turned port waits) history)
+
+  -- it may be one of which the clock was set before
+  pub stand_turned : {budget : ℕ} (stamp i : ℕ) {xs : List (Seat P)} {a c : Seat P} → Stand g code budget xs → slice_get xs i ≡ Some a → a.site.clock < stamp → IsNotEarly (stamp - 1) xs
+      → TurnsBy g code stamp a c → c.port ≡ a.port → c.waits ≡ a.waits → IsHistory c.site.history → Stand g code budget (set xs i c)
+  stand_turned {budget} stamp i {xs} {a} {c} stand at above early (inl turned) port waits history = stand_alone i stand at turned port waits history
+  stand_turned {budget} stamp i {xs} {a} {c} stand at above early (inr turned) port waits history =
+      let clock : max a.site.clock (stamp - 1) ≡ stamp - 1 = omega arith in
+      let set_now : Stand g code budget (set xs i (at_clock a (stamp - 1))) =
+      subst (λ (m : ℕ). Stand g code budget (set xs i (at_clock a m))) clock (stand_caught xs i (stamp - 1) a at stand early) in
+      subst (Stand g code budget) (set_twice xs i (at_clock a (stamp - 1)) c)
+      (stand_alone i set_now (get-set_same xs i (at_clock a (stamp - 1)) (slice_get_within xs i a at)) turned port waits history)
+
+  pub grows_turned : (stamp i : ℕ) (xs : List (Seat P)) (a c : Seat P) → slice_get xs i ≡ Some a → TurnsBy g code stamp a c → AllGrow (histories xs) (histories (set xs i c))
+  grows_turned stamp i xs a c at (inl turned) = grows_moved xs i a c at turned
+  grows_turned stamp i xs a c at (inr turned) = grows_by xs i a c at turned.history
 
   -- a seat that has put an item on its link
   pub stand_sent : {budget to : ℕ} (i : ℕ) {xs : List (Seat P)} {a c : Seat P} → StandBut g code budget to xs → slice_get xs i ≡ Some a → Moves g code i to a c → Rests 0 a c
@@ -228,51 +236,11 @@ module _ {P : Type 0} where
       }
 
 -- what stands behind all others is the last
-last_behind : (es later : List Stamped) (x : Stamped) → later ≡ es ++ x ∷ [] → IsLast later x
+pub last_behind : (es later : List Stamped) (x : Stamped) → later ≡ es ++ x ∷ [] → IsLast later x
 last_behind es later x is = record {
   before = length es;
   count = ap length is ∙ length-append es (x ∷ []);
   last = ap (λ l. slice_get l (length es)) is ∙ get-push_at es (length es) x refl;
-}
-
--- an event that was added is the last
-pub added_last : {P : Type 0} {e : Event} {stamp : ℕ} {a b : Seat P} → Adds e stamp a b → IsLast b.site.history.events (record { stamp = stamp; event = e })
-added_last {P} {e} {stamp} {a} {b} adds = last_behind a.site.history.events b.site.history.events (record { stamp = stamp; event = e }) adds.events
-
--- where the history is as it was, none was added
-pub none_added : {P : Type 0} {e : Event} {stamp : ℕ} {a b : Seat P} → b.site.history ≡ a.site.history → Adds e stamp a b → ⊥
-none_added {P} {e} {stamp} {a} {b} same adds =
-    let es = a.site.history.events in
-    let x : Stamped = record { stamp = stamp; event = e } in
-    let grown : length es ≡ length es + 1 = ap (λ (h : Recorded). length h.events) (sym same) ∙ ap length adds.events ∙ length-append es (x ∷ []) in absurd (omega arith)
-
--- so it is among all seats
-pub not_added_at : {P : Type 0} (e : Event) (stamp : ℕ) (xs : List (Seat P)) (a c : Seat P) → slice_get xs e.site ≡ Some a → (a.failed ≡ false → Adds e stamp a c → ⊥)
-    → HasNotAdded e stamp xs (set xs e.site c)
-not_added_at {P} e stamp xs a c at none = record {
-  there = λ x y was is ok adds.
-      let first : a ≡ x = some_is (slice_get xs e.site) a x at was in
-      let last : c ≡ y = some_is (slice_get (set xs e.site c) e.site) c y (get-set_same xs e.site c (slice_get_within xs e.site a at)) is in
-      none (subst (λ (v : Seat P). v.failed ≡ false) (sym first) ok) (subst (λ (v : Seat P). Adds e stamp v c) (sym first) (subst (λ (v : Seat P). Adds e stamp x v) (sym last) adds));
-}
-
--- and where no event was made before or after
-pub not_added_between : {P : Type 0} {late stamp : ℕ} {e : Event} {xs ys zs ws : List (Seat P)} → AllRest late xs ys → HasNotAdded e stamp ys zs → AllRest 0 zs ws → HasNotAdded e stamp xs ws
-not_added_between {P} {late} {stamp} {e} {xs} {ys} {zs} {ws} before none after = record {
-  there = λ a b was is ok adds.
-      let y = there_too xs ys e.site a before.count was in
-      let z = there_too ws zs e.site b (sym after.count) is in
-      let r = before.each e.site a y.0 was y.1 in
-      let q = after.each e.site z.0 b z.1 is in
-      let low : b.site.clock ≤ max z.0.site.clock 0 = q.clock in
-      let high : z.0.site.clock ≤ b.site.clock = q.later in
-      let at : b.site.clock ≡ stamp = adds.clock in
-      let x : Stamped = record { stamp = stamp; event = e } in
-      none.there y.0 z.0 y.1 z.1 (r.failed ∙ ok) (record {
-        events = ap (λ (h : Recorded). h.events) (sym q.history) ∙ adds.events ∙ ap (λ (h : Recorded). h.events ++ x ∷ []) (sym r.history);
-        clock = omega arith;
-        sound = λ sound. sym q.failed ∙ adds.sound (sym r.failed ∙ sound);
-      });
 }
 
 -- ---- all seats
@@ -282,14 +250,15 @@ module _ {P : Type 0} where
   pub early_still : {late stamp : ℕ} {xs ys : List (Seat P)} → AllRest late xs ys → IsNotEarly stamp xs → IsNotEarly stamp ys
   early_still {late} {stamp} {xs} {ys} rest early = record {
     none = λ none. early.none (λ i s at. let b = there_too xs ys i s rest.count at in ap (λ (h : Recorded). h.events) (sym (rest.each i s b.0 at b.1).history) ∙ none i b.0 b.1);
+    few = subst (λ hs. stamp ≤ low_count stamp hs) (sym (rest_histories xs ys rest)) early.few;
   }
 
   -- a link that is settled changes no site
-  pub rest_of_settled : {R : Type 0} {g : Port.Ghosts P R Item} {to : ℕ} {xs ys : List (Seat P)} → AreSettledIn g to xs ys → AllRest 0 xs ys
-  rest_of_settled {R} {g} {to} {xs} {ys} is = record {
-    count = is.still.count;
+  pub rest_of_still : {R : Type 0} {g : Port.Ghosts P R Item} {xs ys : List (Seat P)} → AllStill g xs ys → AllRest 0 xs ys
+  rest_of_still {R} {g} {xs} {ys} is = record {
+    count = is.count;
     each = λ i a b x y.
-        let w = is.still.each i b y in
+        let w = is.each i b y in
         let same : w.before ≡ a = some_is (slice_get xs i) w.before a w.was x in
         subst (λ (v : Seat P). Rests 0 v b) same (record {
           history = ap (λ (v : Standing). v.history) w.still.site_same;
@@ -299,15 +268,18 @@ module _ {P : Type 0} where
         });
   }
 
+  pub rest_of_settled : {R : Type 0} {g : Port.Ghosts P R Item} {to : ℕ} {xs ys : List (Seat P)} → AreSettledIn g to xs ys → AllRest 0 xs ys
+  rest_of_settled is = rest_of_still is.still
+
 -- ---- an event that is tried again
 
 module _ {P R : Type 0} {g : Port.Ghosts P R Item} {code : ProgramTable} where
   pub turned_redone : (a b : Seat P) (asked : Ready) (stamp : ℕ) (r : Result Bool Memory) → a.site.clock < stamp → IfOk r (IsRedone code asked stamp a.site b.site) → OnErr r (Stays code a.site b.site)
-      → length a.site.outgoing ≡ length code.sites → b.port ≡ a.port → b.aside ≡ a.aside → b.budget ≡ a.budget → b.failed ≡ a.failed → Turned g code a b
+      → length a.site.outgoing ≡ length code.sites → b.port ≡ a.port → b.aside ≡ a.aside → b.budget ≡ a.budget → b.failed ≡ a.failed → TurnsBy g code stamp a b
   turned_redone a b asked stamp (Ok true) above done stays lines port aside budget failed =
-      turned_late a b (stamp - 1) (event_at code a.site done.agent asked) (omega arith) done.done lines port aside budget failed
-  turned_redone a b asked stamp (Ok false) above done stays lines port aside budget failed = turned_stays done.0.same port aside budget (λ h. sym failed ∙ h)
-  turned_redone a b asked stamp (Err m) above done stays lines port aside budget failed = turned_stays stays.same port aside budget (λ h. sym failed ∙ h)
+      inr (turned_late a b (stamp - 1) (event_at code a.site done.agent asked) done.done lines port aside budget failed)
+  turned_redone a b asked stamp (Ok false) above done stays lines port aside budget failed = inl (turned_stays done.0 port aside budget (λ h. sym failed ∙ h))
+  turned_redone a b asked stamp (Err m) above done stays lines port aside budget failed = inl (turned_stays stays port aside budget (λ h. sym failed ∙ h))
 
 -- what was done is the event, where that is the last
 pub adds_redone : {P : Type 0} (code : ProgramTable) (e deed : Event) (stamp : ℕ) (a b : Seat P) → HasDoneEvent code (with_clock a.site (stamp - 1)) b.site deed → b.failed ≡ a.failed

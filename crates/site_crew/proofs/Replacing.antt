@@ -1,25 +1,30 @@
 -- Seats of which one has gone on.
-use Rattle.std.proofs.Common.{◌≡◌, ◌≢◌, ◌<◌, ◌≤◌, ◌⊎◌, inl, inr, ℕ, max, List, [], ◌∷◌, ◌++◌, length, set, get_or, Some, refl, sym, ap, subst, subst₂, ◌∙◌, arith, length-set}
+use Rattle.std.proofs.Common.{◌≡◌, ◌≢◌, ◌+◌, ◌<◌, ◌≤◌, ◌⊎◌, inl, inr, ℕ, max, List, [], ◌∷◌, ◌++◌, length, set, get_or, Some, refl, sym, ap, subst, subst₂, ◌∙◌, arith, length-set}
 use Rattle.std.specs.Prelude.{slice_get}
 use Rattle.std.proofs.lemmas.Bool.Decides.{eqb_tells}
 use Rattle.std.proofs.lemmas.List.{get_or-set_other}
 use Rattle.std.proofs.lemmas.Option.{slice_get_within, slice_get-get_or, get_or_from_slice_get}
-use Rattle.stamp_history.specs.Histories.{IsHistory}
+use Rattle.stamp_history.specs.Histories.{IsHistory, Recorded}
+use Rattle.site_links.specs.declared.places.TheConstants.{PLACES}
 use Rattle.site_links.specs.declared.port.Port as Port
 use Rattle.site_links.proofs.Rows.{get-set_same, get-set_other}
 use Rattle.np_site_runs.specs.Holdings.{Holding}
 use Rattle.np_code.specs.Programs.{ProgramTable}
 use Rattle.agent_move.specs.declared.item.Item.{Item}
-use Rattle.site_state.specs.Standings.{Standing, with_clock}
+use Rattle.site_state.specs.Standings.{Standing}
 use Rattle.site_turn.specs.declared.seat.Seat.{Seat}
-use Rattle.site_turn.specs.Turns.{Kept, Turned}
+use Rattle.site_turn.specs.Steady.{IsSteady}
+use Rattle.site_turn.specs.Turns.{HistoryGrows, Kept, Turned}
 use Rattle.site_turn.proofs.Holdings.{history_same}
 use Rattle.site_turn.proofs.Steps.{turned_refl}
-use Rattle.site_crew.specs.Following.{AllRest, IsNotEarly, Moves, Rests, StandBut}
+use Rattle.site_crew.specs.Bringing.{AllHoldSame}
+use Rattle.site_crew.specs.Clocks.{low_count}
+use Rattle.site_crew.specs.Following.{AllRest, IsNotEarly, Moves, Rests, StandBut, at_clock}
+use Rattle.site_crew.proofs.Clocks.{caught_histories, caught_steady, count_later, set_later, steady_again}
 use Rattle.site_crew.specs.Links.{AreLinked, AreSettledIn, IsSettledTo, IsTold}
 use Rattle.site_crew.specs.Seats.{AllGrow, AllTurned, IsSeat, Stand, histories}
 use Rattle.site_crew.proofs.Crewing.{at_place, grows_again}
-use Rattle.site_crew.proofs.Goings.{seat_still, seats_turned}
+use Rattle.site_crew.proofs.Goings.{seat_still, seats_turned, turned_at}
 use Rattle.np_syntax.proofs.Options.{some_is}
 use Rattle.site_crew.proofs.Pairs.{all_still_refl, linked_after, told_same}
 use Rattle.site_crew.proofs.Standing.{fresh_again}
@@ -35,6 +40,7 @@ replaced {T} xs i k a c v at is = elim (eqb_tells k i) [
 -- the same links, but for those to a site
 pub record SameLinks {P R : Type 0} (g : Port.Ghosts P R Item) (i to : ℕ) (old new : Seat P) : Type 0 where
   pub sent : (k : ℕ) → k ≢ to → g.sent new.port k ≡ g.sent old.port k
+  pub room : (k : ℕ) → k ≢ to → g.room old.port k ≤ g.room new.port k
   pub got : i ≢ to → (k : ℕ) → (g.got new.port k ≡ g.got old.port k) × (g.known new.port k ≡ g.known old.port k)
   pub waits : i ≢ to → new.waits ≡ old.waits
 
@@ -53,10 +59,16 @@ module _ {P R : Type 0} {g : Port.Ghosts P R Item} where
       | inr w ↦ (t, w.1, λ k. (refl, refl), refl)
     ]
 
-    sender : (k j : ℕ) (s : Seat P) → j ≢ to → slice_get after k ≡ Some s → (b : Seat P) × (slice_get xs k ≡ Some b) × (g.sent s.port j ≡ g.sent b.port j)
+    sender : (k j : ℕ) (s : Seat P) → j ≢ to → slice_get after k ≡ Some s
+        → (b : Seat P) × (slice_get xs k ≡ Some b) × (g.sent s.port j ≡ g.sent b.port j) × (g.room b.port j ≤ g.room s.port j)
     sender k j s apart is = elim (replaced xs i k a c s at is) [
-      | inl w ↦ (a, subst (λ (m : ℕ). slice_get xs m ≡ Some a) (sym w.0) at, ap (λ (s : Seat P). g.sent s.port j) w.1 ∙ same.sent j apart)
-      | inr w ↦ (s, w.1, refl)
+      | inl w ↦ (
+        a,
+        subst (λ (m : ℕ). slice_get xs m ≡ Some a) (sym w.0) at,
+        ap (λ (s : Seat P). g.sent s.port j) w.1 ∙ same.sent j apart,
+        subst (λ (v : Seat P). g.room a.port j ≤ g.room v.port j) (sym w.1) (same.room j apart),
+      )
+      | inr w ↦ (s, w.1, refl, omega arith)
     ]
 
     pub settled_same : (j : ℕ) → j ≢ to → IsSettledTo g xs j → IsSettledTo g after j
@@ -64,8 +76,10 @@ module _ {P R : Type 0} {g : Port.Ghosts P R Item} where
       settled = λ k s t at_k at_j.
           let b = sender k j s apart at_k in
           let d = receiver j t apart at_j in
-          let was : g.got d.0.port k ++ g.known d.0.port k ≡ g.sent b.0.port j = old.settled k b.0 d.0 b.1 d.1 in
-          rw ((d.2 k).0, (d.2 k).1, b.2) was;
+          let was = old.settled k b.0 d.0 b.1 d.1 in
+          let free : PLACES ≤ g.room b.0.port j + length (g.known d.0.port k) = was.free in
+          let more : g.room b.0.port j ≤ g.room s.port j = b.3 in
+          record { all = rw ((d.2 k).0, (d.2 k).1, b.2) was.all; free = rw (d.2 k).1 (omega arith) };
       told = λ s at_j.
           let d = receiver j s apart at_j in
           subst (λ w. IsTold g (length after) s w) (sym d.3)
@@ -92,7 +106,7 @@ module _ {P R : Type 0} {g : Port.Ghosts P R Item} where
         → StandBut g code budget to (set xs i c)
     stand_moved {budget} {i} {to} {xs} {a} {c} stand at moves history =
         let turned = one_turned xs i a c at moves.turned in
-        let links : SameLinks g i to a c = record { sent = moves.sent; got = moves.got; waits = moves.waits } in record {
+        let links : SameLinks g i to a c = record { sent = moves.sent; room = moves.room; got = moves.got; waits = moves.waits } in record {
           seats = seats_turned stand.seats turned;
           settled = λ j less apart. settled_same i to xs a c at links j apart (stand.settled j (subst (λ (m : ℕ). j < m) (length-set xs i c) less) apart);
           whole = record {
@@ -102,6 +116,7 @@ module _ {P R : Type 0} {g : Port.Ghosts P R Item} where
             ];
           };
           fresh = fresh_again stand.fresh turned (all_still_refl (set xs i c));
+          steady = steady_again stand.steady (grows_again turned (all_still_refl (set xs i c))) (turned_at turned) (all_still_refl (set xs i c));
         }
 
     pub grows_moved : (xs : List (Seat P)) (i : ℕ) (a c : Seat P) → slice_get xs i ≡ Some a → Turned g code a c → AllGrow (histories xs) (histories (set xs i c))
@@ -109,7 +124,7 @@ module _ {P R : Type 0} {g : Port.Ghosts P R Item} where
 
     -- between rounds all links are settled
     pub but_none : {budget : ℕ} {xs : List (Seat P)} → Stand g code budget xs → (to : ℕ) → StandBut g code budget to xs
-    but_none stand to = record { seats = stand.seats; settled = λ j less apart. stand.settled.each j less; whole = stand.whole; fresh = stand.fresh }
+    but_none stand to = record { seats = stand.seats; settled = λ j less apart. stand.settled.each j less; whole = stand.whole; fresh = stand.fresh; steady = stand.steady }
 
     pub none_but : {budget : ℕ} {xs : List (Seat P)} → StandBut g code budget (length xs) xs → Stand g code budget xs
     none_but {budget} {xs} stand = record {
@@ -117,6 +132,7 @@ module _ {P R : Type 0} {g : Port.Ghosts P R Item} where
       settled = record { each = λ j less. stand.settled j less (λ e. absurd (omega arith)) };
       whole = stand.whole;
       fresh = stand.fresh;
+      steady = stand.steady;
     }
 
     -- once the links to that site are settled
@@ -135,7 +151,28 @@ module _ {P R : Type 0} {g : Port.Ghosts P R Item} where
       };
       whole = record { each = λ i s at. let b = is.still.each i s at in subst (λ (v : Standing). IsHistory v.history) (sym b.still.site_same) (stand.whole.each i b.before b.was) };
       fresh = fresh_again stand.fresh (all_turned_refl xs) is.still;
+      steady = steady_again stand.steady (grows_again (all_turned_refl xs) is.still) (turned_at (all_turned_refl xs)) is.still;
     }
+
+-- one history grows where one seat is replaced
+pub grows_by : {P : Type 0} (xs : List (Seat P)) (i : ℕ) (a c : Seat P) → slice_get xs i ≡ Some a → HistoryGrows a.site.history c.site.history → AllGrow (histories xs) (histories (set xs i c))
+grows_by {P} xs i a c at grows = record {
+  count = long-histories (set xs i c) ∙ length-set xs i c ∙ sym (long-histories xs);
+  each = λ k d less. elim (eqb_tells k i) [
+    | inl w ↦
+        let was : get_or (histories xs) k d ≡ a.site.history = at_place xs k a d (subst (λ (m : ℕ). slice_get xs m ≡ Some a) (sym w.1) at) in
+        let now : get_or (histories (set xs i c)) k d ≡ c.site.history =
+        at_place (set xs i c) k c d (subst (λ (m : ℕ). slice_get (set xs i c) m ≡ Some c) (sym w.1) (get-set_same xs i c (slice_get_within xs i a at))) in
+        subst₂ (λ (x y : Recorded). HistoryGrows x y) (sym was) (sym now) grows
+    | inr w ↦
+        let lx : k < length xs = subst (λ (m : ℕ). k < m) (long-histories xs) less in
+        let v : Seat P = get_or xs k a in
+        let here : slice_get xs k ≡ Some v = slice_get-get_or xs k a lx in
+        let was : get_or (histories xs) k d ≡ v.site.history = at_place xs k v d here in
+        let now : get_or (histories (set xs i c)) k d ≡ v.site.history = at_place (set xs i c) k v d (get-set_other xs i k c w.1 ∙ here) in
+        history_same (get_or (histories xs) k d) (get_or (histories (set xs i c)) k d) (now ∙ sym was)
+  ];
+}
 
 -- what stands in the same place of a list as long
 pub there_too : {T : Type 0} (xs ys : List T) (i : ℕ) (a : T) → length ys ≡ length xs → slice_get xs i ≡ Some a → (b : T) × (slice_get ys i ≡ Some b)
@@ -198,10 +235,7 @@ module _ {P : Type 0} where
 
 -- ---- a clock that was caught up
 
--- the seat with its clock at a stamp, or at no less than that
-abbrev pub at_clock : {P : Type 0} → Seat P → ℕ → Seat P
-at_clock s clock = record { site = with_clock s.site clock; port = s.port; aside = s.aside; budget = s.budget; failed = s.failed; waits = s.waits }
-
+-- the seat with its clock at no less than a stamp
 abbrev pub caught : {P : Type 0} → Seat P → ℕ → Seat P
 caught s stamp = at_clock s (max s.site.clock stamp)
 
@@ -225,6 +259,7 @@ module _ {P R : Type 0} {g : Port.Ghosts P R Item} {code : ProgramTable} where
     number = h.number;
     owner = h.owner;
     placed = record { number = h.placed.number; among = h.placed.among; lines = h.placed.lines; budget = h.placed.budget };
+    quiet = record { each = λ q p found there. h.quiet.each q p found there };
     kept = kept_later (max a.site.clock stamp) (omega arith) h.kept;
     budget = h.budget;
     aside = h.aside;
@@ -260,7 +295,7 @@ module _ {P R : Type 0} {g : Port.Ghosts P R Item} {code : ProgramTable} where
         linked = linked;
       };
       settled = λ j less apart.
-          settled_same i (length zs) xs a (caught a stamp) at (record { sent = λ k h. refl; got = λ h k. (refl, refl); waits = λ h. refl }) j apart
+          settled_same i (length zs) xs a (caught a stamp) at (record { sent = λ k h. refl; room = λ k h. omega arith; got = λ h k. (refl, refl); waits = λ h. refl }) j apart
           (stand.settled.each j (subst (λ (m : ℕ). j < m) (length-set xs i (caught a stamp)) less));
       whole = record {
         each = λ k s is. elim (replaced xs i k a (caught a stamp) s at is) [
@@ -278,6 +313,15 @@ module _ {P R : Type 0} {g : Port.Ghosts P R Item} {code : ProgramTable} where
                   ap (λ (v : Seat P). v.site.clock) w.1 ∙ omega arith
               | inr w ↦ stand.fresh.clocks was k s w.1
             ];
+      };
+      steady = record {
+        set = max stand.steady.set stamp;
+        enough = subst (λ hs. max stand.steady.set stamp ≤ low_count (max stand.steady.set stamp) hs) (sym (caught_histories xs i a (max a.site.clock stamp) at))
+            (count_later (histories xs) stand.steady.set stamp stand.steady.enough early.few);
+        each = λ k s is. elim (replaced xs i k a (caught a stamp) s at is) [
+          | inl w ↦ subst (λ (v : Seat P). IsSteady g code (max stand.steady.set stamp) v) (sym w.1) (caught_steady stand.steady.set (max stand.steady.set stamp) stamp a (omega arith) (omega arith) (stand.steady.each i a at))
+          | inr w ↦ set_later stand.steady.set (max stand.steady.set stamp) (omega arith) (stand.steady.each k s w.1)
+        ];
       };
     })
       where
@@ -297,3 +341,20 @@ module _ {P R : Type 0} {g : Port.Ghosts P R Item} {code : ProgramTable} where
 
     pub rests_caught : AllRest stamp xs zs
     rests_caught = one_rests stamp xs i a (caught a stamp) at (record { history = refl; clock = omega arith; later = omega arith; failed = refl })
+
+    pub same_caught : AllHoldSame xs zs
+    same_caught = record {
+      count = length-set xs i (caught a stamp);
+      each = λ k x y was is. elim (replaced xs i k a (caught a stamp) y at is) [
+        | inl w ↦
+            let first : a ≡ x = some_is (slice_get xs i) a x at (subst (λ (m : ℕ). slice_get xs m ≡ Some x) w.0 was) in
+            let now : y ≡ caught a stamp = w.1 in record {
+              port = ap (λ (v : Seat P). v.port) now ∙ ap (λ (v : Seat P). v.port) first;
+              aside = ap (λ (v : Seat P). v.aside) now ∙ ap (λ (v : Seat P). v.aside) first;
+              lines = ap (λ (v : Seat P). v.site.outgoing) now ∙ ap (λ (v : Seat P). v.site.outgoing) first;
+            }
+        | inr w ↦
+            let same : y ≡ x = some_is (slice_get xs k) y x w.1 was in
+            record { port = ap (λ (v : Seat P). v.port) same; aside = ap (λ (v : Seat P). v.aside) same; lines = ap (λ (v : Seat P). v.site.outgoing) same }
+      ];
+    }

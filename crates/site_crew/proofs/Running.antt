@@ -54,12 +54,12 @@ room_less n old new on went are =
 pub ended_rest : (old new : CrewState) (r : Round) → IsRoundOf old new r → r ≡ round.Rest → HasEnded new ends.Rest
 ended_rest old new r is e =
     let t : IsRoundOf old new round.Rest = subst (IsRoundOf old new) e is in
-    record { last = t.end; run = t.run; rests = (λ h. t.tells.1, λ idle. refl); spent = λ h. absurd (let x = h in cc) }
+    record { last = t.end; run = t.run; shown = t.shown; carried = t.carried; rests = (λ h. t.tells.1, λ idle. refl); spent = λ h. absurd (let x = h in cc); still = λ h. absurd (let x = h in cc) }
 
 pub ended_spent : (old new : CrewState) (r : Round) → IsRoundOf old new r → r ≡ round.Spent → HasEnded new ends.Spent
 ended_spent old new r is e =
     let t : IsRoundOf old new round.Spent = subst (IsRoundOf old new) e is in
-    record { last = t.end; run = t.run; rests = (λ h. absurd (let x = h in cc), λ idle. absurd (t.tells.1 idle)); spent = λ h. t.spent refl }
+    record { last = t.end; run = t.run; shown = t.shown; carried = t.carried; rests = (λ h. absurd (let x = h in cc), λ idle. absurd (t.tells.1 idle)); spent = λ h. t.spent refl; still = λ h. t.still refl }
 
 pub went_less : (old new : CrewState) (r : Round) → GoesOn old new → IsRoundOf old new r → r ≡ round.Went → room_left new < room_left old
 went_less old new r on is e =

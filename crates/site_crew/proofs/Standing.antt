@@ -1,8 +1,9 @@
 -- A crew stands at the low start, and after each round.
-use Rattle.std.proofs.Common.{◌≡◌, ◌<◌, ℕ, List, [], ◌++◌, length, get_or, Option, Some, IfSome, refl, sym, ap, subst, subst₂, ◌∙◌, arith}
+use Rattle.std.proofs.Common.{◌≡◌, ◌<◌, inl, ℕ, List, [], ◌++◌, length, get_or, Option, Some, IfSome, refl, sym, ap, subst, subst₂, ◌∙◌, arith}
 use Rattle.std.specs.Prelude.{slice_get}
 use Rattle.std.proofs.lemmas.Option.{slice_get_within, slice_get-get_or}
-use Rattle.stamp_history.specs.Histories.{IsHistory, without_events}
+use Rattle.std.specs.List.{AllByRecursion}
+use Rattle.stamp_history.specs.Histories.{IsHistory, Recorded, without_events}
 use Rattle.site_links.specs.Words.{Begins, IsFullMake, IsUnused}
 use Rattle.site_links.specs.declared.port.Port as Port
 use Rattle.site_links.proofs.Kept.{Begins-empty}
@@ -18,7 +19,10 @@ use Rattle.site_turn.specs.declared.seat.Seat.{Seat}
 use Rattle.site_turn.specs.Turns.{IsStrange, Kept, came_from, shown}
 use Rattle.site_crew.specs.Links.{AllStill, AreSettled}
 use Rattle.crew_ends.specs.Starts.{AreFirst, IsFirst}
-use Rattle.site_crew.specs.Seats.{AllTurned, AreFresh, AreSeats, AreWhole, Stand}
+use Rattle.site_crew.specs.Clocks.{AreSteady}
+use Rattle.site_crew.specs.Seats.{AllGrow, AllTurned, AreFresh, AreSeats, AreWhole, Stand, histories}
+use Rattle.site_crew.proofs.Clocks.{steady_again}
+use Rattle.site_turn.specs.Steady.{IsOneMore}
 use Rattle.np_syntax.proofs.Options.{some_is}
 use Rattle.site_crew.proofs.Pairs.{linked_after}
 use Rattle.site_crew.proofs.Goings.{seat_still, seats_turned, turned_at}
@@ -57,6 +61,7 @@ module _ {P R : Type 0} {g : Port.Ghosts P R Item} {code : ProgramTable} where
               lines = e.2.site.outgoing.sites;
               budget = e.2.budget ∙ sym (ap (λ h. h.budget) e.2.site.history);
             };
+            quiet = e.2.site.quiet;
             kept = first_kept e.2 (unused k e.0 e.1);
             budget = e.2.budget;
             aside = λ ok. subst (λ (o : Option Item). IfSome o (IsStrange s.site.site)) (sym e.2.aside) tt;
@@ -72,7 +77,10 @@ module _ {P R : Type 0} {g : Port.Ghosts P R Item} {code : ProgramTable} where
       each = λ j h. record {
         settled = λ i s t at to.
             let e = first.each i s at in let f = first.each j t to in
-            rw (e.2.port, f.2.port, (unused j f.0 f.1).got_none i, (unused j f.0 f.1).known_none i, (unused i e.0 e.1).sent_none j) refl;
+            let less : j < length code.sites = subst (λ (m : ℕ). j < m) (first.count ∙ make.count) (slice_get_within xs j t to) in record {
+              all = rw (e.2.port, f.2.port, (unused j f.0 f.1).got_none i, (unused j f.0 f.1).known_none i, (unused i e.0 e.1).sent_none j) refl;
+              free = rw (e.2.port, (unused i e.0 e.1).all_free j less) (omega arith);
+            };
         told = λ s at.
             let e = first.each j s at in
             record { none = λ h k lt. ap (λ q. g.known q k) e.2.port ∙ (unused j e.0 e.1).known_none k; some = λ none. e.2.waits };
@@ -80,6 +88,17 @@ module _ {P R : Type 0} {g : Port.Ghosts P R Item} {code : ProgramTable} where
     };
     whole = record { each = λ i s at. let e = first.each i s at in subst IsHistory (sym e.2.site.history) (no_history i limit) };
     fresh = record { clocks = λ none i s at. let e = first.each i s at in e.2.site.clock };
+    steady = record {
+      set = 0;
+      enough = omega arith;
+      each = λ i s at.
+          let e = first.each i s at in
+          let zero : s.site.clock ≡ 0 = e.2.site.clock in
+          record {
+            clock = inl (omega arith);
+            each = subst (λ (h : Recorded). AllByRecursion (λ x. IsOneMore g code 0 s x.stamp) h.events) (sym e.2.site.history) tt;
+          };
+    };
   }
 
   -- turns in which no site makes an event leave each clock at 0
@@ -108,8 +127,9 @@ module _ {P R : Type 0} {g : Port.Ghosts P R Item} {code : ProgramTable} where
           ap (λ (v : Seat P). v.site.history.events) same ∙ Begins-empty a.0.site.history.events (subst (λ es. Begins es a.0.site.history.events) empty a.2.history.events)
 
   -- after turns, once the links are settled again
-  pub stand_again : {limit : ℕ} {xs ys zs : List (Seat P)} → AreSeats g code limit xs → AreFresh xs → AllTurned g code xs ys → AllStill g ys zs → AreSettled g zs → AreWhole zs → Stand g code limit zs
-  stand_again {limit} {xs} {ys} {zs} seats fresh turned still settled whole =
+  pub stand_again : {limit : ℕ} {xs ys zs : List (Seat P)} → AreSeats g code limit xs → AreFresh xs → AreSteady g code xs → AllGrow (histories xs) (histories zs)
+      → AllTurned g code xs ys → AllStill g ys zs → AreSettled g zs → AreWhole zs → Stand g code limit zs
+  stand_again {limit} {xs} {ys} {zs} seats fresh steady grow turned still settled whole =
       let after = seats_turned seats turned in record {
         seats = record {
           count = still.count ∙ after.count;
@@ -119,4 +139,5 @@ module _ {P R : Type 0} {g : Port.Ghosts P R Item} {code : ProgramTable} where
         settled = settled;
         whole = whole;
         fresh = fresh_again fresh turned still;
+        steady = steady_again steady grow (turned_at turned) still;
       }

@@ -134,7 +134,7 @@ module _ {P R : Type 0} (g : Port.Ghosts P R Item) (code : ProgramTable) (limit 
       at = λ s. refl;
       each = λ s h. account s (slice_get xs s) (here s) (some s h);
       links = λ s t h k. links s t (slice_get xs s) (slice_get xs t) (here s) (here t) (some s h) (some t k)
-          (λ a b ea eb. (settled.each t (subst (λ (m : ℕ). t < m) (sym seats.count) k)).settled s a b ea eb);
+          (λ a b ea eb. ((settled.each t (subst (λ (m : ℕ). t < m) (sym seats.count) k)).settled s a b ea eb).all);
     }
 
     its_at : AreWhole xs → (s : ℕ) (d : Recorded) → s < length code.sites → Its s (deeds_of s (slice_get xs s) (here s)) (end_of s (slice_get xs s)) (get_or (histories xs) s d)

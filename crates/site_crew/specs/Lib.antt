@@ -1,6 +1,11 @@
+pub mod Bringing
+pub mod Carried
+pub mod Clocks
 pub mod Crews
 pub mod Following
 pub mod Links
 pub mod Lists
+pub mod Passes
 pub mod Runs
 pub mod Seats
+pub mod Shown

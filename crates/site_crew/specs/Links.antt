@@ -1,5 +1,6 @@
 -- Seats side by side, one for each site in order, and their links.
-use Rattle.std.specs.Prelude.{◌≡◌, ◌≢◌, ◌+◌, ◌<◌, ℕ, Bool, false, List, [], ◌++◌, length, Some, slice_get}
+use Rattle.std.specs.Prelude.{◌≡◌, ◌≢◌, ◌+◌, ◌<◌, ◌≤◌, ℕ, Bool, false, List, [], ◌++◌, length, Some, slice_get}
+use Rattle.site_links.specs.declared.places.TheConstants.{PLACES}
 use Rattle.site_links.specs.declared.port.Port as Port
 use Rattle.agent_move.specs.declared.item.Item.{Item}
 use Rattle.site_turn.specs.declared.seat.Seat.{Seat}
@@ -29,7 +30,8 @@ module _ {P R : Type 0} (g : Port.Ghosts P R Item) where
 
   -- what was linked still is
   abbrev pub StayLinked : List (Seat P) → List (Seat P) → Type 0
-  StayLinked xs ys = (k l : ℕ) (a b c d : Seat P) → slice_get xs k ≡ Some a → slice_get xs l ≡ Some b → slice_get ys k ≡ Some c → slice_get ys l ≡ Some d
+  StayLinked xs ys = (k l : ℕ) (a b c d : Seat P) → slice_get xs k ≡ Some a → slice_get xs l ≡ Some b → slice_get ys k ≡ Some c
+      → slice_get ys l ≡ Some d
       → g.linked a.port b.port → g.linked c.port d.port
 
   -- all seats with what they know of their links changed
@@ -38,9 +40,14 @@ module _ {P R : Type 0} (g : Port.Ghosts P R Item) where
     pub each : (k : ℕ) (s : Seat P) → slice_get ys k ≡ Some s → Before xs k s
     pub links : StayLinked xs ys
 
-  -- what was got on the link from one site to another, and then what is known to wait there, is what was sent
+  -- What was got on the link from one site to another, and then what is known to wait there, is what was sent. The sender knows that
+  -- each place is free in which nothing waits.
+  pub record EndsAgree (i j : ℕ) (s t : Seat P) : Type 0 where
+    pub all : g.got t.port i ++ g.known t.port i ≡ g.sent s.port j
+    pub free : PLACES ≤ g.room s.port j + length (g.known t.port i)
+
   abbrev pub IsSettled : List (Seat P) → ℕ → ℕ → Type 0
-  IsSettled xs i j = (s t : Seat P) → slice_get xs i ≡ Some s → slice_get xs j ≡ Some t → g.got t.port i ++ g.known t.port i ≡ g.sent s.port j
+  IsSettled xs i j = (s t : Seat P) → slice_get xs i ≡ Some s → slice_get xs j ≡ Some t → EndsAgree i j s t
 
   -- nothing is known to wait from the sites below n
   abbrev pub NoneWaits : ℕ → Seat P → Type 0
@@ -77,6 +84,7 @@ module _ {P R : Type 0} (g : Port.Ghosts P R Item) where
     pub still : Still before s
     pub waits_same : s.waits ≡ before.waits
     pub known_same : (m : ℕ) → (k ≡ j → m ≡ i → ⊥) → g.known s.port m ≡ g.known before.port m
+    pub room_same : (m : ℕ) → (k ≡ i → m ≡ j → ⊥) → g.room s.port m ≡ g.room before.port m
 
   -- the link from one site to another is settled, and so many items wait on it
   pub record IsPairSettled (i j : ℕ) (xs ys : List (Seat P)) (many : ℕ) : Type 0 where

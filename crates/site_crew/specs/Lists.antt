@@ -43,17 +43,18 @@ pub record HasFollowed (low : LowProgram) (events : List Event) (c : CrewState) 
   pub clocks : (s : ℕ) → s < length c.histories → get_or c.clocks s 0 ≡ length events
   pub sound : c.failed ≡ false
 
--- no site has more events in the list than the budget, the merged histories are just these events, with the stamps 1, 2, 3 and so on, and each clock
--- is at their number
+-- no site has more events in the list than the budget, the merged histories are just these events, with the stamps 1, 2, 3 and so on,
+-- and each clock is at their number
 pub record HasRedone (events : List Event) (c : CrewState) : Type 0 where
   pub within : AreWithin (length c.code.sites) c.budget events
   pub of : AreOf events c.histories
   pub clocks : (s : ℕ) → s < length c.histories → get_or c.clocks s 0 ≡ length events
   pub sound : c.failed ≡ false
 
--- A site has more events in the list than the budget, and this is the first such site; or none has, and this is the index of the event at which the list
--- stops being ours. Then the crew is as it was. Or memory was wanting.
+-- A site has more events in the list than the budget, and this is the first such site; or none has, and this is the index of the event
+-- at which the list stops being ours. Then the crew is as it was. Or memory was wanting.
 abbrev pub HasFailed : LowProgram → List Event → CrewState → CrewState → FollowFail → Type 0
 HasFailed low events old new (fail.BudgetPast s) = IsFirstPast (length low.sites) old.budget events s × (new ≡ old)
-HasFailed low events old new (fail.NotOurs i) = AreWithin (length low.sites) old.budget events × StopsBeingOurs (start_low low) events i × (new ≡ old)
+HasFailed low events old new (fail.NotOurs i) = AreWithin (length low.sites) old.budget events × StopsBeingOurs (start_low low) events i
+    × (new ≡ old)
 HasFailed low events old new fail.Memory = new.failed ≡ true

@@ -1,23 +1,22 @@
-ghost use Rattle.std.specs.Prelude.{◌≡◌, ◌≤◌, true, false, length, map, None, Some, IfErr, IfNone, IfOk, IfSome, IsSome, OnOk, OnErr};
-ghost use Rattle.np_syntax.specs.declared.limits.TheConstants.{LARGEST_BUDGET, MOST_SITES};
+ghost use Rattle.std.specs.Prelude.{◌≡◌, ◌<◌, ◌≤◌, ◌^◌, true, false, length, map, IfErr, IfNone, IfOk, IfSome, IsSome, OnOk, OnErr};
+ghost use Rattle.np_syntax.specs.declared.limits.TheConstants.{LARGEST_BUDGET};
 ghost use Rattle.np_code.specs.Programs.{program};
 ghost use Rattle.np_calculus.specs.Reductions.{run};
 ghost use Rattle.np_calculus.specs.Starts.{start_low};
 ghost use Rattle.site_crew.specs.Crews.{AddsLater, GoesOn, HasEnded, HasRun, IsJudged, IsRoundOf, NoneFailed};
 ghost use Rattle.site_crew.specs.Lists.{HasFailed, HasFollowed, HasRedone, IsToFollow};
-ghost use Rattle.crew_ends.specs.Quiet.{AllQuiet, AreOver};
-ghost use Rattle.site_crew.specs.Runs.{IsProgram};
+ghost use Rattle.site_crew.specs.Passes.{AreDone, NoneAside};
+ghost use Rattle.site_crew.specs.Runs.{IsProgram, RunsSafely};
 ghost use Rattle.site_crew.specs.Seats.{event_count, histories};
 
-use crate::again::redo_all;
+use crate::again::redo_list;
 use crate::counting::events_of;
 use crate::follow_fail::FollowFail;
-use crate::following::follow_all;
-use crate::past::{are_within, refused};
+use crate::past::refusal;
 use crate::round::Round;
 use crate::rounds::{serial_round, threads_round};
 use agent_move::Item;
-use crew_ends::{all_quiet, are_over, seats_for};
+use crew_ends::{all_quiet, seats_for};
 use np_code::Code;
 use np_syntax::{End, Event, List, LowProgram, Memory};
 use site_links::Port;
@@ -41,12 +40,20 @@ pub struct Crew<R, P: Port<R, Item>> {
 impl<R, P: Port<R, Item>> Model for Crew<R, P> {
     ghost use Rattle.site_crew.specs.Crews.{CrewState, IsCrew, crew_code};
     ghost use Rattle.site_crew.specs.Seats.{clocks, histories};
+    ghost use Rattle.site_crew.specs.Shown.{seat_states};
 
     ghost Value = { CrewState };
 
     ghost coded = { crew_code };
 
-    ghost view = { λ c. record { code = c.code; budget = c.budget; failed = c.failed; histories = histories c.seats.items; clocks = clocks c.seats.items } };
+    ghost view = { λ c. record {
+      code = c.code;
+      budget = c.budget;
+      failed = c.failed;
+      histories = histories c.seats.items;
+      clocks = clocks c.seats.items;
+      seats = seat_states P.Port c.seats.items;
+    } };
 
     ghost invariant = { λ c. IsCrew P.Port c.code c.budget c.failed c.seats.items };
 }
@@ -56,6 +63,7 @@ impl<R, P: Port<R, Item>> Crew<R, P> {
     pub fn new(alloc: Global, _low: &LowProgram, code: Code, budget: u32) -> Result<Self, Memory>
         requires table { program code ≡ _low.now }
         requires program { IsProgram code }
+        requires safe { RunsSafely _low.now }
         requires budget { budget ≤ LARGEST_BUDGET }
         ensures crew { IfOk result (λ crew. (crew.code ≡ code) × (crew.budget ≡ budget) × (crew.failed ≡ false)) }
         ensures none { IfOk result (λ crew. event_count crew.histories ≡ 0) }
@@ -101,56 +109,62 @@ impl<R, P: Port<R, Item>> Crew<R, P> {
             before < after,
             self.seats.as_slice(),
         );
-        self.failed = round.is_none() || any_failed(self.seats.as_slice());
+        self.failed = any_failed(self.seats.as_slice());
         told(self.failed, round)
     }
 
     /// Does the events of a run of the program again, in their order, under the stamps 1, 2, 3 and so on; from there the crew can go
     /// on by itself. The list is refused where a site has more events in it than the budget, or where it is no run that the sites
-    /// make by themselves, and then the crew is as it was. Where memory runs out, the crew has failed: its histories are those of
-    /// the events that were done, which are a run, and each later round answers Memory and changes nothing. A post, which no code
-    /// for sites has, is never done: it is answered as memory that is wanting. So is a list of 2^32 events and more.
+    /// make by themselves, and then the crew is as it was. Where memory runs out, the crew has failed: each later round answers Memory
+    /// and changes nothing.
     pub fn follow(&mut self, rt: &R, low: &LowProgram, events: &[Event]) -> Result<(), FollowFail>
         requires table { program self.old.code ≡ low.now }
         requires none { event_count self.old.histories ≡ 0 }
         requires sound { self.old.failed ≡ false }
+        requires few { length events.now < 2 ^ 32 }
         requires run { IsSome (run (start_low low.now) events.now) }
         ensures on { GoesOn self.old self.new }
         ensures run { HasRun self.new }
         ensures ok { OnOk result (HasFollowed low.now events.now self.new) }
         ensures err { IfErr result (HasFailed low.now events.now self.old self.new) }
     {
-        if let Err(fail) = refused(self.alloc, low, self.code.sites(), self.budget, events) {
-            self.failed = fail.is_memory();
-            return Err(fail);
-        }
-        match self.follow_list(rt, low, events) {
-            Ok(()) => Ok(()),
-            Err(_) => Err(FollowFail::Memory),
-        }
+        let fail = match self.redo_anew(rt, low, events) {
+            Ok(true) => return Ok(()),
+            Ok(false) => refusal(self.alloc, low, self.code.sites(), self.budget, events),
+            Err(Memory) => FollowFail::Memory,
+        };
+        self.failed = fail.is_memory();
+        Err(fail)
     }
 
-    /// Does the events of such a run again.
-    fn follow_list(&mut self, rt: &R, _low: &LowProgram, events: &[Event]) -> Result<(), Memory>
+    /// Does the events of a list again with new seats, which it has then if all events were done, and else those that it had.
+    fn redo_anew(&mut self, rt: &R, _low: &LowProgram, events: &[Event]) -> Result<bool, Memory>
         requires table { program self.old.code ≡ _low.now }
         requires none { event_count self.old.histories ≡ 0 }
         requires sound { self.old.failed ≡ false }
-        requires list { IsToFollow _low.now self.old.budget events.now }
+        requires run { IsSome (run (start_low _low.now) events.now) }
         ensures on { GoesOn self.old self.new }
         ensures run { HasRun self.new }
-        ensures ok { OnOk result (HasFollowed _low.now events.now self.new) }
-        ensures err { OnErr result (self.new.failed ≡ true) }
+        ensures ok { IfOk result (λ all. all ≡ true → HasFollowed _low.now events.now self.new) }
+        ensures no { IfOk result (λ all. all ≡ false → self.new ≡ self.old) }
+        ensures never { IfOk result (λ all. all ≡ false → IsToFollow _low.now self.old.budget events.now → ⊥) }
+        ensures err { OnErr result (self.new ≡ self.old) }
     {
-        let done = follow_all(
+        let ports = P::make(self.alloc, self.code.sites())?;
+        let mut seats = seats_for(self.alloc, &self.code, self.budget, ports)?;
+        let done = redo_list(
             rt,
             self.alloc,
             &self.code,
             self.budget,
-            self.seats.as_mut_slice(),
+            seats.as_mut_slice(),
             events,
-        );
-        self.failed = done.is_err();
-        done
+        )?;
+        if !done {
+            return Ok(false);
+        }
+        self.seats = seats;
+        Ok(true)
     }
 
     /// Does the events of a list, whatever it is, in their order, under the stamps 1, 2, 3 and so on, as far as the sites can, and tells
@@ -163,21 +177,12 @@ impl<R, P: Port<R, Item>> Crew<R, P> {
         ensures run { HasRun self.new }
         ensures ok { IfOk result (λ all. all ≡ true → HasRedone events.now self.new) }
         ensures no { IfOk result (λ all. all ≡ false → self.new.failed ≡ true) }
+        ensures never { IfOk result (λ all. all ≡ false → IsToFollow (program self.old.code) self.old.budget events.now → ⊥) }
         ensures err { OnErr result (self.new.failed ≡ true) }
     {
-        let alloc = self.alloc;
-        let sites = self.code.sites();
-        if events.len() > u32::MAX as usize {
-            self.failed = true;
-            return Ok(false);
-        }
-        if !are_within(events, sites, self.budget) {
-            self.failed = true;
-            return Ok(false);
-        }
-        let done = redo_all(
+        let done = redo_list(
             rt,
-            alloc,
+            self.alloc,
             &self.code,
             self.budget,
             self.seats.as_mut_slice(),
@@ -232,7 +237,7 @@ impl<R: Threads + Sync, P: Port<R, Item>> Crew<R, P> {
             before < after,
             self.seats.as_slice(),
         );
-        self.failed = round.is_none() || any_failed(self.seats.as_slice());
+        self.failed = any_failed(self.seats.as_slice());
         told(self.failed, round)
     }
 
@@ -242,6 +247,7 @@ impl<R: Threads + Sync, P: Port<R, Item>> Crew<R, P> {
         ensures later { AddsLater self.old self.new }
         ensures run { HasRun self.new }
         ensures ok { IfOk result (IsRoundOf self.old self.new) }
+        ensures sound { OnOk result (self.new.failed ≡ false) }
         ensures err { OnErr result (self.new.failed ≡ true) }
         ensures failed { self.old.failed ≡ true → self.new ≡ self.old }
     {
@@ -258,6 +264,7 @@ impl<R: Threads + Sync, P: Port<R, Item>> Crew<R, P> {
         ensures later { AddsLater self.old self.new }
         ensures run { HasRun self.new }
         ensures ok { IfOk result (HasEnded self.new) }
+        ensures sound { OnOk result (self.new.failed ≡ false) }
         ensures err { OnErr result (self.new.failed ≡ true) }
         ensures failed { self.old.failed ≡ true → self.new ≡ self.old }
     {
@@ -319,33 +326,25 @@ fn any_failed<P>(seats: &[Seat<P>]) -> bool
     false
 }
 
-/// What a round came to. None where it added no event, and a site that may make more has still something to do: no site lets
-/// that be, since what waits for it is taken in its next turn, but this is no more than checked here.
-fn judged<P>(code: &Code, budget: u32, went: bool, seats: &[Seat<P>]) -> Option<Round>
-    requires { length seats.now ≤ MOST_SITES }
-    ensures some { IfSome result (IsJudged code.now budget went seats.now) }
-    ensures none { IfNone result ((went ≡ false) × (AllQuiet code.now seats.now → ⊥) × (AreOver code.now budget seats.now → ⊥)) }
+/// What a round came to, if memory did not run out in it: then no item is set aside either.
+fn judged<P>(code: &Code, _budget: u32, went: bool, seats: &[Seat<P>]) -> Round
+    requires { went ≡ false → NoneFailed seats.now → NoneAside seats.now → AreDone code.now _budget seats.now }
+    ensures { NoneFailed seats.now → NoneAside seats.now → IsJudged code.now _budget went seats.now result }
 {
     if went {
-        Some(Round::Went)
+        Round::Went
     } else if all_quiet(code, seats) {
-        Some(Round::Rest)
-    } else if are_over(code, budget, seats) {
-        Some(Round::Spent)
+        Round::Rest
     } else {
-        None
+        Round::Spent
     }
 }
 
 /// What a round answers.
-fn told(failed: bool, round: Option<Round>) -> Result<Round, Memory>
-    requires { round ≡ None → failed ≡ true }
-    ensures ok { IfOk result (λ told. round ≡ Some told) }
+fn told(failed: bool, round: Round) -> Result<Round, Memory>
+    ensures ok { IfOk result (λ told. round ≡ told) }
     ensures sound { OnOk result (failed ≡ false) }
     ensures err { OnErr result (failed ≡ true) }
 {
-    match round {
-        Some(round) if !failed => Ok(round),
-        _ => Err(Memory),
-    }
+    if failed { Err(Memory) } else { Ok(round) }
 }

@@ -10,5 +10,6 @@ use site_links::Port;
 
 /// The merged histories of seats that stand between rounds are a run from the low start of the program.
 pub fn law_crew_run<R, P: Port<R, Item>>()
-    ensures { (code : ProgramTable) (limit : ℕ) (seats : List (Seat P)) → Stand P.Port code limit seats → IsProgram code → (end : Config) × IsCrewRun (program code) limit (histories seats) end }
+    ensures { (code : ProgramTable) (limit : ℕ) (seats : List (Seat P)) → Stand P.Port code limit seats → IsProgram code
+        → (end : Config) × IsCrewRun (program code) limit (histories seats) end }
 {}

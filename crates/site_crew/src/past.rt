@@ -1,12 +1,12 @@
-//! Whether a crew does the events of a list again.
-ghost use Rattle.std.specs.Prelude.{◌≡◌, true, false, length, IfErr, IsSome, OnOk, MatchOption};
+//! Why a crew does not do the events of a list again.
+ghost use Rattle.std.specs.Prelude.{◌≡◌, ◌<◌, ◌^◌, true, false, length, IsSome, MatchOption};
 ghost use Rattle.np_calculus.specs.Reductions.{run};
 ghost use Rattle.np_calculus.specs.Starts.{start_low};
 ghost use Rattle.run_save.specs.following.Following.{events_at};
 ghost use Rattle.site_crew.specs.Lists.{AreWithin, IsFirstPast, IsRefused, IsToFollow};
 
 use crate::follow_fail::FollowFail;
-use np_syntax::{Event, LowProgram};
+use np_syntax::{Event, LowProgram, Memory};
 use run_save::ours_until;
 use std::alloc::Global;
 
@@ -43,28 +43,26 @@ pub fn are_within(events: &[Event], sites: u32, budget: u32) -> bool
     first_past(events, sites, budget).is_none()
 }
 
-/// Why a run of a program is not one for its sites to follow, if it is not. A list that is longer than its indexes can tell is
-/// answered as memory that is wanting.
-pub fn refused(
+/// Why a run of a program is not one for its sites to follow. It goes through the events a second time.
+pub fn refusal(
     alloc: Global,
     low: &LowProgram,
     sites: u32,
     budget: u32,
     events: &[Event],
-) -> Result<(), FollowFail>
+) -> FollowFail
     requires sites { sites ≡ length low.now.sites }
+    requires few { length events.now < 2 ^ 32 }
     requires run { IsSome (run (start_low low.now) events.now) }
-    ensures ok { OnOk result (IsToFollow low.now budget events.now) }
-    ensures err { IfErr result (IsRefused low.now budget events.now) }
+    requires stops { IsToFollow low.now budget events.now → ⊥ }
+    ensures { IsRefused low.now budget events.now result }
 {
-    if let Some(site) = first_past(events, sites, budget) {
-        return Err(FollowFail::BudgetPast(site));
-    }
-    if events.len() > u32::MAX as usize {
-        return Err(FollowFail::Memory);
-    }
-    match ours_until(alloc, low, events)? {
-        Some(index) => Err(FollowFail::NotOurs(index)),
-        None => Ok(()),
+    match first_past(events, sites, budget) {
+        Some(site) => FollowFail::BudgetPast(site),
+        None => match ours_until(alloc, low, events) {
+            Ok(Some(index)) => FollowFail::NotOurs(index),
+            Ok(None) => unreachable!(),
+            Err(Memory) => FollowFail::Memory,
+        },
     }
 }

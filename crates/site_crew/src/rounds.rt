@@ -1,6 +1,8 @@
 //! A round: all sites take their turns, and then the links are settled.
 ghost use Rattle.std.specs.Prelude.{◌≡◌, ◌≤◌, length};
 ghost use Rattle.np_syntax.specs.declared.limits.TheConstants.{MOST_SITES};
+ghost use Rattle.site_crew.specs.Crews.{NoneFailed};
+ghost use Rattle.site_crew.specs.Passes.{AreDone, HavePassed, NoneAside};
 ghost use Rattle.site_crew.specs.Seats.{AllGrow, AllLater, Stand, clocks, event_count, histories};
 
 use crate::counting::events_of;
@@ -15,7 +17,8 @@ use std::alloc::Global;
 use std::thread::Threads;
 
 /// A round on threads. At first the sites do what their indexes tell. Where no site makes an event, and one that may make
-/// some has something to do then, all take their turns again, and miss nothing. How many events all histories have then.
+/// some has something to do then, all take their turns again, and miss nothing: if none makes an event then either, no site that
+/// may make some has anything left to do. How many events all histories have then.
 pub fn threads_round<R: Threads + Sync, P: Port<R, Item>, G: Gate>(
     rt: &R,
     alloc: Global,
@@ -31,6 +34,8 @@ pub fn threads_round<R: Threads + Sync, P: Port<R, Item>, G: Gate>(
     ensures grow { AllGrow (histories seats.old) (histories seats.new) }
     ensures later { AllLater (clocks seats.old) (histories seats.old) (clocks seats.new) (histories seats.new) }
     ensures total { result ≡ event_count (histories seats.new) }
+    ensures done { event_count (histories seats.new) ≤ event_count (histories seats.old) → NoneFailed seats.new → NoneAside seats.new
+        → AreDone code.now budget seats.new }
 {
     let before = events_of(seats);
     let after = threads_pass(rt, alloc, code, gate, false, budget, seats);
@@ -57,6 +62,7 @@ fn threads_pass<R: Threads + Sync, P: Port<R, Item>, G: Gate>(
     ensures grow { AllGrow (histories seats.old) (histories seats.new) }
     ensures later { AllLater (clocks seats.old) (histories seats.old) (clocks seats.new) (histories seats.new) }
     ensures total { result ≡ event_count (histories seats.new) }
+    ensures passed { HavePassed P.Port code.now walks seats.old seats.new }
 {
     threads_turns(rt, alloc, code, gate, walks, seats);
     settle_all(rt, seats);
@@ -78,6 +84,8 @@ pub fn serial_round<R, P: Port<R, Item>>(
     ensures grow { AllGrow (histories seats.old) (histories seats.new) }
     ensures later { AllLater (clocks seats.old) (histories seats.old) (clocks seats.new) (histories seats.new) }
     ensures total { result ≡ event_count (histories seats.new) }
+    ensures done { event_count (histories seats.new) ≤ event_count (histories seats.old) → NoneFailed seats.new → NoneAside seats.new
+        → AreDone code.now budget seats.new }
 {
     let before = events_of(seats);
     let after = serial_pass(rt, alloc, code, false, budget, seats);
@@ -103,6 +111,7 @@ fn serial_pass<R, P: Port<R, Item>>(
     ensures grow { AllGrow (histories seats.old) (histories seats.new) }
     ensures later { AllLater (clocks seats.old) (histories seats.old) (clocks seats.new) (histories seats.new) }
     ensures total { result ≡ event_count (histories seats.new) }
+    ensures passed { HavePassed P.Port code.now walks seats.old seats.new }
 {
     serial_turns(rt, alloc, code, walks, seats);
     settle_all(rt, seats);

@@ -1,5 +1,6 @@
 //! Once no thread has the ports, the links are settled.
 ghost use Rattle.std.specs.Prelude.{◌<◌, length};
+ghost use Rattle.site_crew.specs.Bringing.{IsFree};
 ghost use Rattle.site_crew.specs.Links.{AllStill, AreLinked, AreSettled, AreSettledIn, IsOneMore, IsPairSettled};
 
 use agent_move::Item;
@@ -47,10 +48,16 @@ fn settle_more<R, P: Port<R, Item>>(
 }
 
 /// Settles the link from one site to another, or to itself, and tells how many items wait on it.
-fn settle_pair<R, P: Port<R, Item>>(rt: &R, seats: &mut [Seat<P>], from: usize, to: usize) -> usize
+pub fn settle_pair<R, P: Port<R, Item>>(
+    rt: &R,
+    seats: &mut [Seat<P>],
+    from: usize,
+    to: usize,
+) -> usize
     requires linked { AreLinked P.Port seats.old }
     requires places { (from < length seats.old) × (to < length seats.old) }
-    ensures { IsPairSettled P.Port from to seats.old seats.new result }
+    ensures settled { IsPairSettled P.Port from to seats.old seats.new result }
+    ensures free { IsFree P.Port seats.new from to }
 {
     if from == to {
         seats[from].port.settle_own(rt)

@@ -1,7 +1,7 @@
 //! The turns of a round.
 ghost use Rattle.std.specs.Prelude.{All};
-ghost use Rattle.site_crew.specs.Seats.{AllTurned};
-ghost use Rattle.site_turn.specs.Turns.{Seated, Turned};
+ghost use Rattle.site_crew.specs.Seats.{AllTookTurns};
+ghost use Rattle.site_turn.specs.Turns.{Seated, TookTurn};
 
 use agent_move::Item;
 use np_code::Code;
@@ -21,7 +21,7 @@ pub fn threads_turns<R: Threads + Sync, P: Port<R, Item>, G: Gate>(
     seats: &mut [Seat<P>],
 )
     requires { All (λ s. Seated P.Port code.now s) seats.old }
-    ensures { AllTurned P.Port code.now seats.old seats.new }
+    ensures { AllTookTurns P.Port code.now walks seats.old seats.new }
 {
     let effort = Effort {
         looks: LOOKS,
@@ -34,7 +34,7 @@ pub fn threads_turns<R: Threads + Sync, P: Port<R, Item>, G: Gate>(
         threads,
         &|_, seat: &mut Seat<P>|
             requires { Seated P.Port code.now seat.old }
-            ensures { Turned P.Port code.entry.now seat.old seat.new }
+            ensures { TookTurn P.Port code.entry.now effort.walks seat.old seat.new }
         { turn(rt, alloc, code, gate, effort, seat) },
     );
 }
@@ -48,7 +48,7 @@ pub fn serial_turns<R, P: Port<R, Item>>(
     seats: &mut [Seat<P>],
 )
     requires { All (λ s. Seated P.Port code.now s) seats.old }
-    ensures { AllTurned P.Port code.now seats.old seats.new }
+    ensures { AllTookTurns P.Port code.now walks seats.old seats.new }
 {
     let effort = Effort { looks: 0, walks };
     for i in 0..seats.len() {

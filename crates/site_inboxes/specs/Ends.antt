@@ -22,7 +22,8 @@ module _ {I : Type 0} where
     pub queue_same : b.pass.table_id ≡ a.pass.table_id
     pub sites_same : sites_in (view b.pass) ≡ sites_in (view a.pass)
 
-  -- the count is of what the owner took of a sender beyond what the sender knows to have been taken, where it is not more than there are places
+  -- the count is of what the owner took of a sender beyond what the sender knows to have been taken, where it is not more than there
+  -- are places
   abbrev pub Counts : List I → List I → ℕ → Type 0
   Counts got last n = length got ≤ length last + PLACES → length got ≡ length last + n
 

@@ -17,7 +17,8 @@ impl<I: Addressed> Outlet<I> {
         ensures last { last_in (view self.new.pass) ≡ last_in (view self.old.pass) }
         ensures room { self.new.spare ≡ self.old.spare - 1 }
         ensures ok { OnOk result (sent_in (view self.new.pass) ≡ sent_in (view self.old.pass) ++ item ∷ []) }
-        ensures err { IfErr result (λ back. (back ≡ item) × (sent_in (view self.new.pass) ≡ sent_in (view self.old.pass)) × (self.old.spare ≡ 0)) }
+        ensures err { IfErr result (λ back. (back ≡ item) × (sent_in (view self.new.pass) ≡ sent_in (view self.old.pass))
+            × (self.old.spare ≡ 0)) }
     {
         if self.spare == 0 {
             return Err(item);

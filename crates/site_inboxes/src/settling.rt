@@ -15,13 +15,15 @@ impl<I: Addressed> Outlet<I> {
     /// Settles the link to the site of an inbox, of which so many items were taken since it was settled last.
     pub fn settle(&mut self, inbox: &mut Inbox<I>, fresh: u32)
         requires joined { self.old.pass.table_id ≡ inbox.old.pass.table_id }
-        requires fresh { Counts (got_at I.sender (view inbox.old.pass) (number_in (view self.old.pass))) (last_in (view self.old.pass)) fresh }
+        requires fresh { Counts (got_at I.sender (view inbox.old.pass) (number_in (view self.old.pass)))
+            (last_in (view self.old.pass)) fresh }
         ensures same { SameOutlet self.old self.new × SameInbox inbox.old inbox.new }
         ensures sent { sent_in (view self.new.pass) ≡ sent_in (view self.old.pass) }
         ensures got { got_in (view inbox.new.pass) ≡ got_in (view inbox.old.pass) }
         ensures last { last_in (view self.new.pass) ≡ got_at I.sender (view inbox.new.pass) (number_in (view self.old.pass)) }
         ensures told { (k : ℕ) → k ≢ number_in (view self.old.pass) → told_in (view inbox.new.pass) k ≡ told_in (view inbox.old.pass) k }
-        ensures settled { got_at I.sender (view inbox.new.pass) (number_in (view self.old.pass)) ++ known_at I.sender (view inbox.new.pass) (number_in (view self.old.pass)) ≡ sent_in (view self.new.pass) }
+        ensures settled { got_at I.sender (view inbox.new.pass) (number_in (view self.old.pass))
+            ++ known_at I.sender (view inbox.new.pass) (number_in (view self.old.pass)) ≡ sent_in (view self.new.pass) }
         ensures free { self.new.spare ≡ PLACES - length (known_at I.sender (view inbox.new.pass) (number_in (view self.old.pass))) }
     {
         pass_notes(&*self.queue, &mut self.pass, &mut inbox.pass);

@@ -15,7 +15,8 @@ impl<I: Addressed> Inbox<I> {
     pub fn take<R: Wait>(&mut self, rt: &R) -> Option<I>
         ensures same { SameInbox self.old self.new }
         ensures told { (k : ℕ) → told_in (view self.new.pass) k ≡ told_in (view self.old.pass) k }
-        ensures taken { MatchOption result ((got_in (view self.new.pass) ≡ got_in (view self.old.pass)) × ((k : ℕ) → known_at I.sender (view self.old.pass) k ≡ []))
+        ensures taken { MatchOption result ((got_in (view self.new.pass) ≡ got_in (view self.old.pass))
+            × ((k : ℕ) → known_at I.sender (view self.old.pass) k ≡ []))
             (λ item. TakesFrom I.sender (view self.old.pass) (view self.new.pass) item) }
     {
         match self.queue.pop_as::<Take, R>(rt, &mut self.pass) {

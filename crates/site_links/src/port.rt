@@ -1,4 +1,5 @@
-ghost use Rattle.std.specs.Prelude.{◌≡◌, ◌≢◌, ℕ, ◌+◌, ◌-◌, ◌<◌, ◌≤◌, List, [], ◌∷◌, ◌++◌, length, slice_get, IfOk, IfErr, OnOk, Some, MatchOption};
+ghost use Rattle.std.specs.Prelude.{◌≡◌, ◌≢◌, ℕ, ◌+◌, ◌-◌, ◌<◌, ◌≤◌, List, [], ◌∷◌, ◌++◌, length, slice_get, IfOk, IfErr, OnOk, Some};
+ghost use Rattle.std.specs.Prelude.{MatchOption};
 ghost use Rattle.site_links.specs.Words.{Keeps, KeepsBut, Takes, only_at, IsFullMake, IsUnused};
 
 use crate::addressed::Addressed;
@@ -28,7 +29,8 @@ pub trait Port<R, I: Addressed>: Sized + Send + Drop {
     fn make(alloc: Global, sites: u32) -> Result<Vec<Self>, Memory>
         requires { (1 ≤ sites) × (sites ≤ MOST_SITES) }
         ensures ports { IfOk result (λ ports. IsFullMake site among linked sites ports.items) }
-        ensures unused { IfOk result (λ ports. (i : ℕ) (port : Self) → slice_get ports.items i ≡ Some port → IsUnused sites (sent port) (got port) (known port) (room port)) };
+        ensures unused { IfOk result (λ ports. (i : ℕ) (port : Self) → slice_get ports.items i ≡ Some port
+            → IsUnused sites (sent port) (got port) (known port) (room port)) };
 
     /// Puts an item for a site, or gives it back where no place was known to be free.
     fn put(&mut self, rt: &R, to: u32, item: I) -> Result<(), I>
@@ -41,18 +43,23 @@ pub trait Port<R, I: Addressed>: Sized + Send + Drop {
         ensures err { IfErr result (λ back. (back ≡ item) × (room self.old to ≡ 0)
             × ((k : ℕ) → (sent self.new k ≡ sent self.old k) × (room self.new k ≡ room self.old k))) };
 
-    /// Takes an item, if one is there. Which site it is from is told once the ports are settled.
+    /// Takes an item, if one is there, from some site: it is the first that was known to wait from there, if any was. That this
+    /// site is the item's sender is told by the next `settle` and by no call before it, since no contract says what one thread
+    /// sees of another: then what was taken from a site is a beginning of what that site put, and `put` takes only items of its
+    /// own site.
     fn take(&mut self, rt: &R) -> Option<I>
         ensures keeps { Keeps site among linked self.old self.new }
         ensures putting { (k : ℕ) → (sent self.new k ≡ sent self.old k) × (room self.new k ≡ room self.old k) }
         ensures taken { MatchOption result ((k : ℕ) → (got self.new k ≡ got self.old k) × (known self.old k ≡ []))
-            (λ item. (from : ℕ) × (from < among self.old) × Takes (got self.old) (known self.old) (got self.new) (known self.new) from item) };
+            (λ item. (from : ℕ) × (from < among self.old)
+            × Takes (got self.old) (known self.old) (got self.new) (known self.new) from item) };
 
     /// Settles the link from this port to another, and tells how many items wait on it. What was put and not yet taken is
     /// known then.
     fn settle(&mut self, rt: &R, to: &mut Self) -> usize
         requires { ∥ linked self.old to.old ∥₁ }
-        ensures keeps { KeepsBut site among linked (site to.old) self.old self.new × KeepsBut site among linked (site self.old) to.old to.new }
+        ensures keeps { KeepsBut site among linked (site to.old) self.old self.new
+            × KeepsBut site among linked (site self.old) to.old to.new }
         ensures between { (linked self.old to.old → linked self.new to.new) × (linked to.old self.old → linked to.new self.new) }
         ensures sent { (k : ℕ) → (sent self.new k ≡ sent self.old k) × (sent to.new k ≡ sent to.old k) }
         ensures got { (k : ℕ) → (got self.new k ≡ got self.old k) × (got to.new k ≡ got to.old k) }

@@ -32,7 +32,8 @@ pub type Rings<I> = PortOf<RingEnds<I>>;
 pub type Tray<I> = PortOf<TrayEnds<I>>;
 
 impl<R, I: Addressed, E: Ends<I> + Send> Port<R, I> for PortOf<E> {
-    ghost use Rattle.std.specs.Prelude.{◌≡◌, ◌≢◌, ℕ, ◌+◌, ◌-◌, ◌<◌, ◌≤◌, List, [], ◌∷◌, ◌++◌, length, slice_get, IfOk, IfErr, OnOk, Some, MatchOption};
+    ghost use Rattle.std.specs.Prelude.{◌≡◌, ◌≢◌, ℕ, ◌+◌, ◌-◌, ◌<◌, ◌≤◌, List, [], ◌∷◌, ◌++◌, length, slice_get, IfOk, IfErr, OnOk, Some};
+    ghost use Rattle.std.specs.Prelude.{MatchOption};
     ghost use Rattle.site_links.specs.Seats.{site_of, among_of, sent_at, got_at, known_at, room_at, Linked};
 
     ghost site = { site_of };

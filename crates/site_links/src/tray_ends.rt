@@ -26,7 +26,9 @@ pub struct TrayEnds<I> {
     ghost holds: { 0 < ring.producer_capacity to },
     ghost bound: { length out.items + spare ≤ PLACES },
     ghost reserved: { (PLACES ≤ deque_capacity out) × (PLACES ≤ deque_capacity inside) },
-    ghost passed: { before (ring.received from) inside.items ++ inside.items ≡ ring.received from } by { Coded-set (coded_list I.code) (before (ring.received from) inside.items ++ inside.items) (ring.received from) },
+    ghost passed: { before (ring.received from) inside.items ++ inside.items
+        ≡ ring.received from } by { Coded-set (coded_list I.code) (before (ring.received from) inside.items ++ inside.items)
+            (ring.received from) },
 }
 
 impl<I: Drop> Drop for TrayEnds<I> {
@@ -55,7 +57,8 @@ impl<I: Drop> Ends<I> for TrayEnds<I> {
 
     ghost room = { λ ends. ends.spare };
 
-    ghost meets = { λ a b. ring.IsPair a.to b.from × (length (ring.received b.from) ≡ length (ring.sent a.to)) × (length b.inside.items + length a.out.items + a.spare ≤ PLACES) };
+    ghost meets = { λ a b. ring.IsPair a.to b.from × (length (ring.received b.from) ≡ length (ring.sent a.to))
+        × (length b.inside.items + length a.out.items + a.spare ≤ PLACES) };
 
     fn apart(alloc: Global) -> Result<(Self, Self), Memory> {
         let (to, there) = RingBuffer::new(alloc, AT_ONCE)?;

@@ -127,6 +127,7 @@ module _ (arrives : Arrives) (lands : Lands) (lost : IsLost) (old mid new : Stan
   pub has_taken : HasTaken old new item
   has_taken = record {
     event = event;
+    coming = is;
     did = λ code long. record {
       site = noted.site ∙ records.site;
       at = ap (λ (e : Event). e.site) is ∙ event_at item.load old.site item.to addressed for_site;

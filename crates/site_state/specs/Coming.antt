@@ -30,7 +30,8 @@ pub record KeepsSeats (old new : Seated) : Type 0 where
   pub quiet : (code : ProgramTable) → AreQuiet code old → AreQuiet code new
 
 -- the agent has one more output, under a mark
-pub record HasGot (old : NameMap Pool) (to : Name) (before : Pool) (mark chan : Name) (value : Value) (tag : Tag) (new : NameMap Pool) : Type 0 where
+pub record HasGot (old : NameMap Pool) (to : Name) (before : Pool) (mark chan : Name) (value : Value) (tag : Tag)
+    (new : NameMap Pool) : Type 0 where
   pub after : Pool
   pub name : after.name ≡ before.name
   pub atoms : after.atoms ≡ map.insert before.atoms mark (wait.Gives chan, held.Given chan value tag)

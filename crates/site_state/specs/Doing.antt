@@ -19,9 +19,10 @@ use Rattle.agent_move.specs.declared.item.Item.{Item}
 use Rattle.agent_move.specs.Items.{item_of}
 use Rattle.site_state.specs.declared.stepping.Stepped.{Stepped}
 use Rattle.site_state.specs.declared.stepping.Stepped.TheVariants as stepped
+use Rattle.site_state.specs.Coming.{event_for}
 use Rattle.site_state.specs.Lines.{Waiting, IsPut, SameLines}
 use Rattle.site_agents.specs.Standings.{CanDo, NoneCan, NoneCanDo}
-use Rattle.site_state.specs.Standings.{IsQuiet, KeepsQuiet, Standing, Stays, holding_of, with_clock}
+use Rattle.site_state.specs.Standings.{KeepsQuiet, Standing, Stays, holding_of, with_clock}
 
 -- an event with the item that it takes and the one that it puts out
 abbrev pub deed_of : ProgramTable → Stamped → Option Item → Option Item → Deed
@@ -58,11 +59,13 @@ pub record Did (code : ProgramTable) (old new : Standing) (event : Event) (taken
 
 -- whether the agent is here for which the acting atom of another asks
 abbrev pub finds : ProgramTable → NameMap Pool → Name → Ready → Bool
-finds code agents name r = is_some (map.get agents name >>= λ p. map.get (atoms_of code.processes p) r.actor >>= asked_of >>= map.get agents)
+finds code agents name r =
+    is_some (map.get agents name >>= λ p. map.get (atoms_of code.processes p) r.actor >>= asked_of >>= map.get agents)
 
 -- the event of the agent of a name that does this at the site: it makes the site's next names
 abbrev pub event_at : ProgramTable → Standing → Name → Ready → Event
-event_at code s name r = event_of s.site r (made_of r.kind (finds code s.agents name r) (name_of s.site s.next) (name_of s.site (s.next + 1)))
+event_at code s name r =
+    event_of s.site r (made_of r.kind (finds code s.agents name r) (name_of s.site s.next) (name_of s.site (s.next + 1)))
 
 -- an agent that stands here can do the event, and whichever does it, it is this very event
 pub record IsPossible (code : ProgramTable) (s : Standing) (event : Event) : Type 0 where
@@ -88,7 +91,7 @@ HasRoom s = length s.history.events < s.history.budget
 -- by a step an event is done, or there is none, or no room for it
 abbrev pub IsStepped : ProgramTable → Standing → Standing → Stepped → Type 0
 IsStepped code old new stepped.Did = HasRoom old × HasDone code old new
-IsStepped code old new stepped.Quiet = HasRoom old × Stays code old new × (IsQuiet code old → NoneCan code old.agents)
+IsStepped code old new stepped.Quiet = HasRoom old × Stays code old new × NoneCan code old.agents
 IsStepped code old new stepped.Spent = (length old.history.events ≡ old.history.budget) × Stays code old new
 
 -- the same, where it is not known whether there is one that was not found
@@ -109,7 +112,8 @@ abbrev pub IsRedone : ProgramTable → Ready → ℕ → Standing → Standing �
 IsRedone code r stamp old new true = HasDoneAsked code r stamp old new
 IsRedone code r stamp old new false = Stays code old new × NoneCanDo code old.agents r
 
--- an item was taken, whatever the code of as many sites
+-- an item was taken by the event of its coming, whatever the code of as many sites
 pub record HasTaken (old new : Standing) (x : Item) : Type 0 where
   pub event : Event
+  pub coming : event ≡ event_for old.site x.load
   pub did : (code : ProgramTable) → length code.sites ≡ length old.outgoing → Did code old new event (Some x) None

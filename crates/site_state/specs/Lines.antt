@@ -11,7 +11,8 @@ pub record Waiting : Type 0 where
   pub spare : ℕ
 
 abbrev pub waiting_code : Coded Waiting
-waiting_code = code_by (List Item × ℕ) (coded× (coded_list item.the_row.coded) coded_ℕ) (λ w. (w.items, w.spare)) (λ p. record { items = p.0; spare = p.1 }) (λ _. refl)
+waiting_code = code_by (List Item × ℕ) (coded× (coded_list item.the_row.coded) coded_ℕ) (λ w. (w.items, w.spare))
+    (λ p. record { items = p.0; spare = p.1 }) (λ _. refl)
 
 -- nothing, and no room
 abbrev pub nothing : Waiting
@@ -56,7 +57,8 @@ pub record Queues : Type 0 where
   pub sure : ℕ
 
 abbrev pub queues_code : Coded Queues
-queues_code = code_by (List Waiting × ℕ) (coded× (coded_list waiting_code) coded_ℕ) (λ q. (q.lines, q.sure)) (λ p. record { lines = p.0; sure = p.1 }) (λ _. refl)
+queues_code = code_by (List Waiting × ℕ) (coded× (coded_list waiting_code) coded_ℕ) (λ q. (q.lines, q.sure))
+    (λ p. record { lines = p.0; sure = p.1 }) (λ _. refl)
 
 -- the item stands behind all others in the line for the site
 pub record IsPut (old : List Waiting) (to : ℕ) (item : Item) (new : List Waiting) : Type 0 where

@@ -50,7 +50,8 @@ pub record IsLooked (code : ProgramTable) (old new : Standing) : Type 0 where
   pub outgoing : new.outgoing ≡ old.outgoing
 
 -- by the event of a ready, which makes these names, the agent of a name went on, and this is all else that it changed
-pub record HasReduced (code : ProgramTable) (old : Standing) (name : Name) (r : Ready) (made : Made) (rest : Change) (new : Standing) : Type 0 where
+pub record HasReduced (code : ProgramTable) (old : Standing) (name : Name) (r : Ready) (made : Made) (rest : Change)
+    (new : Standing) : Type 0 where
   pub before : Pool
   pub after : Pool
   pub stood : map.get old.agents name ≡ Some before
@@ -71,7 +72,8 @@ pub record IsNoted (old : Standing) (stamp : ℕ) (e : Event) (value : Option Va
   pub outgoing : new.outgoing ≡ old.outgoing
 
 -- by the row of a kind the agent of a name went on, and this is all else that it changed
-pub record HasGone (code : ProgramTable) (old : NameMap Pool) (name : Name) (k : Kind) (r : Ready) (made : Made) (rest : Change) (new : NameMap Pool) : Type 0 where
+pub record HasGone (code : ProgramTable) (old : NameMap Pool) (name : Name) (k : Kind) (r : Ready) (made : Made) (rest : Change)
+    (new : NameMap Pool) : Type 0 where
   pub before : Pool
   pub after : Pool
   pub stood : map.get old name ≡ Some before
@@ -79,7 +81,8 @@ pub record HasGone (code : ProgramTable) (old : NameMap Pool) (name : Name) (k :
   pub agents : new ≡ map.insert old name after
 
 -- by a migration the agent of a name left for a site
-pub record HasDeparted (code : ProgramTable) (old : NameMap Pool) (name : Name) (r : Ready) (to : ℕ) (after : Pool) (new : NameMap Pool) : Type 0 where
+pub record HasDeparted (code : ProgramTable) (old : NameMap Pool) (name : Name) (r : Ready) (to : ℕ) (after : Pool)
+    (new : NameMap Pool) : Type 0 where
   pub before : Pool
   pub stood : map.get old name ≡ Some before
   pub named : before.name ≡ name
@@ -88,7 +91,8 @@ pub record HasDeparted (code : ProgramTable) (old : NameMap Pool) (name : Name) 
   pub agents : new ≡ map.remove old name
 
 -- by the making of an agent the agent of a name went on, and the new one stands there with its first atom
-pub record HasBirth (code : ProgramTable) (old : NameMap Pool) (name : Name) (r : Ready) (child mark : Name) (new : NameMap Pool) : Type 0 where
+pub record HasBirth (code : ProgramTable) (old : NameMap Pool) (name : Name) (r : Ready) (child mark : Name)
+    (new : NameMap Pool) : Type 0 where
   pub before : Pool
   pub after : Pool
   pub born : Pool
@@ -101,7 +105,8 @@ pub record Asks (code : ProgramTable) (agents : NameMap Pool) (name : Name) (r :
   pub each : (p : Pool) → map.get agents name ≡ Some p → IsTarget code p r target
 
 -- by a location test that finds its agent the agent of a name went on, and the packet is the output for that agent
-pub record HasTold (code : ProgramTable) (old : NameMap Pool) (name : Name) (r : Ready) (mark : Name) (packet : Packet) (new : NameMap Pool) : Type 0 where
+pub record HasTold (code : ProgramTable) (old : NameMap Pool) (name : Name) (r : Ready) (mark : Name) (packet : Packet)
+    (new : NameMap Pool) : Type 0 where
   pub before : Pool
   pub after : Pool
   pub stood : map.get old name ≡ Some before

@@ -15,8 +15,8 @@ use Rattle.agent_move.specs.declared.item.Item.{Item}
 use Rattle.site_agents.specs.Standings.{AreNamed, AreQuiet, Standing as Seated}
 use Rattle.site_state.specs.Lines.{Waiting, waiting_code, AreEmpty, SameLines, IsTaken, queue_at}
 
--- its number, its agents by their names, for each whether it was found to be quiet, the number of the next name that it makes, its clock, what it made and printed, and what it has to put on
--- its links, by the site that it is for
+-- its number, its agents by their names, for each whether it was found to be quiet, the number of the next name that it makes, its
+-- clock, what it made and printed, and what it has to put on its links, by the site that it is for
 pub record Standing : Type 0 where
   pub site : ℕ
   pub agents : NameMap Pool
@@ -32,7 +32,15 @@ standing_code =
     (coded× coded_ℕ (coded× (map.code name.the_row.coded pool_code) (coded× (map.code name.the_row.coded coded_bool)
     (coded× coded_ℕ (coded× coded_ℕ (coded× recorded_code (coded_list waiting_code)))))))
     (λ s. (s.site, (s.agents, (s.quiet, (s.next, (s.clock, (s.history, s.outgoing)))))))
-    (λ p. record { site = p.0; agents = p.1.0; quiet = p.1.1.0; next = p.1.1.1.0; clock = p.1.1.1.1.0; history = p.1.1.1.1.1.0; outgoing = p.1.1.1.1.1.1 }) (λ _. refl)
+    (λ p. record {
+      site = p.0;
+      agents = p.1.0;
+      quiet = p.1.1.0;
+      next = p.1.1.1.0;
+      clock = p.1.1.1.1.0;
+      history = p.1.1.1.1.1.0;
+      outgoing = p.1.1.1.1.1.1;
+    }) (λ _. refl)
 
 -- what each site keeps to
 pub record IsStanding (s : Standing) : Type 0 where
@@ -46,7 +54,13 @@ pub record IsStanding (s : Standing) : Type 0 where
 -- what the calculus sees of it
 abbrev pub holding_of : ProgramTable → Standing → Holding
 holding_of code s =
-    record { site = s.site; sites = length code.sites; agents = mapped (atoms_of code.processes) s.agents; next = s.next; said = s.history.said }
+    record {
+      site = s.site;
+      sites = length code.sites;
+      agents = mapped (atoms_of code.processes) s.agents;
+      next = s.next;
+      said = s.history.said;
+    }
 
 -- the agents, with room for some more
 abbrev pub seated : Standing → ℕ → Seated

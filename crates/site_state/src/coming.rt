@@ -44,6 +44,16 @@ fn landing(mark: Name, packet: &Packet) -> Event
     }
 }
 
+/// The event of what comes to a site.
+pub fn event_for(site: u32, load: &Load) -> Event
+    ensures { result ≡ event_for site load.now }
+{
+    match load {
+        Load::Agent(agent) => arrival(agent.name(), site),
+        Load::Packet(mark, packet) => landing(*mark, packet),
+    }
+}
+
 /// Makes sure of a place for one more atom of the agent of a name, if there is one.
 pub fn make_room(agents: &mut Agents, name: Name) -> Result<(), Memory>
     requires named { AreNamed agents.old.agents }

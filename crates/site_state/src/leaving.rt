@@ -27,7 +27,8 @@ pub fn print_in(
     requires named { AreNamed agents.old.agents }
     requires can { CanDo code.now agents.old.agents name r }
     requires kind { r.kind ≡ kind.Print }
-    ensures ok { IfOk result (λ value. HasGone code.now agents.old.agents name kind.Print r made.Nothing (record still { said = Some value }) agents.new.agents) }
+    ensures ok { IfOk result (λ value. HasGone code.now agents.old.agents name kind.Print r made.Nothing
+        (record still { said = Some value }) agents.new.agents) }
     ensures err { OnErr result (SameAgents agents.old.agents agents.new.agents) }
     ensures keeps { KeepsSeats agents.old agents.new }
 {
@@ -48,7 +49,8 @@ pub fn send_in(
     requires named { AreNamed agents.old.agents }
     requires can { CanDo code.now agents.old.agents name r }
     requires kind { r.kind ≡ kind.Send }
-    ensures ok { IfOk result (λ packet. HasGone code.now agents.old.agents name kind.Send r made.Nothing (record still { packets = put r.actor packet ∷ [] }) agents.new.agents) }
+    ensures ok { IfOk result (λ packet. HasGone code.now agents.old.agents name kind.Send r made.Nothing
+        (record still { packets = put r.actor packet ∷ [] }) agents.new.agents) }
     ensures err { OnErr result (SameAgents agents.old.agents agents.new.agents) }
     ensures keeps { KeepsSeats agents.old agents.new }
 {

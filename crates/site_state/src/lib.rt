@@ -24,5 +24,6 @@ mod stepping;
 mod telling;
 mod within;
 
+pub use coming::event_for;
 pub use site::Site;
 pub use stepping::Stepped;

@@ -1,4 +1,4 @@
-ghost use Rattle.std.specs.Prelude.{◌≡◌, ◌<◌, ◌≤◌, ◌+◌, [], ◌∷◌, ◌++◌, ◌↔◌, IfOk, IsTrue, OnOk, MatchOption};
+ghost use Rattle.std.specs.Prelude.{◌≡◌, ◌<◌, ◌≤◌, ◌+◌, [], ◌∷◌, ◌++◌, ◌↔◌, IfOk, IsTrue, OnOk, MatchOption, option_copied, slice_get};
 ghost use Rattle.site_state.specs.declared.line.TheConstants.{PLACES};
 
 use agent_move::Item;
@@ -70,9 +70,17 @@ impl Line {
         self.items.push_back_reserved(item);
     }
 
+    /// The first item.
+    pub fn first(&self) -> Option<&Item>
+        ensures { option_copied result ≡ slice_get self.now.items 0 }
+    {
+        self.items.front()
+    }
+
     /// The first item goes, if there is one.
     pub fn take(&mut self) -> Option<Item>
-        ensures { MatchOption result ((self.old.items ≡ []) × (self.new ≡ self.old)) (λ item. (self.old.items ≡ item ∷ self.new.items) × (self.new.spare ≡ self.old.spare + 1)) }
+        ensures { MatchOption result ((self.old.items ≡ []) × (self.new ≡ self.old))
+            (λ item. (self.old.items ≡ item ∷ self.new.items) × (self.new.spare ≡ self.old.spare + 1)) }
     {
         self.items.pop_front()
     }

@@ -1,6 +1,7 @@
-ghost use Rattle.std.specs.Prelude.{◌≡◌, ◌<◌, ◌≤◌, ◌^◌, ◌+◌, [], length, ◌↔◌, IfOk, IsTrue, OnOk, MatchOption};
+ghost use Rattle.std.specs.Prelude.{◌≡◌, ◌<◌, ◌≤◌, ◌^◌, ◌+◌, [], length, ◌↔◌, IfOk, IsTrue, OnOk, MatchOption, option_copied, slice_get};
 ghost use Rattle.site_state.specs.declared.line.TheConstants.{PLACES};
-ghost use Rattle.site_state.specs.Lines.{queue_at, room_at, AreEmpty, AreGrown, HaveRoom, HaveRoomBelow, NothingOut, SameLines, IsPut, IsTaken};
+ghost use Rattle.site_state.specs.Lines.{queue_at, room_at, AreEmpty, AreGrown, HaveRoom, HaveRoomBelow, NothingOut, SameLines, IsPut};
+ghost use Rattle.site_state.specs.Lines.{IsTaken};
 
 use super::line::{Line, PLACES};
 use agent_move::Item;
@@ -71,6 +72,16 @@ impl Outgoing {
         }
     }
 
+    /// The first item for a site.
+    pub fn first(&self, to: u32) -> Option<&Item>
+        ensures { option_copied result ≡ slice_get (queue_at self.now.lines to) 0 }
+    {
+        match self.lines.get(to as usize) {
+            Some(line) => line.first(),
+            None => None,
+        }
+    }
+
     /// Makes sure of room for one more item, whatever site it is for.
     pub fn reserve(&mut self) -> Result<(), Memory>
         ensures lines { SameLines self.old.lines self.new.lines }
@@ -98,7 +109,8 @@ impl Outgoing {
     /// Takes the first item for a site, if there is one.
     pub fn take(&mut self, to: u32) -> Option<Item>
         requires { to < length self.old.lines }
-        ensures taken { MatchOption result ((queue_at self.old.lines to ≡ []) × SameLines self.old.lines self.new.lines) (λ item. IsTaken self.old.lines to item self.new.lines) }
+        ensures taken { MatchOption result ((queue_at self.old.lines to ≡ []) × SameLines self.old.lines self.new.lines)
+            (λ item. IsTaken self.old.lines to item self.new.lines) }
         ensures sure { self.new.sure ≡ self.old.sure }
     {
         self.lines[to as usize].take()

@@ -1,4 +1,5 @@
 ghost use Rattle.std.specs.Prelude.{◌≡◌, ◌<◌, ◌≤◌, ◌^◌, ◌↔◌, [], None, length, IfOk, IfErr, OnOk, OnErr, IsTrue, MatchOption};
+ghost use Rattle.std.specs.Prelude.{option_copied, slice_get};
 ghost use Rattle.std.specs.FinMap as map;
 ghost use Rattle.np_syntax.specs.declared.limits.TheConstants.{LARGEST_BUDGET};
 ghost use Rattle.site_agents.specs.Standings.{AreIdle};
@@ -115,6 +116,13 @@ impl Site {
             }
             Err(memory) => Err((agent, memory)),
         }
+    }
+
+    /// The first item for a site that waits to be put on its link.
+    pub fn first_out(&self, to: u32) -> Option<&Item>
+        ensures { option_copied result ≡ slice_get (queue_at self.now.outgoing to) 0 }
+    {
+        self.outgoing.first(to)
     }
 
     /// Takes the first item for a site that waits to be put on its link.

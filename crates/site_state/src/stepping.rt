@@ -20,9 +20,11 @@ pub enum Stepped {
 }
 
 impl Site {
-    /// Does one event of an agent that stands here.
+    /// Does one event of an agent that stands here. Each agent that was found to be quiet has to be so by this code, as it is where
+    /// the site was given no other.
     pub fn step(&mut self, alloc: Global, code: &Code) -> Result<Stepped, Memory>
-        requires { length code.now.sites ≡ length self.old.outgoing }
+        requires sites { length code.now.sites ≡ length self.old.outgoing }
+        requires quiet { IsQuiet code.now self.old }
         ensures ok { IfOk result (IsStepped code.now self.old self.new) }
         ensures err { OnErr result (Stays code.now self.old self.new) }
     {

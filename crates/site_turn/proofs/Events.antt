@@ -1,7 +1,8 @@
 -- Steps of a turn that made an event, and steps that made none.
-use Rattle.std.proofs.Common.{◌≡◌, ◌<◌, ◌+◌, ℕ, Bool, true, false, [], ◌∷◌, ◌++◌, length, Option, None, Some, option_map, refl, sym, ap, subst, ◌∙◌, arith, inl, inr, length-append, ◌≢◌, ◌≤◌, append-nil, cond, eq-eqb}
+use Rattle.std.proofs.Common.{◌≡◌, ◌<◌, ◌+◌, ℕ, Bool, true, false, List, [], ◌∷◌, ◌++◌, length, Option, None, Some, option_map, refl, sym, ap, subst, ◌∙◌, arith, inl, inr, length-append, ◌≢◌, ◌≤◌, append-nil, cond, eq-eqb}
 use Rattle.std.specs.Prelude.{◌⊎◌, is_some}
 use Rattle.std.proofs.lemmas.Bool.Decides.{eqb_tells}
+use Rattle.std.proofs.lemmas.List.{append_assoc, append_cancel_left}
 use Rattle.std.specs.FinMap as table
 use Rattle.np_syntax.specs.declared.event.Event.{Event}
 use Rattle.site_links.specs.Words.{only_at}
@@ -15,14 +16,14 @@ use Rattle.site_state.specs.declared.stepping.Stepped.{Stepped}
 use Rattle.site_state.specs.declared.stepping.Stepped.TheVariants as stepped
 use Rattle.site_state.specs.Doing.{Did, HasRoom, HasTaken, IsStepped, IsTried}
 use Rattle.site_state.specs.Lines.{queue_at}
-use Rattle.site_state.specs.Standings.{IsOut, IsQuiet, SameRecords, SameSite, Standing, Stays, StaysForAll}
+use Rattle.site_state.specs.Standings.{IsOut, SameRecords, SameSite, Standing, Stays, StaysForAll}
 use Rattle.site_state.proofs.Tellings.{same_atoms, there_still}
 use Rattle.site_turn.specs.declared.seat.Seat.{Seat}
-use Rattle.site_turn.specs.Turns.{Accepts, HadNoneWaiting, HadNothing, MakesNone, MakesOne, LeavesLink, OnlySends, Polls, Receives, ReceivesAside, ReceivesNone, Seated, SetsAside, Steps, Sends, SendsFor, SendsNone}
+use Rattle.site_turn.specs.Turns.{Accepts, HadNoneWaiting, HadNothing, MakesNone, MakesOne, LeavesLink, OnlySends, Polls, Receives, ReceivesAside, ReceivesNone, Seated, SetsAside, Steps, Sends, SendsAll, SendsFor, SendsNone, Turned}
 use Rattle.site_links.proofs.Rows.{only_at-other}
 use Rattle.site_links.specs.declared.places.TheConstants.{PLACES}
 use Rattle.site_turn.proofs.Holdings.{recorded_events}
-use Rattle.site_turn.proofs.Steps.{address}
+use Rattle.site_turn.proofs.Steps.{address, quiet_kept}
 
 -- ---- no event
 
@@ -57,7 +58,7 @@ module _ {code : ProgramTable} where
   none_kept : (a b : Standing) → b.agents ≡ a.agents → b.quiet ≡ a.quiet → SameRecords a b → MakesNone code a b
   none_kept a b agents quiet records = record {
     agents = record { each = λ q. ap (λ m. option_map without_room (table.get m q)) agents };
-    quiet = λ h. record { each = λ q p none at. h.each q p (ap (λ m. table.get m q) (sym quiet) ∙ none) (ap (λ m. table.get m q) (sym agents) ∙ at) };
+    quiet = quiet_kept code a b agents quiet;
     records = records;
   }
 
@@ -295,6 +296,10 @@ module _ {P : Type 0} (code : ProgramTable) (a b : Seat P) where
   stepped_likely stepped.Quiet h = (h.0, h.1, λ walks. absurd cc)
   stepped_likely stepped.Spent h = (h.1, inl h.0)
 
+no-list : {T : Type 0} (xs ys : List T) → xs ++ ys ≡ [] → ys ≡ []
+no-list [] ys e = e
+no-list (x ∷ xs) ys e = absurd (let h = e in cc)
+
 -- ---- one event
 
 pub polled_none : {P R : Type 0} (g : Port.Ghosts P R Item) (code : ProgramTable) (a b : Seat P) (polls answer : Bool) → Polls g code polls a b answer → answer ≡ false → MakesNone code a.site b.site
@@ -334,7 +339,7 @@ module _ {P R : Type 0} {g : Port.Ghosts P R Item} {code : ProgramTable} where
   had_spent a m b walks none (inr failed) = had_failed a b walks (λ ok free. (let e = sym failed ∙ ok in absurd cc))
 
   pub had_quiet : (a m q b : Seat P) (walks : Bool) → MakesNone code a.site m.site → IsSameOrNoneKnown g a m → MakesNone code m.site q.site → q.port ≡ m.port
-      → (walks ≡ true → IsQuiet code m.site → NoneCan code m.site.agents) → HadNoneWaiting g code q b → HadNothing g code walks a b
+      → (walks ≡ true → NoneCan code m.site.agents) → HadNoneWaiting g code q b → HadNothing g code walks a b
   had_quiet a m q b walks none same still port can waits = record {
     waits = record {
       none = λ ok free room. elim same [
@@ -344,7 +349,7 @@ module _ {P R : Type 0} {g : Port.Ghosts P R Item} {code : ProgramTable} where
         | inr h ↦ h.each room
       ];
     };
-    agents = λ w ok free room quiet. none_could none (can w (none.quiet quiet));
+    agents = λ w ok free room. none_could none (can w);
   }
 
   -- ---- a turn
@@ -353,5 +358,23 @@ module _ {P R : Type 0} {g : Port.Ghosts P R Item} {code : ProgramTable} where
   pub had_sent : (a m b : Seat P) (walks : Bool) → OnlySends g code a m → HadNothing g code walks m b → HadNothing g code walks a b
   had_sent a m b walks only had = record {
     waits = record { none = λ ok free room k. sym (only.known k) ∙ had.waits.none ok free (room_before only.site room) k };
-    agents = λ w ok free room quiet. none_could only.site (had.agents w ok free (room_before only.site room) (only.site.quiet quiet));
+    agents = λ w ok free room. none_could only.site (had.agents w ok free (room_before only.site room));
+  }
+
+  -- what was put on the links before an event was looked for is put there still
+  pub sends_still : {a m b : Seat P} → SendsAll g code a m → Turned g code m b → b.site.history.events ≡ m.site.history.events → SendsAll g code a b
+  sends_still {a} {m} {b} sends turned same = record {
+    each = λ to less. record {
+      most =
+          let grown = turned.sent to in
+          let long : length (g.sent b.port to) ≡ length (g.sent m.port to) + length grown.rest = ap length grown.is ∙ length-append (g.sent m.port to) grown.rest in
+          elim (sends.each to less).most [
+            | inl e ↦
+                let all : g.sent b.port to ++ queue_at b.site.outgoing to ≡ g.sent m.port to ++ [] = turned.line same to ∙ ap (λ q. g.sent m.port to ++ q) e in
+                let none : grown.rest ++ queue_at b.site.outgoing to ≡ [] =
+                append_cancel_left (g.sent m.port to) (grown.rest ++ queue_at b.site.outgoing to) [] (sym (append_assoc (g.sent m.port to) grown.rest (queue_at b.site.outgoing to)) ∙ ap (λ l. l ++ queue_at b.site.outgoing to) (sym grown.is) ∙ all) in
+                inl (no-list grown.rest (queue_at b.site.outgoing to) none)
+            | inr e ↦ inr (omega arith)
+          ];
+    };
   }

@@ -2,3 +2,4 @@ pub mod Events
 pub mod Holdings
 pub mod Steps
 pub mod Crossing
+pub mod Steady

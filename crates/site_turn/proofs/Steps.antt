@@ -9,14 +9,16 @@ use Rattle.np_syntax.specs.declared.event.Event.{Event}
 use Rattle.np_syntax.specs.declared.process.Proc.{Proc}
 use Rattle.np_tables.proofs.Tables.{same_name-itself}
 use Rattle.stamp_history.specs.Histories.{Recorded}
-use Rattle.site_links.specs.Words.{Keeps, only_at}
+use Rattle.std.specs.FinMap as table
+use Rattle.site_links.specs.Words.{Begins, Keeps, only_at}
 use Rattle.site_links.specs.declared.port.Port as Port
-use Rattle.site_links.proofs.Kept.{Keeps-refl, Keeps-trans}
+use Rattle.site_links.proofs.Kept.{Begins-same, Begins-trans, Keeps-refl, Keeps-trans}
 use Rattle.run_merge.proofs.InOrder.{all_filter, all_flat_map, all_pass, all_weaker}
 use Rattle.np_site_runs.specs.merged.Deeds.{Deed, HasStamps, IsDeedOf, StampedItem, clock_after, put_for, ticked}
 use Rattle.np_site_runs.proofs.merged.Flowing.{all_both}
 use Rattle.np_site_runs.proofs.merged.Growing.{clock_goes_on, puts_follow}
 use Rattle.np_site_runs.proofs.merged.Linking.{all_second}
+use Rattle.np_site_runs.specs.merged.Elements.{Occurs}
 use Rattle.np_site_runs.specs.Holdings.{Holding}
 use Rattle.np_site_runs.specs.Accounts.{Came, IsAccount, SendsLoad, came_on, taken_on}
 use Rattle.np_site_runs.specs.Ending.{IsLoad}
@@ -31,9 +33,10 @@ use Rattle.site_state.specs.Doing.{ArePut, Did, HasDone, HasTaken, IsSent, IsSte
 use Rattle.site_state.specs.declared.stepping.Stepped.{Stepped}
 use Rattle.site_state.specs.declared.stepping.Stepped.TheVariants as stepped
 use Rattle.site_state.specs.Lines.{Waiting, queue_at, room_at}
-use Rattle.site_state.specs.Standings.{IsOut, SameSite, Standing, holding_of}
+use Rattle.site_state.specs.Standings.{IsOut, KeepsQuiet, SameSite, Standing, Stays, holding_of}
 use Rattle.site_turn.specs.declared.seat.Seat.{Seat}
 use Rattle.site_turn.specs.Turns.{Accepts, AsideIsStrange, HistoryGrows, IsLater, IsStrange, Kept, Seated, SetsAside, Turned, came_from, shown}
+use Rattle.site_turn.proofs.Steady.{got_stays, steady_more, steady_same, steady_taken}
 use Rattle.site_turn.proofs.Holdings.{history_same, history_trans, holding_same, later_one, later_same, later_trans, not_recorded, recorded_events, recorded_grows, same_between}
 
 -- ---- from step to step
@@ -48,8 +51,15 @@ module _ {P R : Type 0} {g : Port.Ghosts P R Item} {code : ProgramTable} where
     history = history_same a.site.history a.site.history refl;
     clock = λ same. refl;
     later = later_same a.site.clock a.site.clock a.site.history.events a.site.history.events refl refl;
+    steady = λ set h. h;
     aside = λ h. h;
     kept = λ start h. h;
+    quiet = λ h. h;
+    sent = λ t. Begins-same (g.sent a.port t) (g.sent a.port t) refl;
+    free = λ h. h;
+    holding = λ same. refl;
+    line = λ same t. refl;
+    got = λ same free k. refl;
   }
 
   pub turned_trans : {a b c : Seat P} → Turned g code a b → Turned g code b c → Turned g code a c
@@ -61,8 +71,15 @@ module _ {P R : Type 0} {g : Port.Ghosts P R Item} {code : ProgramTable} where
     history = history_trans h.history k.history;
     clock = λ same. let b = same_between h.history.events k.history.events same in k.clock b.1 ∙ h.clock b.0;
     later = later_trans h.later k.later;
+    steady = λ set s. k.steady set (h.steady set s);
     aside = λ s. k.aside (h.aside s);
     kept = λ start s. k.kept start (h.kept start s);
+    quiet = λ q. k.quiet (h.quiet q);
+    sent = λ t. Begins-trans (h.sent t) (k.sent t);
+    free = λ f. h.free (k.free f);
+    holding = λ same. let b = same_between h.history.events k.history.events same in k.holding b.1 ∙ h.holding b.0;
+    line = λ same t. let b = same_between h.history.events k.history.events same in k.line b.1 t ∙ h.line b.0 t;
+    got = λ same f i. let b = same_between h.history.events k.history.events same in k.got b.1 f i ∙ h.got b.0 (k.free f) i;
   }
 
   pub seated_after : {a b : Seat P} → Turned g code a b → Seated g code a → Seated g code b
@@ -73,6 +90,7 @@ module _ {P R : Type 0} {g : Port.Ghosts P R Item} {code : ProgramTable} where
       lines = t.lines ∙ s.placed.lines;
       budget = t.budget ∙ s.placed.budget ∙ sym t.history.budget;
     };
+    quiet = t.quiet s.quiet;
     start = s.start;
     kept = t.kept s.start s.kept;
   }
@@ -88,6 +106,10 @@ pub record Still {P R : Type 0} (g : Port.Ghosts P R Item) (code : ProgramTable)
   pub aside : b.aside ≡ a.aside
   pub got : (k : ℕ) → g.got b.port k ≡ g.got a.port k
   pub put : (t : ℕ) → g.sent b.port t ++ queue_at b.site.outgoing t ≡ g.sent a.port t ++ queue_at a.site.outgoing t
+
+-- where the agents are the same, and which were found to be quiet
+pub quiet_kept : (code : ProgramTable) (a b : Standing) → b.agents ≡ a.agents → b.quiet ≡ a.quiet → KeepsQuiet code a b
+quiet_kept code a b agents quiet = λ h. record { each = λ q p none at. h.each q p (ap (λ m. table.get m q) (sym quiet) ∙ none) (ap (λ m. table.get m q) (sym agents) ∙ at) }
 
 aside_still : {P : Type 0} (a b : Seat P) → (b.failed ≡ false → a.failed ≡ false) → b.site.site ≡ a.site.site → b.aside ≡ a.aside → AsideIsStrange a → AsideIsStrange b
 aside_still a b f n e h ok = subst₂ (λ (o : Option Item) (m : ℕ). IfSome o (IsStrange m)) (sym e) (sym n) (h (f ok))
@@ -109,9 +131,10 @@ module _ {P R : Type 0} {g : Port.Ghosts P R Item} {code : ProgramTable} where
     put = λ t. ap (shown code) (s.put t) ∙ h.put t;
   }
 
-  pub turned_still : {a b : Seat P} → Still g code a b → Keeps g.site g.among g.linked a.port b.port → length b.site.outgoing ≡ length a.site.outgoing → b.budget ≡ a.budget
+  pub turned_still : {a b : Seat P} → Still g code a b → KeepsQuiet code a.site b.site → ((t : ℕ) → Begins (g.sent b.port t) (g.sent a.port t))
+      → Keeps g.site g.among g.linked a.port b.port → length b.site.outgoing ≡ length a.site.outgoing → b.budget ≡ a.budget
       → (b.failed ≡ false → a.failed ≡ false) → Turned g code a b
-  turned_still {a} {b} s keeps lines budget f = record {
+  turned_still {a} {b} s quiet sent keeps lines budget f = record {
     keeps = keeps;
     number = s.number;
     lines = lines;
@@ -119,24 +142,31 @@ module _ {P R : Type 0} {g : Port.Ghosts P R Item} {code : ProgramTable} where
     history = history_same a.site.history b.site.history s.history;
     clock = λ same. s.clock;
     later = later_same a.site.clock b.site.clock a.site.history.events b.site.history.events s.clock (ap (λ (h : Recorded). h.events) s.history);
+    steady = λ set h. steady_same s.clock (ap (λ (h : Recorded). h.events) s.history) (λ k u is. subst (Occurs (λ (x : Item). x.stamp ≡ k)) (sym (s.got u)) is) h;
     aside = aside_still a b f s.number s.aside;
     kept = kept_still s;
+    quiet = quiet;
+    sent = sent;
+    free = λ h. sym s.aside ∙ h;
+    holding = λ same. s.holding;
+    line = λ same t. s.put t;
+    got = λ same free k. s.got k;
   }
 
   -- nothing of the site has changed, nor of what the port carried
-  pub turned_stays : {a b : Seat P} → SameSite a.site b.site → b.port ≡ a.port → b.aside ≡ a.aside → b.budget ≡ a.budget → (b.failed ≡ false → a.failed ≡ false) → Turned g code a b
+  pub turned_stays : {a b : Seat P} → Stays code a.site b.site → b.port ≡ a.port → b.aside ≡ a.aside → b.budget ≡ a.budget → (b.failed ≡ false → a.failed ≡ false) → Turned g code a b
   turned_stays {a} {b} s port aside budget f = turned_still (record {
-    number = s.site;
-    holding = holding_same code a.site b.site s;
-    clock = s.clock;
-    history = s.history;
+    number = s.same.site;
+    holding = holding_same code a.site b.site s.same;
+    clock = s.same.clock;
+    history = s.same.history;
     aside = aside;
     got = λ k. ap (λ p. g.got p k) port;
-    put = λ t. ap₂ (λ p q. g.sent p t ++ q) port (s.outgoing.queues t);
-  }) (keeps_same g a.port b.port port) s.outgoing.sites budget f
+    put = λ t. ap₂ (λ p q. g.sent p t ++ q) port (s.same.outgoing.queues t);
+  }) s.quiet (λ t. Begins-same (g.sent a.port t) (g.sent b.port t) (ap (λ p. g.sent p t) port)) (keeps_same g a.port b.port port) s.same.outgoing.sites budget f
 
   -- so it is where memory ran out
-  pub turned_failed : {a b : Seat P} → SameSite a.site b.site → b.port ≡ a.port → b.aside ≡ a.aside → b.budget ≡ a.budget → b.failed ≡ true → Turned g code a b
+  pub turned_failed : {a b : Seat P} → Stays code a.site b.site → b.port ≡ a.port → b.aside ≡ a.aside → b.budget ≡ a.budget → b.failed ≡ true → Turned g code a b
   turned_failed {a} {b} s port aside budget failed = turned_stays s port aside budget (λ h. absurd (let e : true ≡ false = sym failed ∙ h in cc))
 
 -- ---- sending
@@ -190,7 +220,7 @@ module _ {P R : Type 0} {g : Port.Ghosts P R Item} {code : ProgramTable} where
       | inr w ↦
           ap₂ (λ l q. l ++ q) (sent t ∙ ap (λ b. g.sent a.port t ++ cond b (item ∷ []) []) w.0 ∙ append-nil (g.sent a.port t)) (out.outgoing.others t w.1)
     ];
-  }) keeps out.outgoing.sites budget (λ h. sym failed ∙ h)
+  }) (quiet_kept code a.site b.site out.agents out.quiet) (λ t. record { rest = only_at t to item; is = sent t }) keeps out.outgoing.sites budget (λ h. sym failed ∙ h)
 
   -- the first item of a line came back from the port
   module _ {a : Seat P} {mid : Standing} {to : ℕ} {item : Item} (seated : Seated g code a) (out : IsOut to item a.site mid) (back : Item) (same : back ≡ item) where
@@ -221,7 +251,8 @@ module _ {P R : Type 0} {g : Port.Ghosts P R Item} {code : ProgramTable} where
                 (ap₂ (λ l q. l ++ q) (sent to).0 (again.outgoing.there ∙ sym out.outgoing.there))
             | inr w ↦ ap₂ (λ l q. l ++ q) (sent t).0 (sym (again.outgoing.others t w.1) ∙ out.outgoing.others t w.1)
           ];
-        }) keeps (sym again.outgoing.sites ∙ out.outgoing.sites) budget (λ h. sym failed ∙ h)
+        }) (quiet_kept code a.site b.site (sym again.agents ∙ out.agents) (sym again.quiet ∙ out.quiet)) (λ t. Begins-same (g.sent a.port t) (g.sent b.port t) (sent t).0) keeps
+        (sym again.outgoing.sites ∙ out.outgoing.sites) budget (λ h. sym failed ∙ h)
 
 -- ---- events
 
@@ -326,6 +357,9 @@ module _ {P R : Type 0} {g : Port.Ghosts P R Item} {code : ProgramTable} where
     history = grows_more code a.site b.site done.event None done.out done.did lines;
     clock = λ same. absurd (not_recorded a.site.history _ done.did.value b.site.history.events (ap (λ h. h.events) done.did.history) same);
     later = later_more code a.site b.site done.event None done.out done.did lines;
+    steady = λ set h. steady_more (record { stamp = b.site.clock; event = done.event }) refl
+        (ap (λ (h : Recorded). h.events) done.did.history ∙ recorded_events a.site.history (record { stamp = b.site.clock; event = done.event }) done.did.value)
+        (λ k u is. subst (λ (p : P). Occurs (λ (x : Item). x.stamp ≡ k) (g.got p u)) (sym port) is) (inl done.did.clock) h;
     aside = aside_still a b (λ h. sym failed ∙ h) done.did.site aside;
     kept = λ start h.
         let d : Deed = deed_at code b.site done.event None done.out in record {
@@ -341,20 +375,26 @@ module _ {P R : Type 0} {g : Port.Ghosts P R Item} {code : ProgramTable} where
               ap (λ p. shown code (g.sent p t ++ queue_at b.site.outgoing t)) port
               ∙ puts_more code a.site b.site done.event None done.out done.did lines (g.sent a.port t) t h.deeds (h.put t);
         };
+    quiet = done.did.quiet;
+    sent = λ t. Begins-same (g.sent a.port t) (g.sent b.port t) (ap (λ p. g.sent p t) port);
+    free = λ h. sym aside ∙ h;
+    holding = λ same. absurd (not_recorded a.site.history _ done.did.value b.site.history.events (ap (λ h. h.events) done.did.history) same);
+    line = λ same. absurd (not_recorded a.site.history _ done.did.value b.site.history.events (ap (λ h. h.events) done.did.history) same);
+    got = λ same. absurd (not_recorded a.site.history _ done.did.value b.site.history.events (ap (λ h. h.events) done.did.history) same);
   }
 
   -- what came of a step
   pub turned_tried : {a b : Seat P} (s : Stepped) → IsTried code a.site b.site s → length a.site.outgoing ≡ length code.sites → b.port ≡ a.port → b.aside ≡ a.aside → b.budget ≡ a.budget
       → b.failed ≡ a.failed → Turned g code a b
   turned_tried stepped.Did h lines port aside budget failed = turned_done h.1 lines port aside budget failed
-  turned_tried stepped.Quiet h lines port aside budget failed = turned_stays h.1.same port aside budget (λ e. sym failed ∙ e)
-  turned_tried stepped.Spent h lines port aside budget failed = turned_stays h.1.same port aside budget (λ e. sym failed ∙ e)
+  turned_tried stepped.Quiet h lines port aside budget failed = turned_stays h.1 port aside budget (λ e. sym failed ∙ e)
+  turned_tried stepped.Spent h lines port aside budget failed = turned_stays h.1 port aside budget (λ e. sym failed ∙ e)
 
   pub turned_stepped : {a b : Seat P} (s : Stepped) → IsStepped code a.site b.site s → length a.site.outgoing ≡ length code.sites → b.port ≡ a.port → b.aside ≡ a.aside → b.budget ≡ a.budget
       → b.failed ≡ a.failed → Turned g code a b
   turned_stepped stepped.Did h lines port aside budget failed = turned_done h.1 lines port aside budget failed
-  turned_stepped stepped.Quiet h lines port aside budget failed = turned_stays h.1.same port aside budget (λ e. sym failed ∙ e)
-  turned_stepped stepped.Spent h lines port aside budget failed = turned_stays h.1.same port aside budget (λ e. sym failed ∙ e)
+  turned_stepped stepped.Quiet h lines port aside budget failed = turned_stays h.1 port aside budget (λ e. sym failed ∙ e)
+  turned_stepped stepped.Spent h lines port aside budget failed = turned_stays h.1 port aside budget (λ e. sym failed ∙ e)
 
 -- ---- what comes
 
@@ -403,6 +443,9 @@ module _ {P R : Type 0} {g : Port.Ghosts P R Item} {code : ProgramTable} where
         history = grows_more code a.site b.site event (Some item) None did lines;
         clock = λ same. absurd (not_recorded a.site.history _ did.value b.site.history.events (ap (λ h. h.events) did.history) same);
         later = later_more code a.site b.site event (Some item) None did lines;
+        steady = λ set h. steady_taken (record { stamp = b.site.clock; event = event }) from item refl
+            (ap (λ (h : Recorded). h.events) did.history ∙ recorded_events a.site.history (record { stamp = b.site.clock; event = event }) did.value)
+            did.clock low (λ k. ap (λ (p : P). g.got p k) accepts.port ∙ got k) h;
         aside = λ h ok. subst (λ (o : Option Item). IfSome o (IsStrange b.site.site)) (sym accepts.aside) tt;
         kept = λ start h. record {
           deeds = h.deeds ++ d ∷ [];
@@ -419,6 +462,12 @@ module _ {P R : Type 0} {g : Port.Ghosts P R Item} {code : ProgramTable} where
               ap (λ p. shown code (g.sent p t ++ queue_at b.site.outgoing t)) accepts.port ∙ ap (λ l. shown code (l ++ queue_at b.site.outgoing t)) (sent t)
               ∙ puts_more code a.site b.site event (Some item) None did lines (g.sent a.port t) t h.deeds (h.put t);
         };
+        quiet = did.quiet;
+        sent = λ t. Begins-same (g.sent a.port t) (g.sent b.port t) (ap (λ p. g.sent p t) accepts.port ∙ sent t);
+        free = λ h. none;
+        holding = λ same. absurd (not_recorded a.site.history _ did.value b.site.history.events (ap (λ h. h.events) did.history) same);
+        line = λ same. absurd (not_recorded a.site.history _ did.value b.site.history.events (ap (λ h. h.events) did.history) same);
+        got = λ same. absurd (not_recorded a.site.history _ did.value b.site.history.events (ap (λ h. h.events) did.history) same);
       }
 
   -- an item was taken from the port, and set aside
@@ -437,6 +486,7 @@ module _ {P R : Type 0} {g : Port.Ghosts P R Item} {code : ProgramTable} where
         history = history_same a.site.history b.site.history s.history;
         clock = λ same. s.clock;
         later = later_same a.site.clock b.site.clock a.site.history.events b.site.history.events s.clock (ap (λ (h : Recorded). h.events) s.history);
+        steady = λ set h. steady_same s.clock (ap (λ (h : Recorded). h.events) s.history) (got_stays g a b from item (λ k. ap (λ (p : P). g.got p k) sets.port ∙ got k)) h;
         aside = λ h. sets.strange;
         kept = λ start h. record {
           deeds = h.deeds;
@@ -449,6 +499,12 @@ module _ {P R : Type 0} {g : Port.Ghosts P R Item} {code : ProgramTable} where
           got = λ k. ap (λ p. shown code (g.got p k)) sets.port ∙ got_more h from item none got k ∙ ap (λ o. came_on k (h.came ++ came_from code from o)) (sym sets.aside);
           put = λ t. ap (λ p. shown code (g.sent p t ++ queue_at b.site.outgoing t)) sets.port ∙ ap₂ (λ l q. shown code (l ++ q)) (sent t) (s.outgoing.queues t) ∙ h.put t;
         };
+        quiet = subst (λ (v : Standing). KeepsQuiet code v b.site) site (sets.site.quiet code);
+        sent = λ t. Begins-same (g.sent a.port t) (g.sent b.port t) (ap (λ p. g.sent p t) sets.port ∙ sent t);
+        free = λ h. none;
+        holding = λ same. holding_same code a.site b.site s;
+        line = λ same t. ap (λ p. g.sent p t ++ queue_at b.site.outgoing t) sets.port ∙ ap₂ (λ l q. l ++ q) (sent t) (s.outgoing.queues t);
+        got = λ same h. absurd (let some : Some item ≡ None = sym sets.aside ∙ h in cc);
       }
 
   -- an item was taken from the port

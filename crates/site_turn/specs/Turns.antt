@@ -1,5 +1,6 @@
 -- What a turn leaves of a site and its port (docs/HISTORIES.md, "History text").
-use Rattle.std.specs.Prelude.{◌≡◌, ◌<◌, ◌≤◌, ◌+◌, ◌⊎◌, min, ℕ, Bool, true, false, List, [], ◌∷◌, ◌++◌, length, map, Option, None, Some, IfSome, option_map, option_to_list}
+use Rattle.std.specs.Prelude.{◌≡◌, ◌<◌, ◌≤◌, ◌+◌, ◌⊎◌, min, ℕ, Bool, true, false, List, [], ◌∷◌, ◌++◌, length, map, Option, None, Some}
+use Rattle.std.specs.Prelude.{IfSome, option_map, option_to_list}
 use Rattle.std.specs.List.{AllByRecursion}
 use Rattle.np_syntax.specs.declared.limits.TheConstants.{STAMPS_END}
 use Rattle.np_syntax.specs.declared.event.Kind.{Kind}
@@ -20,8 +21,10 @@ use Rattle.site_state.specs.declared.stepping.Stepped.{Stepped}
 use Rattle.site_state.specs.declared.stepping.Stepped.TheVariants as stepped
 use Rattle.site_state.specs.Doing.{HasDone, HasRoom, HasTaken}
 use Rattle.site_state.specs.Lines.{queue_at}
-use Rattle.site_state.specs.Standings.{IsOut, IsQuiet, KeepsQuiet, SameAgents, SameRecords, SameSite, Standing, Stays, StaysForAll, holding_of}
+use Rattle.site_state.specs.Standings.{IsOut, IsQuiet, KeepsQuiet, SameAgents, SameRecords, SameSite, Standing, Stays, StaysForAll}
+use Rattle.site_state.specs.Standings.{holding_of}
 use Rattle.site_turn.specs.declared.seat.Seat.{Seat}
+use Rattle.site_turn.specs.Steady.{IsSteady}
 
 -- items as the calculus sees them
 abbrev pub shown : ProgramTable → List Item → List StampedItem
@@ -42,7 +45,8 @@ pub record HistoryGrows (old new : Recorded) : Type 0 where
   pub events : Begins new.events old.events
   pub said : Begins new.said old.said
 
--- Events at a later time, and the clock that it was at them and is then: the clock only goes on, and what is added is stamped above the one that it was.
+-- Events at a later time, and the clock that it was at them and is then: the clock only goes on, and what is added is stamped above the
+-- one that it was.
 pub record IsLater (was : ℕ) (old : List Stamped) (is : ℕ) (new : List Stamped) : Type 0 where
   pub clock : was ≤ is
   pub begins : Begins new old
@@ -53,8 +57,8 @@ pub record MakesOne (old new : Standing) : Type 0 where
   pub event : Stamped
   pub events : new.history.events ≡ old.history.events ++ event ∷ []
 
--- The site has made no event: of what contracts see of it, no more has changed than room, what was found to be quiet, and what is still to be put on its
--- links.
+-- The site has made no event: of what contracts see of it, no more has changed than room, what was found to be quiet, and what is still
+-- to be put on its links.
 pub record MakesNone (code : ProgramTable) (old new : Standing) : Type 0 where
   pub agents : SameAgents old.agents new.agents
   pub quiet : KeepsQuiet code old new
@@ -93,12 +97,13 @@ module _ {P : Type 0} where
     pub site : StaysForAll old.site new.site
     pub strange : AsideIsStrange new
 
-  -- By a step the site did an event of its own; or it found none, and where it `walks` no agent can do anything, if each that was found to be quiet can do
-  -- nothing; or there was no room for an event, or memory ran out.
+  -- By a step the site did an event of its own; or it found none, and where it `walks` no agent can do anything; or there was no room
+  -- for an event, or memory ran out.
   abbrev pub Steps : ProgramTable → Bool → Seat P → Seat P → Stepped → Type 0
   Steps code walks old new stepped.Did = HasRoom old.site × HasDone code old.site new.site
-  Steps code walks old new stepped.Quiet = HasRoom old.site × Stays code old.site new.site × (walks ≡ true → IsQuiet code old.site → NoneCan code old.site.agents)
-  Steps code walks old new stepped.Spent = Stays code old.site new.site × ((length old.site.history.events ≡ old.site.history.budget) ⊎ (new.failed ≡ true))
+  Steps code walks old new stepped.Quiet = HasRoom old.site × Stays code old.site new.site × (walks ≡ true → NoneCan code old.site.agents)
+  Steps code walks old new stepped.Spent = Stays code old.site new.site
+      × ((length old.site.history.events ≡ old.site.history.budget) ⊎ (new.failed ≡ true))
 
 module _ {P R : Type 0} (g : Port.Ghosts P R Item) (code : ProgramTable) where
   -- the port is the site's
@@ -108,8 +113,9 @@ module _ {P R : Type 0} (g : Port.Ghosts P R Item) (code : ProgramTable) where
     pub lines : length s.site.outgoing ≡ length code.sites
     pub budget : s.budget ≡ s.site.history.budget
 
-  -- What the site has done since it held this, and what it took: each item that the port has got from a site came on the link from there, but for one
-  -- that is set aside. What the port has sent to a site, and what is still to be put on that link, is what the site has put out for it.
+  -- What the site has done since it held this, and what it took: each item that the port has got from a site came on the link from
+  -- there, but for one that is set aside. What the port has sent to a site, and what is still to be put on that link, is what the site
+  -- has put out for it.
   pub record Kept (start : Holding) (s : Seat P) : Type 0 where
     pub deeds : List Deed
     pub came : List Came
@@ -126,11 +132,12 @@ module _ {P R : Type 0} (g : Port.Ghosts P R Item) (code : ProgramTable) where
   -- at its port, with an account since some holding
   pub record Seated (s : Seat P) : Type 0 where
     pub placed : Placed s
+    pub quiet : IsQuiet code s.site
     pub start : Holding
     pub kept : Kept start s
 
-  -- The seat at a later time: its site has only gone on, by deeds of its own, and its account since any holding has all of them, with what it took and
-  -- put out.
+  -- The seat at a later time: its site has only gone on, by deeds of its own, and its account since any holding has all of them, with
+  -- what it took and put out.
   pub record Turned (old new : Seat P) : Type 0 where
     pub keeps : Keeps g.site g.among g.linked old.port new.port
     pub number : new.site.site ≡ old.site.site
@@ -140,8 +147,20 @@ module _ {P R : Type 0} (g : Port.Ghosts P R Item) (code : ProgramTable) where
     -- where no event is added the clock stands still
     pub clock : new.site.history.events ≡ old.site.history.events → new.site.clock ≡ old.site.clock
     pub later : IsLater old.site.clock old.site.history.events new.site.clock new.site.history.events
+    -- and it goes on by no more than it has to
+    pub steady : (set : ℕ) → IsSteady g code set old → IsSteady g code set new
     pub aside : AsideIsStrange old → AsideIsStrange new
     pub kept : (start : Holding) → Kept start old → Kept start new
+    pub quiet : KeepsQuiet code old.site new.site
+    -- what was put on a link stays put, and an item that is set aside stays so
+    pub sent : (t : ℕ) → Begins (g.sent new.port t) (g.sent old.port t)
+    pub free : new.aside ≡ None → old.aside ≡ None
+    -- where no event is added the site holds what it held, puts on a link only what was outgoing, and has taken no more than what it
+    -- has set aside
+    pub holding : new.site.history.events ≡ old.site.history.events → holding_of code new.site ≡ holding_of code old.site
+    pub line : new.site.history.events ≡ old.site.history.events → (t : ℕ)
+        → g.sent new.port t ++ queue_at new.site.outgoing t ≡ g.sent old.port t ++ queue_at old.site.outgoing t
+    pub got : new.site.history.events ≡ old.site.history.events → new.aside ≡ None → (k : ℕ) → g.got new.port k ≡ g.got old.port k
 
   -- ---- sending
 
@@ -161,7 +180,8 @@ module _ {P R : Type 0} (g : Port.Ghosts P R Item) (code : ProgramTable) where
 
   -- all that was outgoing for a site went, or as many items as places on its link were known to be free, or as many as a link has places
   pub record SendsFor (to : ℕ) (old new : Seat P) : Type 0 where
-    pub most : (queue_at new.site.outgoing to ≡ []) ⊎ (length (g.sent old.port to) + min PLACES (g.room old.port to) ≤ length (g.sent new.port to))
+    pub most : (queue_at new.site.outgoing to ≡ [])
+        ⊎ (length (g.sent old.port to) + min PLACES (g.room old.port to) ≤ length (g.sent new.port to))
 
   -- so it is for each site
   pub record SendsAll (old new : Seat P) : Type 0 where
@@ -219,8 +239,16 @@ module _ {P R : Type 0} (g : Port.Ghosts P R Item) (code : ProgramTable) where
   pub record HadNoneWaiting (old new : Seat P) : Type 0 where
     pub none : new.failed ≡ false → new.aside ≡ None → HasRoom old.site → (k : ℕ) → g.known old.port k ≡ []
 
-  -- A seat that made no event had nothing to do: if it had room for an event, and if memory did not run out and no item is set aside, then nothing was known
-  -- to wait for it; and then, where it `walks`, no agent could do anything, if each that was found to be quiet can do nothing.
+  -- A seat that made no event had nothing to do: if it had room for an event, and if memory did not run out and no item is set aside,
+  -- then nothing was known to wait for it; and then, where it `walks`, no agent could do anything.
   pub record HadNothing (walks : Bool) (old new : Seat P) : Type 0 where
     pub waits : HadNoneWaiting old new
-    pub agents : walks ≡ true → new.failed ≡ false → new.aside ≡ None → HasRoom old.site → IsQuiet code old.site → NoneCan code old.site.agents
+    pub agents : walks ≡ true → new.failed ≡ false → new.aside ≡ None → HasRoom old.site → NoneCan code old.site.agents
+
+  -- What a turn leaves. One in which no event was made ended since there was nothing to do, and has put what was outgoing on the links,
+  -- as far as places were known to be free when it began.
+  pub record TookTurn (walks : Bool) (old new : Seat P) : Type 0 where
+    pub turned : Turned old new
+    pub idle : new.site.history.events ≡ old.site.history.events → HadNothing walks old new
+    pub sends : new.site.history.events ≡ old.site.history.events → new.failed ≡ false → SendsAll old new
+    pub failed : old.failed ≡ true → new ≡ old

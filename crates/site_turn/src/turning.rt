@@ -1,6 +1,6 @@
 //! A turn of a site.
 ghost use Rattle.std.specs.Prelude.{◌≡◌, ◌≤◌, ◌+◌, true, false, length};
-ghost use Rattle.site_turn.specs.Turns.{HadNoneWaiting, HadNothing, MakesNone, MakesOne, Polls, Seated, Steps, Turned};
+ghost use Rattle.site_turn.specs.Turns.{HadNoneWaiting, HadNothing, MakesNone, MakesOne, Polls, Seated, SendsAll, Steps, Turned};
 
 use crate::effort::Effort;
 use crate::gate::Gate;
@@ -36,6 +36,8 @@ pub fn turn<R, P: Port<R, Item>, G: Gate>(
     ensures turned { Turned P.Port code.now seat.old seat.new }
     ensures most { length seat.new.site.history.events ≤ length seat.old.site.history.events + EVENTS }
     ensures idle { seat.new.site.history.events ≡ seat.old.site.history.events → HadNothing P.Port code.now effort.walks seat.old seat.new }
+    ensures sends { seat.new.site.history.events ≡ seat.old.site.history.events → seat.new.failed ≡ false
+        → SendsAll P.Port code.now seat.old seat.new }
     ensures failed { seat.old.failed ≡ true → seat.new ≡ seat.old }
 {
     if !seat.failed {
@@ -57,6 +59,8 @@ fn events<R, P: Port<R, Item>, G: Gate>(
     ensures turned { Turned P.Port code.now seat.old seat.new }
     ensures most { length seat.new.site.history.events ≤ length seat.old.site.history.events + EVENTS }
     ensures idle { seat.new.site.history.events ≡ seat.old.site.history.events → HadNothing P.Port code.now effort.walks seat.old seat.new }
+    ensures sends { seat.new.site.history.events ≡ seat.old.site.history.events → seat.new.failed ≡ false
+        → SendsAll P.Port code.now seat.old seat.new }
 {
     send(rt, code, seat);
     for number in 0..EVENTS {

@@ -23,11 +23,14 @@ pub record Stored : Type 0 where
 
 abbrev pub recorded_code : Coded Recorded
 recorded_code =
-    code_by (ℕ × (ℕ × (List Stamped × List Value))) (coded× coded_ℕ (coded× coded_ℕ (coded× (coded_list stamped.the_row.coded) (coded_list value.the_row.coded))))
-    (λ h. (h.site, (h.budget, (h.events, h.said)))) (λ p. record { site = p.0; budget = p.1.0; events = p.1.1.0; said = p.1.1.1 }) (λ _. refl)
+    code_by (ℕ × (ℕ × (List Stamped × List Value)))
+    (coded× coded_ℕ (coded× coded_ℕ (coded× (coded_list stamped.the_row.coded) (coded_list value.the_row.coded))))
+    (λ h. (h.site, (h.budget, (h.events, h.said)))) (λ p. record { site = p.0; budget = p.1.0; events = p.1.1.0; said = p.1.1.1 })
+    (λ _. refl)
 
 abbrev pub stored_code : Coded Stored
-stored_code = code_by (Recorded × ℕ) (coded× recorded_code coded_ℕ) (λ s. (s.history, s.spare)) (λ p. record { history = p.0; spare = p.1 }) (λ _. refl)
+stored_code = code_by (Recorded × ℕ) (coded× recorded_code coded_ℕ) (λ s. (s.history, s.spare))
+    (λ p. record { history = p.0; spare = p.1 }) (λ _. refl)
 
 abbrev pub prints : Kind → Bool
 prints kind.Print = true

@@ -38,9 +38,13 @@ impl Model for History {
 
     ghost coded = { stored_code };
 
-    ghost view = { λ h. record { history = record { site = h.site; budget = h.budget; events = h.events.items; said = h.said.items }; spare = vec_capacity h.said - vec_len h.said } };
+    ghost view = { λ h. record {
+      history = record { site = h.site; budget = h.budget; events = h.events.items; said = h.said.items };
+      spare = vec_capacity h.said - vec_len h.said;
+    } };
 
-    ghost invariant = { λ h. IsRoomy (record { site = h.site; budget = h.budget; events = h.events.items; said = h.said.items }) (vec_capacity h.events) };
+    ghost invariant = { λ h. IsRoomy (record { site = h.site; budget = h.budget; events = h.events.items; said = h.said.items })
+        (vec_capacity h.events) };
 }
 
 impl History {

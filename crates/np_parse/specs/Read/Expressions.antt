@@ -82,13 +82,15 @@ operation o left right = (expression left.0.at (form.Bin o left.0 right.0), max 
 
 -- where an operator may stand behind this: the operation with the operand that follows, and what comes of it, or this
 abbrev pub operate : (ReadExpr → Parser ReadExpr) → Parser ReadExpr → ℕ → ReadExpr → Option Op → Parser ReadExpr
-operate again operand levels left (Some o) = if nat_le levels left.1 then refuse_deep else (do take; right ← operand; again (operation o left right))
+operate again operand levels left (Some o) = if nat_le levels left.1 then refuse_deep
+    else (do take; right ← operand; again (operation o left right))
 operate again operand levels left None = pure left
 
 -- what stands behind the product or sum so far, which these operators go on with; each turn takes a level
 unfoldable pub chain : (What → Option Op) → Parser ReadExpr → ℕ → ℕ → ReadExpr → Parser ReadExpr
 chain operator operand levels zero left = refuse_deep
-chain operator operand levels (suc turns) left = peek >>= (λ w. operate (chain operator operand levels turns) operand levels left (operator w))
+chain operator operand levels (suc turns) left = peek
+    >>= (λ w. operate (chain operator operand levels turns) operand levels left (operator w))
 
 -- what stands behind the first side of a comparison, if this is one
 unfoldable pub comparison : Parser ReadExpr → ℕ → ReadExpr → Parser ReadExpr

@@ -12,8 +12,8 @@ use Rattle.np_parse.specs.declared.head.Single.{Single}
 use Rattle.np_parse.specs.declared.head.Double.{Double}
 use Rattle.np_parse.specs.declared.head.DoubleForm.{DoubleForm}
 use Rattle.np_parse.specs.Input.{Parser, ◌>>=◌, ◌>>◌, pure, refuse, refuse_deep, peek, take, name, expect_sign}
-use Rattle.np_parse.specs.Read.Heads.{ReadProc, stop_by, print, output, directed, single_form, new_head, input_head, replicated_head, migrate_head, let_head}
-use Rattle.np_parse.specs.Read.Heads.{double_form, between, agent_head, iflocal_head, if_head}
+use Rattle.np_parse.specs.Read.Heads.{ReadProc, stop_by, print, output, directed, single_form, new_head, input_head, replicated_head}
+use Rattle.np_parse.specs.Read.Heads.{migrate_head, let_head, double_form, between, agent_head, iflocal_head, if_head}
 
 -- ---- forms with one process and with two
 
@@ -61,7 +61,8 @@ divides _ = false
 
 abbrev pub more_by : (ReadProc → Parser ReadProc) → Parser ReadProc → ℕ → ℕ → ReadProc → What → Parser ReadProc
 more_by again inner levels at left (what.Sign sign.RoundClose) = take >> pure left
-more_by again inner levels at left (what.Sign sign.Bar) = if nat_le levels left.1 then refuse_deep else (do take; right ← inner; again (both at left right))
+more_by again inner levels at left (what.Sign sign.Bar) = if nat_le levels left.1 then refuse_deep
+    else (do take; right ← inner; again (both at left right))
 more_by again inner levels at left _ = refuse
 
 -- the processes of a bracket from the third on, and the closing bracket; each takes a level

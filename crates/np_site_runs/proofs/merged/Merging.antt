@@ -33,7 +33,7 @@ all_deeds deeds hs = in_order comes_before (flat_map (deeds_of deeds) hs)
 abbrev pub in_turn : (ℕ → List Deed) → List Recorded → List Deed
 in_turn deeds hs = items (all_deeds deeds hs)
 
-abbrev event_of : Ranked Deed → Ranked Event
+abbrev pub event_of : Ranked Deed → Ranked Event
 event_of r = record { rank = r.rank; item = r.item.event.event }
 
 -- the rank of a deed is that of its event

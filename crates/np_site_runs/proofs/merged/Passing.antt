@@ -16,7 +16,9 @@ use Rattle.run_merge.specs.InOrder.{Ascends}
 use Rattle.run_merge.specs.Merged.{comes_before, items}
 use Rattle.run_merge.proofs.InOrder.{all_weaker, ascends-in_order}
 use Rattle.run_merge.proofs.Ranks.{ranks_order}
-use Rattle.np_site_runs.specs.merged.Deeds.{Deed, StampedItem, plain}
+use Rattle.np_site_runs.specs.merged.Deeds.{AreSiteRuns, Deed, SiteRuns, StampedItem, at_start, plain}
+use Rattle.np_site_runs.specs.merged.StampedLaws.{AreRecorded}
+use Rattle.stamp_history.specs.Histories.{Recorded}
 use Rattle.np_site_runs.specs.merged.Elements.{Occurs}
 use Rattle.np_site_runs.specs.merged.Passing.{Meets, PassesOn, TakenLater}
 use Rattle.np_syntax.proofs.Options.{there-is}
@@ -99,10 +101,10 @@ taken-later n (d ∷ ds) g end w rest c x u v fits stamped order i from to h = �
 -- ---- all events
 
 -- each takes what earlier ones put with a greater stamp
-abbrev PassLate : Deed → Deed → Type 0
+abbrev pub PassLate : Deed → Deed → Type 0
 PassLate d e = PassesOn d e → d.event.stamp < e.event.stamp
 
-abbrev AllPassLate : List Deed → Type 0
+abbrev pub AllPassLate : List Deed → Type 0
 AllPassLate [] = Unit {0}
 AllPassLate (d ∷ ds) = AllByRecursion (PassLate d) ds × AllPassLate ds
 
@@ -149,11 +151,16 @@ of-two (r ∷ rs) x y up late (inr h) (inl alike) less =
     absurd cc
 of-two (r ∷ rs) x y up late (inr h) (inr k) less = of-two rs x y up.1 late.1 h k less
 
+-- all events in the order of the merged history
+pub all_pass_late : (n : ℕ) (r : SiteRuns) (hs : List Recorded) (c : Config) → AreSiteRuns n r → AreRecorded hs r → IsSpread n (at_start r) c → AllPassLate (in_turn r.deeds hs)
+all_pass_late n r hs c runs are shows =
+    all-late n (in_turn r.deeds hs) (record { here = r.start; link = λ u v. [] }) r.end none_waits r.rest c
+    (fits n r hs runs are) (turns-stamped n r hs (clocked n r runs) are) (turns-by_stamp n r hs (clocked n r runs) are) (begins n r c shows)
+
 pub taken_later : TakenLater
 taken_later n r hs c s t d e runs are shows first second before passes =
     let up = ascends-in_order (comes_before {X = Deed}) ranks_order (flat_map (deeds_of r.deeds) hs) in
-    let late = all-late n (in_turn r.deeds hs) (record { here = r.start; link = λ u v. [] }) r.end none_waits r.rest c
-    (fits n r hs runs are) (turns-stamped n r hs (clocked n r runs) are) (turns-by_stamp n r hs (clocked n r runs) are) (begins n r c shows) in
+    let late = all_pass_late n r hs c runs are shows in
     let among : (s : ℕ) (d : Deed) → Occurs (λ x. x ≡ d) (r.deeds s) → Occurs (λ x. x ≡ ranked_deed s d) (all_deeds r.deeds hs) =
     λ s d h.
     occurs-filter (λ x. x ≡ ranked_deed s d) (λ r. r.rank.site == s) (all_deeds r.deeds hs)

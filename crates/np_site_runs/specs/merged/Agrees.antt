@@ -20,7 +20,8 @@ pub record Agrees (part whole : Config) (site : ℕ) : Type 0 where
   pub atoms : (m : Name) (a : Atom) → (inside part).atom m ≡ Some a → (inside whole).atom m ≡ Some a
   pub packets : (m : Name) (p : Packet) → (inside part).packet m ≡ Some p → (inside whole).packet m ≡ Some p
   pub here : (q : Name) → (inside whole).place q ≡ Some (place.At site) → IsSome ((inside part).place q)
-  pub with_them : (m : Name) (a : Atom) → (inside whole).atom m ≡ Some a → IsSome ((inside part).place a.agent) → IsSome ((inside part).atom m)
+  pub with_them : (m : Name) (a : Atom) → (inside whole).atom m ≡ Some a → IsSome ((inside part).place a.agent)
+      → IsSome ((inside part).atom m)
   pub one_mark : (m : Name) → IsSome ((inside whole).atom m) → (inside whole).packet m ≡ None
   pub lodged : IsLodged (inside whole)
   pub born : AreBorn whole
@@ -40,5 +41,6 @@ minus x y = record {
 
 -- an event of the site is one of every configuration that agrees with it, and changes nothing else
 abbrev pub EventOfSite : Type 0
-EventOfSite = (part next whole : Config) (e : Event) → Agrees part whole e.site → are_new whole.born e.made ≡ true → apply part e ≡ Some next
+EventOfSite = (part next whole : Config) (e : Event) → Agrees part whole e.site → are_new whole.born e.made ≡ true
+    → apply part e ≡ Some next
     → Framed whole part next (minus (inside whole) (inside part)) e

@@ -1,6 +1,7 @@
 -- What each of many sites did alone: its events with stamps by Lamport's rule, and the items that went between the sites
 -- (docs/HISTORIES.md, "History text").
-use Rattle.std.specs.Prelude.{◌≡◌, ◌<◌, ◌≤◌, ◌+◌, ◌==◌, max, ℕ, List, [], ◌∷◌, ◌++◌, map, Option, None, Some, IfSome, option_map, option_to_list}
+use Rattle.std.specs.Prelude.{◌≡◌, ◌<◌, ◌≤◌, ◌+◌, ◌==◌, max, ℕ, List, [], ◌∷◌, ◌++◌, map, Option, None, Some, IfSome, option_map}
+use Rattle.std.specs.Prelude.{option_to_list}
 use Rattle.std.specs.List.{AllByRecursion, filter, flat_map}
 use Rattle.np_calculus.specs.Config.{Config}
 use Rattle.np_site_runs.specs.merged.Links.{Item, loads, spread}

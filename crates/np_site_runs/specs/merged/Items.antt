@@ -51,7 +51,8 @@ pub record IsLeft (next new : Config) (x : Contents) : Type 0 where
 -- an agent that is under way after the event is put out with its atoms, at a site that has no packet
 abbrev pub AgentLeaves : Type 0
 AgentLeaves = (old next new : Config) (e : Event) (a : Name) (t : ℕ) → IsOwn old next e → ((m : Name) → (inside next).packet m ≡ None)
-    → (inside next).place a ≡ Some (place.Way t) → IsLeft next new (without_agent (inside next) a) → IsStep e old [] new (of_agent (inside next) a ∷ [])
+    → (inside next).place a ≡ Some (place.Way t) → IsLeft next new (without_agent (inside next) a)
+    → IsStep e old [] new (of_agent (inside next) a ∷ [])
 
 -- and so is a packet
 abbrev pub PacketLeaves : Type 0
@@ -60,6 +61,7 @@ PacketLeaves = (old next new : Config) (e : Event) (m : Name) → IsOwn old next
 
 -- an item that comes is joined with what the site has, and the event is made there
 abbrev pub ItemComes : Type 0
-ItemComes = (old full next : Config) (e : Event) (x : Contents) → IsOfSite e.site (inside old) → IsItem x → IsJoined (inside full) (inside old ∷ x ∷ [])
+ItemComes = (old full next : Config) (e : Event) (x : Contents) → IsOfSite e.site (inside old) → IsItem x
+    → IsJoined (inside full) (inside old ∷ x ∷ [])
     → SameRecords full old → (e.kind ≡ kind.Post → ⊥) → ((q : Name) → IsMade e.made q → q.site ≡ e.site) → apply full e ≡ Some next
     → IsStep e old (x ∷ []) next []

@@ -25,6 +25,8 @@ pub record PassesOn (d e : Deed) : Type 0 where
 
 -- of two events of which the later in the merged history takes what the earlier puts on its way, the later has the greater stamp
 abbrev pub TakenLater : Type 0
-TakenLater = (n : ℕ) (r : SiteRuns) (hs : List Recorded) (c : Config) (s t : ℕ) (d e : Deed) → AreSiteRuns n r → AreRecorded hs r → IsSpread n (at_start r) c
-    → Occurs (λ x. x ≡ d) (r.deeds s) → Occurs (λ x. x ≡ e) (r.deeds t) → comes_before (ranked s d.event) (ranked t e.event) ≡ true → PassesOn d e
+TakenLater = (n : ℕ) (r : SiteRuns) (hs : List Recorded) (c : Config) (s t : ℕ) (d e : Deed) → AreSiteRuns n r → AreRecorded hs r
+    → IsSpread n (at_start r) c
+    → Occurs (λ x. x ≡ d) (r.deeds s) → Occurs (λ x. x ≡ e) (r.deeds t) → comes_before (ranked s d.event) (ranked t e.event) ≡ true
+    → PassesOn d e
     → d.event.stamp < e.event.stamp

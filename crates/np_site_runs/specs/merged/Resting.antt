@@ -36,7 +36,8 @@ IsAwaited n g site = (u t : ℕ) × (u < n) × (t < n) × Occurs (λ x. Brings s
 
 -- a site can act in the whole just where it can in what one of the sites has, or something is under way to it
 abbrev pub CanInParts : Type 0
-CanInParts = (n : ℕ) (g : Linked) (c : Config) (site : ℕ) → IsSpread n (spread n g) c → Can c site ↔ (ActsInPart n g site ⊎ IsAwaited n g site)
+CanInParts = (n : ℕ) (g : Linked) (c : Config) (site : ℕ) → IsSpread n (spread n g) c
+    → Can c site ↔ (ActsInPart n g site ⊎ IsAwaited n g site)
 
 -- the whole rests just where what each site has rests, and nothing is under way
 abbrev pub IdleInParts : Type 0

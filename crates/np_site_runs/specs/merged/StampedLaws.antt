@@ -7,7 +7,8 @@ use Rattle.np_site_runs.specs.merged.Steps.{IsSpread, Spread}
 use Rattle.stamp_history.specs.Histories.{Recorded, Rises}
 use Rattle.run_merge.specs.Laws.{AreHistories}
 use Rattle.run_merge.specs.Merged.{merged, items, said}
-use Rattle.np_site_runs.specs.merged.Deeds.{AreSiteRuns, Deed, IsSiteRun, SiteRuns, StampedItem, TicksByOne, at_end, at_start, put_for, taken_from}
+use Rattle.np_site_runs.specs.merged.Deeds.{AreSiteRuns, Deed, IsSiteRun, SiteRuns, StampedItem, TicksByOne, at_end, at_start, put_for}
+use Rattle.np_site_runs.specs.merged.Deeds.{taken_from}
 
 -- the histories have just what the sites did
 pub record AreRecorded (hs : List Recorded) (r : SiteRuns) : Type 0 where
@@ -41,9 +42,11 @@ pub record AreAtMost (m : ℕ) (hs : List Recorded) (r : SiteRuns) : Type 0 wher
   pub events : AllByRecursion (λ e. e.rank.stamp ≤ m) (merged hs)
   pub items : (s t : ℕ) → AllByRecursion (λ x. x.stamp ≤ m) (r.rest s t)
 
--- where no clock goes on by more than it has to, the stamps of the events, and of the items that are left, are at most the number of all events
+-- where no clock goes on by more than it has to, the stamps of the events, and of the items that are left, are at most the number of
+-- all events
 abbrev pub StampsAreFew : Type 0
-StampsAreFew = (n : ℕ) (r : SiteRuns) (hs : List Recorded) → AreSiteRuns n r → ((s : ℕ) → TicksByOne 0 (r.deeds s)) → AreRecorded hs r → AreAtMost (length (merged hs)) hs r
+StampsAreFew = (n : ℕ) (r : SiteRuns) (hs : List Recorded) → AreSiteRuns n r → ((s : ℕ) → TicksByOne 0 (r.deeds s)) → AreRecorded hs r
+    → AreAtMost (length (merged hs)) hs r
 
 -- the stamps of items rise
 abbrev pub ItemsRise : List StampedItem → Type 0

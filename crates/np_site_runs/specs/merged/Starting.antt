@@ -29,7 +29,8 @@ pub record IsSettled (n : ℕ) (c : Config) : Type 0 where
 
 -- where each of the sites has the agents that are at it, with their atoms, the whole is what the sites have
 abbrev pub SpreadBySites : Type 0
-SpreadBySites = (n : ℕ) (here : ℕ → Config) (c : Config) → IsSettled n c → ((s : ℕ) → inside (here s) ≡ part_at s (inside c)) → ((s : ℕ) → SameRecords (here s) c)
+SpreadBySites = (n : ℕ) (here : ℕ → Config) (c : Config) → IsSettled n c → ((s : ℕ) → inside (here s) ≡ part_at s (inside c))
+    → ((s : ℕ) → SameRecords (here s) c)
     → IsSpread n (record { here = here; air = [] }) c
 
 -- so it is at the low start, where main's site is one of the program

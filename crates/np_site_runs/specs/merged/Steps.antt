@@ -39,7 +39,8 @@ pub record IsStep (e : Event) (old : Config) (taken : List Contents) (new : Conf
 
 -- an event that a site makes of what it has, but a post, is a step in which no item is taken or put out
 abbrev pub InnerStep : Type 0
-InnerStep = (old new : Config) (e : Event) → IsOfSite e.site (inside old) → (e.kind ≡ kind.Post → ⊥) → ((q : Name) → IsMade e.made q → q.site ≡ e.site)
+InnerStep = (old new : Config) (e : Event) → IsOfSite e.site (inside old) → (e.kind ≡ kind.Post → ⊥)
+    → ((q : Name) → IsMade e.made q → q.site ≡ e.site)
     → apply old e ≡ Some new → IsStep e old [] new []
 
 -- what each site has, and the items under way

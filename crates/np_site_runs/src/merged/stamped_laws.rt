@@ -1,5 +1,6 @@
 ghost use Rattle.np_site_runs.specs.merged.Growing.{ClockGoesOn, PutsFollow, RunGrows, RunStarts, TakesFollow};
-ghost use Rattle.np_site_runs.specs.merged.StampedLaws.{EndIsShown, IsToldByParts, LinksLead, MergedIsRun, SaidInOrder, StampsAreFew, StampsRise};
+ghost use Rattle.np_site_runs.specs.merged.StampedLaws.{EndIsShown, IsToldByParts, LinksLead, MergedIsRun, SaidInOrder, StampsAreFew};
+ghost use Rattle.np_site_runs.specs.merged.StampedLaws.{StampsRise};
 ghost use Rattle.np_site_runs.specs.merged.Passing.{TakenLater};
 ghost use Rattle.np_site_runs.specs.merged.Resting.{CanInParts, IdleInParts};
 ghost use Rattle.np_site_runs.specs.merged.Starting.{LowStartIsSettled, SpreadBySites};

@@ -27,6 +27,7 @@ use Rattle.run_save.specs.Ours.{IsOurs, IsOursFrom}
 use Rattle.run_save.specs.Travels.{Travels, on_link, travels}
 use Rattle.run_save.proofs.RunLaws.{nothing-ours}
 use Rattle.run_save.specs.following.TravelLaws.{PutsLead, IsLinkTold, LinksAreTold, SettledAreOurs, link}
+use Rattle.run_save.specs.following.ByKind.{DeedsAreOfKinds, IsOfKind}
 use Rattle.run_save.specs.following.Shown.{ShowEach}
 use Rattle.run_save.proofs.following.Lists.{show-front}
 use Rattle.run_save.proofs.following.Turns.{AreRight, IsDone, IsReached, all-done}
@@ -91,6 +92,9 @@ module _ (q : LowProgram) (r : Accounts) (hs : List Recorded) (less : q.at < len
   pub ours : IsOurs q (items (merged hs))
   ours = subst (IsOursFrom (start_low q)) events-are done.ours
 
+  pub kinds : (s : ℕ) → s < n → AllByRecursion IsOfKind (r.deeds s)
+  kinds s low = subst (AllByRecursion IsOfKind) (own-are s low) (all_filter IsOfKind (λ d. d.event.event.site == s) deeds done.kinds)
+
   module _ (s t : ℕ) (from : s < n) (to : t < n) where
     abbrev trips : Travels
     trips = travels (start_low q) (map (λ d. d.event.event) deeds)
@@ -112,6 +116,7 @@ module _ (q : LowProgram) (r : Accounts) (hs : List Recorded) (less : q.at < len
       left = done.told.waits s t;
       waits = done.told.are s t from to;
       rest = rest-shows;
+      senders = done.told.senders s t from to;
     }
 
     pub link-told : IsLinkTold (travels (start_low q) (items (merged hs))) r s t
@@ -119,6 +124,9 @@ module _ (q : LowProgram) (r : Accounts) (hs : List Recorded) (less : q.at < len
 
 pub settled_are_ours : SettledAreOurs
 settled_are_ours q r hs less settled theirs right = ours q r hs less settled theirs right
+
+pub deeds_are_of_kinds : DeedsAreOfKinds
+deeds_are_of_kinds q r hs less settled theirs right s low = kinds q r hs less settled theirs right s low
 
 pub links_are_told : LinksAreTold
 links_are_told q r hs less settled theirs right s t from to = link-told q r hs less settled theirs right s t from to

@@ -65,7 +65,7 @@ others-every s here P h (suc n) = one (nat_eq n s) refl (others-every s here P h
 
 -- ---- what is in one of the parts
 
-of-sites : (P : Contents → Type 0) (here : ℕ → Config) (n : ℕ) → Occurs P (sites n here) → (u : ℕ) × (u < n) × P (inside (here u))
+pub of-sites : (P : Contents → Type 0) (here : ℕ → Config) (n : ℕ) → Occurs P (sites n here) → (u : ℕ) × (u < n) × P (inside (here u))
 of-sites P here zero h = absurd h
 of-sites P here (suc n) (inl h) = (n, omega arith, h)
 of-sites P here (suc n) (inr h) = let t = of-sites P here n h in let less : t.0 < n = t.1 in (t.0, omega arith, t.2)

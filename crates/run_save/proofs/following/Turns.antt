@@ -37,7 +37,10 @@ use Rattle.run_save.specs.Travels.{Travels, none_yet, same_item, travels, travel
 use Rattle.run_save.proofs.GoingOn.{ours-goes-on}
 use Rattle.run_save.proofs.LinkLaws.{takes-from}
 use Rattle.run_save.proofs.RunLaws.{travels-more}
+use Rattle.run_save.specs.following.ByKind.{IsOfKind}
 use Rattle.run_save.specs.following.Shown.{ShowEach, Shows}
+use Rattle.run_save.specs.following.TravelLaws.{link}
+use Rattle.run_save.proofs.following.ByKind.{inner-kind, kind-inner, kind-put, kind-taken, puts-kind, takes-kind}
 use Rattle.run_save.proofs.following.Lists.{PutMore, Told, first, first-sender, moved-nothing, none-more, none-put, put-first, put-first_there, put-more, same_item-is, show-all, show-append, told-put, told-same, told-take}
 use Rattle.run_save.proofs.following.TravelNames.{are-next, count-here, count-there, next-is}
 use Rattle.run_save.proofs.following.Trips.{IsPut, StoodIn, Within, inner, inner-still, inner-takes, is_put, is_taken, part-within, together-within}
@@ -122,6 +125,7 @@ module _ (n : ℕ) (start : Config) where
         takes : TakesPutFirst d.event.event.kind (travels start events) d.event.event
         told : Told n (travels_on d.event.event.kind (travels start events) turn.on.after d.event.event) (moved w d)
         more : PutMore n (travels start events) (travels_on d.event.event.kind (travels start events) turn.on.after d.event.event) (λ u v. puts u v d)
+        kind : IsOfKind d
 
       the-step : (o p : Option StampedItem) → d.taken ≡ o → d.put ≡ p → IsStep d.event.event (g.here d.event.event.site) (loads (plain o)) turn.now (loads (plain p))
       the-step o p taken put = subst (λ o. IsStep d.event.event (g.here d.event.event.site) (loads (plain o)) turn.now (loads (plain p))) taken
@@ -176,6 +180,9 @@ module _ (n : ℕ) (start : Config) where
               told = subst (λ t. Told n t (moved w d)) (sym same) (told-put n (travels start events) w d reached.told y none put its.item its.shows fresh);
               more = subst (λ t'. PutMore n (travels start events) t' (λ u v. puts u v d)) (sym same)
                   (put-more n (travels start events) w d reached.told y none put its.item its.shows);
+              kind = kind-put d y none put
+                  (puts-kind d.event.event.kind turn.on.after d.event.event (record { item = its.item; link = link d.event.event.site y.item.receiver })
+                  (its.travels none_yet turn.on.after next-within));
             }
 
       module _ (x : StampedItem) (taken : d.taken ≡ Some x) (none : d.put ≡ None) where
@@ -221,6 +228,7 @@ module _ (n : ℕ) (start : Config) where
                 are = λ u v h k. sym (append-nil _);
                 shows = λ u v h k. subst (ShowEach v []) (sym (none-put w d u v none)) tt;
               });
+              kind = kind-taken d x taken none (takes-kind d.event.event.kind turn.on.after d.event.event f.item x f.shows (its.travels none_yet turn.on.after));
             }
 
       goes-inner : d.taken ≡ None → d.put ≡ None → HasGone
@@ -233,6 +241,7 @@ module _ (n : ℕ) (start : Config) where
             takes = inner-takes d.event.event.kind t d.event.event its;
             told = subst (λ t. Told n t (moved w d)) (sym same) (told-same n t w (moved w d) (λ u v. sym (moved-nothing w d u v none still)) reached.told);
             more = subst (λ t'. PutMore n t t' (λ u v. puts u v d)) (sym same) (none-more n t (λ u v. puts u v d) (λ u v. none-put w d u v still));
+            kind = kind-inner d none still (inner-kind d.event.event.kind its);
           }
 
       goes : HasGone
@@ -267,12 +276,16 @@ module _ (n : ℕ) (start : Config) where
       pub next-more : PutMore n (travels start events) (travels start (events ++ d.event.event ∷ [])) (λ u v. puts u v d)
       next-more = subst (λ t. PutMore n (travels start events) t (λ u v. puts u v d)) (sym travels-now) goes.more
 
+      pub next-kind : IsOfKind d
+      next-kind = goes.kind
+
   -- ---- all events
 
   pub record IsDone (events later : List Event) (ds : List Deed) (rest : Waiting) : Type 0 where
     pub ours : IsOursFrom start (events ++ later)
     pub told : Told n (travels start (events ++ later)) rest
     pub more : PutMore n (travels start events) (travels start (events ++ later)) (λ u v. put_for v (own u ds))
+    pub kinds : AllByRecursion IsOfKind ds
 
   more-on : (t t' t'' : Travels) (ps qs rs : ℕ → ℕ → List StampedItem) → ((u v : ℕ) → rs u v ≡ ps u v ++ qs u v) → PutMore n t t' ps → PutMore n t' t'' qs → PutMore n t t'' rs
   more-on t t' t'' ps qs rs are a b = record {
@@ -289,6 +302,7 @@ module _ (n : ℕ) (start : Config) where
         ours = subst (IsOursFrom start) same reached.ours;
         told = subst (λ es. Told n (travels start es) rest) same (told-same n (travels start events) w rest is.flow reached.told);
         more = subst (λ es. PutMore n (travels start events) (travels start es) (λ u v. [])) same (none-more n (travels start events) (λ u v. []) (λ u v. refl));
+        kinds = tt;
       }
   all-done (d ∷ ds) held end g w rest c events is reached right =
       let t = turn d ds held end g w rest c events is reached right in
@@ -305,4 +319,5 @@ module _ (n : ℕ) (start : Config) where
             (more-on (travels start events) (travels start (events ++ d.event.event ∷ [])) (travels start ((events ++ d.event.event ∷ []) ++ map (λ d. d.event.event) ds))
             (λ u v. puts u v d) (λ u v. put_for v (own u ds)) (λ u v. put_for v (own u (d ∷ ds))) (λ u v. put-first u v d ds)
             (next-more d ds held end g w rest c events is reached right) done.more);
+        kinds = (next-kind d ds held end g w rest c events is reached right, done.kinds);
       }

@@ -32,7 +32,8 @@ events_at s = count_by (λ e. e.site == s)
 pub record HaveOneMore (old new : List Recorded) (e : Event) (stamp : ℕ) : Type 0 where
   pub count : length new ≡ length old
   pub at : e.site < length old
-  pub there : (h k : Recorded) → slice_get old e.site ≡ Some h → slice_get new e.site ≡ Some k → k.events ≡ h.events ++ record { stamp = stamp; event = e } ∷ []
+  pub there : (h k : Recorded) → slice_get old e.site ≡ Some h → slice_get new e.site ≡ Some k
+      → k.events ≡ h.events ++ record { stamp = stamp; event = e } ∷ []
   pub others : (s : ℕ) (h k : Recorded) → s ≢ e.site → slice_get old s ≡ Some h → slice_get new s ≡ Some k → k.events ≡ h.events
 
 abbrev pub NoneFollow : Type 0
@@ -60,7 +61,8 @@ pub record IsResumed (events : List Event) (hs : List Recorded) : Type 0 where
   pub later : AllByRecursion (λ r. length events < r.rank.stamp) rest
 
 abbrev pub ResumesWhereLater : Type 0
-ResumesWhereLater = (events : List Event) (old new : List Recorded) → AreInPlace old → AreInPlace new → AreOf events old → HaveLater (length events) old new
+ResumesWhereLater = (events : List Event) (old new : List Recorded) → AreInPlace old → AreInPlace new → AreOf events old
+    → HaveLater (length events) old new
     → IsResumed events new
 
 -- ---- room
@@ -68,4 +70,5 @@ ResumesWhereLater = (events : List Event) (old new : List Recorded) → AreInPla
 -- where the first events of a list were done, the site of the next one has done fewer than the whole list has of it
 abbrev pub RoomIsLeft : Type 0
 RoomIsLeft = (events : List Event) (k : ℕ) (e : Event) (hs : List Recorded) (h : Recorded) → AreInPlace hs → AllByRecursion HasOwnSite hs
-    → items (merged hs) ≡ take k events → slice_get events k ≡ Some e → slice_get hs e.site ≡ Some h → length h.events < events_at e.site events
+    → items (merged hs) ≡ take k events → slice_get events k ≡ Some e → slice_get hs e.site ≡ Some h
+    → length h.events < events_at e.site events

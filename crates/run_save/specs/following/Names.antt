@@ -9,5 +9,7 @@ use Rattle.run_save.specs.Ours.{AreNext, names_by}
 
 -- where each site numbers its names, the number of a site's next name is that of the names that it made
 abbrev pub NextIsCounted : Type 0
-NextIsCounted = (q : LowProgram) (r : Accounts) (hs : List Recorded) (s : ℕ) → q.at < length q.sites → SitesEnd (length q.sites) r hs (start_low q) → s < length q.sites
-    → (r.end s).site ≡ s → ((u : ℕ) → AreNext u 0 (names_by u (items (merged hs)))) → (r.end s).next ≡ length (names_by s (items (merged hs)))
+NextIsCounted = (q : LowProgram) (r : Accounts) (hs : List Recorded) (s : ℕ) → q.at < length q.sites
+    → SitesEnd (length q.sites) r hs (start_low q) → s < length q.sites
+    → (r.end s).site ≡ s → ((u : ℕ) → AreNext u 0 (names_by u (items (merged hs))))
+    → (r.end s).next ≡ length (names_by s (items (merged hs)))

@@ -10,9 +10,11 @@ use Rattle.np_site_runs.specs.Accounts.{Accounts, SitesEnd}
 
 -- an event of an atom is one of a site
 abbrev pub EventIsOfSite : Type 0
-EventIsOfSite = (n : ℕ) (r : Accounts) (hs : List Recorded) (c after : Config) (e : SitesEnd n r hs c) (x : Event) → by_atom x.kind ≡ true → apply e.whole x ≡ Some after → x.site < n
+EventIsOfSite = (n : ℕ) (r : Accounts) (hs : List Recorded) (c after : Config) (e : SitesEnd n r hs c) (x : Event) → by_atom x.kind ≡ true
+    → apply e.whole x ≡ Some after → x.site < n
 
 -- and it is enabled in what this site holds, if the names that it makes are the next ones there
 abbrev pub EnabledInPart : Type 0
-EnabledInPart = (n : ℕ) (r : Accounts) (hs : List Recorded) (c after : Config) (e : SitesEnd n r hs c) (x : Event) → by_atom x.kind ≡ true → apply e.whole x ≡ Some after
+EnabledInPart = (n : ℕ) (r : Accounts) (hs : List Recorded) (c after : Config) (e : SitesEnd n r hs c) (x : Event) → by_atom x.kind ≡ true
+    → apply e.whole x ≡ Some after
     → AreNext (r.end x.site) x.made → (next : Config) × (apply (e.here x.site) x ≡ Some next)

@@ -276,7 +276,7 @@ module _ {i : Infrastructure} {n from first : ℕ} {low high : Config} {v : View
                 on = channel-is (own n 6) s.env;
                 holds = pair-is (variable (first + 13)) (variable (first + 16)) (value.Letter p.chan p.value) (value.Site t) s.env (variable-is (first + 13) s.env ∙ letter_is) (variable-is (first + 16) s.env ∙ site_is);
               },
-              tt,
+              waits.agent,
             );
             atoms = refl;
             packets = refl;

@@ -123,7 +123,7 @@ packet_is n m low e next s r t x y form for_agent for_site on holds =
 
 -- what is sent is mail
 sends_mail : {R : Type 0} (i : Infrastructure) (n from first : ℕ) (t : Thing) (a : Atom) → Is i n from first t a → begins t role.Infra kind.Send ≡ true
-    → ((m : Mail) (x : Name) → t ≡ Thing.mail m (Stage.in_agent x) → Mails n m x a → IsSender m x → R) → R
+    → ((m : Mail) (x : Name) → t ≡ Thing.mail m (Stage.in_agent x) → Mails n m x a → IsSender n m x → R) → R
 sends_mail _ n from first (Thing.mail m (Stage.in_agent x)) a i h f = f m x refl i.0 i.1
 sends_mail _ n from first _ a i h f = absurd cc
 
@@ -140,20 +140,20 @@ no_child a b (Mail.asks y z) x = refl
 no_child a b (Mail.found y u z s) x = refl
 
 -- on its way mail shows the same chips; but a report is sent then
-mail_leaves : {w : Scene} {phase : Name → Phase} {before after : List Chip} (m : Mail) (x : Name) (s : ℕ) → IsSender m x → Step before after (show_all (Thing.mail m (Stage.in_agent x) ∷ [])) (show_all (Thing.mail m Stage.on_the_way ∷ []))
+mail_leaves : {w : Scene} {phase : Name → Phase} {before after : List Chip} (n : ℕ) (m : Mail) (x : Name) (s : ℕ) → IsSender n m x → Step before after (show_all (Thing.mail m (Stage.in_agent x) ∷ [])) (show_all (Thing.mail m Stage.on_the_way ∷ []))
     → ((t : ℕ) → phase x ≡ Phase.reporting t → w.place x ≡ Whereabouts.at s) → Protocol w phase before → (then : Name → Phase) × Protocol w then after
-mail_leaves (Mail.register y t) x s own step there p = same_chips step p
-mail_leaves (Mail.migrating y) x s own step there p = same_chips step p
-mail_leaves {w} {phase} {before} {after} (Mail.migrated y t) x s own step there p =
+mail_leaves n (Mail.register y t) x s own step there p = same_chips step p
+mail_leaves n (Mail.migrating y) x s own step there p = same_chips step p
+mail_leaves {w} {phase} {before} {after} n (Mail.migrated y t) x s own step there p =
     let told = (recursion_from_All (IsTrueOf w phase) (Chip.report y t false ∷ []) (all_taken step (IsTrueOf w phase) p.true_chips)).0 in
     let at : w.place y ≡ Whereabouts.at s = ap w.place own ∙ there t (ap phase (sym own) ∙ told.0) in
     keeps-protocol w w phase before after _ _ (Rule.reports {a = y} {s = s} {t = t} at) step p
-mail_leaves (Mail.message q) x s own step there p = same_chips step p
-mail_leaves (Mail.dack y t) x s own step there p = same_chips step p
-mail_leaves (Mail.ack y t) x s own step there p = same_chips step p
-mail_leaves (Mail.deliver q t) x s own step there p = same_chips step p
-mail_leaves (Mail.asks y z) x s own step there p = same_chips step p
-mail_leaves (Mail.found y u z t) x s own step there p = same_chips step p
+mail_leaves n (Mail.message q) x s own step there p = same_chips step p
+mail_leaves n (Mail.dack y t) x s own step there p = same_chips step p
+mail_leaves n (Mail.ack y t) x s own step there p = same_chips step p
+mail_leaves n (Mail.deliver q t) x s own step there p = same_chips step p
+mail_leaves n (Mail.asks y z) x s own step there p = same_chips step p
+mail_leaves n (Mail.found y u z t) x s own step there p = same_chips step p
 
 module _ {i : Infrastructure} {n from first : ℕ} {low high : Config} {v : View} (c : Coupled i n from first low high v) where
   -- an agent that reports is where the low level has it
@@ -169,7 +169,7 @@ module _ {i : Infrastructure} {n from first : ℕ} {low high : Config} {v : View
       let there : map.get v.things e.actor ≡ Some (Thing.mail m (Stage.in_agent x) ∷ []) = o.there ∙ ap (λ t. Some (t ∷ [])) thing in
       let us : List Thing = Thing.mail m Stage.on_the_way ∷ [] in
       let step = step_at shows v.things e.actor (Thing.mail m (Stage.in_agent x) ∷ []) us there in
-      let protocol = mail_leaves m x e.site own step (λ t r. at_site_of x e.site t r (ap (map.get low.places) (sym mails.agent) ∙ s.acts.stands)) c.protocol in
+      let protocol = mail_leaves n m x e.site own step (λ t r. at_site_of x e.site t r (ap (map.get low.places) (sym mails.agent) ∙ s.acts.stands)) c.protocol in
       let packet = packet_is n m low e next s mails.receiver mails.to mails.chan mails.sent mails.is mails.for_agent mails.for_site mails.on mails.holds in
       let known = recursion_from_All (λ t. KnowsOnly (may_know v.lock (chips v.things) t) (is_channel n high.born) from t) (Thing.mail m (Stage.in_agent x) ∷ []) (c.known e.actor (Thing.mail m (Stage.in_agent x) ∷ []) there) in
       let things : NameMap (List Thing) = map.insert v.things e.actor us in (

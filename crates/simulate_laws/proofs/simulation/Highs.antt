@@ -41,7 +41,8 @@ use Rattle.simulate_laws.proofs.levels.Values.{channel-is}
 use Rattle.simulate_laws.specs.simulation.RestLaws.{HasCacheRest, HasRest, RestsTogether, WaitsForNone}
 use Rattle.simulate_laws.proofs.simulation.Begins.{Goes, goes}
 use Rattle.simulate_laws.proofs.simulation.Caches.{free_cache, no_call, no_hoping, waits_for_none}
-use Rattle.simulate_laws.proofs.simulation.Phases.{no_asking, no_beginning, no_settling, no_wanting, rests, token}
+use Rattle.simulate_laws.proofs.simulation.Locks.{free-locks}
+use Rattle.simulate_laws.proofs.simulation.Phases.{free_lock, no_asking, no_beginning, no_settling, no_wanting, rests, token}
 use Rattle.simulate_laws.proofs.simulation.Resting.{MayRest, may_rest}
 use Rattle.simulate_laws.proofs.simulation.Standing.{map_there, told}
 use Rattle.simulate_laws.proofs.simulation.Waiting.{Giving, Taking, gives_there, no_arrival, no_meeting, no_work, one_thing, takes_bound}
@@ -106,7 +107,7 @@ module _ {i : Infrastructure} {n from first : ℕ} {low high : Config} {v : View
   no_arrival_above a s comes = no_arrival c lodged idle a s (same_place c a (subst IsSome (sym comes) refl) ∙ comes)
 
   has_rest : HasRest v
-  has_rest = record { agents = rests c lodged idle; lock = (let p = map_there c lodged idle in (p.mark, p.held, p.under)); letters = no_letters }
+  has_rest = record { agents = rests c lodged idle; lock = (let p = map_there c lodged idle in (p.mark, p.held, p.under)); locks = λ a l has. (let f = free_lock c lodged idle a l has in (f.mark, f.site, f.under)); letters = no_letters }
 
   -- what an atom of the high level is at rest
   by_thing : (m : Name) (t : Thing) (a h : Atom) → map.get v.things m ≡ Some (t ∷ []) → map.get low.atoms m ≡ Some a → Is i n from first t a → MayRest t → high_atom t ≡ Some h → Stands i n from h a
@@ -225,4 +226,4 @@ module _ {i : Infrastructure} {n from first : ℕ} {low high : Config} {v : View
   cache_rest cached = record { caches = free_cache c lodged idle cached; served = served cached; messengers = λ m b ts there of. no_letters m ts }
 
 pub rests-together : RestsTogether
-rests-together i n from first low high v c lodged idle = (none_can c lodged idle, has_rest c lodged idle, cache_rest c lodged idle)
+rests-together i n from first low high v c lodged idle = (none_can c lodged idle, has_rest c lodged idle, cache_rest c lodged idle, free-locks c lodged idle)

@@ -49,13 +49,13 @@ use Rattle.simulate_laws.specs.simulation.OnePlace.{IsHeld, IsHolder, IsSpent}
 use Rattle.simulate_laws.proofs.simulation.Events.{kept, new-stands, no-mark, old-stands, unborn, unseen}
 use Rattle.simulate_laws.proofs.simulation.Marks.{agent-stays, spent-stays}
 
-no_value : {A X : Type 0} {x : A} (o : Option A) → o ≡ None → o ≡ Some x → X
+pub no_value : {A X : Type 0} {x : A} (o : Option A) → o ≡ None → o ≡ Some x → X
 no_value o none some = absurd (let bad = sym none ∙ some in cc)
 
 -- ---- what stands under a mark that has a letter
 
 module _ {i : Infrastructure} {n from first : ℕ} where
-  are-some : {a : Atom} {ts : List Thing} → Are i n from first a ts → ts ≡ [] → ⊥
+  pub are-some : {a : Atom} {ts : List Thing} → Are i n from first a ts → ts ≡ [] → ⊥
   are-some (Are.one is) none = absurd cc
   are-some (Are.both {ts = []} is left right) none = are-some left refl
   are-some (Are.both {ts = t ∷ ts} is left right) none = absurd cc
@@ -71,7 +71,7 @@ module _ {i : Infrastructure} {n from first : ℕ} where
       none-behind (x ∷ xs) ys none = absurd cc
 
 -- a packet that carries a letter is for the daemon or for the letter's agent
-packet-holder : (n : ℕ) (t : Thing) (k : Packet) (p : Posted) → IsUnderWay n t k → carried t ≡ Some p → (k.agent ≡ daemon_agent n) ⊎ (k.agent ≡ p.agent)
+pub packet-holder : (n : ℕ) (t : Thing) (k : Packet) (p : Posted) → IsUnderWay n t k → carried t ≡ Some p → (k.agent ≡ daemon_agent n) ⊎ (k.agent ≡ p.agent)
 packet-holder n (Thing.mail (Mail.message q) Stage.on_the_way) k p is carries = inl (ap (λ (k : Packet). k.agent) is.0)
 packet-holder n (Thing.mail (Mail.deliver q s) Stage.on_the_way) k p is carries = inr (ap (λ (k : Packet). k.agent) is.0 ∙ ap (λ (p : Posted). p.agent) (sym (done carries)))
 packet-holder n (Thing.mail m Stage.on_the_way) k p is carries = absurd cc

@@ -21,7 +21,7 @@ use Rattle.simulate_laws.specs.protocol.Protocol.{IsTrueOf, one_if}
 use Rattle.simulate_laws.proofs.protocol.Steps.{sum_before}
 use Rattle.infrastructure_texts.specs.Infrastructures.{Infrastructure}
 use Rattle.simulate_laws.specs.things.Mail.{Mail}
-use Rattle.simulate_laws.specs.things.Shapes.{Is}
+use Rattle.simulate_laws.specs.things.Shapes.{Gives, Is}
 use Rattle.simulate_laws.specs.things.Things.{Stage, Thing, show_all, shows}
 use Rattle.simulate_laws.specs.levels.Coupled.{Coupled, View, chips, scene}
 use Rattle.simulate_laws.proofs.levels.Marks.{step_at}
@@ -145,16 +145,36 @@ module _ {i : Infrastructure} {n from first : ℕ} {low high : Config} {v : View
   not_moving a (Phase.reporting t) is = none_in_phase a (Phase.reporting t) Column.report Never.report is (omega arith)
   not_moving a _ is = refl
 
-  -- nothing in the daemon waits for the lock of an agent: it is free
-  pub no_wanting : {A : Type 0} (a l : Name) → v.lock a ≡ Some l → (m : Name) (b : Atom) → map.get low.atoms m ≡ Some b → b.agent ≡ daemon_agent n → Taking b l → A
-  no_wanting a l has m b there of taking =
+  -- the lock of an agent in the map is free
+  pub record FreeLock (l : Name) : Type 0 where
+    pub mark : Name
+    pub site : ℕ
+    pub under : map.get v.things mark ≡ Some (Thing.free l site ∷ [])
+    pub atom : Atom
+    pub there : map.get low.atoms mark ≡ Some atom
+    pub gives : Gives (daemon_agent n) l (value.Site site) atom
+
+  pub free_lock : (a l : Name) → v.lock a ≡ Some l → FreeLock l
+  free_lock a l has =
       let known : one_if (is_registered (v.phase a)) ≡ 1 = ap one_if (sym (c.protocol.registered a) ∙ ap is_some has) in
       let still : one_if (is_moving (v.phase a)) ≡ 0 = ap one_if (not_moving a (v.phase a) refl) in
       let some : 1 ≤ count_by (has_lock (v.lock a) a) (chips v.things) = omega (arith, c.protocol.one_lock a) in
       let r = rester c lodged idle shows (has_lock (v.lock a) a) (any_counted (has_lock (v.lock a) a) (chips v.things) some) in
       let t = free_of a l r.thing r.rests (subst (λ o. list_any (has_lock o a) (shows r.thing) ≡ true) has r.shown) in
-      let g = subst (λ x. Is i n from first x r.atom) {y = Thing.free l t.0} t.1 r.is in
-      no_meeting c lodged idle r.mark m r.atom b l r.there there (g.agent ∙ sym of) (gives_there {v = value.Site t.0} g) taking
+      record {
+        mark = r.mark;
+        site = t.0;
+        under = subst (λ x. map.get v.things r.mark ≡ Some (x ∷ [])) {y = Thing.free l t.0} t.1 r.under;
+        atom = r.atom;
+        there = r.there;
+        gives = subst (λ x. Is i n from first x r.atom) {y = Thing.free l t.0} t.1 r.is;
+      }
+
+  -- so nothing in the daemon waits for it
+  pub no_wanting : {A : Type 0} (a l : Name) → v.lock a ≡ Some l → (m : Name) (b : Atom) → map.get low.atoms m ≡ Some b → b.agent ≡ daemon_agent n → Taking b l → A
+  no_wanting a l has m b there of taking =
+      let f = free_lock a l has in
+      no_meeting c lodged idle f.mark m f.atom b l f.there there (f.gives.agent ∙ sym of) (gives_there f.gives) taking
 
   not_asking : {A : Type 0} (a : Name) → v.phase a ≡ Phase.asking → A
   not_asking a is =

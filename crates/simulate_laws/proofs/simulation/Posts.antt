@@ -75,7 +75,7 @@ module _ {i : Infrastructure} (p : Program) (q : LowProgram) (low : IsLowOf i p 
   abbrev Told : Config → View → List Event → View → Type 0
   Told low v es w = TakeTurns low v es w × Keeps (length p.sites) low v es w
 
-  turns : (l : Lifted) × TurnsTo l.view × Holders (length p.sites) c l.view × Apart c l.view
+  pub turns : (l : Lifted) × TurnsTo l.view × Holders (length p.sites) c l.view × Apart c l.view
   turns =
       let all = from-starts p q low accepted events c h Told (record {
         none = λ low v. (λ k o under. (o, under, Turns.stays), λ d h both. subst (λ d. Holders (length p.sites) d v × Apart d v) (sym (done h)) both);
@@ -152,7 +152,7 @@ stands-above {high = high} {v = v} c k l one =
     )
 
 -- the letter of the last post is that of its mark
-one-left : (v : View) (k : Name) (ds : List Deed) (o : Option Letter) → Under v k o → Turns None ds o → (l : Letter) → left_by None ds ≡ Some l → HasOne v k l
+pub one-left : (v : View) (k : Name) (ds : List Deed) (o : Option Letter) → Under v k o → Turns None ds o → (l : Letter) → left_by None ds ≡ Some l → HasOne v k l
 one-left v k ds None under t l left = absurd (let bad : None ≡ Some l = sym (turns-left None ds None t) ∙ left in cc)
 one-left v k ds (Some m) one t l left = subst (HasOne v k) (let same : Some m ≡ Some l = sym (turns-left None ds (Some m) t) ∙ left in cc) one
 
@@ -197,7 +197,7 @@ cached-letters-in-place p q low accepted events c h =
 
 module _ (p : Program) (q : LowProgram) (low : IsLowOf Infrastructure.central p q) (accepted : IsAccepted p) (events : List Event) (c : Config)
     (h : run (start_low q) events ≡ Some c) where
-  its-deeds : (m : Name) → deeds_to m (deeds_from at_first (start_low q) events) ≡ deeds_to m (deeds (start_low q) events)
+  pub its-deeds : (m : Name) → deeds_to m (deeds_from at_first (start_low q) events) ≡ deeds_to m (deeds (start_low q) events)
   its-deeds m = ap (deeds_to m) (same-deeds (start_low q) events (none-added p q low accepted events c h))
 
   -- each mark stands for itself, and has the letter that is under way under it

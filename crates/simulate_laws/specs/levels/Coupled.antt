@@ -30,8 +30,9 @@ use Rattle.simulate_laws.specs.things.Shapes.{Are, IsUnderWay}
 use Rattle.simulate_laws.specs.things.Things.{Thing, carried, first_atom_of, first_packet_of, IsHeaded, shows, shows_caches}
 use Rattle.simulate_laws.specs.levels.Mirrors.{Mirrors}
 
--- What is told of the two configurations besides: the things under each mark of the low level, the marks that stand for others of the high level
--- and the messengers (none, as long as no infrastructure passes a mark on), the agents' locks, and the phases of their affairs.
+-- What is told of the two configurations besides: the things under each mark of the low level, the marks that stand for others of the
+-- high level and the messengers (none, as long as no infrastructure passes a mark on), the agents' locks, and the phases of their
+-- affairs.
 pub record View : Type 0 where
   pub things : NameMap (List Thing)
   pub standing : Standing
@@ -87,8 +88,8 @@ abbrev pub is_child_of : Name → Name → Chip → Bool
 is_child_of a b (Chip.child c p s) = same_name c b && same_name p a
 is_child_of a b _ = false
 
--- The agents that may be known: those in the daemon's map. A new agent knows itself, and one that waits knows the agents that it made and that
--- have not told it yet: neither goes on before the daemon has them in its map.
+-- The agents that may be known: those in the daemon's map. A new agent knows itself, and one that waits knows the agents that it made
+-- and that have not told it yet: neither goes on before the daemon has them in its map.
 abbrev pub may_know : Locks → List Chip → Thing → Name → Bool
 may_know lock cs (Thing.settling a h s) b = is_some (lock b) || list_any (is_child_of h.agent b) cs
 may_know lock cs (Thing.beginning a h p s) b = is_some (lock b) || same_name b h.agent
@@ -120,24 +121,27 @@ is_high ts = is_some (first_atom_of ts) || is_some (first_packet_of ts)
 
 -- ---- the invariant
 
--- A mark is that of nothing, of an atom or of a packet, and its things are what that is there for. Of the things of an atom the first alone may be
--- an atom of the high level: so the atoms of the source keep their marks.
+-- A mark is that of nothing, of an atom or of a packet, and its things are what that is there for. Of the things of an atom the first
+-- alone may be an atom of the high level: so the atoms of the source keep their marks.
 pub data IsShaped (i : Infrastructure) (n from first : ℕ) (low : Config) (things : NameMap (List Thing)) (m : Name) : Type 0 where
   nothing : map.get low.atoms m ≡ None → map.get low.packets m ≡ None → map.get things m ≡ None → IsShaped i n from first low things m
-  atom : {a : Atom} {ts : List Thing} → map.get low.atoms m ≡ Some a → map.get low.packets m ≡ None → map.get things m ≡ Some ts → IsHeaded ts → Are i n from first a ts
+  atom : {a : Atom} {ts : List Thing} → map.get low.atoms m ≡ Some a → map.get low.packets m ≡ None → map.get things m ≡ Some ts
+      → IsHeaded ts → Are i n from first a ts
       → IsShaped i n from first low things m
-  packet : {k : Packet} {t : Thing} → map.get low.atoms m ≡ None → map.get low.packets m ≡ Some k → map.get things m ≡ Some (t ∷ []) → IsUnderWay n t k
+  packet : {k : Packet} {t : Thing} → map.get low.atoms m ≡ None → map.get low.packets m ≡ Some k → map.get things m ≡ Some (t ∷ [])
+      → IsUnderWay n t k
       → IsShaped i n from first low things m
 
 pub record Coupled (i : Infrastructure) (n from first : ℕ) (low high : Config) (v : View) : Type 0 where
   -- both are of one program; so the sites that expressions name are the same
   pub low_sites : low.sites ≡ n
   pub high_sites : high.sites ≡ n
-  -- agents are at the same places, but for messengers, so what is at a site for the one is so for the other; the daemon stands at site 0, so what is
-  -- sent to it lands
+  -- agents are at the same places, but for messengers, so what is at a site for the one is so for the other; the daemon stands at site
+  -- 0, so what is sent to it lands
   pub daemon : map.get low.places (daemon_agent n) ≡ Some (place.At 0)
   pub no_daemon : map.get high.places (daemon_agent n) ≡ None
-  pub places : (q : Name) → same_name q (daemon_agent n) ≡ false → set.contains v.standing.messengers q ≡ false → map.get low.places q ≡ map.get high.places q
+  pub places : (q : Name) → same_name q (daemon_agent n) ≡ false → set.contains v.standing.messengers q ≡ false
+      → map.get low.places q ≡ map.get high.places q
   -- a messenger is an agent of the low level alone, so no agent of the source is one; and an agent that is made is none yet
   pub messengers : (q : Name) → set.contains v.standing.messengers q ≡ true → map.get high.places q ≡ None
   pub messengers_born : (q : Name) → set.contains v.standing.messengers q ≡ true → set.contains low.born q ≡ true
@@ -150,27 +154,32 @@ pub record Coupled (i : Infrastructure) (n from first : ℕ) (low high : Config)
   pub stand_born : AreBorn low
   -- each atom and each packet is there for something, and nothing else is: so the form of what acts tells what it is there for
   pub shaped : (m : Name) → IsShaped i n from first low v.things m
-  -- the high level has the atoms and packets that the things are, and no others: so what acts at the low level for the source acts at the high one
+  -- the high level has the atoms and packets that the things are, and no others: so what acts at the low level for the source acts at
+  -- the high one
   pub mirrored : Mirrors (stands_for v.standing) (λ m. map.get v.things m >>= first_atom_of) (map.get high.atoms)
   pub mirrored_packets : Mirrors (stands_for v.standing) (λ m. map.get v.things m >>= first_packet_of) (map.get high.packets)
   -- a name that is new stands for itself, and what stands for it is new
   pub new_marks : (m : Name) → set.contains low.born m ≡ false → stands_for v.standing m ≡ m
   pub old_marks : (m : Name) → set.contains low.born m ≡ true → set.contains low.born (stands_for v.standing m) ≡ true
-  -- marks that stand for one mark, and have something of the high level, are one: so an event takes from the high level what it takes from the low one
-  pub distinct : (m k : Name) (ts us : List Thing) → map.get v.things m ≡ Some ts → map.get v.things k ≡ Some us → is_high ts ≡ true → is_high us ≡ true
+  -- marks that stand for one mark, and have something of the high level, are one: so an event takes from the high level what it takes
+  -- from the low one
+  pub distinct : (m k : Name) (ts us : List Thing) → map.get v.things m ≡ Some ts → map.get v.things k ≡ Some us → is_high ts ≡ true
+      → is_high us ≡ true
       → stands_for v.standing m ≡ stands_for v.standing k → m ≡ k
-  -- the chips that the things show keep the protocol: so an agent has one affair at a time, and letters and look-ups find their agents in the map
+  -- the chips that the things show keep the protocol: so an agent has one affair at a time, and letters and look-ups find their agents
+  -- in the map
   pub protocol : Protocol (scene v high) v.phase (chips v.things)
   -- a lock is no name of the infrastructure but main's: so nothing else is taken for it; and a new name is no lock
   pub locks_born : (a l : Name) → v.lock a ≡ Some l → set.contains low.born l ≡ true
   pub locks_apart : (a l : Name) → v.lock a ≡ Some l → set.contains (own_names n) l ≡ true → l ≡ own n 13
   -- main is in the map: it may be known to all
   pub main : is_some (v.lock (main_agent n)) ≡ true
-  -- the source knows no agent that is not in the map, so each post finds its agent; and no channel of the infrastructure, so none meets the source's
+  -- the source knows no agent that is not in the map, so each post finds its agent; and no channel of the infrastructure, so none meets
+  -- the source's
   pub known : (m : Name) (ts : List Thing) → map.get v.things m ≡ Some ts
       → All (λ t. KnowsOnly (may_know v.lock (chips v.things) t) (is_channel n high.born) from t) ts
-  -- each agent has a cache, and who needs a hint finds it: so no post waits for ever. The lock of a hint is hidden: so the source takes none, and nothing
-  -- of the source is taken for one
+  -- each agent has a cache, and who needs a hint finds it: so no post waits for ever. The lock of a hint is hidden: so the source takes
+  -- none, and nothing of the source is taken for one
   pub hints : i ≡ Infrastructure.cached → CacheRule (levels low high) (cache_chips v.things)
   -- what stands in messengers is no agent's: so where they go is nothing for the high level
   pub carriers : (m : Name) (ts : List Thing) → map.get v.things m ≡ Some ts → All (IsCarrier v.standing.messengers) ts

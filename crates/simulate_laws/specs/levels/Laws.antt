@@ -29,11 +29,12 @@ StartsCoupled i = (p : Program) (q : LowProgram) (low : IsLowOf i p q) → IsSou
 
 -- each event of the low level is of the infrastructure, of a post, or of the source's own, and of a kind that such events have
 abbrev pub RolesOfEvents : Infrastructure → Type 0
-RolesOfEvents i = (n from first : ℕ) (low high : Config) (v : View) → Coupled i n from first low high v → (e : Event) (next : Config) → apply low e ≡ Some next
+RolesOfEvents i = (n from first : ℕ) (low high : Config) (v : View) → Coupled i n from first low high v → (e : Event) (next : Config)
+    → apply low e ≡ Some next
     → may_occur i e.tag.role e.kind ≡ true
 
--- after an event of this kind and role the low level still belongs to the same configuration of the high level, and the letters under way are those that
--- such an event leaves
+-- after an event of this kind and role the low level still belongs to the same configuration of the high level, and the letters under
+-- way are those that such an event leaves
 abbrev pub IsQuiet : Infrastructure → Kind → Role → Type 0
 IsQuiet i k r = (n from first : ℕ) (low high : Config) (v : View) → Coupled i n from first low high v → (e : Event) (next : Config)
     → e.kind ≡ k → e.tag.role ≡ r → apply low e ≡ Some next
@@ -51,37 +52,45 @@ MessengersTry i = (n from first : ℕ) (low high : Config) (v : View) → Couple
     → e.kind ≡ kind.Local → e.tag.role ≡ role.Infra → apply low e ≡ Some next
     → (w : View) × Coupled i n from first next high w × (IsFinding next e v w ⊎ IsMissing e v w)
 
--- The post that a Send is, at the mark of the high level: it is an event of the high level, where no value of a wrong type is met and each atom's agent
--- has a place, and the two configurations stay coupled.
+-- The post that a Send is, at the mark of the high level: it is an event of the high level, where no value of a wrong type is met and
+-- each atom's agent has a place, and the two configurations stay coupled.
 abbrev pub post_of : View → Event → Event
 post_of v e = posted v.standing e
 
 abbrev pub PostsAreEvents : Infrastructure → Type 0
-PostsAreEvents i = (n from first : ℕ) (low high : Config) (v : View) → Coupled i n from first low high v → Well high → IsLodged (inside high) → (e : Event) (next : Config)
+PostsAreEvents i = (n from first : ℕ) (low high : Config) (v : View) → Coupled i n from first low high v → Well high
+    → IsLodged (inside high) → (e : Event) (next : Config)
     → e.kind ≡ kind.Send → e.tag.role ≡ role.Post → apply low e ≡ Some next
     → (then : Config) × (apply high (post_of v e) ≡ Some then) × (w : View) × (w.standing ≡ v.standing) × Coupled i n from first next then w
     × IsPosting low e v w
 
--- The post that the creation of a messenger is, at the mark of the high level. The messenger's mark carries the letter then, and stands for that of the post.
+-- The post that the creation of a messenger is, at the mark of the high level. The messenger's mark carries the letter then, and stands
+-- for that of the post.
 abbrev pub MessengersAreHired : Infrastructure → Type 0
-MessengersAreHired i = (n from first : ℕ) (low high : Config) (v : View) → Coupled i n from first low high v → Well high → IsLodged (inside high) → (e : Event) (next : Config)
+MessengersAreHired i = (n from first : ℕ) (low high : Config) (v : View) → Coupled i n from first low high v → Well high
+    → IsLodged (inside high) → (e : Event) (next : Config)
     → e.kind ≡ kind.Agent → e.tag.role ≡ role.Post → apply low e ≡ Some next
-    → (then : Config) × (apply high (post_of v e) ≡ Some then) × (w : View) × Coupled i n from first next then w × IsHiringFor low then e v w
+    → (then : Config) × (apply high (post_of v e) ≡ Some then) × (w : View) × Coupled i n from first next then w × IsHiringFor low
+    then e v w
 
 -- the same event at the marks of the high level
 abbrev pub event_of : View → Event → Event
 event_of v e = renamed v.standing e
 
--- an event of the source's own is the same event of the high level, where no value of a wrong type is met and each atom's agent has a place, and the
--- two configurations stay coupled
+-- an event of the source's own is the same event of the high level, where no value of a wrong type is met and each atom's agent has a
+-- place, and the two configurations stay coupled
 abbrev pub IsEvent : Infrastructure → Kind → Type 0
-IsEvent i k = (n from first : ℕ) (low high : Config) (v : View) → Coupled i n from first low high v → Well high → IsLodged (inside high) → (e : Event) (next : Config)
+IsEvent i k = (n from first : ℕ) (low high : Config) (v : View) → Coupled i n from first low high v → Well high → IsLodged (inside high)
+    → (e : Event) (next : Config)
     → e.kind ≡ k → e.tag.role ≡ role.Plain → apply low e ≡ Some next
-    → (then : Config) × (apply high (event_of v e) ≡ Some then) × (w : View) × (w.standing ≡ v.standing) × Coupled i n from first next then w
+    → (then : Config) × (apply high (event_of v e) ≡ Some then) × (w : View) × (w.standing ≡ v.standing) × Coupled i n from first next
+    then w
     × LettersAfter k role.Plain low next e v w
 
 -- The same of arrivals, but for those of messengers: the actor of an arrival is an agent and no mark, and so it stays itself.
 abbrev pub ArrivalsAreEvents : Infrastructure → Type 0
-ArrivalsAreEvents i = (n from first : ℕ) (low high : Config) (v : View) → Coupled i n from first low high v → Well high → (e : Event) (next : Config)
+ArrivalsAreEvents i = (n from first : ℕ) (low high : Config) (v : View) → Coupled i n from first low high v → Well high
+    → (e : Event) (next : Config)
     → e.kind ≡ kind.Arrive → e.tag.role ≡ role.Plain → set.contains v.standing.messengers e.actor ≡ false → apply low e ≡ Some next
-    → (then : Config) × (apply high e ≡ Some then) × (w : View) × (w.standing ≡ v.standing) × Coupled i n from first next then w × SameLetters v w
+    → (then : Config) × (apply high e ≡ Some then) × (w : View) × (w.standing ≡ v.standing) × Coupled i n from first next
+    then w × SameLetters v w

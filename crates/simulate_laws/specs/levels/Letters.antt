@@ -51,8 +51,8 @@ pub record IsPosting (low : Config) (e : Event) (v w : View) : Type 0 where
   pub none : letter_under v.things e.actor ≡ None
   pub after : OtherLetter v w e.actor (Some letter)
 
--- A messenger is made for a post: no letter was under way under the mark of the post, which has `0` alone then, nor under the messenger's, which carries it
--- then. That mark stands from then on for what the mark of the post stands for.
+-- A messenger is made for a post: no letter was under way under the mark of the post, which has `0` alone then, nor under the
+-- messenger's, which carries it then. That mark stands from then on for what the mark of the post stands for.
 pub record IsHiringFor (low then : Config) (e : Event) (v w : View) : Type 0 where
   pub messenger : Name
   pub mark : Name
@@ -68,8 +68,8 @@ pub record IsHiringFor (low then : Config) (e : Event) (v w : View) : Type 0 whe
   pub carries : map.get w.things mark ≡ Some (Thing.carrying letter messenger sender ∷ [])
   pub ended : map.get w.things e.actor ≡ Some (Thing.ended ∷ [])
 
--- A messenger finds the agent: the letter that was under way under its mark is an output in that agent then, under a new mark, which stands from then
--- on for what its mark stands for. Its own mark has `0` alone then.
+-- A messenger finds the agent: the letter that was under way under its mark is an output in that agent then, under a new mark, which
+-- stands from then on for what its mark stands for. Its own mark has `0` alone then.
 pub record IsFinding (next : Config) (e : Event) (v w : View) : Type 0 where
   pub mark : Name
   pub made_one : e.made ≡ made.One mark

@@ -6,8 +6,8 @@ use Rattle.np_syntax.specs.declared.process.Role.{Role}
 use Rattle.np_syntax.specs.declared.process.Role.TheVariants as role
 use Rattle.infrastructure_texts.specs.Infrastructures.{Infrastructure}
 
--- The infrastructure splits, makes locks, takes what is there, serves, sends, opens letters and looks up. A post is sent, and lands. The source's own
--- events are none that only the infrastructure has, and no Post: a post is sent.
+-- The infrastructure splits, makes locks, takes what is there, serves, sends, opens letters and looks up. A post is sent, and lands.
+-- The source's own events are none that only the infrastructure has, and no Post: a post is sent.
 abbrev pub occurs : Role → Kind → Bool
 occurs role.Infra kind.Fork = true
 occurs role.Infra kind.New = true

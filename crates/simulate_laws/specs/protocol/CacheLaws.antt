@@ -10,7 +10,8 @@ use Rattle.simulate_laws.specs.protocol.CacheSteps.{CacheStep}
 
 -- a step keeps the rule, whatever names are born
 abbrev pub KeepsRule : Type 0
-KeepsRule = (w next : Levels) (before after take give : List CacheChip) → NamesGrow w next → CacheStep w next take give → Step before after take give
+KeepsRule = (w next : Levels) (before after take give : List CacheChip) → NamesGrow w next → CacheStep w next take give
+    → Step before after take give
     → CacheRule w before → CacheRule next after
 
 -- the rule holds where there is main alone, with an empty cache
@@ -39,4 +40,5 @@ NoneMeet chips = (a l : Name) → Contains chips (CacheChip.needs a l) → Conta
 
 -- at rest, where that is so, nobody waits for a hint
 abbrev pub NobodyWaits : Type 0
-NobodyWaits = (w : Levels) (chips : List CacheChip) → CacheRule w chips → NoneMeet chips → (a l : Name) → Contains chips (CacheChip.needs a l) → ⊥
+NobodyWaits = (w : Levels) (chips : List CacheChip) → CacheRule w chips → NoneMeet chips → (a l : Name)
+    → Contains chips (CacheChip.needs a l) → ⊥

@@ -25,7 +25,8 @@ pub data Rule (w : Scene) : List Chip → List Chip → Scene → Type 0 where
   begins_creation : {a : Name} {s : ℕ} → Rule w (Chip.token a s ∷ []) (Chip.maker a s ∷ []) w
   -- it makes an agent at its site
   creates : {a b : Name} {s : ℕ} → w.place b ≡ Whereabouts.nowhere
-      → Rule w (Chip.maker a s ∷ []) (Chip.registration b s ∷ Chip.child b a s ∷ Chip.waiter a s ∷ Chip.takes_letters b ∷ []) (with_place w b (Whereabouts.at s))
+      → Rule w (Chip.maker a s ∷ []) (Chip.registration b s ∷ Chip.child b a s ∷ Chip.waiter a s ∷ Chip.takes_letters b ∷ [])
+      (with_place w b (Whereabouts.at s))
   -- the daemon enters the new agent in the map, with a new lock
   registers : {b l : Name} {s : ℕ} {m n : Locks} → ((a : Name) → w.lock a ≡ Some l → ⊥) → ((a : Name) → n a ≡ (with_lock w b l).lock a)
       → Rule w (Chip.registration b s ∷ Chip.locks m ∷ []) (Chip.ack_sent b s ∷ Chip.locks n ∷ Chip.free l s ∷ []) (with_lock w b l)
@@ -40,7 +41,8 @@ pub data Rule (w : Scene) : List Chip → List Chip → Scene → Type 0 where
   -- the agent has its grant
   is_granted : {a : Name} → Rule w (Chip.mover a ∷ Chip.ack_here a ∷ []) (Chip.leaver a ∷ []) w
   -- it leaves for a site, and will report it; it arrives; and it sends its report
-  departs : {a : Name} {t : ℕ} → Rule w (Chip.leaver a ∷ []) (Chip.waiter a t ∷ Chip.report a t false ∷ []) (with_place w a (Whereabouts.under_way t))
+  departs : {a : Name} {t : ℕ} → Rule w (Chip.leaver a ∷ []) (Chip.waiter a t ∷ Chip.report a t false ∷ [])
+      (with_place w a (Whereabouts.under_way t))
   arrives : {a : Name} {t : ℕ} → w.place a ≡ Whereabouts.under_way t → Rule w [] [] (with_place w a (Whereabouts.at t))
   reports : {a : Name} {s t : ℕ} → w.place a ≡ Whereabouts.at s → Rule w (Chip.report a t false ∷ []) (Chip.report a t true ∷ []) w
   -- the daemon notes the site in the agent's lock, which is free then, and acknowledges

@@ -11,7 +11,8 @@ abbrev pub first_locks : Name → Name → Locks
 first_locks main lock q = cond (same_name q main) (Some lock) None
 
 abbrev pub first_scene : Name → Name → ℕ → Scene
-first_scene main lock site = record { place = λ q. cond (same_name q main) (Whereabouts.at site) Whereabouts.nowhere; lock = first_locks main lock }
+first_scene main lock site =
+    record { place = λ q. cond (same_name q main) (Whereabouts.at site) Whereabouts.nowhere; lock = first_locks main lock }
 
 abbrev pub first_phase : Name → Name → Phase
 first_phase main q = cond (same_name q main) Phase.resting Phase.absent
@@ -19,5 +20,6 @@ first_phase main q = cond (same_name q main) Phase.resting Phase.absent
 -- main's `currentloc` and lock are free, and it takes letters; the daemon has its map and serves
 abbrev pub first_chips : Name → Name → ℕ → Locks → List Chip
 first_chips main lock site map =
-    Chip.token main site ∷ Chip.takes_letters main ∷ Chip.locks map ∷ Chip.free lock site ∷ Chip.serves Service.registers ∷ Chip.serves Service.grants
+    Chip.token main site ∷ Chip.takes_letters main ∷ Chip.locks map ∷ Chip.free lock site ∷ Chip.serves Service.registers
+    ∷ Chip.serves Service.grants
     ∷ Chip.serves Service.notes_moves ∷ Chip.serves Service.passes_on ∷ Chip.serves Service.ends_deliveries ∷ []

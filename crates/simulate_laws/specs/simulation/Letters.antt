@@ -9,8 +9,8 @@ use Rattle.np_calculus.specs.Config.{Config}
 use Rattle.simulate_laws.specs.levels.Coupled.{View}
 use Rattle.simulate_laws.specs.levels.Letters.{IsFinding, IsHiringFor, IsMissing, LettersAfter}
 
--- A messenger is made for a post, or tests for the agent, and else it is what both infrastructures do. Here `next` is where the event leads at the low
--- level, and `then` where it leads at the high one.
+-- A messenger is made for a post, or tests for the agent, and else it is what both infrastructures do. Here `next` is where the event
+-- leads at the low level, and `then` where it leads at the high one.
 abbrev pub LettersLeft : Kind → Role → Config → Config → Config → Event → View → View → Type 0
 LettersLeft kind.Agent role.Post low next then e v w = IsHiringFor low then e v w
 LettersLeft kind.Local role.Infra low next then e v w = IsFinding next e v w ⊎ IsMissing e v w

@@ -30,7 +30,8 @@ pub data IsHeld (n : ℕ) (c : Config) (messengers : NameSet) (l : Letter) (m : 
   by_packet : {k : Packet} → map.get c.packets m ≡ Some k → (k.agent ≡ daemon_agent n) ⊎ (k.agent ≡ l.agent) → IsHeld n c messengers l m
   by_atom : {a : Atom} → map.get c.atoms m ≡ Some a → IsHolder n messengers l a.agent → IsHeld n c messengers l m
 
--- The letter of the post of a mark of the high level stands under one mark that stands for it, whose things carry it, once; what else stands for it is spent.
+-- The letter of the post of a mark of the high level stands under one mark that stands for it, whose things carry it, once; what else
+-- stands for it is spent.
 pub record StandsOnOne (n : ℕ) (c : Config) (v : View) (mark : Name) (l : Letter) : Type 0 where
   pub at : Name
   pub stands : stands_for v.standing at ≡ mark

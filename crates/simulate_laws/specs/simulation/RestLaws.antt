@@ -15,6 +15,7 @@ use Rattle.simulate_laws.specs.protocol.Phases.{Phase}
 use Rattle.infrastructure_texts.specs.Infrastructures.{Infrastructure}
 use Rattle.simulate_laws.specs.things.Things.{Thing, carried}
 use Rattle.simulate_laws.specs.levels.Coupled.{Coupled, View}
+use Rattle.simulate_laws.specs.simulation.FreeLocks.{HasFreeLocks}
 
 -- the infrastructure has nothing left to do
 pub record HasRest (v : View) : Type 0 where
@@ -22,6 +23,8 @@ pub record HasRest (v : View) : Type 0 where
   pub agents : (a : Name) → (v.phase a ≡ Phase.resting) ⊎ (v.phase a ≡ Phase.absent)
   -- the daemon's lock is free
   pub lock : (m : Name) × (ps : List (Name × Name)) × (map.get v.things m ≡ Some (Thing.places ps ∷ []))
+  -- and so is the lock of each agent in its map
+  pub locks : (a l : Name) → v.lock a ≡ Some l → (m : Name) × (s : ℕ) × (map.get v.things m ≡ Some (Thing.free l s ∷ []))
   -- no letter is under way
   pub letters : (m : Name) (ts : List Thing) → map.get v.things m ≡ Some ts → All (λ t. carried t ≡ None) ts
 
@@ -48,12 +51,15 @@ pub record HasCacheRest (low high : Config) (v : View) : Type 0 where
   -- none of them waits for these; no post does either, since the high level rests
   pub served : (m : Name) (ts : List Thing) → map.get v.things m ≡ Some ts → All (WaitsForNone high) ts
   -- no messenger has an atom that carries a letter
-  pub messengers : (m : Name) (b : Atom) (ts : List Thing) → map.get low.atoms m ≡ Some b → set.contains v.standing.messengers b.agent ≡ true
+  pub messengers : (m : Name) (b : Atom) (ts : List Thing) → map.get low.atoms m ≡ Some b
+      → set.contains v.standing.messengers b.agent ≡ true
       → map.get v.things m ≡ Some ts → All (λ t. carried t ≡ None) ts
 
 -- ---- by each infrastructure
 
--- where no site can act at the low level, and each atom's agent has a place, none can at the high level
+-- where no site can act at the low level, and each atom's agent has a place, none can at the high level; the infrastructure has nothing
+-- left to do, and the locks of its daemon are free
 abbrev pub RestsTogether : Type 0
 RestsTogether = (i : Infrastructure) (n from first : ℕ) (low high : Config) (v : View) → Coupled i n from first low high v
     → IsLodged (inside low) → Idle low → Idle high × HasRest v × (i ≡ Infrastructure.cached → HasCacheRest low high v)
+    × HasFreeLocks low high

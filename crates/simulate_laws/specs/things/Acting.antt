@@ -57,5 +57,6 @@ abbrev pub IsBracket : Atom → Kind → Type 0
 IsBracket low k = (k ≡ kind.Fork) × (low.proc.tag.role ≡ role.Infra)
 
 abbrev pub BeginsByThing : Infrastructure → Type 0
-BeginsByThing i = (n from first : ℕ) (low : Atom) (ts : List Thing) (k : Kind) → Are i n from first low ts → begun_by (layer low.proc) ≡ Some k
+BeginsByThing i = (n from first : ℕ) (low : Atom) (ts : List Thing) (k : Kind) → Are i n from first low ts
+    → begun_by (layer low.proc) ≡ Some k
     → BeginsAlone i n from first low ts k ⊎ IsBracket low k

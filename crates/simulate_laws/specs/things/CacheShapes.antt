@@ -15,7 +15,8 @@ use Rattle.np_calculus.specs.Starts.{daemon_agent}
 use Rattle.np_eval.specs.Eval.{Env, agent_of, chan_of, eval}
 use Rattle.infrastructure_texts.specs.Pieces.{beside, gives, name, nothing, stop, takes, variable}
 use Rattle.infrastructure_texts.specs.Texts as central
-use Rattle.infrastructure_texts.specs.CacheTexts.{adds, cache, found_server, goes_by_daemon, goes_by_hint, looks, makes_messenger, messenger_text, replaces, tries}
+use Rattle.infrastructure_texts.specs.CacheTexts.{adds, cache, found_server, goes_by_daemon, goes_by_hint, looks, makes_messenger}
+use Rattle.infrastructure_texts.specs.CacheTexts.{messenger_text, replaces, tries}
 use Rattle.infrastructure_texts.specs.CacheDaemon.{hints, reads_locks}
 use Rattle.daemon_encode.specs.Translates.{source}
 use Rattle.simulate_laws.specs.things.Desks.{looks_back}
@@ -23,7 +24,8 @@ use Rattle.simulate_laws.specs.things.Mail.{Posted}
 
 -- ---- posts
 
--- the atom of the high level is about to post: to this agent, on this channel, this value; its low text has binders from a number on, none of the source's
+-- the atom of the high level is about to post: to this agent, on this channel, this value; its low text has binders from a number on,
+-- none of the source's
 pub record Posts (from : ℕ) (high : Atom) : Type 0 where
   pub tag : Tag
   pub at : ℕ
@@ -178,6 +180,7 @@ pub record IsReadingBack (n first : ℕ) (a k : Name) (low : Atom) : Type 0 wher
   pub b : Name
   pub asks : Asks n first a b low
   pub site : ℕ
-  pub is : low.proc ≡ takes 0 (variable (first + 25)) (name (first + 27)) (hints n (first + 21) (first + 22) (first + 25) (first + 26) (first + 27))
+  pub is : low.proc ≡ takes 0 (variable (first + 25)) (name (first + 27))
+      (hints n (first + 21) (first + 22) (first + 25) (first + 26) (first + 27))
   pub asker_lock : map.get low.env (first + 25) ≡ Some (value.Chan k)
   pub its_site : map.get low.env (first + 26) ≡ Some (value.Site site)

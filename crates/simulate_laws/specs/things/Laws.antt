@@ -27,8 +27,10 @@ DaemonByServers = (n s0 x : ℕ) → daemon_text n s0 x
 
 -- the two atoms of the low start of a sound program
 pub record HasStartThings (i : Infrastructure) (p : Program) (q : LowProgram) (first : ℕ) : Type 0 where
-  pub main : Are i (length p.sites) p.binders first (first_atom (main_agent (length p.sites)) q.main) (main_things i (length p.sites) p.at p.main)
-  pub daemon : Are i (length p.sites) p.binders first (first_atom (daemon_agent (length p.sites)) q.daemon) (daemon_things i (length p.sites) p.at)
+  pub main : Are i (length p.sites) p.binders first (first_atom (main_agent (length p.sites)) q.main)
+      (main_things i (length p.sites) p.at p.main)
+  pub daemon : Are i (length p.sites) p.binders first (first_atom (daemon_agent (length p.sites)) q.daemon)
+      (daemon_things i (length p.sites) p.at)
 
 abbrev pub StartsWithThings : Infrastructure → Type 0
 StartsWithThings i = (p : Program) (q : LowProgram) (low : IsLowOf i p q) → IsSound p → HasStartThings i p q low.first

@@ -27,7 +27,8 @@ use Rattle.infrastructure_texts.specs.Infrastructures.{Infrastructure}
 use Rattle.infrastructure_texts.specs.InfrastructureTexts.{child_of}
 use Rattle.daemon_encode.specs.Translates.{Translates, source}
 use Rattle.simulate_laws.specs.things.Sources.{Agrees, IsSource, Names}
-use Rattle.simulate_laws.specs.things.CacheShapes.{IsAdding, IsCalling, IsCarrying, IsEnded, IsHiring, IsHoping, IsKeeping, IsLookingBack, IsPassing, IsReading, IsReadingBack, IsReplacing, IsTelling, IsTold, IsTrying}
+use Rattle.simulate_laws.specs.things.CacheShapes.{IsAdding, IsCalling, IsCarrying, IsEnded, IsHiring, IsHoping, IsKeeping, IsLookingBack}
+use Rattle.simulate_laws.specs.things.CacheShapes.{IsPassing, IsReading, IsReadingBack, IsReplacing, IsTelling, IsTold, IsTrying}
 use Rattle.simulate_laws.specs.things.Desks.{Took, desk, server, takes_map}
 use Rattle.simulate_laws.specs.things.Mail.{Mail, Posted, content, on_channel, packet_of, receiver as receiver_of, to_site}
 use Rattle.simulate_laws.specs.things.Things.{Stage, Thing}
@@ -36,8 +37,8 @@ use Rattle.simulate_laws.specs.things.Things.{Stage, Thing}
 abbrev pub IsAgents : ℕ → Name → Type 0
 IsAgents n a = same_name a (daemon_agent n) ≡ false
 
--- an atom stands in the agent of an atom of the high level, whose process is of a source, for the agent that it names so; and under an environment
--- that agrees with that of the atom
+-- an atom stands in the agent of an atom of the high level, whose process is of a source, for the agent that it names so; and under an
+-- environment that agrees with that of the atom
 pub record StandsFor (n from : ℕ) (named : Expr) (high low : Atom) : Type 0 where
   pub agent : low.agent ≡ high.agent
   pub apart : IsAgents n high.agent
@@ -171,13 +172,14 @@ pub record Mails (n : ℕ) (m : Mail) (a : Name) (low : Atom) : Type 0 where
   pub on : chan_of chan low.env ≡ Some (own n (on_channel m))
   pub holds : eval sent low.env ≡ Some (content m)
 
--- a report is sent by the agent that it is of
-abbrev pub IsSender : Mail → Name → Type 0
-IsSender (Mail.migrated a t) x = a ≡ x
-IsSender _ x = Unit {0}
+-- a report is sent by the agent that it is of, and what is delivered by the daemon
+abbrev pub IsSender : ℕ → Mail → Name → Type 0
+IsSender n (Mail.migrated a t) x = a ≡ x
+IsSender n (Mail.deliver p s) x = x ≡ daemon_agent n
+IsSender n _ x = Unit {0}
 
 abbrev pub IsMail : ℕ → Mail → Stage → Atom → Type 0
-IsMail n m (Stage.in_agent x) low = Mails n m x low × IsSender m x
+IsMail n m (Stage.in_agent x) low = Mails n m x low × IsSender n m x
 IsMail n m Stage.on_the_way low = ⊥
 IsMail n m Stage.there low = Gives (receiver_of n m) (own n (on_channel m)) (content m) low
 
@@ -203,11 +205,14 @@ abbrev pub granting : ℕ → ℕ → Proc
 granting n x = takes 0 (variable (x + 6)) (name (x + 7)) (acks n (x + 4) (x + 7))
 
 abbrev pub delivering : ℕ → ℕ → Proc
-delivering n x = takes 0 (variable (x + 15)) (name (x + 16)) (sends_text 0 (variable (x + 12)) (variable (x + 16)) (deliver n) (pair (variable (x + 13)) (variable (x + 16))))
+delivering n x = takes 0 (variable (x + 15)) (name (x + 16))
+    (sends_text 0 (variable (x + 12)) (variable (x + 16)) (deliver n) (pair (variable (x + 13)) (variable (x + 16))))
 
 abbrev pub WaitsFor : ℕ → ℕ → Mail → Name → Atom → Type 0
-WaitsFor n x (Mail.migrating a) l low = (low.proc ≡ granting n x) × Took x Service.grants (Mail.migrating a) low.env × (map.get low.env (x + 6) ≡ Some (value.Chan l))
-WaitsFor n x (Mail.message p) l low = (low.proc ≡ delivering n x) × Took x Service.passes_on (Mail.message p) low.env × (map.get low.env (x + 15) ≡ Some (value.Chan l))
+WaitsFor n x (Mail.migrating a) l low = (low.proc ≡ granting n x) × Took x Service.grants (Mail.migrating a) low.env
+    × (map.get low.env (x + 6) ≡ Some (value.Chan l))
+WaitsFor n x (Mail.message p) l low = (low.proc ≡ delivering n x) × Took x Service.passes_on (Mail.message p) low.env
+    × (map.get low.env (x + 15) ≡ Some (value.Chan l))
 WaitsFor n x _ l low = ⊥
 
 pub record IsWanting (n first : ℕ) (m : Mail) (l : Name) (low : Atom) : Type 0 where
@@ -270,7 +275,8 @@ Is i n from first (Thing.packet p) low = ⊥
 -- The things of an atom. A bracket of the infrastructure is no thing by itself: it has the things of its parts.
 pub data Are (i : Infrastructure) (n from first : ℕ) : Atom → List Thing → Type 0 where
   one : {low : Atom} {t : Thing} → Is i n from first t low → Are i n from first low (t ∷ [])
-  both : {low : Atom} {k : ℕ} {p q : Proc} {ts us : List Thing} → low.proc ≡ beside k p q → Are i n from first (goes low p) ts → Are i n from first (goes low q) us
+  both : {low : Atom} {k : ℕ} {p q : Proc} {ts us : List Thing} → low.proc ≡ beside k p q → Are i n from first (goes low p) ts
+      → Are i n from first (goes low q) us
       → Are i n from first low (ts ++ us)
 
 -- the thing of a packet: mail of the infrastructure, or a packet of the source

@@ -20,10 +20,12 @@ tells_where Infrastructure.cached = Thing.serving Service.tells ∷ []
 -- main's process, its `currentloc` and its server, and what keeps its cache
 abbrev pub main_things : Infrastructure → ℕ → ℕ → Proc → List Thing
 main_things i n s p =
-    Thing.source (main n) (first_atom (main_agent n) p) ∷ Thing.token (main_agent n) s ∷ Thing.letters (main_agent n) ∷ first_cache i (main_agent n)
+    Thing.source (main n) (first_atom (main_agent n) p) ∷ Thing.token (main_agent n) s ∷ Thing.letters (main_agent n)
+    ∷ first_cache i (main_agent n)
 
 -- the daemon's map, main's lock and the servers
 abbrev pub daemon_things : Infrastructure → ℕ → ℕ → List Thing
 daemon_things i n s =
-    Thing.places ((own n 0, own n 13) ∷ []) ∷ Thing.free (own n 13) s ∷ Thing.serving Service.registers ∷ Thing.serving Service.grants ∷ Thing.serving Service.notes_moves
+    Thing.places ((own n 0, own n 13) ∷ []) ∷ Thing.free (own n 13) s ∷ Thing.serving Service.registers ∷ Thing.serving Service.grants
+    ∷ Thing.serving Service.notes_moves
     ∷ Thing.serving Service.passes_on ∷ Thing.serving Service.ends_deliveries ∷ tells_where i

@@ -18,8 +18,9 @@ pub data Stage : Type 0 where
   on_the_way : Stage
   there : Stage
 
--- Of an atom of the high level that is given, with how its process names its agent: it stands there as its translation; it asks to move, may
--- leave, or waits for the end of its affair at a site; it is about to make an agent at a site; it is that of a new agent of a parent at a site.
+-- Of an atom of the high level that is given, with how its process names its agent: it stands there as its translation; it asks to
+-- move, may leave, or waits for the end of its affair at a site; it is about to make an agent at a site; it is that of a new agent of a
+-- parent at a site.
 pub data Thing : Type 0 where
   source : Expr → Atom → Thing
   asking : Expr → Atom → Thing
@@ -27,8 +28,8 @@ pub data Thing : Type 0 where
   settling : Expr → Atom → ℕ → Thing
   making : Expr → Atom → ℕ → Thing
   beginning : Expr → Atom → Name → ℕ → Thing
-  -- With caches, of a post of the high level: its agent's cache, with these hints by their locks, is taken; it waits for the hint with this lock; it is
-  -- about to make a messenger; it is about to send to the daemon.
+  -- With caches, of a post of the high level: its agent's cache, with these hints by their locks, is taken; it waits for the hint with
+  -- this lock; it is about to make a messenger; it is about to send to the daemon.
   calling : Expr → Atom → List (Name × Name) → Thing
   hoping : Expr → Atom → Name → Thing
   hiring : Expr → Atom → Thing
@@ -63,8 +64,8 @@ pub data Thing : Type 0 where
   serving : Service → Thing
   places : List (Name × Name) → Thing
   free : Name → ℕ → Thing
-  -- of the daemon with caches, for an agent that asks where another is: it has found the lock of the other, and has the map; it has found both
-  -- locks; it has read that of the other
+  -- of the daemon with caches, for an agent that asks where another is: it has found the lock of the other, and has the map; it has
+  -- found both locks; it has read that of the other
   looking_back : Name → Name → Name → List (Name × Name) → Thing
   reading : Name → Name → Name → Name → Thing
   reading_back : Name → Name → Thing

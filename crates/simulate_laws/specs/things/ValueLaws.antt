@@ -17,7 +17,8 @@ abbrev pub SoundIsSource : Type 0
 SoundIsSource = (p : Program) → IsSound p → IsSource (length p.sites) p.binders (main (length p.sites)) p.main
 
 abbrev pub SameValue : Type 0
-SameValue = (n from : ℕ) (scope : List ℕ) (e : Expr) (low high : Env) → IsSoundExpr n scope e → AllBelow from scope → Agrees from low high → eval e low ≡ eval e high
+SameValue = (n from : ℕ) (scope : List ℕ) (e : Expr) (low high : Env) → IsSoundExpr n scope e → AllBelow from scope → Agrees from low high
+    → eval e low ≡ eval e high
 
 -- the high environment that a pattern gives: it agrees with the low one, and other binders keep their values
 pub record BoundAlike (from : ℕ) (bound : List ℕ) (high : Env) (given : Env) (p : Pat) (v : Value) : Type 0 where
@@ -27,20 +28,25 @@ pub record BoundAlike (from : ℕ) (bound : List ℕ) (high : Env) (given : Env)
   pub others : (y : ℕ) → (Among y bound → ⊥) → map.get env y ≡ map.get high y
 
 abbrev pub SameBinding : Type 0
-SameBinding = (from : ℕ) (scope inner bound : List ℕ) (p : Pat) (v : Value) (low high given : Env) → Binds scope p inner bound → Agrees from low high → bind p v low ≡ Some given
+SameBinding = (from : ℕ) (scope inner bound : List ℕ) (p : Pat) (v : Value) (low high given : Env) → Binds scope p inner bound
+    → Agrees from low high → bind p v low ≡ Some given
     → BoundAlike from bound high given p v
 
 abbrev pub AgentStays : Type 0
-AgentStays = (n from : ℕ) (bound : List ℕ) (a : Expr) (env next : Env) → Names n from bound a → ((y : ℕ) → (Among y bound → ⊥) → map.get next y ≡ map.get env y) → eval a next ≡ eval a env
+AgentStays = (n from : ℕ) (bound : List ℕ) (a : Expr) (env next : Env) → Names n from bound a
+    → ((y : ℕ) → (Among y bound → ⊥) → map.get next y ≡ map.get env y) → eval a next ≡ eval a env
 
 abbrev pub ValueIsKnown : Type 0
-ValueIsKnown = (agents chans : Name → Bool) (n from : ℕ) (scope : List ℕ) (e : Expr) (env : Env) (v : Value) → agents (main_agent n) ≡ true → IsSoundExpr n scope e → AllBelow from scope
+ValueIsKnown = (agents chans : Name → Bool) (n from : ℕ) (scope : List ℕ) (e : Expr) (env : Env) (v : Value) → agents (main_agent n) ≡ true
+    → IsSoundExpr n scope e → AllBelow from scope
     → Knows agents chans from env → eval e env ≡ Some v → IsKnown agents chans v
 
 abbrev pub KeepsKnown : Type 0
-KeepsKnown = (agents chans : Name → Bool) (from : ℕ) (scope inner bound : List ℕ) (p : Pat) (v : Value) (env next : Env) → Binds scope p inner bound → Knows agents chans from env → IsKnown agents chans v
+KeepsKnown = (agents chans : Name → Bool) (from : ℕ) (scope inner bound : List ℕ) (p : Pat) (v : Value) (env next : Env)
+    → Binds scope p inner bound → Knows agents chans from env → IsKnown agents chans v
     → bind p v env ≡ Some next → Knows agents chans from next
 
 -- what is known stays known where more is
 abbrev pub KnownMore : Type 0
-KnownMore = (agents chans more wider : Name → Bool) (from : ℕ) (env : Env) → ((a : Name) → agents a ≡ true → more a ≡ true) → ((c : Name) → chans c ≡ true → wider c ≡ true) → Knows agents chans from env → Knows more wider from env
+KnownMore = (agents chans more wider : Name → Bool) (from : ℕ) (env : Env) → ((a : Name) → agents a ≡ true → more a ≡ true)
+    → ((c : Name) → chans c ≡ true → wider c ≡ true) → Knows agents chans from env → Knows more wider from env

@@ -1,6 +1,7 @@
 ghost use Rattle.std.specs.Prelude.{◌≡◌};
 ghost use Rattle.infrastructure_texts.specs.Infrastructures.{Infrastructure};
-ghost use Rattle.simulate_laws.specs.levels.Laws.{ArrivalsAreEvents, IsEvent, IsQuiet, MessengersAreHired, MessengersArrive, MessengersTry, PostsAreEvents, RolesOfEvents, StartsCoupled};
+ghost use Rattle.simulate_laws.specs.levels.Laws.{ArrivalsAreEvents, IsEvent, IsQuiet, MessengersAreHired, MessengersArrive, MessengersTry};
+ghost use Rattle.simulate_laws.specs.levels.Laws.{PostsAreEvents, RolesOfEvents, StartsCoupled};
 ghost use Rattle.np_syntax.specs.declared.event.Kind.{Kind};
 ghost use Rattle.np_syntax.specs.declared.event.Kind.TheVariants as kind;
 ghost use Rattle.np_syntax.specs.declared.process.Role.TheVariants as role;

@@ -1,4 +1,5 @@
-ghost use Rattle.simulate_laws.specs.things.ValueLaws.{AgentStays, KeepsKnown, KnownMore, SameBinding, SameValue, SoundIsSource, ValueIsKnown};
+ghost use Rattle.simulate_laws.specs.things.ValueLaws.{AgentStays, KeepsKnown, KnownMore, SameBinding, SameValue, SoundIsSource};
+ghost use Rattle.simulate_laws.specs.things.ValueLaws.{ValueIsKnown};
 
 /// Main's process in a sound program is a process of a source, for main.
 pub fn law_sources()

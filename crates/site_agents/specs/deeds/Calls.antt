@@ -33,7 +33,8 @@ module _ (code : ProgramTable) (site : ℕ) (agents : NameMap Pool) (next : ℕ)
   GoesOn = (x : Stamped) (old new : Pool) (r : Ready) (k : Kind) (made : Made) (value : Option Value)
       → IsCall (holding code site agents next said) agents old new r k made x.event
       → (k ≡ kind.Local → ⊥) → (k ≡ kind.Post → ⊥) → Reduces k code old new r made (record still { said = value })
-      → Does (holding code site agents next said) (inner x) (holding code site (map.insert agents old.name new) (next_after next made) (with_value said value))
+      → Does (holding code site agents next said) (inner x)
+      (holding code site (map.insert agents old.name new) (next_after next made) (with_value said value))
 
   -- a location test whose agent is not here
   abbrev pub Passes : Type 0
@@ -48,14 +49,16 @@ module _ (code : ProgramTable) (site : ℕ) (agents : NameMap Pool) (next : ℕ)
       → IsCall (holding code site agents next said) agents old new r kind.Local (made.One mark) x.event
       → LocalLeaves code old new r mark true (Some packet)
       → map.get (map.insert agents old.name new) packet.agent ≡ Some there → Received there then mark packet
-      → Does (holding code site agents next said) (inner x) (holding code site (map.insert (map.insert agents old.name new) packet.agent then) (next + 1) said)
+      → Does (holding code site agents next said) (inner x)
+      (holding code site (map.insert (map.insert agents old.name new) packet.agent then) (next + 1) said)
 
   -- the making of an agent
   abbrev pub Makes : Type 0
   Makes = (x : Stamped) (old new child : Pool) (r : Ready) (agent mark : Name)
       → IsCall (holding code site agents next said) agents old new r kind.Agent (made.Two agent mark) x.event
       → Births code old new r agent mark child
-      → Does (holding code site agents next said) (inner x) (holding code site (map.insert (map.insert agents old.name new) agent child) (next + 2) said)
+      → Does (holding code site agents next said) (inner x)
+      (holding code site (map.insert (map.insert agents old.name new) agent child) (next + 2) said)
 
   -- a migration
   abbrev pub Leaves : Type 0
@@ -69,7 +72,8 @@ module _ (code : ProgramTable) (site : ℕ) (agents : NameMap Pool) (next : ℕ)
   abbrev pub Sends : Type 0
   Sends = (x : Stamped) (item : StampedItem) (old new : Pool) (r : Ready) (packet : Packet)
       → IsCall (holding code site agents next said) agents old new r kind.Send made.Nothing x.event
-      → Reduces kind.Send code old new r made.Nothing (record still { packets = put r.actor packet ∷ [] }) → item.item.load ≡ packet_load r.actor packet
+      → Reduces kind.Send code old new r made.Nothing (record still { packets = put r.actor packet ∷ [] })
+      → item.item.load ≡ packet_load r.actor packet
       → Does (holding code site agents next said) (putting x item) (holding code site (map.insert agents old.name new) next said)
 
   -- an agent that arrives
@@ -80,7 +84,8 @@ module _ (code : ProgramTable) (site : ℕ) (agents : NameMap Pool) (next : ℕ)
 
   -- a packet that lands
   abbrev pub Lands : Type 0
-  Lands = (x : Stamped) (item : StampedItem) (mark : Name) (packet : Packet) (there then : Pool) → x.event ≡ landing mark packet → packet.to ≡ site
+  Lands = (x : Stamped) (item : StampedItem) (mark : Name) (packet : Packet) (there then : Pool) → x.event ≡ landing mark packet
+      → packet.to ≡ site
       → item.item.load ≡ packet_load mark packet → map.get agents packet.agent ≡ Some there → Received there then mark packet
       → Does (holding code site agents next said) (taking x item) (holding code site (map.insert agents packet.agent then) next said)
 

@@ -39,14 +39,17 @@ pub record IsOfReady (code : ProgramTable) (site : ℕ) (agents : NameMap Pool) 
 module _ (code : ProgramTable) (site : ℕ) (agents : NameMap Pool) (next : ℕ) (said : List Value) where
   -- where none has anything ready, no event but a post is enabled
   abbrev pub NoEventHere : Type 0
-  NoEventHere = (c : Config) → IsPart (holding code site agents next said) c → OfEachAgent agents (λ p. NothingReady code (atoms_of code.processes p))
+  NoEventHere = (c : Config) → IsPart (holding code site agents next said) c
+      → OfEachAgent agents (λ p. NothingReady code (atoms_of code.processes p))
       → (e : Event) → (e.kind ≡ kind.Post → ⊥) → apply c e ≡ None
 
   -- what the site holds rests just where each of them is idle
   abbrev pub IdleByAgents : Type 0
-  IdleByAgents = (c : Config) → IsPart (holding code site agents next said) c → Idle c ↔ OfEachAgent agents (λ p. IsIdle code.processes p.atoms)
+  IdleByAgents = (c : Config) → IsPart (holding code site agents next said) c
+      → Idle c ↔ OfEachAgent agents (λ p. IsIdle code.processes p.atoms)
 
   -- an event that is enabled, but a post, is of one that is ready
   abbrev pub EnabledIsReady : Type 0
-  EnabledIsReady = (c after : Config) (e : Event) → IsPart (holding code site agents next said) c → (e.kind ≡ kind.Post → ⊥) → apply c e ≡ Some after
+  EnabledIsReady = (c after : Config) (e : Event) → IsPart (holding code site agents next said) c → (e.kind ≡ kind.Post → ⊥)
+      → apply c e ≡ Some after
       → IsOfReady code site agents next said e

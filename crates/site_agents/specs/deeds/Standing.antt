@@ -33,7 +33,8 @@ without_room_if (Some p) = Some (without_room p)
 -- the room of agents is not seen
 abbrev pub RoomIsUnseen : Type 0
 RoomIsUnseen = (code : ProgramTable) (site next : ℕ) (old new : NameMap Pool) (said : List Value)
-    → ((q : Name) → without_room_if (map.get new q) ≡ without_room_if (map.get old q)) → holding code site new next said ≡ holding code site old next said
+    → ((q : Name) → without_room_if (map.get new q) ≡ without_room_if (map.get old q))
+    → holding code site new next said ≡ holding code site old next said
 
 -- an agent that stands there was called for an event of this kind of a ready, which makes the next names of the site
 pub record IsCall (h : Holding) (agents : NameMap Pool) (old new : Pool) (r : Ready) (k : Kind) (made : Made) (e : Event) : Type 0 where

@@ -1,5 +1,7 @@
 use Rattle.std.proofs.lemmas.Grind.{common_steps}
-use Rattle.std.proofs.Common.{arith}
+use Rattle.std.proofs.Common.{arith, subst}
+use Rattle.np_syntax.specs.declared.program.LowProgram.{LowProgram}
+use Rattle.site_crew.specs.Lists.{IsToFollow}
 use Rattle.crew_resumes.proofs.Later.{have_later, in_place}
 use Rattle.crew_resumes.proofs.going_on.redone.Goals as goal
 
@@ -19,3 +21,7 @@ returns-in-Ok-clause-followed g c = grind (arith, common_steps)
 
 pub returns-in-Ok-clause-code : goal.returns-in-Ok-clause-code
 returns-in-Ok-clause-code g c = grind (arith, common_steps)
+
+pub returns-then-not-branch-clause-never : goal.returns-then-not-branch-clause-never
+returns-then-not-branch-clause-never g c =
+    subst (λ (low : LowProgram). IsToFollow low c.args.crew.now.budget c.args.events.now → ⊥) c.requires.code (c.in_ok-redo.ensures.never c.if-not-branch.true)

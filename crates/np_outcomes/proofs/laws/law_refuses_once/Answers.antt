@@ -1,9 +1,9 @@
-use Rattle.std.proofs.Common.{◌≡◌, ◌≢◌, ◌⊎◌, ℕ, ◌≤◌, List, length, arith, inl, inr, subst, sym, ap, ◌∙◌}
+use Rattle.std.proofs.Common.{◌≡◌, ◌⊎◌, ℕ, ◌≤◌, List, length, arith, inl, inr, subst, sym, ap, ◌∙◌}
 use Rattle.np_syntax.specs.declared.limits.TheConstants.{LONGEST_SOURCE}
 use Rattle.np_words.specs.declared.planning.Plan.{Plan}
 use Rattle.np_verdict.specs.Lines.{status_of}
 use Rattle.np_verdict.specs.declared.refusal.Refusal.{Refusal}
-use Rattle.np_verdict.specs.declared.statuses.TheConstants.{BAD_SOURCE, NO_MEMORY}
+use Rattle.np_verdict.specs.declared.statuses.TheConstants.{BAD_SOURCE}
 use Rattle.np_sources.specs.Reaches.{Reach, TakenTo}
 use Rattle.np_modes.specs.Causes.{Stands}
 use Rattle.np_sources.specs.Laws as source_laws
@@ -34,21 +34,20 @@ module _ (sources : source_laws.HaveOneAnswer) (histories : history_laws.HaveOne
     not_made refusal (inl long) accepted = let more = long.1 in let short = accepted.0 in omega arith
     not_made refusal (inr f) accepted = sources.not_both reach bytes refusal accepted.1 f.1
 
-    status : (refusal : Refusal) → FailsWith reach bytes refusal → (status_of refusal ≡ BAD_SOURCE) ⊎ (status_of refusal ≡ NO_MEMORY)
-    status refusal (inl long) = inl (ap status_of long.0)
+    status : (refusal : Refusal) → FailsWith reach bytes refusal → status_of refusal ≡ BAD_SOURCE
+    status refusal (inl long) = ap status_of long.0
     status refusal (inr f) = sources.status reach bytes refusal f.1
 
-    alone : (answer : Answer) (refusal : Refusal) → answer.status ≢ NO_MEMORY → FailsWith reach bytes refusal → Outcome call answer → RefusesAlone BAD_SOURCE call answer refusal
-    alone answer refusal some f (Outcome.made text h) =
+    alone : (answer : Answer) (refusal : Refusal) → FailsWith reach bytes refusal → Outcome call answer → RefusesAlone BAD_SOURCE call answer refusal
+    alone answer refusal f (Outcome.made text h) =
         absurd (not_made refusal f (made_accepts call asked reach bytes answer.kept answer.high text r h))
-    alone answer refusal some f (Outcome.refused other e s) =
+    alone answer refusal f (Outcome.refused other e s) =
         let same : other ≡ refusal = only refusal f other s.stands in
-        let given : answer.status ≡ status_of refusal = e ∙ ap status_of same in
         record {
-          is = elim (status refusal f) [ inl bad ↦ given ∙ bad | inr wanting ↦ absurd (some (given ∙ wanting)) ];
+          is = e ∙ ap status_of same ∙ status refusal f;
           refused = subst (λ (x : Refusal). IsRefused call answer x) same s;
           only = only refusal f;
         }
 
 pub returns : goal.returns
-returns c = λ call answer asked reach bytes refusal h r err some f. alone c.law_one_answer.ensures c.law_one_answer-2.ensures call asked reach bytes r answer refusal some f (outcome call answer h err some)
+returns c = λ call answer asked reach bytes refusal h r err some f. alone c.law_one_answer.ensures c.law_one_answer-2.ensures call asked reach bytes r answer refusal f (outcome call answer h err some)

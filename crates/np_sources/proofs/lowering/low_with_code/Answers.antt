@@ -1,5 +1,8 @@
-use Rattle.np_sources.proofs.Kept.{is_compiled, runs_well, too_many}
+use Rattle.np_sources.proofs.Kept.{few_sites, is_compiled, runs_well, too_many}
 use Rattle.np_sources.proofs.lowering.low_with_code.Goals as goal
+
+pub coded-requires : goal.coded-requires
+coded-requires c = few_sites c.in-Ok.low c.in-Ok.ensures.runs
 
 pub returns-in-Ok-clause-made : goal.returns-in-Ok-clause-made
 returns-in-Ok-clause-made c =

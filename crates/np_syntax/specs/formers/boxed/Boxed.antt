@@ -48,16 +48,20 @@ module _ (R S : RattleType) (h : R.Denot → S.Denot) where
   unfolding part_of
   inner_places alike = record {
     mir_same = λ i. (box_of (one_value R (alike.mir_same i) (λ _. ftrue) (λ _ _. nothing) gnil)).mir;
-    own_same = λ b i. (box_of (one_value R (alike.mir_same i) (alike.own_same b.value i) (alike.shr_same b.value i) gnil)).own_val (holding b tt);
-    shr_same = λ b i. (box_of (one_value R (alike.mir_same i) (alike.own_same b.value i) (alike.shr_same b.value i) gnil)).shr_at (holding b tt);
+    own_same = λ b i. (box_of (one_value R (alike.mir_same i) (alike.own_same b.value i) (alike.shr_same b.value i) gnil)).own_val
+        (holding b tt);
+    shr_same = λ b i. (box_of (one_value R (alike.mir_same i) (alike.own_same b.value i) (alike.shr_same b.value i) gnil)).shr_at
+        (holding b tt);
   }
 
   pub the_places : Alike R S h → Alike (contract.the_row R) (contract.the_row S) ((the_former this).map R.Denot S.Denot h)
   the_places alike =
-      view_places fields this view (λ X Y k held. refl) (λ X held. refl) R.Denot S.Denot h (contract.the_row R).coded (contract.the_row S).coded
+      view_places fields this view (λ X Y k held. refl) (λ X held. refl) R.Denot S.Denot h (contract.the_row R).coded
+      (contract.the_row S).coded
       (invariant R.Denot) (invariant S.Denot) (λ held p q. refl) (λ held p q. refl) (λ held e. tt) (λ held e. tt)
       (over (inside.the_row R)) (over (inside.the_row S))
-      (struct_places (inside.the_type R) (inside.the_type S) ((λ b. holding b (h b.value)), tt) _ (λ held. refl) refl (laid _ _ _ (inner_places alike), tt))
+      (struct_places (inside.the_type R) (inside.the_type S) ((λ b. holding b (h b.value)), tt) _ (λ held. refl) refl
+      (laid _ _ _ (inner_places alike), tt))
 
   pub the_codes_placed : Recodes R S h → Recodes (contract.the_row R) (contract.the_row S) ((the_former this).map R.Denot S.Denot h)
   the_codes_placed recodes value = recodes value

@@ -38,15 +38,18 @@ the_items_listed X items = list-listed X items
 
 -- the one field, a vector
 abbrev fields : Former {0}
-fields = via (vec.the_former this Global) Inside (λ X held. held.items) (λ X items. record { items = items }) (λ X held. refl) (λ X items. refl)
+fields = via (vec.the_former this Global) Inside (λ X held. held.items) (λ X items. record { items = items }) (λ X held. refl)
+    (λ X items. refl)
 
 module _ (R S : RattleType) (h : R.Denot → S.Denot) where
   pub the_places : Alike R S h → Alike (contract.the_row R) (contract.the_row S) ((the_former this).map R.Denot S.Denot h)
   the_places alike =
-      view_places fields (list this) view (λ X Y k held. refl) (λ X held. refl) R.Denot S.Denot h (contract.the_row R).coded (contract.the_row S).coded
+      view_places fields (list this) view (λ X Y k held. refl) (λ X held. refl) R.Denot S.Denot h (contract.the_row R).coded
+      (contract.the_row S).coded
       (invariant R.Denot) (invariant S.Denot) (λ held p q. refl) (λ held p q. refl) (λ held e. tt) (λ held e. tt)
       (over (inside.the_row R)) (over (inside.the_row S))
-      (struct_places (inside.the_type R) (inside.the_type S) (vec.mapped h, tt) _ (λ held. refl) refl (laid _ _ _ (vec.the_places heap.the_row ghosts R S h alike), tt))
+      (struct_places (inside.the_type R) (inside.the_type S) (vec.mapped h, tt) _ (λ held. refl) refl
+      (laid _ _ _ (vec.the_places heap.the_row ghosts R S h alike), tt))
 
   pub the_codes_placed : Recodes R S h → Recodes (contract.the_row R) (contract.the_row S) ((the_former this).map R.Denot S.Denot h)
   the_codes_placed recodes items = sym (code_map R.coded.code S.coded.code h (λ x. sym (recodes x)) items)

@@ -1,4 +1,4 @@
-use Rattle.std.proofs.Common.{◌≡◌, Bool, true, false, refl, subst}
+use Rattle.std.proofs.Common.{◌≡◌, inl, Bool, true, false, refl, subst}
 use Rattle.agent_pool.specs.Rows.{ready_of}
 use Rattle.site_state.specs.Doing.{IsRedone}
 use Rattle.site_turn.proofs.Steps.{turned_refl}
@@ -7,7 +7,7 @@ use Rattle.site_crew.proofs.Redoing.{adds_redone, differs_redone, turned_redone}
 use Rattle.site_crew.proofs.again.redo.Goals as goal
 
 pub returns-then-not-has_room-clause-turned : goal.returns-then-not-has_room-clause-turned
-returns-then-not-has_room-clause-turned g c = turned_refl _
+returns-then-not-has_room-clause-turned g c = inl (turned_refl _)
 
 pub returns-then-not-has_room-clause-why : goal.returns-then-not-has_room-clause-why
 returns-then-not-has_room-clause-why g c = λ e. HasNotRedone.full (λ room. let full : false ≡ true = c.if-not-has_room.ensures.1 room in absurd cc) refl

@@ -1,7 +1,7 @@
 use Rattle.std.proofs.Common.{List, ap, subst, sym, ◌∙◌}
 use Rattle.stamp_history.specs.Histories.{Recorded}
 use Rattle.stamp_history.specs.declared.stamped.Stamped.{Stamped}
-use Rattle.site_crew.specs.Following.{IsLast}
+use Rattle.site_crew.specs.Bringing.{IsLast}
 use Rattle.site_crew.proofs.Redoing.{last_found, last_missed}
 use Rattle.site_crew.proofs.bringing.is_last.Goals as goal
 

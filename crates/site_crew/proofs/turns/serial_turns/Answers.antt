@@ -17,7 +17,8 @@ pub loop-i-preserved : goal.loop-i-preserved
 loop-i-preserved g c =
     let h : c.loop-i.i < length c.loop-i.seats = omega arith in
     record {
-      done = serial_done c.args.seats.now c.loop-i.seats c.loop-i.i c.index-seats-i.result c.turn.new.seat h c.loop-i.invariant.done c.loop-i.invariant.rest c.turn.ensures.turned;
+      done = serial_done c.args.walks c.args.seats.now c.loop-i.seats c.loop-i.i c.index-seats-i.result c.turn.new.seat h c.loop-i.invariant.done c.loop-i.invariant.rest
+          (record { turned = c.turn.ensures.turned; idle = c.turn.ensures.idle; sends = c.turn.ensures.sends; failed = c.turn.ensures.failed });
       rest = serial_rest c.args.seats.now c.loop-i.seats c.loop-i.i c.turn.new.seat c.loop-i.invariant.rest;
     }
 

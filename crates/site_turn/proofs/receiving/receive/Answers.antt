@@ -1,6 +1,7 @@
 use Rattle.std.proofs.lemmas.Grind.{common_steps}
 use Rattle.std.proofs.Common.{◌≡◌, ◌++◌, ◌∙◌, true, false, ap, refl, sym, inl, inr, arith}
 use Rattle.std.specs.Prelude.{is_some}
+use Rattle.site_links.proofs.Kept.{Begins-same}
 use Rattle.site_state.specs.Lines.{queue_at}
 use Rattle.site_turn.proofs.Events.{received, received_aside}
 use Rattle.site_turn.proofs.Steps.{turned_received, turned_refl, turned_still}
@@ -37,7 +38,7 @@ pub returns-in-None-clause-turned : goal.returns-in-None-clause-turned
 returns-in-None-clause-turned g c =
     let h = c.in-None.ensures in
     turned_still (record { number = refl; holding = refl; clock = refl; history = refl; aside = refl; got = λ k. (h.taken k).0; put = λ t. ap (λ l. l ++ queue_at c.args.seat.now.site.outgoing t) (h.putting t).0 })
-    h.keeps refl refl (λ f. f)
+    (λ q. q) (λ t. Begins-same _ _ (h.putting t).0) h.keeps refl refl (λ f. f)
 
 pub returns-in-None-clause-no : goal.returns-in-None-clause-no
 returns-in-None-clause-no g c = λ e. let h = c.in-None.ensures in inl (record { site = refl; aside = refl; failed = refl; got = λ k. (h.taken k).0; none = λ free room k. (h.taken k).1 })

@@ -5,7 +5,7 @@ use Rattle.site_turn.proofs.Steps.{address, back_place, back_within, turned_back
 use Rattle.site_turn.proofs.sending.put_first.Goals as goal
 
 pub returns-in-None-clause-turned : goal.returns-in-None-clause-turned
-returns-in-None-clause-turned g c = turned_stays c.in-None.ensures.same.same refl refl refl (λ h. h)
+returns-in-None-clause-turned g c = turned_stays (record { same = c.in-None.ensures.same.same; quiet = c.in-None.ensures.same.quiet c.args._code.now }) refl refl refl (λ h. h)
 
 pub returns-in-None-clause-only : goal.returns-in-None-clause-only
 returns-in-None-clause-only g c = record { site = none_for_all c.in-None.ensures.same; known = λ k. refl; aside = refl; failed = refl }

@@ -1,5 +1,6 @@
 use Rattle.std.proofs.Common.{length, ap, arith}
-use Rattle.site_turn.proofs.Events.{count_none, count_one, had_sent}
+use Rattle.stamp_history.specs.Histories.{Recorded}
+use Rattle.site_turn.proofs.Events.{count_none, count_one, had_sent, sends_still}
 use Rattle.site_turn.proofs.Steps.{seated_after, turned_trans}
 use Rattle.site_turn.proofs.turning.events.Goals as goal
 
@@ -9,6 +10,7 @@ loop-number-init g c = let same = count_none c.send.ensures.only.site in record 
   seated = seated_after c.send.ensures.turned c.requires;
   count = omega (arith, same);
   first = λ zero. c.send.ensures.only;
+  sends = λ zero. c.send.ensures.all;
 }
 
 pub send_new-requires-after_bounds : goal.send_new-requires-after_bounds
@@ -23,6 +25,7 @@ loop-number-preserved g c =
       seated = seated_after t i.seated;
       count = omega (arith, one, same, i.count);
       first = λ zero. absurd (omega (arith, zero));
+      sends = λ zero. absurd (omega (arith, zero));
     }
 
 pub returns-then-not-event-clause-turned : goal.returns-then-not-event-clause-turned
@@ -37,6 +40,17 @@ returns-then-not-event-clause-idle g c = λ e.
     let same = count_none (c.event.ensures.no c.if-not-event.true) in
     let long = ap length e in
     had_sent c.args.seat.now _ _ c.args.effort.walks (i.first (omega (arith, same, long, i.count))) (c.event.ensures.idle c.if-not-event.true)
+
+pub returns-then-not-event-clause-sends : goal.returns-then-not-event-clause-sends
+returns-then-not-event-clause-sends g c = λ e ok.
+    let i = c.loop-number.invariant in
+    let none = c.event.ensures.no c.if-not-event.true in
+    let same = count_none none in
+    let long = ap length e in
+    sends_still (i.sends (omega (arith, same, long, i.count))) c.event.ensures.turned (ap (λ (h : Recorded). h.events) none.records.history)
+
+pub returns-clause-sends : goal.returns-clause-sends
+returns-clause-sends g c = λ e ok. let count = c.loop-number.invariant.count in let long = ap length e in absurd (omega (arith, count, long))
 
 pub returns-clause-most : goal.returns-clause-most
 returns-clause-most g c = let count = c.loop-number.invariant.count in omega (arith, count)

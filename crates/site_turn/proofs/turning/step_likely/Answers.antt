@@ -10,7 +10,7 @@ pub returns-in-Ok-clause-stepped : goal.returns-in-Ok-clause-stepped
 returns-in-Ok-clause-stepped g c = stepped_likely c.args.code.now c.args.seat.now (record c.args.seat.now { site = c.step_likely.new.self }) c.in-Ok.stepped c.in-Ok.ensures.ok
 
 pub returns-in-Err-clause-turned : goal.returns-in-Err-clause-turned
-returns-in-Err-clause-turned g c = turned_failed c.in-Err.ensures.err.same refl refl refl refl
+returns-in-Err-clause-turned g c = turned_failed c.in-Err.ensures.err refl refl refl refl
 
 pub returns-in-Err-clause-stepped : goal.returns-in-Err-clause-stepped
 returns-in-Err-clause-stepped g c = (c.in-Err.ensures.err, inr refl)

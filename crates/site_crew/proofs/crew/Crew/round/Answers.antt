@@ -1,8 +1,8 @@
 use Rattle.std.proofs.lemmas.Grind.{common_steps}
-use Rattle.std.proofs.Common.{rules, subst, arith}
-use Rattle.site_crew.specs.Crews.{HasRun}
+use Rattle.std.proofs.Common.{subst, sym, ◌∙◌, arith}
+use Rattle.site_crew.specs.Crews.{HasRun, NoneFailed}
 use Rattle.site_crew.proofs.Crewing.{has_run, later_refl}
-use Rattle.site_crew.proofs.Reseated.{kept_crew, kept_later, kept_on, kept_round, kept_run}
+use Rattle.site_crew.proofs.Reseated.{kept_crew, kept_done, kept_later, kept_on, kept_round, kept_run}
 use Rattle.site_crew.proofs.crew.Crew.round.Goals as goal
 
 pub returns-then-self-clause-run : goal.returns-then-self-clause-run
@@ -13,8 +13,9 @@ returns-clause-run g c = kept_run c.self.inside.seats.ok.0 c.as_mut_slice.ensure
 
 pub returns-clause-ok : goal.returns-clause-ok
 returns-clause-ok g c =
-    kept_round c.self.inside.seats.ok.0 c.as_mut_slice.ensures.value c.threads_round-after.ensures.stand c.threads_round-after.ensures.grow c.self.view_is c.self.invariant.program _
-    c.events_of-before.ensures.total c.as_slice.ensures.value c.threads_round-after.ensures.total c.as_slice-2.ensures.value c.judged-round.result c.told.result c.judged-round.ensures.some c.told.ensures.ok
+    kept_round c.self.inside.seats.ok.0 c.as_mut_slice.ensures.value c.threads_round-after.ensures.stand c.threads_round-after.ensures.grow c.self.view_is c.self.invariant.safe c.self.invariant.program c.self.invariant.budget _
+    c.events_of-before.ensures.total c.as_slice.ensures.value c.threads_round-after.ensures.total c.as_slice-2.ensures.value c.judged-round.result c.told.result c.judged-round.ensures
+    (λ e. subst NoneFailed (c.as_slice-3.ensures.value ∙ sym c.as_slice-2.ensures.value) (c.any_failed-self-inside.ensures.none e)) c.told.ensures.sound c.told.ensures.ok
 
 pub returns-then-self-clause-later : goal.returns-then-self-clause-later
 returns-then-self-clause-later g c = later_refl _ _
@@ -26,7 +27,8 @@ pub returns-clause-later : goal.returns-clause-later
 returns-clause-later g c = kept_later c.self.inside.seats.ok.0 c.as_mut_slice.ensures.value c.threads_round-after.ensures.stand c.threads_round-after.ensures.grow c.self.view_is c.threads_round-after.ensures.later
 
 pub invariant_of-self : goal.invariant_of-self
-invariant_of-self g c = kept_crew c.self.inside.seats.ok.0 c.as_mut_slice.ensures.value c.threads_round-after.ensures.stand c.threads_round-after.ensures.grow c.self.invariant (search rules)
+invariant_of-self g c = kept_crew c.self.inside.seats.ok.0 c.as_mut_slice.ensures.value c.threads_round-after.ensures.stand c.threads_round-after.ensures.grow c.self.invariant
+    (λ e. subst NoneFailed c.as_slice-3.ensures.value (c.any_failed-self-inside.ensures.none e))
 
 pub threads_round-after-requires-clause-stand : goal.threads_round-after-requires-clause-stand
 threads_round-after-requires-clause-stand g c = grind (arith, common_steps)
@@ -36,3 +38,8 @@ returns-clause-failed g c = grind (arith, common_steps)
 
 pub returns-then-self-clause-on : goal.returns-then-self-clause-on
 returns-then-self-clause-on g c = grind (arith, common_steps)
+
+pub judged-round-requires : goal.judged-round-requires
+judged-round-requires g c =
+    kept_done c.self.inside.seats.ok.0 c.as_mut_slice.ensures.value c.threads_round-after.ensures.stand c.threads_round-after.ensures.grow c.events_of-before.ensures.total c.as_slice.ensures.value
+    c.threads_round-after.ensures.total c.as_slice-2.ensures.value c.threads_round-after.ensures.done
