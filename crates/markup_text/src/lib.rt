@@ -1,0 +1,18 @@
+//! Markup as text: elements with attributes and what stands in them.
+//!
+//! What comes from outside is written escaped (`escaped_byte`), so nothing of it is read as a tag or as the end of a value: all
+//! that is written of any bytes is tame (`StaysTame`). An element is its opening tag, its content and its closing tag
+//! (`element_text`), so each that opens closes. Tags and the names of attributes are enums, whose words are in the specs.
+//!
+//! Contracts: `put_element` (`element_text`), `put_opening`, `put_closing`, `put_escaped`, `put_number`, `law_escaped` (`StaysTame`).
+#![tactic(auto)]
+
+mod element;
+mod escape;
+mod laws;
+mod words;
+
+pub use element::{Attribute, AttributeValue, Element, put_closing, put_element, put_opening};
+pub use escape::{put_escaped, put_number};
+pub use laws::law_escaped;
+pub use words::{AttributeName, Tag};

@@ -1,0 +1,123 @@
+-- Each shape of a picture as an element (docs/PICTURES.md, "Pictures").
+use Rattle.std.specs.Prelude.{ℕ, List, [], ◌∷◌, ◌++◌, codes, decimal}
+use Rattle.markup_text.specs.declared.words.Tag.{Tag}
+use Rattle.markup_text.specs.declared.words.Tag.TheVariants as tags
+use Rattle.markup_text.specs.declared.words.AttributeName.{AttributeName}
+use Rattle.markup_text.specs.declared.words.AttributeName.TheVariants as names
+use Rattle.markup_text.specs.declared.element.Attribute.{Attribute}
+use Rattle.markup_text.specs.declared.element.AttributeValue.TheVariants as values
+use Rattle.markup_text.specs.declared.element.Element.{Element}
+use Rattle.picture_svg.specs.declared.shapes.Flight.{Flight}
+use Rattle.picture_svg.specs.declared.shapes.Form.{Form}
+use Rattle.picture_svg.specs.declared.shapes.Form.TheVariants as forms
+use Rattle.picture_svg.specs.declared.shapes.Hue.{Hue}
+use Rattle.picture_svg.specs.declared.shapes.Hue.TheVariants as hues
+use Rattle.picture_svg.specs.declared.shapes.Look.{Look}
+use Rattle.picture_svg.specs.declared.shapes.Look.TheVariants as looks
+use Rattle.picture_svg.specs.declared.shapes.Point.{Point}
+use Rattle.picture_svg.specs.declared.shapes.Shape.{Shape}
+use Rattle.picture_svg.specs.declared.shapes.Spot.{Spot}
+use Rattle.picture_svg.specs.declared.elements.TheConstants.{DOT, TICK}
+
+-- ---- classes
+
+abbrev pub look_word : Look → List ℕ
+look_word looks.Paper = codes "paper"
+look_word looks.Band = codes "band"
+look_word looks.Site = codes "site"
+look_word looks.Title = codes "title"
+look_word looks.Small = codes "small"
+look_word looks.Path = codes "path"
+look_word looks.Birth = codes "birth"
+look_word looks.Message = codes "message"
+look_word looks.Net = codes "net"
+look_word looks.Dot = codes "dot"
+look_word looks.Ring = codes "ring"
+look_word looks.Take = codes "take"
+look_word looks.Print = codes "print"
+look_word looks.Sent = codes "sent"
+look_word looks.Tick = codes "tick"
+look_word looks.Lost = codes "lost"
+look_word looks.Pill = codes "pill"
+look_word looks.PillName = codes "pillname"
+look_word looks.Name = codes "name"
+look_word looks.Say = codes "say"
+look_word looks.Number = codes "number"
+look_word looks.End = codes "end"
+
+abbrev pub hue_word : Hue → List ℕ
+hue_word hues.Plain = []
+hue_word hues.Main = codes " main"
+hue_word hues.Daemon = codes " daemon"
+hue_word (hues.Agent number) = codes " a" ++ decimal number
+
+abbrev pub class_of : Look → Hue → Attribute
+class_of look hue = record { name = names.Class; value = values.Words (look_word look ++ hue_word hue) }
+
+-- ---- places and measures
+
+abbrev pub number : AttributeName → ℕ → Attribute
+number name n = record { name = name; value = values.Number n }
+
+abbrev pub point : AttributeName → AttributeName → Point → List Attribute
+point across down at = number across at.x ∷ number down at.y ∷ []
+
+abbrev pub disc : Point → ℕ → List Attribute
+disc at radius = point names.CenterX names.CenterY at ++ number names.Radius radius ∷ []
+
+abbrev pub plate : Point → ℕ → ℕ → ℕ → List Attribute
+plate at width height corner =
+    point names.X names.Y at ++ number names.Width width ∷ number names.Height height ∷ number names.Corner corner ∷ []
+
+abbrev pub line : Point → Point → List Attribute
+line from to = point names.X1 names.Y1 from ++ point names.X2 names.Y2 to
+
+abbrev pub form_of : Form → List Attribute
+form_of (forms.Disc at radius) = disc at radius
+form_of (forms.Plate at width height corner) = plate at width height corner
+form_of (forms.Line from to) = line from to
+form_of (forms.Words at text) = point names.X names.Y at
+
+abbrev pub tag_of : Form → Tag
+tag_of (forms.Disc at radius) = tags.Circle
+tag_of (forms.Plate at width height corner) = tags.Rect
+tag_of (forms.Line from to) = tags.Line
+tag_of (forms.Words at text) = tags.Label
+
+abbrev pub words_of : Form → List ℕ
+words_of (forms.Words at text) = text
+words_of _ = []
+
+-- ---- elements
+
+abbrev pub shape_element : Shape → Element
+shape_element shape = record {
+  tag = tag_of shape.form;
+  attributes = class_of shape.look shape.hue ∷ form_of shape.form;
+  content = words_of shape.form;
+}
+
+abbrev pub radius_of : Look → ℕ
+radius_of looks.Tick = TICK
+radius_of looks.Sent = TICK
+radius_of _ = DOT
+
+-- a mark, with the number of its event
+abbrev pub spot_element : Spot → Element
+spot_element spot = record {
+  tag = tags.Circle;
+  attributes = class_of spot.look spot.hue ∷ number names.Event spot.event ∷ disc spot.at (radius_of spot.look);
+  content = [];
+}
+
+-- an arrow, with the number of the event that it comes to
+abbrev pub flight_element : Flight → Element
+flight_element flight = record {
+  tag = tags.Line;
+  attributes = class_of flight.look flight.hue ∷ number names.Event flight.to ∷ line flight.start flight.end;
+  content = [];
+}
+
+abbrev pub root_attributes : ℕ → ℕ → List Attribute
+root_attributes width height =
+    record { name = names.Namespace; value = values.Words (codes "http://www.w3.org/2000/svg") } ∷ number names.Width width ∷ number names.Height height ∷ []

@@ -1,0 +1,4 @@
+pub mod Elements
+pub mod Pictures
+pub mod Placed
+pub mod Svg

@@ -1,0 +1,25 @@
+-- The text of a picture (docs/PICTURES.md, "Pictures").
+use Rattle.std.specs.Prelude.{ℕ, List, [], ◌∷◌, ◌++◌, map}
+use Rattle.std.specs.List.{flat_map}
+use Rattle.markup_text.specs.declared.words.Tag.TheVariants as tags
+use Rattle.markup_text.specs.declared.element.Element.{Element}
+use Rattle.markup_text.specs.Markup.{Markup, element_text, in_a_row}
+use Rattle.picture_svg.specs.declared.shapes.Drawing.{Drawing}
+use Rattle.picture_svg.specs.Elements.{flight_element, root_attributes, shape_element, spot_element}
+
+abbrev pub style_element : List ℕ → Element
+style_element style = record { tag = tags.Style; attributes = []; content = style }
+
+-- the elements of a picture: the style, what stands below, the arrows, the marks, and what is said beside them
+abbrev pub elements : List ℕ → Drawing → List Element
+elements style d =
+    style_element style ∷ map shape_element d.ground
+    ++ map flight_element d.flights ++ map spot_element d.spots ++ map shape_element d.words
+
+-- the same, one after the other
+abbrev pub body_text : List ℕ → Drawing → List ℕ
+body_text style d = flat_map element_text (elements style d)
+
+-- a picture as markup: one element, in which those of its shapes stand
+abbrev pub svg : List ℕ → Drawing → Markup
+svg style d = Markup.element tags.Svg (root_attributes d.width d.height) (in_a_row (elements style d)) Markup.nothing

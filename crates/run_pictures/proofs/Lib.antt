@@ -1,0 +1,4 @@
+pub mod Growing
+pub mod Layouts
+pub mod Lists
+pub mod Rows

@@ -1,0 +1,4 @@
+pub mod Arrows
+pub mod Columns
+pub mod Layouts
+pub mod Rows
