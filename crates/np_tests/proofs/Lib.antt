@@ -1,2 +1,4 @@
 mod Halves
 mod Waiters
+mod Replaying
+mod Viewing

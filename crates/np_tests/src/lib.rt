@@ -11,6 +11,8 @@ mod agents;
 #[cfg(test)]
 mod copies;
 #[cfg(test)]
+mod crews;
+#[cfg(test)]
 mod gates;
 #[cfg(test)]
 mod histories;
@@ -23,6 +25,10 @@ mod low_values;
 #[cfg(test)]
 mod nodes;
 #[cfg(test)]
+mod replays;
+#[cfg(test)]
 mod sources;
+#[cfg(test)]
+mod views;
 #[cfg(test)]
 mod work_lists;
