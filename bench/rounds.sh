@@ -1,6 +1,6 @@
 #!/usr/bin/env bash
 # Prints how many rounds runs on threads take, over each kind of links: rings of agents at four sites that pass one token (`load N`),
-# and the two sources of `sites-source.sh` with 16, 64 and 128 sites, with as great a budget as they may have.
+# and the two sources of `sites-source.sh` with 4 to 128 sites, with as great a budget as they may have.
 #
 #   bench/rounds.sh [PROGRAM] [RUNS]
 #
@@ -55,7 +55,7 @@ for agents in 10 30 100; do
     rounds_of "load $agents" 4 load "$agents"
 done
 for kind in posts own; do
-    for sites in 16 64 128; do
+    for sites in 4 16 32 64 128; do
         bench/sites-source.sh "$kind" "$sites" >"$folder/sites.np"
         budget=$((6400000 / sites))
         rounds_of "$kind, $sites sites" "$sites" run "$folder/sites.np" --budget $((budget < 200000 ? budget : 200000))

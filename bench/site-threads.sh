@@ -5,9 +5,9 @@
 #
 # It builds nothing: PROGRAM is the built program, by default crates/np/out/np. Each run is made ROUNDS times, by default 20. The
 # first rows are rings of agents that pass one token (`load N`), in which the sites have little to do at once; then come two
-# sites with work of their own, of which neither waits for the other; then the two sources of `sites-source.sh` with 4, 16, 64 and 128
-# sites, and with as great a budget as they may have. Wall time is what passes; processor time is the sum over all threads; the last
-# column is the wall time on threads by that of turns one after another over the same kind of links. Run it on an idle machine.
+# sites with work of their own, of which neither waits for the other; then the two sources of `sites-source.sh` with 4 to 128 sites,
+# and with as great a budget as they may have. Wall time is what passes; processor time is the sum over all threads; the last column
+# is the wall time on threads by that of turns one after another over the same kind of links. Run it on an idle machine.
 set -euo pipefail
 cd "$(dirname "$0")/.."
 source bench/parts.sh
@@ -47,7 +47,7 @@ for agents in 10 30 100; do
 done
 rows 'two sites, 200,000' run "$folder/two.np" --budget 200000
 for kind in posts own; do
-    for sites in 4 16 64 128; do
+    for sites in 4 16 32 64 128; do
         bench/sites-source.sh "$kind" "$sites" >"$folder/sites.np"
         budget=$((6400000 / sites))
         rows "$kind, $sites sites" run "$folder/sites.np" --budget $((budget < 200000 ? budget : 200000))

@@ -31,6 +31,10 @@ abbrev pub IsReady : ProgramTable → NameMap Atom → Ready → Type 0
 IsReady code atoms r = (here : Bool) (first second : Name)
     → IsSome (change_in r.kind (sight_of code atoms here) (event_of 0 r (made_of r.kind here first second)))
 
+-- it is no post: those are of the high level alone
+abbrev pub NoPost : Ready → Type 0
+NoPost r = r.kind ≡ kind.Post → ⊥
+
 -- no event of these atoms has its row met, but for posts, which no low program has
 pub record NothingReady (code : ProgramTable) (atoms : NameMap Atom) : Type 0 where
   pub none : (here : Bool) (e : Event) → (e.kind ≡ kind.Post → ⊥) → change_in e.kind (sight_of code atoms here) e ≡ None

@@ -6,7 +6,7 @@ ghost use Rattle.agent_pool.specs.declared.held.Held.TheVariants as held;
 ghost use Rattle.agent_pool.specs.Held.{wait_of};
 ghost use Rattle.agent_pool.specs.Idle.{IsIdle};
 ghost use Rattle.agent_pool.specs.Pools.{Unchanged, IsFiled, atoms_of};
-ghost use Rattle.agent_pool.specs.Readies.{IsReady, NothingReady};
+ghost use Rattle.agent_pool.specs.Readies.{IsReady, NoPost, NothingReady};
 ghost use Rattle.agent_pool.specs.Rows.{ActsAs, NeverActs, GoesOnAs, Reduces};
 ghost use Rattle.agent_pool.specs.declared.ready.Ready.{Ready};
 ghost use Rattle.np_syntax.specs.declared.event.Kind.{Kind};
@@ -132,6 +132,7 @@ impl Agent {
     /// What the agent can do, and none exactly where it can do nothing. It takes no memory. Where the agent is filed by
     /// the code, it walks over the atoms only to answer none, and then once.
     pub fn first_ready(&self, code: &Code) -> Option<Ready>
+        ensures post { IfSome result NoPost }
         ensures some { IfSome result (IsReady code.now (atoms_of code.now.processes self.now)) }
         ensures none { IfNone result (NothingReady code.now (atoms_of code.now.processes self.now)) }
     {
@@ -141,7 +142,8 @@ impl Agent {
     /// What the agent can do, if the index tells any. It takes no memory and walks over nothing. There may be something
     /// where none is told.
     pub fn likely(&self, code: &Code) -> Option<Ready>
-        ensures { IfSome result (IsReady code.now (atoms_of code.now.processes self.now)) }
+        ensures post { IfSome result NoPost }
+        ensures some { IfSome result (IsReady code.now (atoms_of code.now.processes self.now)) }
     {
         likely_in(code, &self.atoms)
     }

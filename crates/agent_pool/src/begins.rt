@@ -1,10 +1,10 @@
-ghost use Rattle.std.specs.Prelude.{◌≡◌, length, List, option_map};
+ghost use Rattle.std.specs.Prelude.{◌≡◌, length, List, option_map, IfSome};
 ghost use Rattle.np_syntax.specs.declared.value.Name.{Name as Named};
 ghost use Rattle.np_eval.specs.Eval.{Env};
 ghost use Rattle.np_syntax.specs.declared.process.Proc.{Proc};
 ghost use Rattle.np_code.specs.Trees.{layer_of};
 ghost use Rattle.agent_pool.specs.Held.{atom_of};
-ghost use Rattle.agent_pool.specs.Readies.{only, begins, taken_by, offers, alone_at, pair_at};
+ghost use Rattle.agent_pool.specs.Readies.{NoPost, only, begins, taken_by, offers, alone_at, pair_at};
 
 use super::held::{Held, node_of};
 use super::operands::{agent_of, has_letter, has_places, has_truth, has_value, site_in};
@@ -88,7 +88,8 @@ fn offers(code: &Code, held: &Held, chan: Name, pat: &Pat) -> bool
 /// What an atom can do alone. It takes no memory.
 #[tactic(auto, using(crate::proofs::Outputs::outputs))]
 pub fn alone(code: &Code, mark: Name, held: &Held) -> Option<Ready>
-    ensures { (agent : Named) → result ≡ alone_at (length code.now.sites) mark (atom_of code.now.processes agent held.now) }
+    ensures post { IfSome result NoPost }
+    ensures is { (agent : Named) → result ≡ alone_at (length code.now.sites) mark (atom_of code.now.processes agent held.now) }
 {
     let (node, frame) = node_of(code, held)?;
     let kind = begins(code, node, frame)?;
@@ -103,7 +104,8 @@ pub fn alone(code: &Code, mark: Name, held: &Held) -> Option<Ready>
 /// What an input can do with an output. It takes no memory.
 #[tactic(auto, using(crate::proofs::Outputs::outputs))]
 pub fn pair(code: &Code, mark: Name, taker: &Held, other: Name, giver: &Held) -> Option<Ready>
-    ensures { (agent : Named) → result ≡ pair_at mark (atom_of code.now.processes agent taker.now) other
+    ensures post { IfSome result NoPost }
+    ensures is { (agent : Named) → result ≡ pair_at mark (atom_of code.now.processes agent taker.now) other
         (atom_of code.now.processes agent giver.now) }
 {
     let (node, frame) = node_of(code, taker)?;

@@ -3,7 +3,7 @@ ghost use Rattle.np_syntax.specs.declared.value.Name.{Name as Named};
 ghost use Rattle.np_tables.specs.Mapped.{mapped};
 ghost use Rattle.agent_pool.specs.Calm.{NoOutput, CalmAt};
 ghost use Rattle.agent_pool.specs.Pools.{seen_as};
-ghost use Rattle.agent_pool.specs.Readies.{IsReady, NothingReady, alone_in, pair_in, NoneAlone, NoneMeet};
+ghost use Rattle.agent_pool.specs.Readies.{IsReady, NoPost, NothingReady, alone_in, pair_in, NoneAlone, NoneMeet};
 
 use super::begins::{alone, pair};
 use super::held::{Held, wait_of};
@@ -15,7 +15,9 @@ use np_syntax::Name;
 /// What the atom of a mark can do alone.
 #[tactic(auto, using(crate::proofs::Maps::maps))]
 pub fn alone_in(code: &Code, atoms: &Index<Held>, mark: Name) -> Option<Ready>
-    ensures { (agent : Named) → result ≡ alone_in (length code.now.sites) (mapped (seen_as code.now.processes agent) atoms.now.items) mark }
+    ensures post { IfSome result NoPost }
+    ensures is { (agent : Named) → result ≡ alone_in (length code.now.sites)
+        (mapped (seen_as code.now.processes agent) atoms.now.items) mark }
 {
     let held = atoms.get(mark)?;
     alone(code, mark, held)
@@ -24,7 +26,8 @@ pub fn alone_in(code: &Code, atoms: &Index<Held>, mark: Name) -> Option<Ready>
 /// What the atom of a mark can do with that of another.
 #[tactic(auto, using(crate::proofs::Maps::maps))]
 pub fn pair_in(code: &Code, atoms: &Index<Held>, mark: Name, other: Name) -> Option<Ready>
-    ensures { (agent : Named) → result ≡ pair_in (mapped (seen_as code.now.processes agent) atoms.now.items) mark other }
+    ensures post { IfSome result NoPost }
+    ensures is { (agent : Named) → result ≡ pair_in (mapped (seen_as code.now.processes agent) atoms.now.items) mark other }
 {
     let taker = atoms.get(mark)?;
     let giver = atoms.get(other)?;
@@ -33,6 +36,7 @@ pub fn pair_in(code: &Code, atoms: &Index<Held>, mark: Name, other: Name) -> Opt
 
 /// What any of the atoms can do alone. It walks over them.
 pub fn any_alone(code: &Code, atoms: &Index<Held>) -> Option<Ready>
+    ensures post { IfSome result NoPost }
     ensures some { (agent : Named) → IfSome result (IsReady code.now (mapped (seen_as code.now.processes agent) atoms.now.items)) }
     ensures none { (agent : Named) → IfNone result
         (NoneAlone (length code.now.sites) (mapped (seen_as code.now.processes agent) atoms.now.items)) }
@@ -47,6 +51,7 @@ pub fn any_alone(code: &Code, atoms: &Index<Held>) -> Option<Ready>
 
 /// What the atom of a mark can do with any of the others. It walks over them.
 pub fn any_with(code: &Code, atoms: &Index<Held>, mark: Name) -> Option<Ready>
+    ensures post { IfSome result NoPost }
     ensures some { (agent : Named) → IfSome result (IsReady code.now (mapped (seen_as code.now.processes agent) atoms.now.items)) }
     ensures none { (agent : Named) → IfNone result
         ((other : Named) → pair_in (mapped (seen_as code.now.processes agent) atoms.now.items) mark other ≡ None) }
@@ -61,6 +66,7 @@ pub fn any_with(code: &Code, atoms: &Index<Held>, mark: Name) -> Option<Ready>
 
 /// What any two of the atoms can do. It walks over the atoms for each of them.
 pub fn any_pair(code: &Code, atoms: &Index<Held>) -> Option<Ready>
+    ensures post { IfSome result NoPost }
     ensures some { (agent : Named) → IfSome result (IsReady code.now (mapped (seen_as code.now.processes agent) atoms.now.items)) }
     ensures none { (agent : Named) → IfNone result (NoneMeet (mapped (seen_as code.now.processes agent) atoms.now.items)) }
 {
@@ -74,6 +80,7 @@ pub fn any_pair(code: &Code, atoms: &Index<Held>) -> Option<Ready>
 
 /// What any of the atoms can do, and none exactly where they can do nothing. It walks over the atoms for each of them.
 fn any_ready(code: &Code, atoms: &Index<Held>) -> Option<Ready>
+    ensures post { IfSome result NoPost }
     ensures some { (agent : Named) → IfSome result (IsReady code.now (mapped (seen_as code.now.processes agent) atoms.now.items)) }
     ensures none { (agent : Named) → IfNone result (NothingReady code.now (mapped (seen_as code.now.processes agent) atoms.now.items)) }
 {
@@ -86,7 +93,8 @@ fn any_ready(code: &Code, atoms: &Index<Held>) -> Option<Ready>
 /// What the atom that acts alone, or the input and the output that meet, can do that wait longest, if the index tells
 /// any. It walks over nothing.
 pub fn likely_in(code: &Code, atoms: &Index<Held>) -> Option<Ready>
-    ensures { (agent : Named) → IfSome result (IsReady code.now (mapped (seen_as code.now.processes agent) atoms.now.items)) }
+    ensures post { IfSome result NoPost }
+    ensures some { (agent : Named) → IfSome result (IsReady code.now (mapped (seen_as code.now.processes agent) atoms.now.items)) }
 {
     if let Some(mark) = atoms.first_alone() {
         if let Some(ready) = alone_in(code, atoms, mark) {
@@ -153,6 +161,7 @@ fn all_calm(code: &Code, atoms: &Index<Held>) -> bool
 /// What the atoms can do, and none exactly where they can do nothing. Where the index tells of something that can be
 /// done it walks over nothing, and where all are filed by this code once over the atoms.
 pub fn ready_in(code: &Code, atoms: &Index<Held>) -> Option<Ready>
+    ensures post { IfSome result NoPost }
     ensures some { (agent : Named) → IfSome result (IsReady code.now (mapped (seen_as code.now.processes agent) atoms.now.items)) }
     ensures none { (agent : Named) → IfNone result (NothingReady code.now (mapped (seen_as code.now.processes agent) atoms.now.items)) }
 {

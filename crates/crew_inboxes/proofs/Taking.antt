@@ -1,5 +1,5 @@
 -- What a port has taken and what it knows to be waiting, after its inbox was popped or settled.
-use Rattle.std.proofs.Common.{◌≡◌, ◌≢◌, ℕ, List, [], ◌∷◌, ◌++◌, length, drop, set, sym, ◌∙◌, ap, subst, Some, inl, inr}
+use Rattle.std.proofs.Common.{◌≡◌, ◌≢◌, ℕ, List, [], ◌∷◌, ◌++◌, length, drop, set, sym, ◌∙◌, ap, subst, Option, None, Some, MatchOption, inl, inr}
 use Rattle.std.specs.Prelude.{slice_get}
 use Rattle.std.proofs.lemmas.List.{append-nil}
 use Rattle.std.proofs.lemmas.Option.{slice_get_within}
@@ -54,3 +54,8 @@ numbered_set ways i n x y h was e k way f =
           ap (λ (o : Outlet Item). number_in (view o.pass)) (sym is) ∙ (e ∙ h i x was)
       | inr w ↦ h k way (sym (get-set_other ways i k y w.1) ∙ f)
     ]
+
+-- of a look that took nothing, what was known before it is not told
+pub told_less : {T : Type 0} (P Q : ℕ → Type 0) (R : T → Type 0) (o : Option T) → MatchOption o ((k : ℕ) → P k × Q k) R → MatchOption o ((k : ℕ) → P k) R
+told_less P Q R None h = λ k. (h k).0
+told_less P Q R (Some x) h = h

@@ -52,6 +52,10 @@ impl<R: Wait> Port<R, Item> for Inboxes {
 
     ghost linked = { Linked };
 
+    fn is_live() -> bool {
+        true
+    }
+
     fn make(alloc: Global, sites: u32) -> Result<Vec<Self>, Memory> {
         let seats = seats_of(alloc, sites)?;
         take_seats(alloc, seats)
@@ -69,6 +73,10 @@ impl<R: Wait> Port<R, Item> for Inboxes {
             }
             None => None,
         }
+    }
+
+    fn take_from(&mut self, rt: &R, _from: u32) -> Option<Item> {
+        self.take(rt)
     }
 
     fn settle(&mut self, _rt: &R, to: &mut Self) -> usize {

@@ -5,6 +5,7 @@ ghost use Rattle.std.specs.Borrow.{sem};
 ghost use Rattle.std.specs.FinMap as map;
 ghost use Rattle.np_code.specs.Programs.{ProgramTable};
 ghost use Rattle.np_tables.specs.Stored.{Covers};
+ghost use Rattle.agent_pool.specs.Readies.{NoPost};
 ghost use Rattle.site_agents.specs.LentAgents.{lends_agent};
 ghost use Rattle.site_agents.specs.Standings.{AreNamed, AreQuiet, AreIdle, CanDo, NoneCan, NoneCanDo};
 
@@ -166,6 +167,7 @@ impl Agents {
     pub fn next_likely(&mut self, code: &Code) -> Option<(Name, Ready)>
         ensures agents { self.new.agents ≡ self.old.agents }
         ensures room { self.new.room ≡ self.old.room }
+        ensures post { IfSome result (λ found. NoPost found.1) }
         ensures some { IfSome result (λ found. CanDo code.now self.old.agents found.0 found.1) }
         ensures still { AreQuiet code.now self.old → AreQuiet code.now self.new }
     {
@@ -177,6 +179,7 @@ impl Agents {
     pub fn next_ready(&mut self, code: &Code) -> Option<(Name, Ready)>
         ensures agents { self.new.agents ≡ self.old.agents }
         ensures room { self.new.room ≡ self.old.room }
+        ensures post { IfSome result (λ found. NoPost found.1) }
         ensures some { IfSome result (λ found. CanDo code.now self.old.agents found.0 found.1) }
         ensures none { AreQuiet code.now self.old → IfNone result (NoneCan code.now self.old.agents) }
         ensures still { AreQuiet code.now self.old → AreQuiet code.now self.new }

@@ -1,5 +1,6 @@
 ghost use Rattle.std.specs.Prelude.{◌≡◌, ◌<◌, ◌≤◌, ◌↔◌, [], false, true, IfSome, IfNone, IsTrue, Some};
 ghost use Rattle.std.specs.FinMap as map;
+ghost use Rattle.agent_pool.specs.Readies.{NoPost};
 ghost use Rattle.site_agents.specs.Queues.{waits, Keeps, KeepsBut, Leaves};
 ghost use Rattle.site_agents.specs.Rounds.{GoesOn, with_changed, doubted, called, settled};
 ghost use Rattle.site_agents.specs.Standings.{agents_of, CanDo, CanNothing, NoneCan, NoneCanDo, IdleAt, AreIdle};
@@ -14,7 +15,8 @@ use np_tables::Table;
 
 /// What the agent of a name can do, if its index tells any.
 fn likely(code: &Code, seats: &Table<Seat>, name: Name) -> Option<Ready>
-    ensures { IfSome result (CanDo code.now (agents_of seats.now.items) name) }
+    ensures post { IfSome result NoPost }
+    ensures some { IfSome result (CanDo code.now (agents_of seats.now.items) name) }
 {
     match seats.get(name) {
         Some(seat) => seat.agent.likely(code),
@@ -24,6 +26,7 @@ fn likely(code: &Code, seats: &Table<Seat>, name: Name) -> Option<Ready>
 
 /// What the agent of a name can do, and none exactly where it can do nothing.
 fn exact(code: &Code, seats: &Table<Seat>, name: Name) -> Option<Ready>
+    ensures post { IfSome result NoPost }
     ensures some { IfSome result (CanDo code.now (agents_of seats.now.items) name) }
     ensures none { IfNone result ((s : Sat) → map.get seats.now.items name ≡ Some s → CanNothing code.now s.agent) }
 {
@@ -83,6 +86,7 @@ pub fn next_likely(
     doubtful: &mut Queue,
 ) -> Option<(Name, Ready)>
     ensures goes { GoesOn code.now seats.old turns.old doubtful.old seats.new turns.new doubtful.new }
+    ensures post { IfSome result (λ found. NoPost found.1) }
     ensures some { IfSome result (λ found. CanDo code.now (agents_of seats.new.items) found.0 found.1) }
     ensures none { IfNone result (turns.new.names ≡ []) }
 {
@@ -104,6 +108,7 @@ pub fn next_doubtful(
     doubtful: &mut Queue,
 ) -> Option<(Name, Ready)>
     ensures goes { GoesOn code.now seats.old turns.old doubtful.old seats.new turns.new doubtful.new }
+    ensures post { IfSome result (λ found. NoPost found.1) }
     ensures some { IfSome result (λ found. CanDo code.now (agents_of seats.new.items) found.0 found.1) }
     ensures turns { IfNone result (turns.new ≡ turns.old) }
     ensures none { IfNone result (doubtful.new.names ≡ []) }
@@ -120,6 +125,7 @@ pub fn next_doubtful(
 
 /// Any agent that can do something, and none exactly where none can. It walks over them.
 pub fn any_ready(code: &Code, seats: &Table<Seat>) -> Option<(Name, Ready)>
+    ensures post { IfSome result (λ found. NoPost found.1) }
     ensures some { IfSome result (λ found. CanDo code.now (agents_of seats.now.items) found.0 found.1) }
     ensures none { IfNone result (NoneCan code.now (agents_of seats.now.items)) }
 {

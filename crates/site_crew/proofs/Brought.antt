@@ -1,5 +1,5 @@
 -- An item that is first in the line of its sender comes to the site of its event.
-use Rattle.std.proofs.Common.{◌≡◌, ◌≢◌, ◌<◌, ◌≤◌, ◌-◌, ◌+◌, ℕ, zero, suc, max, inl, inr, List, [], ◌∷◌, ◌++◌, length, set, Option, None, Some, refl, sym, ap, subst, ◌∙◌, append-nil, append_assoc, arith}
+use Rattle.std.proofs.Common.{◌≡◌, ◌≢◌, ◌<◌, ◌≤◌, ◌-◌, ◌+◌, ℕ, zero, suc, max, inl, inr, List, [], ◌∷◌, ◌++◌, length, set, None, Some, refl, sym, ap, subst, ◌∙◌, append-nil, append_assoc, arith}
 use Rattle.std.specs.Prelude.{slice_get}
 use Rattle.std.specs.List.{AllByRecursion}
 use Rattle.std.proofs.lemmas.Bool.Decides.{eqb_tells}
@@ -13,30 +13,29 @@ use Rattle.stamp_history.specs.Histories.{IsHistory, Recorded}
 use Rattle.site_links.specs.Words.{only_at}
 use Rattle.site_links.specs.declared.port.Port as Port
 use Rattle.site_links.proofs.Rows.{get-set_other, get-set_same, only_at-other, only_at-same}
-use Rattle.np_site_runs.specs.merged.Deeds.{StampedItem, put_for}
+use Rattle.np_site_runs.specs.merged.Deeds.{StampedItem}
 use Rattle.np_site_runs.proofs.merged.Linking.{all_second}
 use Rattle.np_code.specs.Programs.{ProgramTable}
 use Rattle.agent_move.specs.declared.item.Item.{Item}
 use Rattle.agent_move.specs.Items.{item_of}
 use Rattle.site_state.specs.Coming.{event_for}
-use Rattle.site_state.specs.Doing.{HasRoom, HasTaken}
+use Rattle.site_state.specs.Doing.{HasRoom}
 use Rattle.site_state.specs.Lines.{Waiting, queue_at}
 use Rattle.site_state.specs.Standings.{Standing}
 use Rattle.site_turn.specs.declared.seat.Seat.{Seat}
-use Rattle.site_turn.specs.Turns.{IsStrange, Seated, shown}
+use Rattle.site_turn.specs.Turns.{Seated, shown}
 use Rattle.site_turn.proofs.Holdings.{recorded_events}
 use Rattle.site_turn.proofs.Steps.{puts_are_own}
-use Rattle.site_crew.specs.Bringing.{AllHoldSame, AreClear, HasDue, HasGot, HasNotBrought, HasNotTaken, HasSent, HasTakenOne, HaveSent, IsDueFrom, IsLast, OneGoesOn}
-use Rattle.site_crew.specs.Following.{AllRest, Moves, Rests, StandBut}
+use Rattle.site_crew.specs.Bringing.{AllHoldSame, AreClear, HasDue, HasGot, HasNotBrought, HasNotTaken, HasSent, HaveSent, IsDueFrom, OneGoesOn}
+use Rattle.site_crew.specs.Following.{AllRest, Moves, StandBut}
 use Rattle.site_crew.specs.Links.{AllStill, AreSettledIn, IsPairSettled, Still}
 use Rattle.site_crew.specs.Seats.{Stand}
-use Rattle.site_crew.proofs.Clearing.{due_early}
 use Rattle.site_crew.proofs.Clocks.{steady_again}
 use Rattle.site_crew.proofs.Crewing.{grows_again}
 use Rattle.site_crew.proofs.Goings.{seat_seated, seat_still, turned_at}
 use Rattle.site_crew.proofs.Pairs.{linked_after, other_kept, still_of_pair}
 use Rattle.site_crew.proofs.Redoing.{last_behind}
-use Rattle.site_crew.proofs.Replacing.{all_turned_refl, replaced, there_too}
+use Rattle.site_crew.proofs.Replacing.{all_turned_refl, there_too}
 use Rattle.site_crew.proofs.Standing.{fresh_again}
 
 -- ---- lists
@@ -293,7 +292,7 @@ module _ {P R : Type 0} {g : Port.Ghosts P R Item} {code : ProgramTable} where
       sure (HasNotTaken.strange f x got strange) room =
           let d = from-due one f x got in
           let to : x.to ≡ one.old.site.site =
-          ap (λ (y : Item). y.to) d.1 ∙ due_for (seat_seated (stand.seats.each from due.seat due.at)) e.site due.due.item due.due.later due.due.first ∙ sym here in
+          ap (λ (y : Item). y.to) d.1 ∙ due_for (seat_seated from stand.seats due.at) e.site due.due.item due.due.later due.due.first ∙ sym here in
           let stamped : x.stamp ≡ due.due.item.stamp = ap (λ (y : Item). y.stamp) d.1 in
           strange to (omega arith)
       sure (HasNotTaken.other f x got taken missed) room =

@@ -1,5 +1,5 @@
 -- What the links and the outgoing lines of seats carry is what their sites put on their way, and took.
-use Rattle.std.proofs.Common.{◌≡◌, ◌<◌, ◌≤◌, ◌==◌, ◌-◌, ⊎_elim, ℕ, Bool, true, false, cond, is_some, List, [], ◌∷◌, ◌++◌, length, map, take, drop, get_or, filter, flat_map, Option, None, Some, IsSome, IfSome, option_map, option_to_list, refl, sym, ap, ap₂, subst, subst₂, ◌∙◌, append_assoc, arith}
+use Rattle.std.proofs.Common.{◌≡◌, ◌<◌, ◌≤◌, ◌==◌, ◌-◌, ⊎_elim, ℕ, Bool, true, false, cond, is_some, List, [], ◌∷◌, ◌++◌, length, map, take, drop, get_or, filter, flat_map, Option, None, Some, IsSome, IfSome, option_map, option_to_list, refl, sym, ap, ap₂, subst, subst₂, ◌∙◌, append_assoc}
 use Rattle.std.specs.Prelude.{slice_get}
 use Rattle.std.specs.List.{AllByRecursion}
 use Rattle.std.proofs.lemmas.Bool.{eq-eqb}

@@ -1,16 +1,15 @@
 -- What is on the links between the events of a list.
-use Rattle.std.proofs.Common.{◌≡◌, ◌≢◌, ◌<◌, ◌≤◌, ◌-◌, ◌+◌, ◌==◌, ℕ, zero, suc, max, Bool, true, false, cond, inl, inr, List, [], ◌∷◌, ◌++◌, length, map, filter, flat_map, set, Option, None, Some, IfSome, option_to_list, refl, sym, ap, subst, ◌∙◌, append-nil, arith}
+use Rattle.std.proofs.Common.{◌≡◌, ◌<◌, ◌≤◌, ◌-◌, ◌==◌, ℕ, zero, suc, Bool, true, false, cond, inl, inr, List, [], ◌∷◌, ◌++◌, length, map, flat_map, set, Option, None, Some, IfSome, option_to_list, refl, sym, ap, subst, ◌∙◌, append-nil, arith}
 use Rattle.std.specs.Prelude.{slice_get}
 use Rattle.std.specs.List.{AllByRecursion}
 use Rattle.std.proofs.lemmas.Bool.{eq-eqb}
 use Rattle.std.proofs.lemmas.List.{append_cancel_left, map-append}
 use Rattle.std.proofs.lemmas.Option.{slice_get_within}
 use Rattle.np_syntax.proofs.Options.{some_is}
-use Rattle.stamp_history.specs.declared.stamped.Stamped.{Stamped}
-use Rattle.run_merge.proofs.InOrder.{all_filter, all_flat_map, all_weaker}
+use Rattle.run_merge.proofs.InOrder.{all_filter, all_flat_map}
 use Rattle.site_links.specs.declared.places.TheConstants.{PLACES}
 use Rattle.site_links.specs.declared.port.Port as Port
-use Rattle.np_site_runs.specs.merged.Deeds.{Deed, HasStamps, StampedItem, Ticks, clock_after, put_for, ticked}
+use Rattle.np_site_runs.specs.merged.Deeds.{Deed, StampedItem, Ticks, clock_after, put_for, ticked}
 use Rattle.np_site_runs.proofs.merged.Linking.{all_second}
 use Rattle.np_site_runs.specs.Accounts.{Came, came_on}
 use Rattle.np_site_runs.specs.Holdings.{Holding}
@@ -22,7 +21,7 @@ use Rattle.site_turn.specs.declared.seat.Seat.{Seat}
 use Rattle.site_turn.specs.Turns.{Kept, came_from, shown}
 use Rattle.site_crew.specs.Bringing.{AllHoldSame, AreClear, IsFree}
 use Rattle.site_crew.specs.Links.{AllStill, AreLinked, IsSettled}
-use Rattle.site_crew.specs.Seats.{IsSeat, Stand}
+use Rattle.site_crew.specs.Seats.{Stand}
 use Rattle.site_crew.proofs.Pairs.{with_port}
 use Rattle.site_crew.proofs.Replacing.{replaced, there_too}
 

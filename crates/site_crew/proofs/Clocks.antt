@@ -1,5 +1,5 @@
 -- No stamp of a crew is above the number of all its events.
-use Rattle.std.proofs.Common.{◌≡◌, ◌<◌, ◌≤◌, ◌+◌, ◌-◌, ◌⊎◌, inl, inr, ⊎_elim, ℕ, zero, suc, Bool, true, false, cond, nat_le, max, set, ◌==◌, List, [], ◌∷◌, ◌++◌, length, flat_map, get_or, Option, None, Some, IfSome, option_to_list, refl, sym, ap, subst, ◌∙◌, arith, length-append}
+use Rattle.std.proofs.Common.{◌≡◌, ◌<◌, ◌≤◌, ◌+◌, ◌⊎◌, inl, inr, ⊎_elim, ℕ, zero, suc, Bool, true, false, cond, nat_le, max, set, ◌==◌, List, [], ◌∷◌, ◌++◌, length, flat_map, get_or, Option, None, Some, IfSome, option_to_list, refl, sym, ap, subst, ◌∙◌, arith, length-append}
 use Rattle.std.specs.Prelude.{slice_get}
 use Rattle.std.specs.List.{AllByRecursion}
 use Rattle.std.proofs.lemmas.Bool.Decides.{nat_tests}
@@ -11,7 +11,7 @@ use Rattle.stamp_history.specs.declared.stamped.Stamped.{Stamped}
 use Rattle.stamp_history.specs.Histories.{Recorded}
 use Rattle.run_merge.specs.declared.rank.Ranked.{Ranked}
 use Rattle.run_merge.specs.InOrder.{in_order, put_in}
-use Rattle.run_merge.specs.Merged.{comes_before, events_of, items, merged, ranked}
+use Rattle.run_merge.specs.Merged.{comes_before, events_of, merged, ranked}
 use Rattle.run_merge.proofs.InOrder.{all_flat_map, all_in_order, all_map}
 use Rattle.run_merge.proofs.Ranks.{ranks_order}
 use Rattle.site_links.specs.declared.port.Port as Port

@@ -19,7 +19,7 @@ use Rattle.site_crew.specs.Crews.{CrewState, IsCrew, IsJudged, IsRoundOf, NoneFa
 use Rattle.site_crew.specs.declared.round.Round.{Round}
 use Rattle.site_crew.specs.declared.round.Round.TheVariants as round
 use Rattle.site_crew.specs.Links.{AllStill}
-use Rattle.site_crew.specs.Runs.{IsCrewRun, IsProgram, OnlySpentCan, RunsSafely, SpentCan}
+use Rattle.site_crew.specs.Runs.{IsProgram, OnlySpentCan, RunsSafely, SpentCan}
 use Rattle.crew_ends.specs.Starts.{AreFirst}
 use Rattle.site_crew.specs.Seats.{AllGrow, AllLater, AllTurned, Stand, clocks, event_count, histories}
 use Rattle.site_crew.specs.Shown.{seat_states}

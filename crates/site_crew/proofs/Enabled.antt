@@ -6,7 +6,7 @@ use Rattle.std.proofs.lemmas.Bool.{eqb-true}
 use Rattle.std.proofs.lemmas.List.Elements.{recursion_from_All}
 use Rattle.std.proofs.lemmas.Option.{slice_get_within, slice_get-get_or}
 use Rattle.std.specs.FinMap as table
-use denote.Enum.Bare.{sameb, true_same}
+use denote.Enum.Bare.{sameb, same_true, true_same}
 use Rattle.np_syntax.specs.declared.event.Event.{Event}
 use Rattle.np_syntax.specs.declared.event.Kind.{Kind}
 use Rattle.np_syntax.specs.declared.event.Kind.TheVariants as kind
@@ -64,7 +64,7 @@ use Rattle.site_turn.specs.Turns.{came_from, shown}
 use Rattle.site_crew.specs.Bringing.{AreClear, HasDue, HasNotBrought}
 use Rattle.site_crew.specs.Following.{HasNotRedone, HaveAdded, HaveDone, HaveMissed, StopsAt}
 use Rattle.site_crew.specs.Lists.{IsToFollow}
-use Rattle.site_crew.specs.Runs.{IsProgram}
+use Rattle.site_crew.specs.Runs.{IsProgram, RunsSafely}
 use Rattle.site_crew.specs.Seats.{AreSeats, Stand, histories}
 use Rattle.site_crew.proofs.Clearing.{none_known}
 use Rattle.site_crew.proofs.Directed.{are_directed, puts_lead}
@@ -122,6 +122,9 @@ is_own k t told is = one (by_atom k) (sym told ∙ is)
 
 pub is_coming : (k : Kind) (t : Bool) → t ≡ not (by_atom k) → t ≡ true → by_atom k ≡ false
 is_coming k t told is = not-false (by_atom k) (sym told ∙ is)
+
+pub is_post : (k : Kind) (t : Bool) → t ≡ sameb kinds.the_type k kind.Post → t ≡ true → k ≡ kind.Post
+is_post k t told is = same_true kinds.the_type tt k kind.Post (sym told ∙ is)
 
 pub no_post : (k : Kind) (t : Bool) → t ≡ sameb kinds.the_type k kind.Post → t ≡ false → k ≡ kind.Post → ⊥
 no_post k t told is e = let yes_it_is : sameb kinds.the_type k kind.Post ≡ true = true_same kinds.the_type k kind.Post e in let f : true ≡ false = sym yes_it_is ∙ sym told ∙ is in absurd cc
@@ -309,8 +312,8 @@ module _ {P R : Type 0} (g : Port.Ghosts P R Item) (code : ProgramTable) where
         )
 
     -- so it is done
-    pub never_missed : AreClear g xs → (ys : List (Seat P)) → length ys ≡ length xs → HaveMissed code e (k + 1) xs ys → ⊥
-    never_missed clear ys count missed = by missed
+    pub never_missed : RunsSafely (program code) → AreClear g xs → (ys : List (Seat P)) → length ys ≡ length xs → HaveMissed code e (k + 1) xs ys → ⊥
+    never_missed safe clear ys count missed = by missed
       where
         there : by_atom e.kind ≡ true → (s : Seat P) × (slice_get xs e.site ≡ Some s)
         there own = place-in xs e.site (site_own own)
@@ -328,6 +331,7 @@ module _ {P R : Type 0} (g : Port.Ghosts P R Item) (code : ProgramTable) where
         by (HaveMissed.nowhere past) = nowhere (by_atom e.kind) refl past
         by (HaveMissed.coming comes (HasNotBrought.nowhere none)) = let d = is_due comes clear in none.none d.0 d.1 d.2 d.3
         by (HaveMissed.coming comes (HasNotBrought.full full)) = let s = place-in xs e.site (site_coming comes) in full s.0 s.1 (room_there s.0 s.1)
+        by (HaveMissed.posts post) = safe.posts (take k events) ends.whole reaches e applies.0 applies.1 post
         by (HaveMissed.own own post missed) =
             let s = there own in
             let t = there_too xs ys e.site s.0 count s.1 in
@@ -344,8 +348,8 @@ module _ {P R : Type 0} (g : Port.Ghosts P R Item) (code : ProgramTable) where
       subst (λ (l : List Event). HaveDone g code budget l ys) (sym more) (done_more done stand added (omega arith) (omega arith))
 
   -- where the list is a run that the sites make by themselves, within the budget, they do not stop
-  pub never_stops : {budget : ℕ} {events : List Event} {xs : List (Seat P)} → IsProgram code → IsToFollow (program code) budget events → StopsAt g code budget events xs → ⊥
-  never_stops {budget} {events} {xs} is list stops =
+  pub never_stops : {budget : ℕ} {events : List Event} {xs : List (Seat P)} → IsProgram code → RunsSafely (program code) → IsToFollow (program code) budget events → StopsAt g code budget events xs → ⊥
+  never_stops {budget} {events} {xs} is safe list stops =
       let m = stops.missed in
       let count : length xs ≡ length stops.mid = sym (long-histories xs) ∙ stops.grow.count ∙ long-histories stops.mid in
-      never_missed budget stops.mid events stops.place m.event stops.done is list m.at stops.clear xs count m.missed
+      never_missed budget stops.mid events stops.place m.event stops.done is list m.at safe stops.clear xs count m.missed

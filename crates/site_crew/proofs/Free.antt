@@ -1,6 +1,5 @@
 -- Where no seat wanted for memory no item is set aside: no stamp is so great that it is not accepted.
-use Rattle.std.proofs.Common.{◌≡◌, ◌<◌, ◌≤◌, ◌*◌, ◌+◌, ℕ, suc, inl, inr, List, [], ◌∷◌, length, get_or, Some, refl, subst, arith}
-use Rattle.std.specs.Prelude.{slice_get}
+use Rattle.std.proofs.Common.{◌≡◌, ◌<◌, ◌≤◌, ◌*◌, ℕ, suc, inl, inr, List, [], ◌∷◌, length, get_or, refl, subst, arith}
 use Rattle.std.specs.List.{AllByRecursion}
 use Rattle.np_syntax.specs.declared.limits.TheConstants.{LARGEST_BUDGET, MOST_SITES, STAMPS_END}
 use Rattle.stamp_history.specs.declared.stamped.Stamped.{Stamped}

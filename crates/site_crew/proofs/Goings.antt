@@ -6,7 +6,8 @@ use Rattle.std.proofs.lemmas.Bool.Decides.{eqb_tells}
 use Rattle.std.proofs.lemmas.Option.{slice_get_within, slice_get-get_or, get_or_from_slice_get}
 use Rattle.std.proofs.Math.Logic.{∥∥₁_map}
 use Rattle.site_links.specs.declared.port.Port as Port
-use Rattle.site_links.proofs.Kept.{joined_still}
+use Rattle.np_syntax.proofs.Options.{some_is}
+use Rattle.site_links.proofs.Kept.{linked_still}
 use Rattle.np_code.specs.Programs.{ProgramTable, program}
 use Rattle.np_site_runs.specs.Starting.{start_holding}
 use Rattle.agent_move.specs.declared.item.Item.{Item}
@@ -50,11 +51,13 @@ module _ {P R : Type 0} {g : Port.Ghosts P R Item} {code : ProgramTable} where
       let e : get_or ys k c ≡ c = get_or_from_slice_get ys k c c h in
       (get_or xs k c, slice_get-get_or xs k c lx, subst (λ (o : Seat P). Turned g code (get_or xs k c) o) e (t.each k c lx))
 
-  pub seat_seated : {budget i : ℕ} {s : Seat P} → IsSeat g code budget i s → Seated g code s
-  seat_seated {budget} {i} h = record { placed = h.placed; quiet = h.quiet; start = start_holding (program code) i; kept = h.kept }
+  -- the seat in a place of those of a crew
+  pub seat_seated : {budget : ℕ} (i : ℕ) {xs : List (Seat P)} {s : Seat P} → AreSeats g code budget xs → slice_get xs i ≡ Some s → Seated g code s
+  seat_seated {budget} i {xs} {s} seats at =
+      let h = seats.each i s at in record { placed = h.placed; own = seats.linked.linked i i s s at at; quiet = h.quiet; start = start_holding (program code) i; kept = h.kept }
 
   pub all_seated : {budget : ℕ} {xs : List (Seat P)} → AreSeats g code budget xs → All (λ s. Seated g code s) xs
-  all_seated {budget} {xs} h = all_of (λ s. Seated g code s) xs (λ i c at. seat_seated (h.each i c at))
+  all_seated {budget} {xs} h = all_of (λ s. Seated g code s) xs (λ i c at. seat_seated i h at)
 
   pub seats_turned : {budget : ℕ} {xs ys : List (Seat P)} → AreSeats g code budget xs → AllTurned g code xs ys → AreSeats g code budget ys
   seats_turned {budget} {xs} {ys} h t = record {
@@ -63,17 +66,24 @@ module _ {P R : Type 0} {g : Port.Ghosts P R Item} {code : ProgramTable} where
         let b = turned_at t i c at in let old = h.each i b.0 b.1 in record {
           number = b.2.number ∙ old.number;
           owner = b.2.history.site ∙ old.owner;
-          placed = (steps.seated_after b.2 (seat_seated old)).placed;
+          placed = (steps.seated_after b.2 (seat_seated i h b.1)).placed;
           quiet = b.2.quiet old.quiet;
           kept = b.2.kept (start_holding (program code) i) old.kept;
           budget = b.2.budget ∙ old.budget;
           aside = b.2.aside old.aside;
         };
     linked = record {
-      placed = λ i c at. let b = turned_at t i c at in let p = h.linked.placed i b.0 b.1 in (b.2.keeps.site_same ∙ p.0, b.2.keeps.among_same ∙ (p.1 ∙ sym t.count));
+      placed = λ i c at. let b = turned_at t i c at in let p = h.linked.placed i b.0 b.1 in (b.2.keeps.others.site_same ∙ p.0, b.2.keeps.others.among_same ∙ (p.1 ∙ sym t.count));
       linked = λ i j c d at to.
           let b = turned_at t i c at in let e = turned_at t j d to in
-          ∥∥₁_map (h.linked.linked i j b.0 e.0 b.1 e.1) (joined_still b.2.keeps.links e.2.keeps.links);
+          elim (eqb_tells i j) [
+            | inl w ↦
+                let there : slice_get ys i ≡ Some d = subst (λ (m : ℕ). slice_get ys m ≡ Some d) (sym w.1) to in
+                subst (λ (o : Seat P). ∥ g.linked c.port o.port ∥₁) (some_is (slice_get ys i) c d at there) (∥∥₁_map (h.linked.linked i i b.0 b.0 b.1 b.1) b.2.keeps.own)
+            | inr w ↦
+                let apart : g.site b.0.port ≢ g.site e.0.port = λ same. w.1 (sym (h.linked.placed i b.0 b.1).0 ∙ (same ∙ (h.linked.placed j e.0 e.1).0)) in
+                ∥∥₁_map (h.linked.linked i j b.0 e.0 b.1 e.1) (linked_still apart b.2.keeps e.2.keeps)
+          ];
     };
   }
 

@@ -6,14 +6,13 @@ use Rattle.std.proofs.lemmas.List.{append_cancel_left}
 use Rattle.std.proofs.lemmas.Option.{slice_get_within, slice_get-get_or, get_or_from_slice_get}
 use Rattle.np_tables.specs.Mapped.{mapped}
 use Rattle.np_tables.proofs.Mapped.{mapped_there}
-use Rattle.stamp_history.specs.declared.stamped.Stamped.{Stamped}
 use Rattle.stamp_history.specs.Histories.{Recorded}
 use Rattle.site_links.specs.Words.{Begins}
 use Rattle.site_links.specs.declared.places.TheConstants.{PLACES}
 use Rattle.site_links.specs.declared.port.Port as Port
 use Rattle.np_site_runs.specs.Holdings.{Holding}
 use Rattle.np_code.specs.Programs.{ProgramTable}
-use Rattle.agent_pool.specs.Pools.{Pool, atoms_of}
+use Rattle.agent_pool.specs.Pools.{atoms_of}
 use Rattle.agent_pool.specs.Readies.{NothingReady}
 use Rattle.agent_move.specs.declared.item.Item.{Item}
 use Rattle.site_agents.proofs.deeds.Resting.{mapped-from}
@@ -22,8 +21,7 @@ use Rattle.site_state.specs.Lines.{queue_at}
 use Rattle.site_state.specs.Standings.{Standing, holding_of}
 use Rattle.site_turn.specs.declared.seat.Seat.{Seat}
 use Rattle.site_turn.specs.Turns.{TookTurn}
-use Rattle.crew_ends.specs.Quiet.{AreOver, NoneSends}
-use Rattle.np_syntax.proofs.Options.{some_is}
+use Rattle.crew_ends.specs.Quiet.{AreOver}
 use Rattle.site_crew.specs.Crews.{NoneFailed}
 use Rattle.site_crew.specs.Links.{EndsAgree, Still}
 use Rattle.site_crew.specs.Passes.{AreDone, HavePassed, NoneAside}

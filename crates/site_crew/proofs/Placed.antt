@@ -20,7 +20,7 @@ module _ {P : Type 0} (xs : List (Seat P)) {i : ℕ} (within : i < length xs) wh
 
   module _ {R : Type 0} {g : Port.Ghosts P R Item} {code : ProgramTable} where
     pub seated_placed : {budget : ℕ} → AreSeats g code budget xs → (x : Seat P) → Seated g code (get_or xs i x)
-    seated_placed seats x = seat_seated (seats.each i (get_or xs i x) (slice_get-get_or xs i x within))
+    seated_placed seats x = seat_seated i seats (slice_get-get_or xs i x within)
 
     module _ (x : Seat P) {c : Seat P} (stamp : ℕ) (turned : TurnsBy g code stamp (get_or xs i x) c) where
       pub grow_placed : AllGrow (histories xs) (histories (set xs i c))

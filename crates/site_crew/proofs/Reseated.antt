@@ -1,6 +1,5 @@
 -- The seats of a crew came to be others by a call on the slice of its vector.
 use Rattle.std.proofs.Common.{◌≡◌, nat_lt, ◌≤◌, ◌++◌, ℕ, Bool, false, List, length, take, drop, refl, sym, ap, subst, subst₂, ◌∙◌, arith, Result, IfOk, OnOk}
-use Rattle.np_calculus.specs.Config.{Config}
 use Rattle.np_syntax.specs.declared.limits.TheConstants.{LARGEST_BUDGET}
 use Rattle.np_syntax.specs.declared.memory.Memory.{Memory}
 use Rattle.site_links.specs.declared.port.Port as Port
@@ -10,7 +9,7 @@ use Rattle.site_turn.specs.declared.seat.Seat.{Seat}
 use Rattle.site_crew.specs.Crews.{CrewState, GoesOn, IsCrew, IsJudged, IsRoundOf, NoneFailed}
 use Rattle.site_crew.specs.declared.round.Round.{Round}
 use Rattle.site_crew.specs.Passes.{AreDone, NoneAside}
-use Rattle.site_crew.specs.Runs.{IsCrewRun, IsProgram, RunsSafely}
+use Rattle.site_crew.specs.Runs.{IsProgram, RunsSafely}
 use Rattle.site_crew.specs.Seats.{AllGrow, AllLater, Stand, clocks, event_count, histories}
 use Rattle.site_crew.specs.Shown.{seat_states}
 use Rattle.site_crew.proofs.Crewing.{not-less-tells, round_told, slice_whole, told_ok}

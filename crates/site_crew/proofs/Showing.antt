@@ -1,11 +1,9 @@
 -- The run of seats that stand between rounds ends in just what they show.
 use Rattle.std.proofs.Common.{◌≡◌, ◌<◌, ◌⊎◌, inl, inr, ⊎_elim, ℕ, zero, suc, Bool, true, false, cond, List, [], ◌∷◌, ◌++◌, length, map, Option, None, Some, option_map, refl, sym, ap, subst, ◌∙◌, arith}
 use Rattle.std.specs.Prelude.{slice_get}
-use Rattle.std.specs.List.{AllByRecursion}
 use Rattle.std.specs.FinMap as table
 use Rattle.std.proofs.lemmas.Option.{slice_get_within}
 use Rattle.np_syntax.specs.declared.process.Proc.{Proc}
-use Rattle.np_syntax.proofs.Options.{some_is}
 use Rattle.np_tables.specs.Mapped.{mapped}
 use Rattle.np_tables.specs.Names.{NameMap, same_name}
 use Rattle.np_tables.proofs.Tables.{same_name-is, same_name-itself}
@@ -20,7 +18,7 @@ use Rattle.np_site_runs.specs.merged.Elements.{Occurs}
 use Rattle.np_site_runs.specs.merged.Joined.{together}
 use Rattle.np_site_runs.specs.merged.Links.{air, over}
 use Rattle.np_site_runs.specs.merged.Steps.{sites}
-use Rattle.np_site_runs.specs.Holdings.{Holding, IsHeld, IsPart}
+use Rattle.np_site_runs.specs.Holdings.{Holding, IsPart}
 use Rattle.np_site_runs.proofs.merged.Elements.{every-occurs, mapped-occurs, occurs-either, occurs-first, occurs-map, occurs-mapped, occurs-over, occurs-second, over-occurs}
 use Rattle.np_site_runs.proofs.merged.Resting.{atom-out, either-is, in_sites, packet-out, place-in, place-out}
 use Rattle.np_code.specs.Programs.{ProgramTable, program}
@@ -34,7 +32,7 @@ use Rattle.site_state.specs.Standings.{holding_of}
 use Rattle.site_turn.specs.declared.seat.Seat.{Seat}
 use Rattle.site_crew.specs.Runs.{IsCrewRun, IsProgram}
 use Rattle.site_crew.specs.Seats.{Stand, histories}
-use Rattle.site_crew.specs.Shown.{Flies, HasAgent, HasAtom, IsShownBy, IsUnderWay, Stands, Travels, seat_state, seat_states}
+use Rattle.site_crew.specs.Shown.{Flies, HasAgent, HasAtom, IsShownBy, IsUnderWay, Stands, seat_state, seat_states}
 use Rattle.site_crew.proofs.Born.{born-low}
 use Rattle.site_crew.proofs.CrewRuns.{run_of}
 use Rattle.site_crew.proofs.Stillness.{Whole}

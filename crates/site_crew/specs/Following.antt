@@ -64,11 +64,12 @@ pub record HaveAdded {P : Type 0} (e : Event) (stamp late : ℕ) (xs ys : List (
 pub record HaveNotRedone {P : Type 0} (code : ProgramTable) (e : Event) (stamp : ℕ) (xs ys : List (Seat P)) : Type 0 where
   pub there : (a b : Seat P) → slice_get xs e.site ≡ Some a → slice_get ys e.site ≡ Some b → HasNotRedone code e stamp a b
 
--- the event was not done: no seat is its site's, or it is the coming of an item, and this item has not come, or its site has not done
--- it of its own
+-- the event was not done: no seat is its site's, or it is the coming of an item, and this item has not come, or it is a post, or its
+-- site has not done it of its own
 pub data HaveMissed {P : Type 0} (code : ProgramTable) (e : Event) (stamp : ℕ) (xs ys : List (Seat P)) : Type 0 where
   nowhere : length xs ≤ e.site → HaveMissed code e stamp xs ys
   coming : by_atom e.kind ≡ false → HasNotBrought e xs → HaveMissed code e stamp xs ys
+  posts : e.kind ≡ kind.Post → HaveMissed code e stamp xs ys
   own : by_atom e.kind ≡ true → (e.kind ≡ kind.Post → ⊥) → HaveNotRedone code e stamp xs ys → HaveMissed code e stamp xs ys
 
 -- the event in this place of a list was not done after those before it

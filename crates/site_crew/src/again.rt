@@ -2,13 +2,15 @@
 ghost use Rattle.std.specs.Prelude.{◌≡◌, ◌<◌, ◌≤◌, ◌+◌, ◌-◌, ◌^◌, true, false, not, length, take, Some, slice_get, IfOk};
 ghost use Rattle.np_syntax.specs.declared.limits.TheConstants.{STAMPS_END};
 ghost use Rattle.np_calculus.specs.NotEnabled.{by_atom};
+ghost use Rattle.agent_pool.specs.Readies.{NoPost};
+ghost use Rattle.agent_pool.specs.Rows.{ready_of};
 ghost use Rattle.np_code.specs.Programs.{program};
 ghost use Rattle.site_crew.specs.Bringing.{AreClear};
 ghost use Rattle.site_crew.specs.Crews.{NoneFailed};
 ghost use Rattle.site_crew.specs.Following.{Adds, AreAt, HasNotRedone, HaveAdded, HaveDone, HaveMissedAt, HaveNotRedone, IsNotEarly};
 ghost use Rattle.site_crew.specs.Following.{StopsAt, TurnsBy};
 ghost use Rattle.site_crew.specs.Lists.{AreWithin, IsToFollow};
-ghost use Rattle.site_crew.specs.Runs.{IsProgram};
+ghost use Rattle.site_crew.specs.Runs.{IsProgram, RunsSafely};
 ghost use Rattle.site_crew.specs.Seats.{AllGrow, Stand, event_count, histories};
 ghost use Rattle.site_turn.specs.declared.seat.Seat.{Seat as OneSeat};
 ghost use Rattle.site_turn.specs.Turns.{Seated};
@@ -52,6 +54,7 @@ fn redo<R, P: Port<R, Item>>(
     stamp: u64,
 ) -> Result<bool, Memory>
     requires seated { Seated P.Port code.now seat.old }
+    requires post { NoPost (ready_of event) }
     requires above { seat.old.site.clock < stamp }
     requires stamp { stamp ≤ STAMPS_END }
     ensures turned { TurnsBy P.Port code.now stamp seat.old seat.new }
@@ -81,6 +84,7 @@ fn redo_at<R, P: Port<R, Item>>(
 ) -> Result<bool, Memory>
     requires stand { Stand P.Port code.now _budget seats.old }
     requires at { event.site < length seats.old }
+    requires post { NoPost (ready_of event) }
     requires above { (s : OneSeat P) → slice_get seats.old event.site ≡ Some s → s.site.clock < stamp }
     requires early { IsNotEarly (stamp - 1) seats.old }
     requires stamp { stamp ≤ STAMPS_END }
@@ -96,7 +100,7 @@ fn redo_at<R, P: Port<R, Item>>(
     done
 }
 
-/// Does one event of a list after those before it, if the sites can.
+/// Does one event of a list after those before it, if the sites can. They do no posts.
 fn redo_one<R, P: Port<R, Item>>(
     rt: &R,
     alloc: Global,
@@ -124,7 +128,7 @@ fn redo_one<R, P: Port<R, Item>>(
     if comes(event.kind) {
         bring(rt, code, budget, seats, event, stamp)
     } else if event.kind == Kind::Post {
-        Err(Memory)
+        Ok(false)
     } else {
         redo_at(rt, alloc, code, budget, seats, event, stamp)
     }
@@ -170,6 +174,7 @@ pub fn redo_list<R, P: Port<R, Item>>(
     events: &[Event],
 ) -> Result<bool, Memory>
     requires program { IsProgram code.now }
+    requires safe { RunsSafely (program code.now) }
     requires stand { Stand P.Port code.now budget seats.old }
     requires none { event_count (histories seats.old) ≡ 0 }
     requires sound { NoneFailed seats.old }

@@ -20,13 +20,13 @@ use crew_ends::{all_quiet, seats_for};
 use np_code::Code;
 use np_syntax::{End, Event, List, LowProgram, Memory};
 use site_links::Port;
-use site_turn::{Gate, Seat};
+use site_turn::{Gate, Length, Seat, Signs};
 use stamp_history::History;
 use std::alloc::Global;
 use std::marker::{Model, PhantomData};
 use std::thread::Threads;
 
-/// All sites of a program, each at its port, while no thread has them.
+/// All sites of a program, each at its port, while no thread has them. `signs` is what they see of each other within a round.
 #[derive(Drop)]
 pub struct Crew<R, P: Port<R, Item>> {
     alloc: Global,
@@ -34,6 +34,7 @@ pub struct Crew<R, P: Port<R, Item>> {
     budget: u32,
     failed: bool,
     seats: Vec<Seat<P>>,
+    signs: Signs,
     marker: PhantomData<R>,
 }
 
@@ -71,12 +72,14 @@ impl<R, P: Port<R, Item>> Crew<R, P> {
     {
         let ports = P::make(alloc, code.sites())?;
         let seats = seats_for(alloc, &code, budget, ports)?;
+        let signs = Signs::new(alloc, code.sites())?;
         Ok(Crew {
             alloc,
             code,
             budget,
             failed: false,
             seats,
+            signs,
             marker: PhantomData,
         })
     }
@@ -84,6 +87,19 @@ impl<R, P: Port<R, Item>> Crew<R, P> {
     /// A round in which the sites take their turns one after another. Where memory runs out, the crew has failed: its
     /// histories are still a run, and each later round answers Memory and changes nothing.
     pub fn serial_round(&mut self, rt: &R) -> Result<Round, Memory>
+        ensures on { GoesOn self.old self.new }
+        ensures later { AddsLater self.old self.new }
+        ensures run { HasRun self.new }
+        ensures ok { IfOk result (IsRoundOf self.old self.new) }
+        ensures sound { OnOk result (self.new.failed ≡ false) }
+        ensures err { OnErr result (self.new.failed ≡ true) }
+        ensures failed { self.old.failed ≡ true → self.new ≡ self.old }
+    {
+        self.serial_round_of(rt, Length::Short)
+    }
+
+    /// The same with turns of this length.
+    fn serial_round_of(&mut self, rt: &R, most: Length) -> Result<Round, Memory>
         ensures on { GoesOn self.old self.new }
         ensures later { AddsLater self.old self.new }
         ensures run { HasRun self.new }
@@ -100,6 +116,8 @@ impl<R, P: Port<R, Item>> Crew<R, P> {
             rt,
             self.alloc,
             &self.code,
+            &self.signs,
+            most,
             self.budget,
             self.seats.as_mut_slice(),
         );
@@ -219,6 +237,19 @@ impl<R: Threads + Sync, P: Port<R, Item>> Crew<R, P> {
         ensures err { OnErr result (self.new.failed ≡ true) }
         ensures failed { self.old.failed ≡ true → self.new ≡ self.old }
     {
+        self.round_of(rt, gate, Length::Short)
+    }
+
+    /// The same with turns of this length.
+    fn round_of<G: Gate>(&mut self, rt: &R, gate: &G, most: Length) -> Result<Round, Memory>
+        ensures on { GoesOn self.old self.new }
+        ensures later { AddsLater self.old self.new }
+        ensures run { HasRun self.new }
+        ensures ok { IfOk result (IsRoundOf self.old self.new) }
+        ensures sound { OnOk result (self.new.failed ≡ false) }
+        ensures err { OnErr result (self.new.failed ≡ true) }
+        ensures failed { self.old.failed ≡ true → self.new ≡ self.old }
+    {
         if self.failed {
             return Err(Memory);
         }
@@ -228,6 +259,8 @@ impl<R: Threads + Sync, P: Port<R, Item>> Crew<R, P> {
             self.alloc,
             &self.code,
             gate,
+            &self.signs,
+            most,
             self.budget,
             self.seats.as_mut_slice(),
         );
@@ -241,7 +274,7 @@ impl<R: Threads + Sync, P: Port<R, Item>> Crew<R, P> {
         told(self.failed, round)
     }
 
-    /// A round of either kind.
+    /// A round of either kind, with long turns.
     fn one_round<G: Gate>(&mut self, rt: &R, gate: &G, serial: bool) -> Result<Round, Memory>
         ensures on { GoesOn self.old self.new }
         ensures later { AddsLater self.old self.new }
@@ -252,9 +285,9 @@ impl<R: Threads + Sync, P: Port<R, Item>> Crew<R, P> {
         ensures failed { self.old.failed ≡ true → self.new ≡ self.old }
     {
         if serial {
-            self.serial_round(rt)
+            self.serial_round_of(rt, Length::Long)
         } else {
-            self.round(rt, gate)
+            self.round_of(rt, gate, Length::Long)
         }
     }
 

@@ -12,7 +12,7 @@ use agent_move::Item;
 use crew_ends::are_over;
 use np_code::Code;
 use site_links::Port;
-use site_turn::{Gate, Seat};
+use site_turn::{Gate, Length, Seat, Signs};
 use std::alloc::Global;
 use std::thread::Threads;
 
@@ -24,6 +24,8 @@ pub fn threads_round<R: Threads + Sync, P: Port<R, Item>, G: Gate>(
     alloc: Global,
     code: &Code,
     gate: &G,
+    signs: &Signs,
+    most: Length,
     budget: u32,
     seats: &mut [Seat<P>],
 ) -> u64
@@ -38,11 +40,11 @@ pub fn threads_round<R: Threads + Sync, P: Port<R, Item>, G: Gate>(
         → AreDone code.now budget seats.new }
 {
     let before = events_of(seats);
-    let after = threads_pass(rt, alloc, code, gate, false, budget, seats);
+    let after = threads_pass(rt, alloc, code, gate, signs, most, false, budget, seats);
     if before < after || are_over(code, budget, seats) {
         return after;
     }
-    threads_pass(rt, alloc, code, gate, true, budget, seats)
+    threads_pass(rt, alloc, code, gate, signs, most, true, budget, seats)
 }
 
 /// The turns on threads. How many events all histories have then.
@@ -51,6 +53,8 @@ fn threads_pass<R: Threads + Sync, P: Port<R, Item>, G: Gate>(
     alloc: Global,
     code: &Code,
     gate: &G,
+    signs: &Signs,
+    most: Length,
     walks: bool,
     _budget: u32,
     seats: &mut [Seat<P>],
@@ -64,7 +68,7 @@ fn threads_pass<R: Threads + Sync, P: Port<R, Item>, G: Gate>(
     ensures total { result ≡ event_count (histories seats.new) }
     ensures passed { HavePassed P.Port code.now walks seats.old seats.new }
 {
-    threads_turns(rt, alloc, code, gate, walks, seats);
+    threads_turns(rt, alloc, code, gate, signs, most, walks, seats);
     settle_all(rt, seats);
     events_of(seats)
 }
@@ -74,6 +78,8 @@ pub fn serial_round<R, P: Port<R, Item>>(
     rt: &R,
     alloc: Global,
     code: &Code,
+    signs: &Signs,
+    most: Length,
     budget: u32,
     seats: &mut [Seat<P>],
 ) -> u64
@@ -88,11 +94,11 @@ pub fn serial_round<R, P: Port<R, Item>>(
         → AreDone code.now budget seats.new }
 {
     let before = events_of(seats);
-    let after = serial_pass(rt, alloc, code, false, budget, seats);
+    let after = serial_pass(rt, alloc, code, signs, most, false, budget, seats);
     if before < after || are_over(code, budget, seats) {
         return after;
     }
-    serial_pass(rt, alloc, code, true, budget, seats)
+    serial_pass(rt, alloc, code, signs, most, true, budget, seats)
 }
 
 /// The turns one after another. How many events all histories have then.
@@ -100,6 +106,8 @@ fn serial_pass<R, P: Port<R, Item>>(
     rt: &R,
     alloc: Global,
     code: &Code,
+    signs: &Signs,
+    most: Length,
     walks: bool,
     _budget: u32,
     seats: &mut [Seat<P>],
@@ -113,7 +121,7 @@ fn serial_pass<R, P: Port<R, Item>>(
     ensures total { result ≡ event_count (histories seats.new) }
     ensures passed { HavePassed P.Port code.now walks seats.old seats.new }
 {
-    serial_turns(rt, alloc, code, walks, seats);
+    serial_turns(rt, alloc, code, signs, most, walks, seats);
     settle_all(rt, seats);
     events_of(seats)
 }

@@ -142,3 +142,12 @@ module _ {E I : Type 0} (g : Ends.Ghosts E I) where
       (λ item. (site : ℕ) × (site < among_of a) × Takes (got_at g a) (known_at g a) (got_at g c) (known_at g c) site item)
   taken_after None h within there taken = absurd (there taken)
   taken_after {from = from} (Some item) h within there taken = let t = Took-after h taken in (t.keeps, λ k. (t.sent_same k, t.room_same k), (from, within, t.takes))
+
+  -- and where a take that takes nothing tells nothing of what was known
+  pub told_after : {lo hi : ℕ} {a b c : PortOf E} {from : ℕ} (result : Option I) → Looked g lo hi a b → from < among_of a → known_at g b from ≢ []
+      → MatchOption result (known_at g b from ≡ []) (λ item. Took g b c from item)
+      → KeepsPort g a c × ((k : ℕ) → (sent_at g c k ≡ sent_at g a k) × (room_at g c k ≡ room_at g a k))
+      × MatchOption result ((k : ℕ) → got_at g c k ≡ got_at g a k)
+      (λ item. (site : ℕ) × (site < among_of a) × Takes (got_at g a) (known_at g a) (got_at g c) (known_at g c) site item)
+  told_after None h within there taken = absurd (there taken)
+  told_after {from = from} (Some item) h within there taken = let t = Took-after h taken in (t.keeps, λ k. (t.sent_same k, t.room_same k), (from, within, t.takes))

@@ -50,6 +50,11 @@ module _ {P : Type 0} (site among : P → ℕ) (linked : P → P → Type 0) whe
     pub out_same : (q : P) → site q ≢ k → linked a q → linked b q
     pub in_same : (q : P) → site q ≢ k → linked q a → linked q b
 
+  -- b is the port a at a later time: it is linked with each other port as a was, and with itself
+  pub record KeepsAll (a b : P) : Type 0 where
+    pub others : KeepsBut (site a) a b
+    pub own : linked a a → linked b b
+
   -- a port for each of n sites, in order, and each linked with each
   pub record IsFullMake (n : ℕ) (ports : List P) : Type 0 where
     pub count : length ports ≡ n

@@ -19,6 +19,9 @@ pub trait Ends<I>: Sized + Drop {
     /// What is put at the first is taken at the second.
     ghost meets: { Self → Self → Type 0 };
 
+    /// Whether what is put may be taken before the link is settled. It is a hint.
+    fn is_live() -> bool;
+
     /// The ends of the two links between two sites.
     fn apart(alloc: Global) -> Result<(Self, Self), Memory>
         ensures fresh { IfOk result (λ made. IsFresh sent got known room made.0 × IsFresh sent got known room made.1) }

@@ -25,6 +25,9 @@ pub trait Port<R, I: Addressed>: Sized + Send + Drop {
     /// The two ports are of one `make`: the link from the first's site leads to the second's.
     ghost linked: { Self → Self → Type 0 };
 
+    /// Whether what is put on a link may be taken from it before it is settled. It is a hint.
+    fn is_live() -> bool;
+
     /// A port for each site, in order.
     fn make(alloc: Global, sites: u32) -> Result<Vec<Self>, Memory>
         requires { (1 ≤ sites) × (sites ≤ MOST_SITES) }
@@ -51,6 +54,16 @@ pub trait Port<R, I: Addressed>: Sized + Send + Drop {
         ensures keeps { Keeps site among linked self.old self.new }
         ensures putting { (k : ℕ) → (sent self.new k ≡ sent self.old k) × (room self.new k ≡ room self.old k) }
         ensures taken { MatchOption result ((k : ℕ) → (got self.new k ≡ got self.old k) × (known self.old k ≡ []))
+            (λ item. (from : ℕ) × (from < among self.old)
+            × Takes (got self.old) (known self.old) (got self.new) (known self.new) from item) };
+
+    /// Takes an item, if one is there from this site; a port that has one place for what comes from all takes from there. That it
+    /// takes none tells nothing of what was known to wait.
+    fn take_from(&mut self, rt: &R, from: u32) -> Option<I>
+        requires { from < among self.old }
+        ensures keeps { Keeps site among linked self.old self.new }
+        ensures putting { (k : ℕ) → (sent self.new k ≡ sent self.old k) × (room self.new k ≡ room self.old k) }
+        ensures taken { MatchOption result ((k : ℕ) → got self.new k ≡ got self.old k)
             (λ item. (from : ℕ) × (from < among self.old)
             × Takes (got self.old) (known self.old) (got self.new) (known self.new) from item) };
 

@@ -50,6 +50,10 @@ impl<R, I: Addressed, E: Ends<I> + Send> Port<R, I> for PortOf<E> {
 
     ghost linked = { Linked E.Ends };
 
+    fn is_live() -> bool {
+        E::is_live()
+    }
+
     fn make(alloc: Global, sites: u32) -> Result<Vec<Self>, Memory> {
         let mut ports = Vec::new(alloc);
         for number in 0..sites {
@@ -73,6 +77,14 @@ impl<R, I: Addressed, E: Ends<I> + Send> Port<R, I> for PortOf<E> {
             return take_at(self, from);
         }
         None
+    }
+
+    fn take_from(&mut self, _rt: &R, from: u32) -> Option<I> {
+        let from = from as usize;
+        match find(self, from, from + 1) {
+            Some(site) => take_at(self, site),
+            None => None,
+        }
     }
 
     fn settle(&mut self, _rt: &R, to: &mut Self) -> usize {

@@ -41,6 +41,10 @@ impl<I: Drop> Ends<I> for RingEnds<I> {
 
     ghost meets = { λ a b. ring.IsPair a.to b.from };
 
+    fn is_live() -> bool {
+        true
+    }
+
     fn apart(alloc: Global) -> Result<(Self, Self), Memory> {
         let (to, there) = RingBuffer::new(alloc, PLACES as usize)?;
         let (back, from) = RingBuffer::new(alloc, PLACES as usize)?;

@@ -60,6 +60,10 @@ impl<I: Drop> Ends<I> for TrayEnds<I> {
     ghost meets = { λ a b. ring.IsPair a.to b.from × (length (ring.received b.from) ≡ length (ring.sent a.to))
         × (length b.inside.items + length a.out.items + a.spare ≤ PLACES) };
 
+    fn is_live() -> bool {
+        false
+    }
+
     fn apart(alloc: Global) -> Result<(Self, Self), Memory> {
         let (to, there) = RingBuffer::new(alloc, AT_ONCE)?;
         let (back, from) = RingBuffer::new(alloc, AT_ONCE)?;

@@ -3,6 +3,7 @@ pub mod Arrivals
 pub mod Births
 pub mod Done
 pub mod Forced
+pub mod OwnKinds
 pub mod Left
 pub mod Lines
 pub mod Seats

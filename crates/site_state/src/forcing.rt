@@ -3,6 +3,7 @@
 ghost use Rattle.std.specs.Prelude.{◌≡◌, ◌<◌, ◌≤◌, ◌+◌, ◌-◌, length, max, IfOk, OnOk, OnErr};
 ghost use Rattle.np_syntax.specs.declared.limits.TheConstants.{STAMPS_END};
 ghost use Rattle.stamp_history.specs.Histories.{IsAboveLast};
+ghost use Rattle.agent_pool.specs.Readies.{NoPost};
 ghost use Rattle.agent_pool.specs.Rows.{ready_of};
 ghost use Rattle.site_state.specs.Doing.{HasDoneEvent, HasRoom, IsPossible, IsRedone, event_at};
 ghost use Rattle.site_agents.specs.Standings.{CanDo};
@@ -37,7 +38,7 @@ impl Site {
     }
 
     /// Does this event, as `step` would, and records it with this stamp. It walks over the agents to find one that can do
-    /// it. A post, which no code for sites has, is refused.
+    /// it.
     pub fn force(
         &mut self,
         alloc: Global,
@@ -48,6 +49,7 @@ impl Site {
         requires sites { length code.now.sites ≡ length self.old.outgoing }
         requires room { HasRoom self.old }
         requires possible { IsPossible code.now self.old event }
+        requires post { NoPost (ready_of event) }
         requires above { self.old.clock < stamp }
         requires stamp { stamp ≤ STAMPS_END }
         ensures ok { OnOk result (HasDoneEvent code.now (with_clock self.old (stamp - 1)) self.new event) }
@@ -69,6 +71,7 @@ impl Site {
     ) -> Result<bool, Memory>
         requires sites { length code.now.sites ≡ length self.old.outgoing }
         requires room { HasRoom self.old }
+        requires post { NoPost (ready_of event) }
         requires above { self.old.clock < stamp }
         requires stamp { stamp ≤ STAMPS_END }
         ensures ok { IfOk result (IsRedone code.now (ready_of event) stamp self.old self.new) }
@@ -92,6 +95,7 @@ impl Site {
         requires sites { length code.now.sites ≡ length self.old.outgoing }
         requires room { HasRoom self.old }
         requires can { CanDo code.now self.old.agents name r }
+        requires post { NoPost r }
         requires above { self.old.clock < stamp }
         requires stamp { stamp ≤ STAMPS_END }
         ensures ok { IfOk result (IsRedone code.now r stamp self.old self.new) }
@@ -115,6 +119,7 @@ impl Site {
         requires sites { length code.now.sites ≡ length self.old.outgoing }
         requires room { HasRoom self.old }
         requires can { CanDo code.now self.old.agents name r }
+        requires post { NoPost r }
         requires above { self.old.clock < stamp }
         requires stamp { stamp ≤ STAMPS_END }
         ensures ok { OnOk result (HasDoneEvent code.now (with_clock self.old (stamp - 1)) self.new (event_at code.now self.old name r)) }

@@ -10,15 +10,20 @@ use std::alloc::Global;
 use std::marker::Model;
 
 /// The items that a site has to put on its links, in a line for each site. `sure` is for how many more there is room in
-/// each line.
+/// each line. `last` is a hint: the site for which an item came last.
 pub struct Outgoing {
     lines: Vec<Line>,
     sure: u32,
+    last: u32,
 }
 
 impl Drop for Outgoing {
     fn drop(self) {
-        let Outgoing { lines: _, sure: _ } = self;
+        let Outgoing {
+            lines: _,
+            sure: _,
+            last: _,
+        } = self;
     }
 }
 
@@ -44,6 +49,7 @@ impl Outgoing {
         Ok(Outgoing {
             lines,
             sure: PLACES,
+            last: 0,
         })
     }
 
@@ -70,6 +76,11 @@ impl Outgoing {
             Some(line) => line.is_empty(),
             None => true,
         }
+    }
+
+    /// The site for which an item came last. It is a hint.
+    pub fn last(&self) -> u32 {
+        self.last
     }
 
     /// The first item for a site.
@@ -103,6 +114,7 @@ impl Outgoing {
         ensures sure { self.old.sure ≡ self.new.sure + 1 }
     {
         self.sure -= 1;
+        self.last = to;
         self.lines[to as usize].put(item);
     }
 

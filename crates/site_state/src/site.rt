@@ -181,6 +181,11 @@ impl Site {
         self.outgoing.has_none_for(to)
     }
 
+    /// The site for which an item was put out last. It is a hint.
+    pub fn last_for(&self) -> u32 {
+        self.outgoing.last()
+    }
+
     /// Whether all agents that stand here are idle. It takes no memory.
     pub fn idle(&self, code: &Code) -> bool
         ensures { IsTrue result ↔ AreIdle code.now.processes self.now.agents }

@@ -1,4 +1,5 @@
 ghost use Rattle.std.specs.Prelude.{◌≡◌, length, IfOk, OnOk, OnErr, IfSome, IfNone, IsTrue, IsFalse};
+ghost use Rattle.agent_pool.specs.Readies.{NoPost};
 ghost use Rattle.site_state.specs.Doing.{HasDoneEvent, HasRoom, IsStepped, IsTried, event_at};
 ghost use Rattle.site_state.specs.Parts.{IsLooked};
 ghost use Rattle.site_agents.specs.Standings.{CanDo, NoneCan};
@@ -66,6 +67,7 @@ impl Site {
     /// An agent that can do something, and what.
     fn next_ready(&mut self, code: &Code) -> Option<(Name, Ready)>
         ensures stays { IsLooked code.now self.old self.new }
+        ensures post { IfSome result (λ found. NoPost found.1) }
         ensures some { IfSome result (λ found. CanDo code.now self.new.agents found.0 found.1) }
         ensures none { IfNone result (IsQuiet code.now self.old → NoneCan code.now self.old.agents) }
     {
@@ -75,12 +77,13 @@ impl Site {
     /// An agent whose index tells what it can do, and that.
     fn next_likely(&mut self, code: &Code) -> Option<(Name, Ready)>
         ensures stays { IsLooked code.now self.old self.new }
+        ensures post { IfSome result (λ found. NoPost found.1) }
         ensures some { IfSome result (λ found. CanDo code.now self.new.agents found.0 found.1) }
     {
         self.agents.next_likely(code)
     }
 
-    /// Does the event of an agent that stands here and can do this.
+    /// Does the event of an agent that stands here and can do this, which is no post.
     pub(super) fn do_event(
         &mut self,
         alloc: Global,
@@ -91,6 +94,7 @@ impl Site {
         requires sites { length code.now.sites ≡ length self.old.outgoing }
         requires room { HasRoom self.old }
         requires can { CanDo code.now self.old.agents name r }
+        requires post { NoPost r }
         ensures ok { OnOk result (HasDoneEvent code.now self.old self.new (event_at code.now self.old name r)) }
         ensures err { OnErr result (Stays code.now self.old self.new) }
     {
@@ -103,7 +107,7 @@ impl Site {
             Kind::Depart => self.do_depart(alloc, code, name, r),
             Kind::Agent => self.do_child(alloc, code, name, r),
             Kind::Local => self.do_local(alloc, code, name, r),
-            _ => Err(Memory),
+            _ => unreachable!(),
         }
     }
 }

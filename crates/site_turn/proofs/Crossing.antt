@@ -9,3 +9,4 @@ pub mod Frames
 pub mod Agents
 pub mod Histories
 pub mod Codes
+pub mod Signs

@@ -19,7 +19,7 @@ use Rattle.site_state.specs.Lines.{queue_at}
 use Rattle.site_state.specs.Standings.{IsOut, SameRecords, SameSite, Standing, Stays, StaysForAll}
 use Rattle.site_state.proofs.Tellings.{same_atoms, there_still}
 use Rattle.site_turn.specs.declared.seat.Seat.{Seat}
-use Rattle.site_turn.specs.Turns.{Accepts, HadNoneWaiting, HadNothing, MakesNone, MakesOne, LeavesLink, OnlySends, Polls, Receives, ReceivesAside, ReceivesNone, Seated, SetsAside, Steps, Sends, SendsAll, SendsFor, SendsNone, Turned}
+use Rattle.site_turn.specs.Turns.{Accepts, HadNothing, MakesNone, MakesOne, LeavesLink, OnlySends, Receives, ReceivesAside, ReceivesNone, Seated, SetsAside, Steps, Sends, SendsAll, SendsFor, SendsNone, Turned}
 use Rattle.site_links.proofs.Rows.{only_at-other}
 use Rattle.site_links.specs.declared.places.TheConstants.{PLACES}
 use Rattle.site_turn.proofs.Holdings.{recorded_events}
@@ -112,10 +112,6 @@ module _ {P R : Type 0} (g : Port.Ghosts P R Item) where
   -- nothing was known to wait for it, if it had room
   pub record NoneKnown (a : Seat P) : Type 0 where
     pub each : HasRoom a.site → (k : ℕ) → g.known a.port k ≡ []
-
-  -- it is as it was, or nothing was known to wait for it then
-  abbrev pub IsSameOrNoneKnown : Seat P → Seat P → Type 0
-  IsSameOrNoneKnown a m = (m ≡ a) ⊎ NoneKnown a
 
 pub not_some : {T : Type 0} (o : Option T) (b : Bool) → b ≡ is_some o → b ≡ false → o ≡ None
 not_some None b is none = refl
@@ -276,13 +272,6 @@ module _ {P R : Type 0} {g : Port.Ghosts P R Item} {code : ProgramTable} where
   none_waited a b (inl h) free = record { each = h.none (sym h.aside ∙ free) }
   none_waited a b (inr h) free = absurd (some-none b.aside h.item h.aside free)
 
-  pub looked : (a m b : Seat P) → IsSameOrNoneKnown g a m → ReceivesNone g code m b → b.aside ≡ None → NoneKnown g a
-  looked a m b (inl e) r free = subst (NoneKnown g) e (none_waited m b r free)
-  looked a m b (inr h) r free = h
-
-  pub looked_none : (a m b : Seat P) → IsSameOrNoneKnown g a m → ReceivesNone g code m b → HadNoneWaiting g code a b
-  looked_none a m b w r = record { none = λ ok free. (looked a m b w r free).each }
-
 -- ---- a step of the site's own
 
 module _ {P : Type 0} (code : ProgramTable) (a b : Seat P) where
@@ -302,27 +291,7 @@ no-list (x ∷ xs) ys e = absurd (let h = e in cc)
 
 -- ---- one event
 
-pub polled_none : {P R : Type 0} (g : Port.Ghosts P R Item) (code : ProgramTable) (a b : Seat P) (polls answer : Bool) → Polls g code polls a b answer → answer ≡ false → MakesNone code a.site b.site
-polled_none g code a b true true h e = absurd cc
-polled_none g code a b true false h e = none_received a b h
-polled_none g code a b false answer h e = none_same (ap (λ (s : Seat _). s.site) h.1)
-
-pub polled_same : {P R : Type 0} (g : Port.Ghosts P R Item) (code : ProgramTable) (a b : Seat P) (polls answer : Bool) → Polls g code polls a b answer → answer ≡ false → b.aside ≡ None
-    → IsSameOrNoneKnown g a b
-polled_same g code a b true true h e free = absurd cc
-polled_same g code a b true false h e free = inr (none_waited a b h free)
-polled_same g code a b false answer h e free = inl h.1
-
 module _ {P R : Type 0} {g : Port.Ghosts P R Item} {code : ProgramTable} where
-  pub polled : (a b : Seat P) (answer : Bool) → (answer ≡ true → Receives g code a b) → (answer ≡ false → ReceivesNone g code a b) → Polls g code true a b answer
-  polled a b true h k = h refl
-  polled a b false h k = k refl
-
-  pub polled_one : (a b : Seat P) (polls answer : Bool) → Seated g code a → Polls g code polls a b answer → answer ≡ true → MakesOne a.site b.site
-  polled_one a b true true seated h e = one_received seated h
-  polled_one a b true false seated h e = absurd cc
-  polled_one a b false answer seated h e = let same : false ≡ true = sym h.0 ∙ e in absurd cc
-
   -- an item is set aside, or memory ran out
   pub had_failed : (a b : Seat P) (walks : Bool) → (b.failed ≡ false → b.aside ≡ None → ⊥) → HadNothing g code walks a b
   had_failed a b walks h = record {
@@ -338,17 +307,9 @@ module _ {P R : Type 0} {g : Port.Ghosts P R Item} {code : ProgramTable} where
       }
   had_spent a m b walks none (inr failed) = had_failed a b walks (λ ok free. (let e = sym failed ∙ ok in absurd cc))
 
-  pub had_quiet : (a m q b : Seat P) (walks : Bool) → MakesNone code a.site m.site → IsSameOrNoneKnown g a m → MakesNone code m.site q.site → q.port ≡ m.port
-      → (walks ≡ true → NoneCan code m.site.agents) → HadNoneWaiting g code q b → HadNothing g code walks a b
-  had_quiet a m q b walks none same still port can waits = record {
-    waits = record {
-      none = λ ok free room. elim same [
-        | inl e ↦
-            subst (λ (s : Seat P). (k : ℕ) → g.known s.port k ≡ []) e
-            (subst (λ (p : P). (k : ℕ) → g.known p k ≡ []) port (waits.none ok free (room_before still (room_before none room))))
-        | inr h ↦ h.each room
-      ];
-    };
+  pub had_quiet : (a m b : Seat P) (walks : Bool) → MakesNone code a.site m.site → NoneKnown g a → (walks ≡ true → NoneCan code m.site.agents) → HadNothing g code walks a b
+  had_quiet a m b walks none known can = record {
+    waits = record { none = λ ok free room. known.each room };
     agents = λ w ok free room. none_could none (can w);
   }
 

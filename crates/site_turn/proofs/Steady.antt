@@ -1,5 +1,5 @@
 -- A site that makes one event more goes on by no more than Lamport's rule asks for.
-use Rattle.std.proofs.Common.{◌≡◌, ◌<◌, ◌≤◌, ◌+◌, ◌⊎◌, inl, inr, ⊎_elim, ℕ, max, cond, List, [], ◌∷◌, ◌++◌, length, refl, sym, ap, subst, subst₂, ◌∙◌, arith, eq-eqb}
+use Rattle.std.proofs.Common.{◌≡◌, ◌<◌, ◌≤◌, ◌+◌, ◌⊎◌, inl, inr, ⊎_elim, ℕ, max, cond, [], ◌∷◌, ◌++◌, length, refl, sym, ap, subst, subst₂, ◌∙◌, arith, eq-eqb}
 use Rattle.std.specs.List.{AllByRecursion}
 use Rattle.stamp_history.specs.declared.stamped.Stamped.{Stamped}
 use Rattle.run_merge.proofs.InOrder.{all_append, all_weaker}

@@ -10,9 +10,10 @@ use Rattle.np_syntax.specs.declared.process.Proc.{Proc}
 use Rattle.np_tables.proofs.Tables.{same_name-itself}
 use Rattle.stamp_history.specs.Histories.{Recorded}
 use Rattle.std.specs.FinMap as table
-use Rattle.site_links.specs.Words.{Begins, Keeps, only_at}
+use Rattle.site_links.specs.Words.{Begins, Keeps, KeepsAll, only_at}
 use Rattle.site_links.specs.declared.port.Port as Port
-use Rattle.site_links.proofs.Kept.{Begins-same, Begins-trans, Keeps-refl, Keeps-trans}
+use Rattle.std.proofs.Math.Logic.{∥∥₁_map}
+use Rattle.site_links.proofs.Kept.{Begins-same, Begins-trans, Keeps-refl, all_trans, kept_all}
 use Rattle.run_merge.proofs.InOrder.{all_filter, all_flat_map, all_pass, all_weaker}
 use Rattle.np_site_runs.specs.merged.Deeds.{Deed, HasStamps, IsDeedOf, StampedItem, clock_after, put_for, ticked}
 use Rattle.np_site_runs.proofs.merged.Flowing.{all_both}
@@ -44,7 +45,7 @@ use Rattle.site_turn.proofs.Holdings.{history_same, history_trans, holding_same,
 module _ {P R : Type 0} {g : Port.Ghosts P R Item} {code : ProgramTable} where
   pub turned_refl : (a : Seat P) → Turned g code a a
   turned_refl a = record {
-    keeps = Keeps-refl a.port;
+    keeps = kept_all (Keeps-refl a.port);
     number = refl;
     lines = refl;
     budget = refl;
@@ -64,7 +65,7 @@ module _ {P R : Type 0} {g : Port.Ghosts P R Item} {code : ProgramTable} where
 
   pub turned_trans : {a b c : Seat P} → Turned g code a b → Turned g code b c → Turned g code a c
   turned_trans h k = record {
-    keeps = Keeps-trans h.keeps k.keeps;
+    keeps = all_trans h.keeps k.keeps;
     number = k.number ∙ h.number;
     lines = k.lines ∙ h.lines;
     budget = k.budget ∙ h.budget;
@@ -85,11 +86,12 @@ module _ {P R : Type 0} {g : Port.Ghosts P R Item} {code : ProgramTable} where
   pub seated_after : {a b : Seat P} → Turned g code a b → Seated g code a → Seated g code b
   seated_after {a} {b} t s = record {
     placed = record {
-      number = t.keeps.site_same ∙ s.placed.number ∙ sym t.number;
-      among = t.keeps.among_same ∙ s.placed.among;
+      number = t.keeps.others.site_same ∙ s.placed.number ∙ sym t.number;
+      among = t.keeps.others.among_same ∙ s.placed.among;
       lines = t.lines ∙ s.placed.lines;
       budget = t.budget ∙ s.placed.budget ∙ sym t.history.budget;
     };
+    own = ∥∥₁_map s.own t.keeps.own;
     quiet = t.quiet s.quiet;
     start = s.start;
     kept = t.kept s.start s.kept;
@@ -131,10 +133,10 @@ module _ {P R : Type 0} {g : Port.Ghosts P R Item} {code : ProgramTable} where
     put = λ t. ap (shown code) (s.put t) ∙ h.put t;
   }
 
-  pub turned_still : {a b : Seat P} → Still g code a b → KeepsQuiet code a.site b.site → ((t : ℕ) → Begins (g.sent b.port t) (g.sent a.port t))
-      → Keeps g.site g.among g.linked a.port b.port → length b.site.outgoing ≡ length a.site.outgoing → b.budget ≡ a.budget
+  pub turned_settled : {a b : Seat P} → Still g code a b → KeepsQuiet code a.site b.site → ((t : ℕ) → Begins (g.sent b.port t) (g.sent a.port t))
+      → KeepsAll g.site g.among g.linked a.port b.port → length b.site.outgoing ≡ length a.site.outgoing → b.budget ≡ a.budget
       → (b.failed ≡ false → a.failed ≡ false) → Turned g code a b
-  turned_still {a} {b} s quiet sent keeps lines budget f = record {
+  turned_settled {a} {b} s quiet sent keeps lines budget f = record {
     keeps = keeps;
     number = s.number;
     lines = lines;
@@ -152,6 +154,12 @@ module _ {P R : Type 0} {g : Port.Ghosts P R Item} {code : ProgramTable} where
     line = λ same t. s.put t;
     got = λ same free k. s.got k;
   }
+
+  -- and the links that the port had are as they were
+  pub turned_still : {a b : Seat P} → Still g code a b → KeepsQuiet code a.site b.site → ((t : ℕ) → Begins (g.sent b.port t) (g.sent a.port t))
+      → Keeps g.site g.among g.linked a.port b.port → length b.site.outgoing ≡ length a.site.outgoing → b.budget ≡ a.budget
+      → (b.failed ≡ false → a.failed ≡ false) → Turned g code a b
+  turned_still s quiet sent keeps lines budget f = turned_settled s quiet sent (kept_all keeps) lines budget f
 
   -- nothing of the site has changed, nor of what the port carried
   pub turned_stays : {a b : Seat P} → Stays code a.site b.site → b.port ≡ a.port → b.aside ≡ a.aside → b.budget ≡ a.budget → (b.failed ≡ false → a.failed ≡ false) → Turned g code a b
@@ -350,7 +358,7 @@ module _ {P R : Type 0} {g : Port.Ghosts P R Item} {code : ProgramTable} where
   pub turned_done : {a b : Seat P} → HasDone code a.site b.site → length a.site.outgoing ≡ length code.sites → b.port ≡ a.port → b.aside ≡ a.aside → b.budget ≡ a.budget
       → b.failed ≡ a.failed → Turned g code a b
   turned_done {a} {b} done lines port aside budget failed = record {
-    keeps = keeps_same g a.port b.port port;
+    keeps = kept_all (keeps_same g a.port b.port port);
     number = done.did.site;
     lines = put-lines a.site.outgoing done.out b.site.outgoing done.did.outgoing;
     budget = budget;
@@ -436,7 +444,7 @@ module _ {P R : Type 0} {g : Port.Ghosts P R Item} {code : ProgramTable} where
       let none : a.aside ≡ None = sym aside ∙ accepts.free in
       let d : Deed = deed_at code b.site event (Some item) None in
       record {
-        keeps = subst (λ (p : P). Keeps g.site g.among g.linked a.port p) (sym accepts.port) keeps;
+        keeps = kept_all (subst (λ (p : P). Keeps g.site g.among g.linked a.port p) (sym accepts.port) keeps);
         number = did.site;
         lines = did.outgoing.sites;
         budget = accepts.budget ∙ budget;
@@ -479,7 +487,7 @@ module _ {P R : Type 0} {g : Port.Ghosts P R Item} {code : ProgramTable} where
       let s : SameSite a.site b.site = subst (λ (s : Standing). SameSite s b.site) site sets.site.same in
       let none : a.aside ≡ None = sym aside ∙ sets.free in
       record {
-        keeps = subst (λ (p : P). Keeps g.site g.among g.linked a.port p) (sym sets.port) keeps;
+        keeps = kept_all (subst (λ (p : P). Keeps g.site g.among g.linked a.port p) (sym sets.port) keeps);
         number = s.site;
         lines = s.outgoing.sites;
         budget = sets.budget ∙ budget;

@@ -7,7 +7,7 @@ use Rattle.np_syntax.specs.declared.event.Kind.{Kind}
 use Rattle.np_syntax.specs.declared.event.Kind.TheVariants as kind
 use Rattle.stamp_history.specs.declared.stamped.Stamped.{Stamped}
 use Rattle.stamp_history.specs.Histories.{Recorded}
-use Rattle.site_links.specs.Words.{Begins, Keeps, only_at}
+use Rattle.site_links.specs.Words.{Begins, KeepsAll, only_at}
 use Rattle.site_links.specs.declared.places.TheConstants.{PLACES}
 use Rattle.site_links.specs.declared.port.Port as Port
 use Rattle.np_site_runs.specs.merged.Deeds.{Deed, StampedItem, clock_after, put_for}
@@ -129,9 +129,10 @@ module _ {P R : Type 0} (g : Port.Ghosts P R Item) (code : ProgramTable) where
     pub got : (k : ℕ) → shown code (g.got s.port k) ≡ came_on k (came ++ came_from code from s.aside)
     pub put : (t : ℕ) → shown code (g.sent s.port t ++ queue_at s.site.outgoing t) ≡ put_for t deeds
 
-  -- at its port, with an account since some holding
+  -- at its port, which is linked with itself, with an account since some holding
   pub record Seated (s : Seat P) : Type 0 where
     pub placed : Placed s
+    pub own : ∥ g.linked s.port s.port ∥₁
     pub quiet : IsQuiet code s.site
     pub start : Holding
     pub kept : Kept start s
@@ -139,7 +140,7 @@ module _ {P R : Type 0} (g : Port.Ghosts P R Item) (code : ProgramTable) where
   -- The seat at a later time: its site has only gone on, by deeds of its own, and its account since any holding has all of them, with
   -- what it took and put out.
   pub record Turned (old new : Seat P) : Type 0 where
-    pub keeps : Keeps g.site g.among g.linked old.port new.port
+    pub keeps : KeepsAll g.site g.among g.linked old.port new.port
     pub number : new.site.site ≡ old.site.site
     pub lines : length new.site.outgoing ≡ length old.site.outgoing
     pub budget : new.budget ≡ old.budget
@@ -228,12 +229,6 @@ module _ {P R : Type 0} (g : Port.Ghosts P R Item) (code : ProgramTable) where
   -- no item was accepted
   abbrev pub ReceivesNone : Seat P → Seat P → Type 0
   ReceivesNone old new = TakesNone old new ⊎ ReceivesAside old new
-
-  -- where it polls it receives an item, or none; else it does nothing
-  abbrev pub Polls : Bool → Seat P → Seat P → Bool → Type 0
-  Polls true old new true = Receives old new
-  Polls true old new false = ReceivesNone old new
-  Polls false old new answer = (answer ≡ false) × (new ≡ old)
 
   -- nothing was known to wait for it, if it had room for an event, and if memory did not run out and no item is set aside
   pub record HadNoneWaiting (old new : Seat P) : Type 0 where

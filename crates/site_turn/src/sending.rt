@@ -3,6 +3,7 @@ ghost use Rattle.std.specs.Prelude.{ℕ, ◌≡◌, ◌≢◌, ◌<◌, ◌↔�
 ghost use Rattle.site_turn.specs.Turns.{HasPut, LeavesLink, OnlySends, Seated, Sends, SendsAll, SendsFor, SendsNone, Turned};
 
 use crate::seat::Seat;
+use crate::signs::Signs;
 use agent_move::Item;
 use np_code::Code;
 use np_syntax::Kind;
@@ -11,20 +12,20 @@ use site_state::Site;
 
 /// Puts what is outgoing on the links, as far as there is room.
 #[tactic(auto, using(crate::proofs::Steps::turned_refl))]
-pub fn send<R, P: Port<R, Item>>(rt: &R, code: &Code, seat: &mut Seat<P>)
+pub fn send<R, P: Port<R, Item>>(rt: &R, code: &Code, signs: &Signs, seat: &mut Seat<P>)
     requires { Seated P.Port code.now seat.old }
     ensures turned { Turned P.Port code.now seat.old seat.new }
     ensures only { OnlySends P.Port code.now seat.old seat.new }
     ensures all { SendsAll P.Port code.now seat.old seat.new }
 {
     for to in 0..code.sites() {
-        send_to(rt, code, seat, to);
+        send_to(rt, code, signs, seat, to);
     }
 }
 
 /// Puts what is outgoing for a site on its link, as far as there is room.
 #[tactic(auto, using(crate::proofs::Steps::turned_refl))]
-fn send_to<R, P: Port<R, Item>>(rt: &R, code: &Code, seat: &mut Seat<P>, to: u32)
+fn send_to<R, P: Port<R, Item>>(rt: &R, code: &Code, signs: &Signs, seat: &mut Seat<P>, to: u32)
     requires seated { Seated P.Port code.now seat.old }
     requires to { to < length code.now.sites }
     ensures turned { Turned P.Port code.now seat.old seat.new }
@@ -33,14 +34,20 @@ fn send_to<R, P: Port<R, Item>>(rt: &R, code: &Code, seat: &mut Seat<P>, to: u32
     ensures others { (k : ℕ) → k ≢ to → LeavesLink P.Port code.now k seat.old seat.new }
 {
     for number in 0..PLACES {
-        if !send_one(rt, code, seat, to) {
+        if !send_one(rt, code, signs, seat, to) {
             return;
         }
     }
 }
 
 /// Puts the first item for a site on its link. False where none is outgoing, or where there is no room.
-fn send_one<R, P: Port<R, Item>>(rt: &R, _code: &Code, seat: &mut Seat<P>, to: u32) -> bool
+fn send_one<R, P: Port<R, Item>>(
+    rt: &R,
+    _code: &Code,
+    signs: &Signs,
+    seat: &mut Seat<P>,
+    to: u32,
+) -> bool
     requires seated { Seated P.Port _code.now seat.old }
     requires to { to < length _code.now.sites }
     ensures turned { Turned P.Port _code.now seat.old seat.new }
@@ -51,12 +58,18 @@ fn send_one<R, P: Port<R, Item>>(rt: &R, _code: &Code, seat: &mut Seat<P>, to: u
     if seat.site.has_none_for(to) {
         return false;
     }
-    put_first(rt, _code, seat, to)
+    put_first(rt, _code, signs, seat, to)
 }
 
 /// The same where an item may be outgoing. It stands by itself since a function pays at its entry for the items that it may hold, and
 /// for most sites none is outgoing.
-fn put_first<R, P: Port<R, Item>>(rt: &R, _code: &Code, seat: &mut Seat<P>, to: u32) -> bool
+fn put_first<R, P: Port<R, Item>>(
+    rt: &R,
+    _code: &Code,
+    signs: &Signs,
+    seat: &mut Seat<P>,
+    to: u32,
+) -> bool
     requires seated { Seated P.Port _code.now seat.old }
     requires to { to < length _code.now.sites }
     ensures turned { Turned P.Port _code.now seat.old seat.new }
@@ -66,7 +79,10 @@ fn put_first<R, P: Port<R, Item>>(rt: &R, _code: &Code, seat: &mut Seat<P>, to: 
 {
     match seat.site.next_out(to) {
         Some(item) => match seat.port.put(rt, to, item) {
-            Ok(()) => true,
+            Ok(()) => {
+                tell::<R, P>(signs, seat.site.number(), to);
+                true
+            }
             Err(item) => {
                 seat.site.give_back(item);
                 false
@@ -76,16 +92,55 @@ fn put_first<R, P: Port<R, Item>>(rt: &R, _code: &Code, seat: &mut Seat<P>, to: 
     }
 }
 
-/// Puts what is outgoing on the links, if the last event of the site put an item out.
+/// Tells a site that another has put something for it, where that may be taken at once.
+fn tell<R, P: Port<R, Item>>(signs: &Signs, from: u32, to: u32) {
+    if P::is_live() {
+        signs.tell(from, to);
+    }
+}
+
+/// Puts what is outgoing for one site on its link, if the last event put an item out: for the site that this item is for. Others may
+/// have some for which there was no room; `send_left` comes to them.
 #[tactic(auto, using(crate::proofs::Steps::turned_refl))]
-pub fn send_new<R, P: Port<R, Item>>(rt: &R, code: &Code, seat: &mut Seat<P>)
+pub fn send_new<R, P: Port<R, Item>>(rt: &R, code: &Code, signs: &Signs, seat: &mut Seat<P>)
     requires { Seated P.Port code.now seat.old }
     ensures turned { Turned P.Port code.now seat.old seat.new }
     ensures only { OnlySends P.Port code.now seat.old seat.new }
-    ensures all { HasPut seat.old.site → SendsAll P.Port code.now seat.old seat.new }
 {
     if has_put(&seat.site) {
-        send(rt, code, seat);
+        send_last(rt, code, signs, seat);
+    }
+}
+
+/// Whether this is the number of a site.
+pub fn is_site(code: &Code, number: u32) -> bool
+    ensures { result ≡ true → number < length code.now.sites }
+{
+    number < code.sites()
+}
+
+/// Puts what is outgoing on the link to the site for which an item came last.
+#[tactic(auto, using(crate::proofs::Steps::turned_refl))]
+fn send_last<R, P: Port<R, Item>>(rt: &R, code: &Code, signs: &Signs, seat: &mut Seat<P>)
+    requires { Seated P.Port code.now seat.old }
+    ensures turned { Turned P.Port code.now seat.old seat.new }
+    ensures only { OnlySends P.Port code.now seat.old seat.new }
+{
+    let to = seat.site.last_for();
+    if is_site(code, to) {
+        send_to(rt, code, signs, seat, to);
+    }
+}
+
+/// Puts what is outgoing on the links, if anything is.
+#[tactic(auto, using(crate::proofs::Steps::turned_refl))]
+pub fn send_left<R, P: Port<R, Item>>(rt: &R, code: &Code, signs: &Signs, seat: &mut Seat<P>)
+    requires { Seated P.Port code.now seat.old }
+    ensures turned { Turned P.Port code.now seat.old seat.new }
+    ensures only { OnlySends P.Port code.now seat.old seat.new }
+{
+    if !seat.site.all_sent() {
+        send(rt, code, signs, seat);
     }
 }
 

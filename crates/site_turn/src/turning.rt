@@ -1,47 +1,67 @@
 //! A turn of a site.
 ghost use Rattle.std.specs.Prelude.{◌≡◌, ◌≤◌, ◌+◌, true, false, length};
-ghost use Rattle.site_turn.specs.Turns.{HadNoneWaiting, HadNothing, MakesNone, MakesOne, Polls, Seated, SendsAll, Steps, Turned};
+ghost use Rattle.site_turn.specs.Lengths.{most_events};
+ghost use Rattle.site_turn.specs.Turns.{HadNothing, MakesNone, MakesOne, ReceivesNone, Seated, SendsAll, Steps, Turned};
 
-use crate::effort::Effort;
+use crate::effort::{Effort, most_events};
 use crate::gate::Gate;
-use crate::receiving::receive;
+use crate::mail::Mail;
+use crate::receiving::{receive, receive_told};
 use crate::seat::Seat;
-use crate::sending::{send, send_new};
+use crate::sending::{send, send_left, send_new};
+use crate::signs::Signs;
 use agent_move::Item;
 use np_code::Code;
 use site_links::Port;
 use site_state::Stepped;
 use std::alloc::Global;
 
-/// How many events a turn has at most.
-const EVENTS: u32 = 256;
-
 /// At every which event of a turn a site that has events of its own to do looks at the links to it.
 const POLL: u32 = 16;
 
-/// How often a site on a thread of its own looks at the links to it before its turn ends quiet.
-pub const LOOKS: u32 = 1_000;
-
-/// A turn of at most `EVENTS` events, which ends where the site finds nothing to do by this effort. Where memory runs out the
-/// seat says so.
+/// A turn of at most as many events as this effort allows, which ends where the site finds nothing to do by it. Where memory runs
+/// out the seat says so.
 pub fn turn<R, P: Port<R, Item>, G: Gate>(
     rt: &R,
     alloc: Global,
     code: &Code,
     gate: &G,
+    signs: &Signs,
     effort: Effort,
     seat: &mut Seat<P>,
 )
     requires { Seated P.Port code.now seat.old }
     ensures turned { Turned P.Port code.now seat.old seat.new }
-    ensures most { length seat.new.site.history.events ≤ length seat.old.site.history.events + EVENTS }
+    ensures most { length seat.new.site.history.events ≤ length seat.old.site.history.events + most_events effort.most }
+    ensures idle { seat.new.site.history.events ≡ seat.old.site.history.events → HadNothing P.Port code.now effort.walks seat.old seat.new }
+    ensures sends { seat.new.site.history.events ≡ seat.old.site.history.events → seat.new.failed ≡ false
+        → SendsAll P.Port code.now seat.old seat.new }
+    ensures failed { seat.old.failed ≡ true → seat.new ≡ seat.old }
+{
+    take_turn(rt, alloc, code, gate, signs, effort, seat);
+    signs.end(seat.site.number());
+}
+
+/// The turn, where memory has not run out before.
+fn take_turn<R, P: Port<R, Item>, G: Gate>(
+    rt: &R,
+    alloc: Global,
+    code: &Code,
+    gate: &G,
+    signs: &Signs,
+    effort: Effort,
+    seat: &mut Seat<P>,
+)
+    requires { Seated P.Port code.now seat.old }
+    ensures turned { Turned P.Port code.now seat.old seat.new }
+    ensures most { length seat.new.site.history.events ≤ length seat.old.site.history.events + most_events effort.most }
     ensures idle { seat.new.site.history.events ≡ seat.old.site.history.events → HadNothing P.Port code.now effort.walks seat.old seat.new }
     ensures sends { seat.new.site.history.events ≡ seat.old.site.history.events → seat.new.failed ≡ false
         → SendsAll P.Port code.now seat.old seat.new }
     ensures failed { seat.old.failed ≡ true → seat.new ≡ seat.old }
 {
     if !seat.failed {
-        events(rt, alloc, code, gate, effort, seat);
+        events(rt, alloc, code, gate, signs, effort, seat);
     }
 }
 
@@ -52,43 +72,57 @@ fn events<R, P: Port<R, Item>, G: Gate>(
     alloc: Global,
     code: &Code,
     gate: &G,
+    signs: &Signs,
     effort: Effort,
     seat: &mut Seat<P>,
 )
     requires { Seated P.Port code.now seat.old }
     ensures turned { Turned P.Port code.now seat.old seat.new }
-    ensures most { length seat.new.site.history.events ≤ length seat.old.site.history.events + EVENTS }
+    ensures most { length seat.new.site.history.events ≤ length seat.old.site.history.events + most_events effort.most }
     ensures idle { seat.new.site.history.events ≡ seat.old.site.history.events → HadNothing P.Port code.now effort.walks seat.old seat.new }
     ensures sends { seat.new.site.history.events ≡ seat.old.site.history.events → seat.new.failed ≡ false
         → SendsAll P.Port code.now seat.old seat.new }
 {
-    send(rt, code, seat);
-    for number in 0..EVENTS {
-        if !event(rt, alloc, code, effort, number % POLL == 0, seat) {
+    send(rt, code, signs, seat);
+    let mut mail = mail_of(code.sites(), seat.waits);
+    for number in 0..most_events(effort.most) {
+        if !event(rt, alloc, code, signs, &mut mail, effort, number, seat) {
             return;
         }
         gate.event(seat.site.number(), seat.site.history().len());
-        send_new(rt, code, seat);
+        send_new(rt, code, signs, seat);
     }
 }
 
-/// One event, if by this effort one is found. Where it `polls`, what comes goes before what the site does of its own.
+/// What is told at the begin of a turn: where anything waits it may be from any site.
+fn mail_of(sites: u32, waits: bool) -> Mail {
+    if waits {
+        Mail::of_all(sites)
+    } else {
+        Mail::of_none()
+    }
+}
+
+/// One event, if by this effort one is found. At every sixteenth what comes goes before what the site does of its own, and at the
+/// first of a turn all links are looked at.
 #[tactic(auto, using(crate::proofs::Steps::turned_trans, crate::proofs::Steps::turned_refl, crate::proofs::Steps::seated_after))]
 fn event<R, P: Port<R, Item>>(
     rt: &R,
     alloc: Global,
     code: &Code,
+    signs: &Signs,
+    mail: &mut Mail,
     effort: Effort,
-    polls: bool,
+    number: u32,
     seat: &mut Seat<P>,
 ) -> bool
     requires { Seated P.Port code.now seat.old }
     ensures turned { Turned P.Port code.now seat.old seat.new }
     ensures yes { result ≡ true → MakesOne seat.old.site seat.new.site }
     ensures no { result ≡ false → MakesNone code.now seat.old.site seat.new.site }
-    ensures idle { result ≡ false → HadNothing P.Port code.now effort.walks seat.old seat.new }
+    ensures idle { number ≡ 0 → result ≡ false → HadNothing P.Port code.now effort.walks seat.old seat.new }
 {
-    if poll(rt, code, polls, seat) {
+    if poll(rt, code, signs, mail, number, seat) {
         return true;
     }
     if seat.failed || seat.aside.is_some() {
@@ -96,22 +130,78 @@ fn event<R, P: Port<R, Item>>(
     }
     match step(rt, alloc, code, effort, seat) {
         Stepped::Did => true,
-        Stepped::Quiet => look(rt, code, effort.looks, seat),
+        Stepped::Quiet => look(rt, code, signs, mail, effort.looks, seat),
         Stepped::Spent => false,
     }
 }
 
-/// Takes an item and accepts it, if the site polls and one is there.
-#[tactic(auto, using(crate::proofs::Steps::turned_refl))]
-fn poll<R, P: Port<R, Item>>(rt: &R, code: &Code, polls: bool, seat: &mut Seat<P>) -> bool
+/// Takes an item and accepts it, if it is time for that and one is there.
+fn poll<R, P: Port<R, Item>>(
+    rt: &R,
+    code: &Code,
+    signs: &Signs,
+    mail: &mut Mail,
+    number: u32,
+    seat: &mut Seat<P>,
+) -> bool
     requires { Seated P.Port code.now seat.old }
     ensures turned { Turned P.Port code.now seat.old seat.new }
-    ensures polled { Polls P.Port code.now polls seat.old seat.new result }
+    ensures yes { result ≡ true → MakesOne seat.old.site seat.new.site }
+    ensures no { result ≡ false → MakesNone code.now seat.old.site seat.new.site }
+    ensures first { number ≡ 0 → result ≡ false → ReceivesNone P.Port code.now seat.old seat.new }
 {
-    if polls {
+    if number == 0 {
         return receive(rt, code, seat);
     }
-    false
+    poll_later(rt, code, signs, mail, number, seat)
+}
+
+/// The same after the first event of a turn: at every sixteenth.
+fn poll_later<R, P: Port<R, Item>>(
+    rt: &R,
+    code: &Code,
+    signs: &Signs,
+    mail: &mut Mail,
+    number: u32,
+    seat: &mut Seat<P>,
+) -> bool
+    requires { Seated P.Port code.now seat.old }
+    ensures turned { Turned P.Port code.now seat.old seat.new }
+    ensures yes { result ≡ true → MakesOne seat.old.site seat.new.site }
+    ensures no { result ≡ false → MakesNone code.now seat.old.site seat.new.site }
+{
+    if number % POLL > 0 {
+        return false;
+    }
+    catch_up(rt, code, signs, mail, seat)
+}
+
+/// Settles the link of the site to itself, puts out what is left, and takes an item and accepts it, if one is told to be there.
+fn catch_up<R, P: Port<R, Item>>(
+    rt: &R,
+    code: &Code,
+    signs: &Signs,
+    mail: &mut Mail,
+    seat: &mut Seat<P>,
+) -> bool
+    requires { Seated P.Port code.now seat.old }
+    ensures turned { Turned P.Port code.now seat.old seat.new }
+    ensures yes { result ≡ true → MakesOne seat.old.site seat.new.site }
+    ensures no { result ≡ false → MakesNone code.now seat.old.site seat.new.site }
+{
+    settle_self(rt, code, mail, seat);
+    send_left(rt, code, signs, seat);
+    receive_told(rt, code, signs, mail, seat)
+}
+
+/// Settles the link of the site to itself.
+fn settle_self<R, P: Port<R, Item>>(rt: &R, _code: &Code, mail: &mut Mail, seat: &mut Seat<P>)
+    requires { Seated P.Port _code.now seat.old }
+    ensures turned { Turned P.Port _code.now seat.old seat.new }
+    ensures none { MakesNone _code.now seat.old.site seat.new.site }
+{
+    let waiting = seat.port.settle_own(rt);
+    mail.note_some(seat.site.number(), waiting);
 }
 
 /// An event of the site's own, if by this effort one is found.
@@ -176,22 +266,69 @@ fn step_likely<R, P: Port<R, Item>>(
     }
 }
 
-/// Looks for an item so often, and once more.
-#[tactic(auto, using(crate::proofs::Steps::turned_trans, crate::proofs::Steps::turned_refl, crate::proofs::Steps::seated_after))]
-fn look<R, P: Port<R, Item>>(rt: &R, code: &Code, looks: u32, seat: &mut Seat<P>) -> bool
+/// Looks for what comes before a turn ends quiet. A site that finds something is at work again.
+fn look<R, P: Port<R, Item>>(
+    rt: &R,
+    code: &Code,
+    signs: &Signs,
+    mail: &mut Mail,
+    looks: u32,
+    seat: &mut Seat<P>,
+) -> bool
     requires { Seated P.Port code.now seat.old }
     ensures turned { Turned P.Port code.now seat.old seat.new }
     ensures yes { result ≡ true → MakesOne seat.old.site seat.new.site }
     ensures no { result ≡ false → MakesNone code.now seat.old.site seat.new.site }
-    ensures waits { result ≡ false → HadNoneWaiting P.Port code.now seat.old seat.new }
 {
-    for _ in 0..looks {
-        if receive(rt, code, seat) {
-            return true;
-        }
-        if seat.failed || seat.aside.is_some() {
-            return false;
-        }
+    let found = find(rt, code, signs, mail, looks, seat);
+    signs.rise_if(seat.site.number(), found);
+    found
+}
+
+/// Looks at what is told, then waits for more while another site is at work, and looks once at all links at the end.
+fn find<R, P: Port<R, Item>>(
+    rt: &R,
+    code: &Code,
+    signs: &Signs,
+    mail: &mut Mail,
+    looks: u32,
+    seat: &mut Seat<P>,
+) -> bool
+    requires { Seated P.Port code.now seat.old }
+    ensures turned { Turned P.Port code.now seat.old seat.new }
+    ensures yes { result ≡ true → MakesOne seat.old.site seat.new.site }
+    ensures no { result ≡ false → MakesNone code.now seat.old.site seat.new.site }
+{
+    if catch_up(rt, code, signs, mail, seat) {
+        return true;
+    }
+    if look_often(rt, code, signs, mail, looks, seat) {
+        return true;
     }
     receive(rt, code, seat)
+}
+
+/// Looks so often whether something was put for the site, while another is at work, and lets others run between two looks.
+fn look_often<R, P: Port<R, Item>>(
+    rt: &R,
+    code: &Code,
+    signs: &Signs,
+    mail: &mut Mail,
+    looks: u32,
+    seat: &mut Seat<P>,
+) -> bool
+    requires { Seated P.Port code.now seat.old }
+    ensures turned { Turned P.Port code.now seat.old seat.new }
+    ensures yes { result ≡ true → MakesOne seat.old.site seat.new.site }
+    ensures no { result ≡ false → MakesNone code.now seat.old.site seat.new.site }
+{
+    for _ in 0..looks {
+        if seat.failed || seat.aside.is_some() || !signs.pause(seat.site.number()) {
+            return false;
+        }
+        if receive_told(rt, code, signs, mail, seat) {
+            return true;
+        }
+    }
+    false
 }

@@ -8,7 +8,7 @@ use Rattle.agent_pool.proofs.search.any_alone.Goals as goal
 
 pub returns-in-Some-clause-some : goal.returns-in-Some-clause-some
 returns-in-Some-clause-some c = λ agent.
-    alone-ready c.args.code.now (mapped (seen_as c.args.code.now.processes agent) c.args.atoms.now.items) c.key.result c.in-Some.ready (sym (c.alone_in.ensures agent) ∙ c.in-Some.is)
+    alone-ready c.args.code.now (mapped (seen_as c.args.code.now.processes agent) c.args.atoms.now.items) c.key.result c.in-Some.ready (sym (c.alone_in.ensures.is agent) ∙ c.in-Some.is)
 
 pub returns-clause-none : goal.returns-clause-none
 returns-clause-none c = λ agent.

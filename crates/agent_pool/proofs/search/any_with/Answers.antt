@@ -13,7 +13,7 @@ returns-in-Some-clause-some c = λ agent.
     let ts = c.args.code.now.processes in
     let items = c.args.atoms.now.items in
     pair-ready c.args.code.now (mapped (seen_as ts agent) items) c.args.mark c.key.result c.in-Some.ready
-    (λ a b there stands. own-agent ts agent items c.key.result b stands ∙ sym (own-agent ts agent items c.args.mark a there)) (sym (c.pair_in.ensures agent) ∙ c.in-Some.is)
+    (λ a b there stands. own-agent ts agent items c.key.result b stands ∙ sym (own-agent ts agent items c.args.mark a there)) (sym (c.pair_in.ensures.is agent) ∙ c.in-Some.is)
 
 pub returns-clause-none : goal.returns-clause-none
 returns-clause-none c = λ agent.

@@ -3,5 +3,5 @@ use Rattle.std.proofs.lemmas.Grind.{common_steps}
 use Rattle.agent_pool.proofs.Maps.{maps}
 use Rattle.agent_pool.proofs.search.pair_in.Goals as goal
 
-pub returns : goal.returns
-returns c = grind (arith, common_steps, maps)
+pub returns-clause-is : goal.returns-clause-is
+returns-clause-is c = grind (arith, common_steps, maps)

@@ -21,4 +21,4 @@ returns-then-not-are_within-clause-never g c = λ no list.
     c.are_within.ensures.no c.if-not-are_within.true (subst (λ (n : ℕ). AreWithin n c.args.budget c.args.events.now) (sym c.sites.ensures) list.within)
 
 pub returns-clause-never : goal.returns-clause-never
-returns-clause-never g c = on_no c.redo_all.result (λ stops list. never_stops g.P.Port c.args.code.now c.requires.program list stops) c.redo_all.ensures.why
+returns-clause-never g c = on_no c.redo_all.result (λ stops list. never_stops g.P.Port c.args.code.now c.requires.program c.requires.safe list stops) c.redo_all.ensures.why

@@ -1,11 +1,10 @@
-use Rattle.std.proofs.lemmas.Grind.{common_steps}
 use Rattle.std.proofs.Common.{◌≡◌, ◌+◌, ◌-◌, ◌≤◌, Some, get_or, take, length, arith}
 use Rattle.std.specs.Prelude.{slice_get}
 use Rattle.std.proofs.lemmas.Option.{slice_get-get_or}
 use Rattle.site_crew.specs.Following.{HaveMissed}
 use Rattle.site_crew.proofs.Doing.{not_early}
 use Rattle.site_crew.proofs.Crewing.{grow_refl}
-use Rattle.site_crew.proofs.Enabled.{followed_one, is_coming, is_own, no_event, no_post, take-length}
+use Rattle.site_crew.proofs.Enabled.{followed_one, is_coming, is_own, is_post, no_event, no_post, take-length}
 use Rattle.site_crew.proofs.Redoing.{on_any, on_no, on_yes}
 use Rattle.site_crew.proofs.again.redo_one.Goals as goal
 
@@ -56,6 +55,15 @@ returns-then-comes-clause-why g c =
     let es = c.args.events.now in let k = c.args.k in let e = get_or es k no_event in
     let at : slice_get es k ≡ Some e = slice_get-get_or es k no_event c.requires.at in
     on_no c.bring.result (λ none. record { event = e; at = at; missed = HaveMissed.coming (is_coming e.kind c.comes.result c.comes.ensures c.if-comes.true) none }) c.bring.ensures.no
+
+pub redo_at-requires-clause-post : goal.redo_at-requires-clause-post
+redo_at-requires-clause-post g c κs within = no_post (get_or c.args.events.now c.args.k no_event).kind c.eq.result c.eq.ensures c.if-eq.false
+
+pub returns-then-eq-clause-why : goal.returns-then-eq-clause-why
+returns-then-eq-clause-why g c = λ no.
+    let es = c.args.events.now in let k = c.args.k in let e = get_or es k no_event in
+    let at : slice_get es k ≡ Some e = slice_get-get_or es k no_event c.requires.at in
+    record { event = e; at = at; missed = HaveMissed.posts (is_post e.kind c.eq.result c.eq.ensures c.if-eq.true) }
 
 pub returns-else-eq-clause-why : goal.returns-else-eq-clause-why
 returns-else-eq-clause-why g c =

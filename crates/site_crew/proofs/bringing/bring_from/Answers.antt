@@ -1,9 +1,6 @@
 use Rattle.std.proofs.lemmas.Grind.{common_steps}
-use Rattle.std.proofs.Common.{◌≡◌, ◌<◌, ◌≤◌, ◌-◌, ◌∙◌, ℕ, max, Some, ap, subst, sym, refl, arith}
-use Rattle.std.specs.Prelude.{slice_get}
+use Rattle.std.proofs.Common.{◌≡◌, ◌<◌, ◌≤◌, ◌-◌, ◌∙◌, max, subst, sym, arith}
 use Rattle.std.proofs.lemmas.Option.{slice_get_within}
-use Rattle.np_syntax.specs.declared.event.Event.{Event}
-use Rattle.site_state.specs.Lines.{Waiting, queue_at}
 use Rattle.site_crew.proofs.Brought.{clear_again, due_same, no_first, no_room}
 use Rattle.site_crew.proofs.Clearing.{clear_same, due_early}
 use Rattle.site_crew.proofs.Doing.{added_after, added_before}

@@ -1,5 +1,5 @@
-use Rattle.std.proofs.Common.{◌≡◌, ◌∙◌, ◌∷◌, [], List, Option, None, Some, ap, sym, subst}
-use Rattle.std.specs.Prelude.{option_copied, slice_get}
+use Rattle.std.proofs.Common.{◌≡◌, ◌∙◌, ◌∷◌, [], List, None, Some, ap, sym}
+use Rattle.std.specs.Prelude.{slice_get}
 use Rattle.np_syntax.specs.declared.event.Event.{Event}
 use Rattle.np_syntax.proofs.Options.{some_is}
 use Rattle.agent_move.specs.declared.item.Item.{Item}

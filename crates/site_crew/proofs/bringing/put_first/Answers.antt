@@ -1,6 +1,5 @@
 use Rattle.std.proofs.lemmas.Grind.{common_steps}
 use Rattle.std.proofs.Common.{inl, inr, refl, ap, ◌∙◌, ◌++◌, append-nil, length, arith}
-use Rattle.site_links.proofs.Kept.{Keeps-refl}
 use Rattle.site_links.proofs.Rows.{only_at-other, only_at-same}
 use Rattle.site_state.specs.Lines.{queue_at}
 use Rattle.site_turn.proofs.Steps.{address, back_place, back_within, turned_back, turned_sent, turned_stays}

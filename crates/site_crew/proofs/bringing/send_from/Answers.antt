@@ -1,5 +1,4 @@
-use Rattle.std.proofs.lemmas.Grind.{common_steps}
-use Rattle.std.proofs.Common.{◌≡◌, ◌<◌, ◌∙◌, [], Some, get_or, length, sym, subst, ap, arith, inl, inr}
+use Rattle.std.proofs.Common.{◌≡◌, ◌<◌, ◌∙◌, Some, get_or, length, sym, subst, ap, inl, inr}
 use borrow.Author.Rules.{scaled_Fits}
 use Rattle.std.specs.Prelude.{slice_get}
 use Rattle.std.proofs.lemmas.Option.{slice_get-get_or}
@@ -12,7 +11,7 @@ use Rattle.site_crew.proofs.Clearing.{clear_still, none_known}
 use Rattle.site_crew.proofs.Goings.{seat_seated}
 use Rattle.site_crew.proofs.Pairs.{still_of_pair}
 use Rattle.site_crew.proofs.Redoing.{rest_of_settled, rest_of_still, stand_sent}
-use Rattle.site_crew.proofs.Replacing.{all_rest_trans, but_none, one_rests, stand_settled, there_too}
+use Rattle.site_crew.proofs.Replacing.{all_rest_trans, but_none, one_rests, stand_settled}
 use Rattle.site_crew.proofs.bringing.send_from.Goals as goal
 
 pub settle_pair-requires-clause-linked : goal.settle_pair-requires-clause-linked
@@ -29,7 +28,7 @@ put_first-sent-requires-clause-seated g c κs within =
     let ps = c.settle_pair.new.seats in let i = c.args.from in
     let less : i < length ps = subst (λ m. i < m) (sym c.settle_pair.ensures.settled.count) c.requires.from in
     let mid = but_paired (but_none c.requires.stand c.args.to) c.settle_pair.ensures.settled in
-    seat_seated (mid.seats.each i (get_or ps i c.index-seats-from.result) (slice_get-get_or ps i c.index-seats-from.result less))
+    seat_seated i mid.seats (slice_get-get_or ps i c.index-seats-from.result less)
 
 pub put_first-sent-requires-clause-to : goal.put_first-sent-requires-clause-to
 put_first-sent-requires-clause-to g c κs within = subst (λ m. c.args.to < m) c.requires.stand.seats.count c.requires.to

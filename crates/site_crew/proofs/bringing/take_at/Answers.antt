@@ -1,7 +1,6 @@
 use Rattle.std.proofs.lemmas.Grind.{common_steps}
-use Rattle.std.proofs.Common.{◌≡◌, ◌<◌, ℕ, List, Some, get_or, inl, length, set, sym, ◌∙◌, arith, length-set}
+use Rattle.std.proofs.Common.{◌<◌, ℕ, List, get_or, inl, length, set, sym, ◌∙◌, arith, length-set}
 use borrow.Author.Rules.{scaled_Fits}
-use Rattle.std.specs.Prelude.{slice_get}
 use Rattle.std.proofs.lemmas.Option.{slice_get-get_or}
 use Rattle.site_links.specs.declared.port.Port as Port
 use Rattle.site_links.proofs.Rows.{get-set_other, get-set_same}

@@ -1,5 +1,5 @@
 use Rattle.std.proofs.lemmas.Grind.{common_steps}
-use Rattle.std.proofs.Common.{◌≡◌, ◌<◌, ◌++◌, ℕ, Bool, true, false, Option, None, Some, IfSome, refl, ap, sym, ◌∙◌, subst, arith}
+use Rattle.std.proofs.Common.{◌≡◌, ◌<◌, ◌++◌, ℕ, true, false, Option, IfSome, refl, ap, sym, ◌∙◌, subst, arith}
 use Rattle.site_links.specs.Words.{only_at}
 use Rattle.site_links.proofs.Kept.{Begins-same}
 use Rattle.site_links.specs.declared.port.Port as Port

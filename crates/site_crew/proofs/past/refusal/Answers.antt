@@ -1,4 +1,4 @@
-use Rattle.std.proofs.Common.{ℕ, length, Option, subst, rules}
+use Rattle.std.proofs.Common.{ℕ, Option, subst, rules}
 use Rattle.std.specs.Prelude.{◌↔◌, IsNone}
 use Rattle.run_save.specs.Ours.{IsOurs}
 use Rattle.site_crew.specs.Lists.{AreWithin}

@@ -1,4 +1,3 @@
-use Rattle.std.proofs.Common.{◌≡◌, true, false}
 use Rattle.site_turn.proofs.Events.{sends_refl}
 use Rattle.site_turn.proofs.Steps.{turned_refl}
 use Rattle.site_turn.proofs.sending.send_new.Goals as goal
@@ -8,6 +7,3 @@ returns-else-has_put-clause-turned g c = turned_refl _
 
 pub returns-else-has_put-clause-only : goal.returns-else-has_put-clause-only
 returns-else-has_put-clause-only g c = sends_refl _
-
-pub returns-else-has_put-clause-all : goal.returns-else-has_put-clause-all
-returns-else-has_put-clause-all g c = λ put. let none : false ≡ true = c.if-has_put.ensures.1 put in absurd cc

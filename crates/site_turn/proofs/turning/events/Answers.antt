@@ -32,14 +32,14 @@ pub returns-then-not-event-clause-turned : goal.returns-then-not-event-clause-tu
 returns-then-not-event-clause-turned g c = turned_trans c.loop-number.invariant.turned c.event.ensures.turned
 
 pub returns-then-not-event-clause-most : goal.returns-then-not-event-clause-most
-returns-then-not-event-clause-most g c = let same = count_none (c.event.ensures.no c.if-not-event.true) in let count = c.loop-number.invariant.count in omega (arith, same, count)
+returns-then-not-event-clause-most g c = let same = count_none (c.event.ensures.no c.if-not-event.true) in let count = c.loop-number.invariant.count in let most = c.most_events-number-end.ensures.events in omega (arith, same, count, most)
 
 pub returns-then-not-event-clause-idle : goal.returns-then-not-event-clause-idle
 returns-then-not-event-clause-idle g c = λ e.
     let i = c.loop-number.invariant in
     let same = count_none (c.event.ensures.no c.if-not-event.true) in
     let long = ap length e in
-    had_sent c.args.seat.now _ _ c.args.effort.walks (i.first (omega (arith, same, long, i.count))) (c.event.ensures.idle c.if-not-event.true)
+    had_sent c.args.seat.now _ _ c.args.effort.walks (i.first (omega (arith, same, long, i.count))) (c.event.ensures.idle (omega (arith, same, long, i.count)) c.if-not-event.true)
 
 pub returns-then-not-event-clause-sends : goal.returns-then-not-event-clause-sends
 returns-then-not-event-clause-sends g c = λ e ok.
@@ -50,10 +50,10 @@ returns-then-not-event-clause-sends g c = λ e ok.
     sends_still (i.sends (omega (arith, same, long, i.count))) c.event.ensures.turned (ap (λ (h : Recorded). h.events) none.records.history)
 
 pub returns-clause-sends : goal.returns-clause-sends
-returns-clause-sends g c = λ e ok. let count = c.loop-number.invariant.count in let long = ap length e in absurd (omega (arith, count, long))
+returns-clause-sends g c = λ e ok. let count = c.loop-number.invariant.count in let long = ap length e in let some = c.most_events-number-end.ensures.some in absurd (omega (arith, count, long, some))
 
 pub returns-clause-most : goal.returns-clause-most
-returns-clause-most g c = let count = c.loop-number.invariant.count in omega (arith, count)
+returns-clause-most g c = let count = c.loop-number.invariant.count in let most = c.most_events-number-end.ensures.events in omega (arith, count, most)
 
 pub returns-clause-idle : goal.returns-clause-idle
-returns-clause-idle g c = λ e. let count = c.loop-number.invariant.count in let long = ap length e in absurd (omega (arith, count, long))
+returns-clause-idle g c = λ e. let count = c.loop-number.invariant.count in let long = ap length e in let some = c.most_events-number-end.ensures.some in absurd (omega (arith, count, long, some))

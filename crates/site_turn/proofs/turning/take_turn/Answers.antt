@@ -1,7 +1,7 @@
 use Rattle.std.proofs.Common.{sym, ◌∙◌}
 use Rattle.site_turn.proofs.Events.{had_failed}
 use Rattle.site_turn.proofs.Steps.{turned_refl}
-use Rattle.site_turn.proofs.turning.turn.Goals as goal
+use Rattle.site_turn.proofs.turning.take_turn.Goals as goal
 
 pub returns-else-not-seat-clause-turned : goal.returns-else-not-seat-clause-turned
 returns-else-not-seat-clause-turned g c = turned_refl _

@@ -3,7 +3,7 @@ use Rattle.std.proofs.Common.{subst, sym, ◌∙◌, arith}
 use Rattle.site_crew.specs.Crews.{HasRun, NoneFailed}
 use Rattle.site_crew.proofs.Crewing.{has_run, later_refl}
 use Rattle.site_crew.proofs.Reseated.{kept_crew, kept_done, kept_later, kept_on, kept_round, kept_run}
-use Rattle.site_crew.proofs.crew.Crew.serial_round.Goals as goal
+use Rattle.site_crew.proofs.crew.Crew.serial_round_of.Goals as goal
 
 pub returns-then-self-clause-run : goal.returns-then-self-clause-run
 returns-then-self-clause-run g c = subst HasRun c.self.view_is (has_run c.self.invariant)
