@@ -242,15 +242,7 @@ fn printed_text(
     ensures text { IfOk result (λ text. text ≡ run_report infrastructure history high checked.now kept.now) }
     ensures shown { IfOk result (λ _. IsShownSo high checked.now (lift_by infrastructure (merged kept.now))) }
 {
-    let events = merge(alloc, kept.histories.as_slice())?;
-    let between = between(
-        alloc,
-        infrastructure,
-        checked,
-        history,
-        high,
-        events.as_slice(),
-    )?;
+    let between = asked_for(alloc, infrastructure, checked, kept, history, high)?;
     let values = said(alloc, kept.histories.as_slice())?;
     report(
         alloc,
@@ -261,7 +253,55 @@ fn printed_text(
     )
 }
 
-/// The texts of the events that are asked for.
+/// The texts of the events that are asked for. No list of the events is made for those that are not.
+fn asked_for(
+    alloc: Global,
+    infrastructure: Infrastructure,
+    checked: &Checked,
+    kept: &Record,
+    history: bool,
+    high: HighText,
+) -> Result<Text, Memory>
+    requires free { barred high checked.now ≡ None }
+    requires run { IsSome (run (start_high checked.now) (lift_by infrastructure (merged kept.now))) }
+    ensures text { IfOk result (λ text. text ≡ history_part infrastructure history (merged kept.now)
+        ++ high_part high (start_high checked.now) (lift_by infrastructure (merged kept.now))) }
+    ensures shown { IfOk result (λ _. IsShownSo high checked.now (lift_by infrastructure (merged kept.now))) }
+{
+    match high {
+        HighText::Absent => history_alone(alloc, infrastructure, kept, history),
+        HighText::TwoSteps | HighText::OneStep => {
+            let events = merge(alloc, kept.histories.as_slice())?;
+            between(
+                alloc,
+                infrastructure,
+                checked,
+                history,
+                high,
+                events.as_slice(),
+            )
+        }
+    }
+}
+
+/// The history text of a run, where it is asked for, and nothing where it is not.
+fn history_alone(
+    alloc: Global,
+    infrastructure: Infrastructure,
+    kept: &Record,
+    history: bool,
+) -> Result<Text, Memory>
+    ensures { IfOk result (λ text. text ≡ history_part infrastructure history (merged kept.now)) }
+{
+    if history {
+        let events = merge(alloc, kept.histories.as_slice())?;
+        write_in(alloc, format_for(infrastructure), events.as_slice())
+    } else {
+        Ok(List::new(alloc))
+    }
+}
+
+/// The texts of events that are asked for.
 fn between(
     alloc: Global,
     infrastructure: Infrastructure,
