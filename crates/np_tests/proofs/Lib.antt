@@ -2,3 +2,4 @@ mod Halves
 mod Waiters
 mod Replaying
 mod Viewing
+mod Possible

@@ -22,10 +22,10 @@ const SERVER: &str =
 const STEPS: u32 = 40;
 
 /// The agent's name, and the mark of its first atom. No atom uses a channel of that name.
-const OWN: Name = Name { site: 1, n: 0 };
+pub(crate) const OWN: Name = Name { site: 1, n: 0 };
 
 /// The agent of main's process, which is a composition.
-fn main_agent(alloc: Global, code: &Code) -> Result<Agent, Memory>
+pub(crate) fn main_agent(alloc: Global, code: &Code) -> Result<Agent, Memory>
     ensures { IfOk result (λ agent. IsFiled code.now.processes agent.atoms) }
 {
     let root = code.main_root();

@@ -13,6 +13,8 @@ mod copies;
 #[cfg(test)]
 mod crews;
 #[cfg(test)]
+mod forced;
+#[cfg(test)]
 mod gates;
 #[cfg(test)]
 mod histories;
