@@ -1,3 +1,4 @@
+pub mod Idle
 pub mod Items
 pub mod Links
 pub mod Sitting

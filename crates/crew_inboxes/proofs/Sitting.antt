@@ -83,6 +83,10 @@ module _ (n : ℕ) (seats : List Seat) (woven : Woven n n seats) where
         back_is = back.1;
         joined = out.joined ∙ ap (λ (o : Inbox Item). o.pass.table_id) (sym t.inbox_is);
         counts = λ le. omega (arith, got, last, none);
+        rests = λ put fresh. record {
+          rest = record { all_taken = taken_none j q t p.site ∙ sym out.sender.sent_none; none_known = waiting_none j q t p.site; all_free = out.all_free };
+          last = out.sender.last_none ∙ sym (taken_none j q t p.site);
+        };
       }
 
   pub full_from_seated : (ports : List Inboxes) → Seated n seats ports → IsFullMake site_in among_in Linked n ports

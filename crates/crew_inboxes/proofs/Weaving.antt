@@ -67,11 +67,12 @@ split_fresh n k s s' way u p = record {
   };
   all_free = p.all_free;
   none_fresh = p.none_fresh;
+  none_put = p.none_put;
 }
 
 -- a way leads to a seat still where the seat has the same queue
 fresh_to : (n i : ℕ) (t t' : Seat) (way : Outlet Item) → IsFreshWay n i t way → t'.inbox.pass.table_id ≡ t.inbox.pass.table_id → IsFreshWay n i t' way
-fresh_to n i t t' way f e = record { joined = f.joined ∙ sym e; sender = f.sender; all_free = f.all_free; none_fresh = f.none_fresh }
+fresh_to n i t t' way f e = record { joined = f.joined ∙ sym e; sender = f.sender; all_free = f.all_free; none_fresh = f.none_fresh; none_put = f.none_put }
 
 pub row_none : (n k : ℕ) (seats : List Seat) → Woven n k seats → Row n k 0 seats seats []
 row_none n k seats h = record {

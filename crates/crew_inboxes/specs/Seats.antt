@@ -1,5 +1,5 @@
 -- Inboxes and the ways into them, while they are made.
-use Rattle.std.specs.Prelude.{◌≡◌, ℕ, ◌+◌, ◌<◌, ◌≤◌, List, [], ◌∷◌, ◌++◌, length, Some, slice_get}
+use Rattle.std.specs.Prelude.{◌≡◌, ℕ, ◌+◌, ◌<◌, ◌≤◌, false, List, [], ◌∷◌, ◌++◌, length, Some, slice_get}
 use Rattle.crossbeam_queue.specs.Passes.{view}
 use Rattle.site_links.specs.declared.places.TheConstants.{PLACES}
 use Rattle.agent_move.specs.declared.item.Item.{Item}
@@ -14,6 +14,7 @@ pub record IsFreshWay (sites number : ℕ) (to : Seat) (way : Outlet Item) : Typ
   pub sender : IsFreshSender sites number (view way.pass)
   pub all_free : way.spare ≡ PLACES
   pub none_fresh : way.fresh ≡ 0
+  pub none_put : way.has_put ≡ false
 
 -- the inbox of a seat, with so many ways made
 abbrev pub HasMade : ℕ → ℕ → Seat → Type 0

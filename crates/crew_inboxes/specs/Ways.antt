@@ -1,7 +1,7 @@
 -- What a port over inboxes means, by what its inbox and its ways mean.
-use Rattle.std.specs.Prelude.{◌≡◌, ◌≢◌, ℕ, ◌-◌, List, [], ◌++◌, length, Some, slice_get}
+use Rattle.std.specs.Prelude.{◌≡◌, ◌≢◌, ℕ, ◌-◌, false, List, [], ◌++◌, length, Some, slice_get}
 use Rattle.crossbeam_queue.specs.Passes.{view}
-use Rattle.site_links.specs.Words.{Keeps}
+use Rattle.site_links.specs.Words.{IsAtRest, Keeps}
 use Rattle.site_links.specs.Seats.{read}
 use Rattle.site_links.specs.declared.places.TheConstants.{PLACES}
 use Rattle.agent_move.specs.declared.item.Item.{Item}
@@ -50,6 +50,15 @@ known_from p k = waiting_of p.inbox k
 abbrev pub room_for : Inboxes → ℕ → ℕ
 room_for p k = read (λ (way : Outlet Item). way.spare) 0 (slice_get p.ways.items k)
 
+-- a way at rest: this was taken of its site, as its site knows, and that is known to wait
+pub record IsIdle (got known : List Item) (way : Outlet Item) : Type 0 where
+  pub rest : IsAtRest (sent_by way) got known way.spare
+  pub last : last_by way ≡ got
+
+-- a way on which nothing was put, and from whose site nothing was taken, since it was settled at rest is at rest
+abbrev pub RestsUnless : List Item → List Item → Outlet Item → ℕ → Type 0
+RestsUnless got known way fresh = way.has_put ≡ false → fresh ≡ 0 → IsIdle got known way
+
 -- the way from the first's site to the second's leads into the second's inbox, and the second's way back counts what was taken from it
 pub record Linked (a b : Inboxes) : Type 0 where
   pub way : Outlet Item
@@ -58,6 +67,7 @@ pub record Linked (a b : Inboxes) : Type 0 where
   pub back_is : slice_get b.ways.items a.site ≡ Some back
   pub joined : way.pass.table_id ≡ b.inbox.pass.table_id
   pub counts : Counts (taken_of b.inbox a.site) (last_by way) back.fresh
+  pub rests : RestsUnless (taken_of b.inbox a.site) (waiting_of b.inbox a.site) way back.fresh
 
 abbrev pub KeepsPort : Inboxes → Inboxes → Type 0
 KeepsPort = Keeps site_in among_in Linked
@@ -72,3 +82,4 @@ pub record WaySettled (way : Outlet Item) (inbox : Inbox Item) (way' : Outlet It
   pub told : (k : ℕ) → k ≢ number_in (view way.pass) → told_in (view inbox'.pass) k ≡ told_in (view inbox.pass) k
   pub settled : taken_of inbox' (number_in (view way.pass)) ++ waiting_of inbox' (number_in (view way.pass)) ≡ sent_by way'
   pub free : way'.spare ≡ PLACES - length (waiting_of inbox' (number_in (view way.pass)))
+  pub rests : way'.has_put ≡ false → way'.spare ≡ PLACES

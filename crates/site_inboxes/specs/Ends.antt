@@ -17,6 +17,13 @@ module _ {I : Type 0} where
     pub number_same : number_in (view b.pass) ≡ number_in (view a.pass)
     pub fresh_same : b.fresh ≡ a.fresh
 
+  -- b is the outlet a with another count
+  pub record IsSameWay (a b : Outlet I) : Type 0 where
+    pub queue_same : b.queue ≡ a.queue
+    pub pass_same : b.pass ≡ a.pass
+    pub spare_same : b.spare ≡ a.spare
+    pub put_same : b.has_put ≡ a.has_put
+
   -- b is the inbox a at a later time, whatever became of its lists
   pub record SameInbox (a b : Inbox I) : Type 0 where
     pub queue_same : b.pass.table_id ≡ a.pass.table_id

@@ -1,5 +1,5 @@
 -- Inboxes through which nothing went, and the ways into them.
-use Rattle.std.specs.Prelude.{◌≡◌, ℕ, ◌+◌, true, []}
+use Rattle.std.specs.Prelude.{◌≡◌, ℕ, ◌+◌, true, false, []}
 use Rattle.crossbeam_queue.specs.Passes.{view}
 use Rattle.site_links.specs.declared.places.TheConstants.{PLACES}
 use Rattle.np_inbox_rule.specs.declared.views.View.{View}
@@ -41,3 +41,4 @@ module _ {I : Type 0} where
     pub sender : IsFreshSender (sites_in (view a.pass)) (made_in (view a.pass)) (view out.pass)
     pub all_free : out.spare ≡ PLACES
     pub none_fresh : out.fresh ≡ 0
+    pub none_put : out.has_put ≡ false

@@ -31,12 +31,14 @@ impl<I: Addressed + Drop> Drop for Inbox<I> {
 }
 
 /// The way from one site to another: the queue of the other with a sender's pass, and how many places are known to be free. `fresh`
-/// counts what the one site has taken from the other since the link from there was settled last.
+/// counts what the one site has taken from the other since the link from there was settled last. `has_put` tells whether anything was
+/// put since the way was settled with nothing on it.
 pub struct Outlet<I: Addressed> {
     pub queue: Arc<Queue<I>, Global>,
     pub pass: Pass<I, View<I>>,
     pub spare: u32,
     pub fresh: u32,
+    pub has_put: bool,
     ghost tied: { IsPassOf (arc_value queue) pass },
     ghost role: { is_sender (view pass) ≡ true },
     ghost size: { ruled_capacity (arc_value queue) ≡ sites_in (view pass) * PLACES },
@@ -50,6 +52,7 @@ impl<I: Addressed + Drop> Drop for Outlet<I> {
             pass: _,
             spare: _,
             fresh: _,
+            has_put: _,
         } = self;
     }
 }

@@ -39,6 +39,7 @@ impl<I: Addressed> Inbox<I> {
             pass,
             spare: PLACES,
             fresh: 0,
+            has_put: false,
         })
     }
 }

@@ -1,4 +1,4 @@
-ghost use Rattle.std.specs.Prelude.{◌≡◌, ◌-◌, ◌++◌, ◌∷◌, [], OnOk, IfErr};
+ghost use Rattle.std.specs.Prelude.{◌≡◌, ◌-◌, ◌++◌, ◌∷◌, [], true, OnOk, IfErr};
 ghost use Rattle.crossbeam_queue.specs.Passes.{view};
 ghost use Rattle.np_inbox_rule.specs.Steps.{sent_in, last_in};
 ghost use Rattle.site_inboxes.specs.Views.{number_in};
@@ -15,11 +15,13 @@ impl<I: Addressed> Outlet<I> {
         requires { I.sender item ≡ number_in (view self.old.pass) }
         ensures same { SameOutlet self.old self.new }
         ensures last { last_in (view self.new.pass) ≡ last_in (view self.old.pass) }
+        ensures noted { self.new.has_put ≡ true }
         ensures room { self.new.spare ≡ self.old.spare - 1 }
         ensures ok { OnOk result (sent_in (view self.new.pass) ≡ sent_in (view self.old.pass) ++ item ∷ []) }
         ensures err { IfErr result (λ back. (back ≡ item) × (sent_in (view self.new.pass) ≡ sent_in (view self.old.pass))
             × (self.old.spare ≡ 0)) }
     {
+        self.has_put = true;
         if self.spare == 0 {
             return Err(item);
         }

@@ -1,10 +1,10 @@
-ghost use Rattle.std.specs.Prelude.{◌≡◌, ◌≢◌, ◌+◌, ◌-◌, ◌<◌, ◌++◌, ℕ, true, length};
+ghost use Rattle.std.specs.Prelude.{◌≡◌, ◌≢◌, ◌+◌, ◌-◌, ◌<◌, ◌++◌, ℕ, true, false, length};
 ghost use Rattle.crossbeam_queue.specs.Passes.{view, IsPassOf, IsSamePass};
 ghost use Rattle.site_links.specs.Words.{Begins};
 ghost use Rattle.site_links.specs.declared.places.TheConstants.{PLACES};
 ghost use Rattle.np_inbox_rule.specs.Steps.{sent_in, last_in, got_in, told_in};
 ghost use Rattle.site_inboxes.specs.Views.{is_owner, is_sender, number_in};
-ghost use Rattle.site_inboxes.specs.Ends.{SameOutlet, SameInbox, Settled, Counts, got_at, known_at};
+ghost use Rattle.site_inboxes.specs.Ends.{IsSameWay, SameOutlet, SameInbox, Settled, Counts, got_at, known_at};
 
 use crate::ends::{Inbox, Outlet, Queue};
 use crossbeam_queue::Pass;
@@ -25,22 +25,25 @@ impl<I: Addressed> Outlet<I> {
         ensures settled { got_at I.sender (view inbox.new.pass) (number_in (view self.old.pass))
             ++ known_at I.sender (view inbox.new.pass) (number_in (view self.old.pass)) ≡ sent_in (view self.new.pass) }
         ensures free { self.new.spare ≡ PLACES - length (known_at I.sender (view inbox.new.pass) (number_in (view self.old.pass))) }
+        ensures rests { self.new.has_put ≡ false → self.new.spare ≡ PLACES }
     {
         pass_notes(&*self.queue, &mut self.pass, &mut inbox.pass);
         self.spare += fresh;
+        self.has_put = self.spare < PLACES;
     }
 
     /// One item more was taken from the site. The count stays where it is at its most.
     pub fn count(&mut self)
-        ensures same { (self.new.queue ≡ self.old.queue) × (self.new.pass ≡ self.old.pass) × (self.new.spare ≡ self.old.spare) }
+        ensures same { IsSameWay self.old self.new }
         ensures more { self.old.fresh < PLACES → self.new.fresh ≡ self.old.fresh + 1 }
+        ensures some { 0 < self.new.fresh }
     {
         self.fresh = self.fresh.saturating_add(1);
     }
 
     /// The link from the site is settled.
     pub fn restart(&mut self)
-        ensures same { (self.new.queue ≡ self.old.queue) × (self.new.pass ≡ self.old.pass) × (self.new.spare ≡ self.old.spare) }
+        ensures same { IsSameWay self.old self.new }
         ensures none { self.new.fresh ≡ 0 }
     {
         self.fresh = 0;

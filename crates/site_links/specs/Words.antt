@@ -1,5 +1,5 @@
 -- Words on ports and on the ends of links, over the meanings that their types have.
-use Rattle.std.specs.Prelude.{◌≡◌, ◌≢◌, ℕ, ◌<◌, cond, eqb, List, [], ◌∷◌, ◌++◌, length, slice_get, Some}
+use Rattle.std.specs.Prelude.{◌≡◌, ◌≢◌, ℕ, ◌<◌, cond, eqb, Bool, false, List, [], ◌∷◌, ◌++◌, length, slice_get, Some}
 use Rattle.site_links.specs.declared.places.TheConstants.{PLACES}
 
 -- the item at the place, and nothing at any other
@@ -22,6 +22,17 @@ pub record IsFresh {E I : Type 0} (sent got known : E → List I) (room : E → 
   pub got_none : got ends ≡ []
   pub known_none : known ends ≡ []
   pub all_free : room ends ≡ PLACES
+
+-- a link at rest: all that was put was taken, nothing is known to wait, and each place is known to be free
+pub record IsAtRest {I : Type 0} (sent got known : List I) (room : ℕ) : Type 0 where
+  pub all_taken : got ≡ sent
+  pub none_known : known ≡ []
+  pub all_free : room ≡ PLACES
+
+-- A link on which nothing was put, and from which nothing was taken or seen, since it was settled at rest is at rest
+-- (docs/HISTORIES.md, "History text").
+abbrev pub RestsUnless : {I : Type 0} (has_put has_seen : Bool) (sent got known : List I) (room : ℕ) → Type 0
+RestsUnless has_put has_seen sent got known room = has_put ≡ false → has_seen ≡ false → IsAtRest sent got known room
 
 -- nothing went through a port: each of its links with n sites is free
 pub record IsUnused {I : Type 0} (n : ℕ) (sent got known : ℕ → List I) (room : ℕ → ℕ) : Type 0 where

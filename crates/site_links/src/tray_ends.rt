@@ -1,4 +1,4 @@
-ghost use Rattle.std.specs.Prelude.{◌≡◌, ◌+◌, ◌<◌, ◌≤◌, ◌++◌, ◌∷◌, [], length, IfOk};
+ghost use Rattle.std.specs.Prelude.{◌≡◌, ◌+◌, ◌<◌, ◌≤◌, ◌++◌, ◌∷◌, [], true, false, length, IfOk};
 ghost use Rattle.std.specs.VecDeque.{deque_capacity};
 ghost use Rattle.std.specs.Coded.{Coded-set, coded_list};
 ghost use Rattle.rtrb.specs.Ring as ring;
@@ -16,13 +16,16 @@ use std::collections::VecDeque;
 const AT_ONCE: usize = 1;
 
 /// A list of what was put and not yet handed over, and one of what was handed over and not yet taken, with the ends of the two
-/// rings through which items are handed over. The rings are empty but then.
+/// rings through which items are handed over. The rings are empty but then. `has_put` tells whether anything was put, and `has_seen`
+/// whether anything came, since the link was settled at rest.
 pub struct TrayEnds<I> {
     out: VecDeque<I>,
     to: Producer<I>,
     from: Consumer<I>,
     inside: VecDeque<I>,
     spare: u32,
+    has_put: bool,
+    has_seen: bool,
     ghost holds: { 0 < ring.producer_capacity to },
     ghost bound: { length out.items + spare ≤ PLACES },
     ghost reserved: { (PLACES ≤ deque_capacity out) × (PLACES ≤ deque_capacity inside) },
@@ -39,6 +42,8 @@ impl<I: Drop> Drop for TrayEnds<I> {
             from: _,
             inside: _,
             spare: _,
+            has_put: _,
+            has_seen: _,
         } = self;
     }
 }
@@ -47,6 +52,7 @@ impl<I: Drop> Ends<I> for TrayEnds<I> {
     ghost use Rattle.std.specs.Prelude.{◌≡◌, ◌≤◌, ℕ, ◌+◌, ◌-◌, List, [], ◌∷◌, ◌++◌, length, IfOk, IfErr, IsTrue, OnOk, MatchOption, ◌↔◌};
     ghost use Rattle.rtrb.specs.Ring as ring;
     ghost use Rattle.site_links.specs.Fronts.{before};
+    ghost use Rattle.site_links.specs.Words.{RestsUnless};
     ghost use Rattle.site_links.specs.declared.places.TheConstants.{PLACES};
 
     ghost sent = { λ ends. ring.sent ends.to ++ ends.out.items };
@@ -58,7 +64,8 @@ impl<I: Drop> Ends<I> for TrayEnds<I> {
     ghost room = { λ ends. ends.spare };
 
     ghost meets = { λ a b. ring.IsPair a.to b.from × (length (ring.received b.from) ≡ length (ring.sent a.to))
-        × (length b.inside.items + length a.out.items + a.spare ≤ PLACES) };
+        × (length b.inside.items + length a.out.items + a.spare ≤ PLACES)
+        × RestsUnless a.has_put b.has_seen (ring.sent a.to ++ a.out.items) (before (ring.received b.from) b.inside.items) b.inside.items a.spare };
 
     fn is_live() -> bool {
         false
@@ -81,6 +88,7 @@ impl<I: Drop> Ends<I> for TrayEnds<I> {
         if self.spare == 0 {
             return Err(item);
         }
+        self.has_put = true;
         self.spare -= 1;
         self.out.push_back_reserved(item);
         Ok(())
@@ -92,19 +100,30 @@ impl<I: Drop> Ends<I> for TrayEnds<I> {
 
     fn take(&mut self) -> Option<I> {
         match self.inside.pop_front() {
-            Some(item) => Some(item),
+            Some(item) => {
+                self.has_seen = true;
+                Some(item)
+            }
             None => None,
         }
     }
 
     fn settle(&mut self, to: &mut Self) -> usize {
+        if rests(self, to) {
+            return 0;
+        }
         hand_over(&mut self.out, &mut self.to, &mut to.from, &mut to.inside);
         let waiting = to.inside.len();
         self.spare = PLACES - waiting as u32;
+        self.has_put = waiting > 0;
+        to.has_seen = waiting > 0;
         waiting
     }
 
     fn settle_own(&mut self) -> usize {
+        if rests(self, self) {
+            return 0;
+        }
         hand_over(
             &mut self.out,
             &mut self.to,
@@ -113,6 +132,8 @@ impl<I: Drop> Ends<I> for TrayEnds<I> {
         );
         let waiting = self.inside.len();
         self.spare = PLACES - waiting as u32;
+        self.has_put = waiting > 0;
+        self.has_seen = waiting > 0;
         waiting
     }
 }
@@ -126,6 +147,7 @@ fn with_lists<I: Drop>(
     requires { (0 < ring.producer_capacity to) × (ring.received from ≡ []) }
     ensures rings { IfOk result (λ made. (made.to ≡ to) × (made.from ≡ from)) }
     ensures lists { IfOk result (λ made. (made.out.items ≡ []) × (made.inside.items ≡ []) × (made.spare ≡ PLACES)) }
+    ensures unused { IfOk result (λ made. (made.has_put ≡ false) × (made.has_seen ≡ false)) }
 {
     let out = VecDeque::with_capacity(alloc, PLACES as usize)?;
     let inside = VecDeque::with_capacity(alloc, PLACES as usize)?;
@@ -135,7 +157,16 @@ fn with_lists<I: Drop>(
         from,
         inside,
         spare: PLACES,
+        has_put: false,
+        has_seen: false,
     })
+}
+
+/// Whether nothing was put on a link and nothing taken from it since it was settled with nothing on it.
+fn rests<I>(from: &TrayEnds<I>, to: &TrayEnds<I>) -> bool
+    ensures { result ≡ true → (from.now.has_put ≡ false) × (to.now.has_seen ≡ false) }
+{
+    !from.has_put && !to.has_seen
 }
 
 /// Hands over all that was put.

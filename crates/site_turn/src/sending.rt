@@ -10,7 +10,7 @@ use np_syntax::Kind;
 use site_links::{PLACES, Port};
 use site_state::Site;
 
-/// Puts what is outgoing on the links, as far as there is room.
+/// Puts what is outgoing on the links, as far as there is room. Where nothing is no site is asked.
 #[tactic(auto, using(crate::proofs::Steps::turned_refl))]
 pub fn send<R, P: Port<R, Item>>(rt: &R, code: &Code, signs: &Signs, seat: &mut Seat<P>)
     requires { Seated P.Port code.now seat.old }
@@ -18,6 +18,9 @@ pub fn send<R, P: Port<R, Item>>(rt: &R, code: &Code, signs: &Signs, seat: &mut 
     ensures only { OnlySends P.Port code.now seat.old seat.new }
     ensures all { SendsAll P.Port code.now seat.old seat.new }
 {
+    if seat.site.all_sent() {
+        return;
+    }
     for to in 0..code.sites() {
         send_to(rt, code, signs, seat, to);
     }
@@ -100,7 +103,7 @@ fn tell<R, P: Port<R, Item>>(signs: &Signs, from: u32, to: u32) {
 }
 
 /// Puts what is outgoing for one site on its link, if the last event put an item out: for the site that this item is for. Others may
-/// have some for which there was no room; `send_left` comes to them.
+/// have some for which there was no room; `send` comes to them.
 #[tactic(auto, using(crate::proofs::Steps::turned_refl))]
 pub fn send_new<R, P: Port<R, Item>>(rt: &R, code: &Code, signs: &Signs, seat: &mut Seat<P>)
     requires { Seated P.Port code.now seat.old }
@@ -129,18 +132,6 @@ fn send_last<R, P: Port<R, Item>>(rt: &R, code: &Code, signs: &Signs, seat: &mut
     let to = seat.site.last_for();
     if is_site(code, to) {
         send_to(rt, code, signs, seat, to);
-    }
-}
-
-/// Puts what is outgoing on the links, if anything is.
-#[tactic(auto, using(crate::proofs::Steps::turned_refl))]
-pub fn send_left<R, P: Port<R, Item>>(rt: &R, code: &Code, signs: &Signs, seat: &mut Seat<P>)
-    requires { Seated P.Port code.now seat.old }
-    ensures turned { Turned P.Port code.now seat.old seat.new }
-    ensures only { OnlySends P.Port code.now seat.old seat.new }
-{
-    if !seat.site.all_sent() {
-        send(rt, code, signs, seat);
     }
 }
 

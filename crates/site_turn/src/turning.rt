@@ -8,7 +8,7 @@ use crate::gate::Gate;
 use crate::mail::Mail;
 use crate::receiving::{receive, receive_told};
 use crate::seat::Seat;
-use crate::sending::{send, send_left, send_new};
+use crate::sending::{send, send_new};
 use crate::signs::Signs;
 use agent_move::Item;
 use np_code::Code;
@@ -190,7 +190,7 @@ fn catch_up<R, P: Port<R, Item>>(
     ensures no { result ≡ false → MakesNone code.now seat.old.site seat.new.site }
 {
     settle_self(rt, code, mail, seat);
-    send_left(rt, code, signs, seat);
+    send(rt, code, signs, seat);
     receive_told(rt, code, signs, mail, seat)
 }
 

@@ -1,4 +1,4 @@
-use Rattle.std.proofs.Common.{arith}
+use Rattle.std.proofs.Common.{arith, inl}
 use Rattle.site_turn.proofs.Events.{sends_refl, sends_trans, sent_below_more, sent_below_none}
 use Rattle.site_turn.proofs.Steps.{seated_after, turned_refl, turned_trans}
 use Rattle.site_turn.proofs.sending.send.Goals as goal
@@ -16,3 +16,12 @@ loop-to-init g c = record { turned = turned_refl _; seated = c.requires; only = 
 
 pub returns-clause-all : goal.returns-clause-all
 returns-clause-all g c = record { each = λ to less. c.loop-to.invariant.below.below to (omega arith) }
+
+pub returns-then-all_sent-clause-turned : goal.returns-then-all_sent-clause-turned
+returns-then-all_sent-clause-turned g c = turned_refl _
+
+pub returns-then-all_sent-clause-only : goal.returns-then-all_sent-clause-only
+returns-then-all_sent-clause-only g c = sends_refl _
+
+pub returns-then-all_sent-clause-all : goal.returns-then-all_sent-clause-all
+returns-then-all_sent-clause-all g c = record { each = λ to less. record { most = inl ((c.all_sent.ensures.0 c.if-all_sent.true).each to) } }

@@ -33,7 +33,7 @@ returns g c =
     let h : Changes p _ i x y = record { site_same = refl; ways = refl; was = was } in
     let put = c.put.ensures in
     record {
-      keeps = keeps_put p _ i x y h refl put.same.queue_same put.last put.same.fresh_same;
+      keeps = keeps_put p _ i x y h refl put.same.queue_same put.last put.same.fresh_same put.noted;
       taking = λ k. (refl, refl);
       room = rows_less (λ way. way.spare) xs i x y c.args.item was (omega (arith, put.room));
       ok = on_ok_weaker c.put.result (λ f. rows_more (λ way. sent_by way) xs i x y c.args.item was f) put.ok;

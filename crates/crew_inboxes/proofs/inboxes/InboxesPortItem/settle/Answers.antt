@@ -1,4 +1,4 @@
-use Rattle.std.proofs.Common.{◌≡◌, ◌++◌, ◌-◌, ◌∙◌, ℕ, [], sym, ap, subst, length, length-set, refl, arith}
+use Rattle.std.proofs.Common.{◌≡◌, ◌≢◌, ◌++◌, ◌-◌, ◌∙◌, ℕ, [], sym, ap, subst, length, length-set, refl, arith}
 use Rattle.std.proofs.lemmas.Option.{slice_get_read}
 use denote.Exit.{no}
 use denote.Param.Send.{arg_send, param_send}
@@ -10,7 +10,7 @@ use Rattle.site_links.proofs.Rows.{rows_same, rows_others, rows_here}
 use Rattle.crew_inboxes.specs.Ways.{sent_by, last_by, taken_of, waiting_of}
 use Rattle.crew_inboxes.proofs.Items.{item_send}
 use Rattle.crew_inboxes.proofs.Taking.{numbered_set, taken_same, waiting_same}
-use Rattle.crew_inboxes.proofs.Links.{Changes, keeps_but, out_still, in_still, settled_linked, way_within, back_within, way_joined, way_counts}
+use Rattle.crew_inboxes.proofs.Links.{Changes, keeps_but, out_still, in_still, same_rests, settled_linked, way_within, back_within, way_joined, way_counts, way_rests}
 use Rattle.crew_inboxes.proofs.inboxes.InboxesPortItem.settle.Goals as goal
 
 pub index-requires : goal.index-requires
@@ -37,6 +37,13 @@ settle_way-waiting-requires-clause-fresh g c =
     let back = slice_get_read q.ways.items (length q.ways.items) p.site z refl (back_within c.requires) c.index.ensures in
     way_counts c.requires x z (number_in (view x.pass)) out back (p.numbered q.site x out)
 
+pub settle_way-waiting-requires-clause-rests : goal.settle_way-waiting-requires-clause-rests
+settle_way-waiting-requires-clause-rests g c =
+    let p = c.args.self.now in let q = c.args.to.now in let x = c.index_mut-way.result.now in let z = c.index.result.now in
+    let out = slice_get_read p.ways.items (length p.ways.items) q.site x refl (way_within c.requires) c.index_mut-way.ensures.value in
+    let back = slice_get_read q.ways.items (length q.ways.items) p.site z refl (back_within c.requires) c.index.ensures in
+    way_rests c.requires x z (number_in (view x.pass)) out back (p.numbered q.site x out)
+
 pub invariant_of-self-clause-numbered : goal.invariant_of-self-clause-numbered
 invariant_of-self-clause-numbered g c =
     let p = c.args.self.now in let xs = p.ways.items in let i = c.args.to.now.site in let x = c.index_mut-way.result.now in
@@ -45,7 +52,7 @@ invariant_of-self-clause-numbered g c =
 pub invariant_of-to-clause-numbered : goal.invariant_of-to-clause-numbered
 invariant_of-to-clause-numbered g c =
     let q = c.args.to.now in let zs = q.ways.items in let j = c.args.self.now.site in let z = c.index_mut.result.now in
-    numbered_set zs j q.site z c.restart.new.self q.numbered (slice_get_read zs (length zs) j z refl (back_within c.requires) c.index_mut.ensures.value) (ap (λ o. number_in (view o)) c.restart.ensures.same.1)
+    numbered_set zs j q.site z c.restart.new.self q.numbered (slice_get_read zs (length zs) j z refl (back_within c.requires) c.index_mut.ensures.value) (ap (λ o. number_in (view o)) c.restart.ensures.same.pass_same)
 
 pub invariant_of-self-clause-reaches : goal.invariant_of-self-clause-reaches
 invariant_of-self-clause-reaches g c = let p = c.args.self.now in p.reaches ∙ sym (length-set p.ways.items c.args.to.now.site c.settle_way-waiting.new.way)
@@ -67,18 +74,22 @@ returns g c =
     let s = c.settle_way-waiting.ensures.settled in let r = c.restart.ensures in
     let number : number_in (view x.pass) ≡ j = p.numbered i x out in
     let taken : (n : ℕ) → taken_of b n ≡ taken_of q.inbox n = taken_same q.inbox b s.got in
+    let waits : (n : ℕ) → n ≢ j → waiting_of b n ≡ waiting_of q.inbox n = λ n m. waiting_same q.inbox b n (taken n) (s.told n (λ f. m (f ∙ number))) in
+    let settled : taken_of b j ++ waiting_of b j ≡ sent_by y = subst (λ (n : ℕ). taken_of b n ++ waiting_of b n ≡ sent_by y) number s.settled in
+    let free : y.spare ≡ PLACES - length (waiting_of b j) = subst (λ (n : ℕ). y.spare ≡ PLACES - length (waiting_of b n)) number s.free in
     record {
-      keeps = (keeps_but p _ i x y h refl (λ n. refl), keeps_but q _ j z w k s.same_inbox.queue_same taken);
+      keeps = (keeps_but p _ i x y h refl (λ n. refl) (λ n m. refl), keeps_but q _ j z w k s.same_inbox.queue_same taken waits);
       between = (
-        settled_linked p q _ _ x y z w h k s.same_way.queue_same s.same_inbox.queue_same (subst (λ (n : ℕ). last_by y ≡ taken_of b n) number s.last) r.none,
-        λ l. in_still p _ i x y h refl (λ n. refl) s.same_way.fresh_same _
-            (out_still q _ j z w k s.same_inbox.queue_same taken (ap (λ o. o.table_id) r.same.1) (ap (λ o. last_in (view o)) r.same.1) p l),
+        settled_linked p q _ _ x y z w h k s.same_way.queue_same s.same_inbox.queue_same (subst (λ (n : ℕ). last_by y ≡ taken_of b n) number s.last) r.none settled free s.rests,
+        λ l. in_still p _ i x y h refl (λ n. refl) (λ n m. refl) s.same_way.fresh_same refl _
+            (out_still q _ j z w k s.same_inbox.queue_same taken waits (ap (λ o. o.table_id) r.same.pass_same) (ap (λ o. last_in (view o)) r.same.pass_same)
+            (same_rests q _ j z w k r.same.put_same r.same.pass_same r.same.spare_same) p l),
       );
-      sent = λ n. (rows_same (λ way. sent_by way) [] xs i x y out s.sent n, rows_same (λ way. sent_by way) [] zs j z w back (ap (λ o. sent_in (view o)) r.same.1) n);
+      sent = λ n. (rows_same (λ way. sent_by way) [] xs i x y out s.sent n, rows_same (λ way. sent_by way) [] zs j z w back (ap (λ o. sent_in (view o)) r.same.pass_same) n);
       got = λ n. (refl, taken n);
-      known = λ n. (refl, λ m. waiting_same q.inbox b n (taken n) (s.told n (λ f. m (f ∙ number))));
-      room = λ n. (rows_others (λ way. way.spare) 0 xs i x y out n, rows_same (λ way. way.spare) 0 zs j z w back r.same.2 n);
-      settled = subst (λ (n : ℕ). taken_of b n ++ waiting_of b n ≡ sent_by y) number s.settled ∙ sym (rows_here (λ way. sent_by way) [] xs i x y out);
-      free = rows_here (λ way. way.spare) 0 xs i x y out ∙ subst (λ (n : ℕ). y.spare ≡ PLACES - length (waiting_of b n)) number s.free;
+      known = λ n. (refl, waits n);
+      room = λ n. (rows_others (λ way. way.spare) 0 xs i x y out n, rows_same (λ way. way.spare) 0 zs j z w back r.same.spare_same n);
+      settled = settled ∙ sym (rows_here (λ way. sent_by way) [] xs i x y out);
+      free = rows_here (λ way. way.spare) 0 xs i x y out ∙ free;
       waiting = subst (λ (n : ℕ). c.settle_way-waiting.result ≡ length (waiting_of b n)) number c.settle_way-waiting.ensures.waiting;
     }

@@ -1,4 +1,6 @@
-use Rattle.std.proofs.Common.{refl}
+use Rattle.std.proofs.Common.{◌≤◌, ◌+◌, arith, refl}
+use Rattle.std.proofs.lemmas.Bool.{ltb-false}
+use Rattle.site_links.specs.declared.places.TheConstants.{PLACES}
 use Rattle.crossbeam_queue.specs.Passes.{view}
 use Rattle.site_inboxes.proofs.Waiting.{settled-whole, settled-spaced, settled-free}
 use Rattle.site_inboxes.proofs.ends.Outlet.settle.Goals as goal
@@ -12,6 +14,7 @@ pub returns : goal.returns
 returns g c =
     let o = c.args.self.now in let b = c.args.inbox.now in let e = c.pass_notes.ensures in let s = e.settled in let sender = g.I.Addressed.sender in
     let v' = view c.pass_notes.new.sender in let b' = view c.pass_notes.new.owner in
+    let free = settled-free sender (view o.pass) (view b.pass) v' b' s e.freed o.spare c.args.fresh o.spaced c.requires.fresh in
     record {
       same = (record { queue_same = e.same.0.0; number_same = s.number_same; fresh_same = refl }, record { queue_same = e.same.1.0; sites_same = s.owner_sites });
       sent = s.sent_same;
@@ -19,5 +22,6 @@ returns g c =
       last = s.last_is;
       told = s.told_others;
       settled = settled-whole sender (view o.pass) (view b.pass) v' b' s e.freed;
-      free = settled-free sender (view o.pass) (view b.pass) v' b' s e.freed o.spare c.args.fresh o.spaced c.requires.fresh;
+      free = free;
+      rests = λ none. let full : PLACES ≤ o.spare + c.args.fresh = ltb-false (o.spare + c.args.fresh) PLACES none in omega (arith, free, full);
     }
