@@ -5,7 +5,7 @@
 #   bench/site-instructions.sh [PROGRAM]
 #
 # It builds nothing: PROGRAM is the built program, by default crates/np/out/np. `load N --serial` runs the source of `gen N`, a ring
-# of N agents on eight sites, which makes 680 N + 215 events. The instructions are counted by valgrind, so the load of the machine
+# of N agents on four sites, which makes 680 N + 215 events. The instructions are counted by valgrind, so the load of the machine
 # does not matter. Those of `low` of the same source (the start of the process, the reading, the types, the translation and its
 # text) are taken off.
 set -euo pipefail
