@@ -65,7 +65,8 @@ impl<I: Drop> Ends<I> for TrayEnds<I> {
 
     ghost meets = { λ a b. ring.IsPair a.to b.from × (length (ring.received b.from) ≡ length (ring.sent a.to))
         × (length b.inside.items + length a.out.items + a.spare ≤ PLACES)
-        × RestsUnless a.has_put b.has_seen (ring.sent a.to ++ a.out.items) (before (ring.received b.from) b.inside.items) b.inside.items a.spare };
+        × RestsUnless a.has_put b.has_seen (ring.sent a.to ++ a.out.items)
+        (before (ring.received b.from) b.inside.items) b.inside.items a.spare };
 
     fn is_live() -> bool {
         false
