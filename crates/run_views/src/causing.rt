@@ -16,7 +16,7 @@ use std::alloc::Global;
 /// The places in the run of the events that wrote last what an event touches: the mark of its actor, the mark of its other,
 /// and the places of the agent that acts and of the one that is asked for.
 #[derive(Clone, Copy)]
-pub(super) struct Causes {
+pub struct Causes {
     pub actor: Option<u32>,
     pub other: Option<u32>,
     pub agent: Option<u32>,

@@ -6,9 +6,11 @@
 //! `past` keeps for each mark and each agent's place which event wrote it last, so the causes of an event, at most four, are
 //! looked up when the event is made; then it goes back from the Print.
 //!
-//! Contracts: `first_test`, `one_step` (`IsStepped`), `past` (`IsPastRun`), `law_past`, `law_said_by_prints`, `law_one_step`.
+//! Contracts: `first_test`, `one_step` (`IsStepped`), `past` (`IsPastRun`), `past_high` (`IsPastOf`), `causes_low`, `causes_high`
+//! (`AreCauses`), `law_past`, `law_said_by_prints`, `law_one_step`.
 #![tactic(auto)]
 
+mod causes;
 mod causing;
 mod laws;
 mod marking;
@@ -19,7 +21,9 @@ mod touching;
 mod tracing;
 mod turning;
 
+pub use causes::{causes_high, causes_low};
+pub use causing::Causes;
 pub use laws::{law_one_step, law_past, law_said_by_prints};
-pub use pasts::past;
+pub use pasts::{past, past_high};
 pub use stepping::one_step;
 pub use testing::first_test;

@@ -2,14 +2,14 @@
 
 ghost use Rattle.std.specs.Prelude.{◌<◌, ◌^◌, length, IsSome, IfOk, slice_get};
 ghost use Rattle.np_calculus.specs.Reductions.{run};
-ghost use Rattle.np_calculus.specs.Starts.{start_low};
+ghost use Rattle.np_calculus.specs.Starts.{start_high, start_low};
 ghost use Rattle.run_views.specs.Past.{IsPastOf};
 ghost use Rattle.run_views.specs.Pasts.{IsPrint, IsPastRun};
 
 use super::marking::{mark_back, marked_events};
 use super::tracing::find_causes;
-use np_configuration::{Cfg, start_low};
-use np_syntax::{Event, List, LowProgram, Memory};
+use np_configuration::{Cfg, start_high, start_low};
+use np_syntax::{Event, List, LowProgram, Memory, Program};
 use std::alloc::Global;
 
 /// The events of a run that led to the Print at a place, in their order: with it those that wrote last what it touches, with
@@ -26,6 +26,28 @@ pub fn past(
     ensures { IfOk result (IsPastRun low.now events.now index) }
 {
     match start_low(alloc, low) {
+        Ok(mut start) => {
+            let led = past_on(alloc, &mut start, events, index as usize);
+            drop(start);
+            led
+        }
+        Err(memory) => Err(memory),
+    }
+}
+
+/// The same of a run of a program of the high level.
+pub fn past_high(
+    alloc: Global,
+    p: &Program,
+    events: &[Event],
+    index: u32,
+) -> Result<List<Event>, Memory>
+    requires sites { length p.now.sites < 2 ^ 32 }
+    requires run { IsSome (run (start_high p.now) events.now) }
+    requires print { IsPrint (slice_get events.now index) }
+    ensures { IfOk result (IsPastOf (start_high p.now) events.now index) }
+{
+    match start_high(alloc, p) {
         Ok(mut start) => {
             let led = past_on(alloc, &mut start, events, index as usize);
             drop(start);
