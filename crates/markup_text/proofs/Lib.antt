@@ -1,1 +1,2 @@
+pub mod Formed
 mod Tame

@@ -23,6 +23,36 @@ tag_word tags.Path = codes "path"
 tag_word tags.Label = codes "text"
 tag_word tags.Title = codes "title"
 tag_word tags.Style = codes "style"
+tag_word tags.Html = codes "html"
+tag_word tags.Head = codes "head"
+tag_word tags.Meta = codes "meta"
+tag_word tags.Body = codes "body"
+tag_word tags.Script = codes "script"
+tag_word tags.Header = codes "header"
+tag_word tags.Main = codes "main"
+tag_word tags.Section = codes "section"
+tag_word tags.Part = codes "div"
+tag_word tags.Span = codes "span"
+tag_word tags.Code = codes "code"
+tag_word tags.Strong = codes "b"
+tag_word tags.Link = codes "a"
+tag_word tags.Heading = codes "h1"
+tag_word tags.Subheading = codes "h2"
+tag_word tags.Paragraph = codes "p"
+tag_word tags.Ordered = codes "ol"
+tag_word tags.Unordered = codes "ul"
+tag_word tags.Item = codes "li"
+tag_word tags.Input = codes "input"
+tag_word tags.Caption = codes "label"
+tag_word tags.Details = codes "details"
+tag_word tags.Summary = codes "summary"
+tag_word tags.Table = codes "table"
+tag_word tags.TableHead = codes "thead"
+tag_word tags.TableBody = codes "tbody"
+tag_word tags.TableRow = codes "tr"
+tag_word tags.HeadCell = codes "th"
+tag_word tags.Cell = codes "td"
+tag_word tags.Footer = codes "footer"
 
 abbrev pub attribute_word : AttributeName → List ℕ
 attribute_word names.X = codes "x"
@@ -44,6 +74,19 @@ attribute_word names.Namespace = codes "xmlns"
 attribute_word names.Role = codes "role"
 attribute_word names.AriaLabel = codes "aria-label"
 attribute_word names.Event = codes "data-e"
+attribute_word names.Id = codes "id"
+attribute_word names.Href = codes "href"
+attribute_word names.Language = codes "lang"
+attribute_word names.HttpEquiv = codes "http-equiv"
+attribute_word names.Name = codes "name"
+attribute_word names.Content = codes "content"
+attribute_word names.Kind = codes "type"
+attribute_word names.Checked = codes "checked"
+attribute_word names.For = codes "for"
+attribute_word names.Needs = codes "data-needs"
+attribute_word names.Twin = codes "data-twin"
+attribute_word names.Node = codes "data-n"
+attribute_word names.Live = codes "aria-live"
 
 -- ---- tags
 
@@ -60,6 +103,10 @@ opening tag attributes = codes "<" ++ tag_word tag ++ flat_map attribute_text at
 
 abbrev pub closing : Tag → List ℕ
 closing tag = codes "</" ++ tag_word tag ++ codes ">"
+
+-- the one tag of an element in which nothing may stand
+abbrev pub single_text : Tag → List Attribute → List ℕ
+single_text tag attributes = codes "<" ++ tag_word tag ++ flat_map attribute_text attributes ++ codes "/>"
 
 -- ---- elements
 

@@ -77,6 +77,16 @@ pub fn put_closing(text: &mut Text, tag: Tag) -> Result<(), Memory>
     text.append(b">")
 }
 
+/// Appends an element in which nothing may stand, as one tag.
+pub fn put_single(text: &mut Text, tag: Tag, attributes: &[Attribute]) -> Result<(), Memory>
+    ensures { OnOk result (text.new ≡ text.old ++ spec.single_text tag attributes.now) }
+{
+    text.append(b"<")?;
+    text.append(tag_word(tag))?;
+    put_attributes(text, attributes)?;
+    text.append(b"/>")
+}
+
 /// Appends an element: it opens, the text stands in it, and it closes.
 pub fn put_element(text: &mut Text, element: &Element) -> Result<(), Memory>
     ensures { OnOk result (text.new ≡ text.old ++ spec.element_text element.now) }

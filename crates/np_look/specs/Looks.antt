@@ -1,16 +1,23 @@
 -- What is looked at (docs/PICTURES.md, "Pictures").
-use Rattle.std.specs.Prelude.{◌≡◌, ℕ, List, map}
+use Rattle.std.specs.Prelude.{◌≡◌, ℕ, true, List, None, map}
 use Rattle.np_syntax.specs.declared.event.Event.{Event}
 use Rattle.np_lift.specs.Lift.{lift}
 use Rattle.np_lift.specs.CachedLift.{lift_cached}
 use Rattle.run_pictures.specs.declared.step.Followed.{Followed}
 use Rattle.run_pictures.specs.declared.step.Step.{Step}
-use Rattle.picture_svg.specs.Pictures.{IsPicture}
+use Rattle.run_pictures.specs.declared.parts.Part.{Part}
+use Rattle.run_pictures.specs.Parts.{part_of}
+use Rattle.picture_svg.specs.Pictures.{IsPicture, IsPictureOfBoth}
+use Rattle.shiviz_log.specs.Logs.{log}
+use Rattle.run_twins.specs.Twins.{cached_twins, twins}
 use Rattle.np_look.specs.declared.answering.Shown.{Shown}
 use Rattle.np_look.specs.declared.words.Infrastructure.{Infrastructure}
 use Rattle.np_look.specs.declared.words.Infrastructure.TheVariants as infrastructures
 use Rattle.np_look.specs.declared.words.Level.{Level}
 use Rattle.np_look.specs.declared.words.Level.TheVariants as levels
+use Rattle.np_look.specs.declared.part_words.Stretch.{Stretch}
+use Rattle.np_look.specs.declared.words.View.{View}
+use Rattle.np_look.specs.declared.words.View.TheVariants as views
 
 -- the events of the source that are read off those of the sites
 abbrev pub lift_by : Infrastructure → List Event → List Event
@@ -32,7 +39,51 @@ pub record IsPictureOf (events : List Event) (text : List ℕ) : Type 0 where
   pub of : map (λ step. step.event) steps ≡ events
   pub picture : IsPicture steps text
 
--- what is shown is a picture of the events of a level that are read off some events of the sites
-pub record IsShown (level : Level) (infrastructure : Infrastructure) (shown : Shown) : Type 0 where
+-- numbers of the events of the sites from which those of the source are read off
+abbrev pub AreTwins : Infrastructure → List Event → List ℕ → Type 0
+AreTwins infrastructures.Central events numbers = numbers ≡ twins events
+AreTwins infrastructures.Cache events numbers = numbers ≡ cached_twins events
+
+-- the text is a picture in which the events of both levels stand side by side
+pub record IsPictureOfLevels (infrastructure : Infrastructure) (events : List Event) (text : List ℕ) : Type 0 where
+  pub high : List Step
+  pub low : List Step
+  pub of_high : map (λ step. step.event) high ≡ lift_by infrastructure events
+  pub of_low : map (λ step. step.event) low ≡ events
+  pub numbers : List ℕ
+  pub are_twins : AreTwins infrastructure events numbers
+  pub picture : IsPictureOfBoth high low numbers text
+
+-- a part that begins and ends where it is wanted; it has all that stands between where no agent is named
+pub record IsPart (stretch : Stretch) (part : Part) : Type 0 where
+  pub first : part.first ≡ stretch.first
+  pub end : part.end ≡ stretch.end
+  pub whole : stretch.whole ≡ true → part.of ≡ None
+
+-- the text is a picture of a part of these steps
+pub record IsPictureOfSteps (stretch : Stretch) (steps : List Step) (text : List ℕ) : Type 0 where
+  pub part : Part
+  pub wanted : IsPart stretch part
+  pub picture : IsPicture (part_of part steps) text
+
+-- the text is a picture of a part of these events
+pub record IsPictureOfPart (stretch : Stretch) (events : List Event) (text : List ℕ) : Type 0 where
+  pub steps : List Step
+  pub of : map (λ step. step.event) steps ≡ events
+  pub shown : IsPictureOfSteps stretch steps text
+
+abbrev pub IsViewed : View → Infrastructure → List Event → List ℕ → Type 0
+IsViewed (views.One level) infrastructure events text = IsPictureOf (events_at level infrastructure events) text
+IsViewed (views.Part level stretch) infrastructure events text = IsPictureOfPart stretch (events_at level infrastructure events) text
+IsViewed views.Both infrastructure events text = IsPictureOfLevels infrastructure events text
+
+-- what is shown is a view of some events of the sites
+pub record IsShown (view : View) (infrastructure : Infrastructure) (shown : Shown) : Type 0 where
   pub events : List Event
-  pub picture : IsPictureOf (events_at level infrastructure events) shown.text
+  pub viewed : IsViewed view infrastructure events shown.text
+
+-- the text is a log in which just these events stand, in this order
+pub record IsLogOf (sites : List (List ℕ)) (events : List Event) (text : List ℕ) : Type 0 where
+  pub steps : List Step
+  pub of : map (λ step. step.event) steps ≡ events
+  pub is : text ≡ log sites steps

@@ -7,4 +7,5 @@ use Rattle.np_look.specs.declared.words.Asked.TheVariants as asked
 -- a run that is wanted has a budget
 abbrev pub IsWanted : Asked → Type 0
 IsWanted (asked.Work wanted) = wanted.budget ≤ LARGEST_BUDGET
+IsWanted (asked.Page wanted) = wanted.budget ≤ LARGEST_BUDGET
 IsWanted _ = Unit {0}

@@ -1,26 +1,52 @@
-//! np_look: the program that shows runs to people. `picture` writes the picture of a history of a source, or of a run of it; `why`
-//! tells why np refuses a source or a history.
+//! np_look: the program that shows runs to people. `picture` writes the picture of a history of a source, or of a run of it; `page`
+//! writes such a run as one HTML file, and `shiviz` a history as a log; `why` tells why np refuses a source or a history; `run` makes a
+//! run in which a seed chooses each next event, and `runs` many; `follow` follows the high text of a run.
 //!
 //! In the picture just the events of the level that is wanted stand, in their order: those of the low program, or those of the
-//! source that are read off them. A source or a history that is refused has the line and the exit status that np gives it, and
-//! nothing is written on the output then. A picture that is written whole has the status of its run.
+//! source that are read off them, or both side by side, or those in a part of a level. A source or a history that is refused has
+//! the line and the exit status that np gives it, and nothing is written on the output then. A picture that is written whole has the
+//! status of its run.
 //!
-//! Contracts: `picture_of` (`IsPictureOf`), `answer_of`, `asked_by` (`IsWanted`).
+//! Contracts: `picture_of` (`IsViewed`), `page_of` (`IsPageOf`), `log_by` (`IsLogOf`), `run_shown` (`IsRunShown`), `followed` (`Follows`),
+//! `answer_of`, `asked_by` (`IsWanted`).
 #![tactic(auto)]
 
 mod answering;
+mod codes;
+mod drafts;
+mod follow_words;
+mod follow_work;
+mod heads;
+mod levels;
+mod logs;
 mod names;
+mod page_words;
+mod pages;
+mod part_words;
+mod parts;
+mod pasts;
 mod reading;
 mod reasons;
+mod rows;
+mod run_words;
+mod run_work;
+mod runs_work;
+mod shiviz_words;
+mod sides;
 mod words;
 mod working;
 
 use answering::{answer_of, answer_why};
 use clap::error::ErrorKind;
-use np_io::{ErrSink, FileTexts, OutSink, Word};
+use follow_work::followed_shown;
+use logs::log_of;
+use np_io::{ErrSink, FileTexts, OutSink, Sink, Texts, Word};
 use np_syntax::{List, Memory};
 use np_verdict::{BAD_USAGE, DONE, NO_MEMORY, WRITE_FAILED};
+use pages::page;
 use reasons::reason;
+use run_work::run_shown;
+use runs_work::runs_shown;
 use std::alloc::Global;
 use std::env;
 use std::io::{Error, ErrorKind as Fault};
@@ -44,22 +70,37 @@ fn main(rt: HostRuntime) -> ExitCode {
     let mut err = ErrSink::new(rt.stderr());
     let alloc = rt.alloc();
     let status = match asked_by(alloc, words.as_slice()) {
-        Asked::Work(wanted) => {
-            let made = work(alloc, &mut files, wanted);
-            answer_of(alloc, made, &mut out, &mut err)
-        }
-        Asked::Why(question) => {
-            let made = reason(alloc, &mut files, question);
-            answer_why(alloc, made, &mut out, &mut err)
-        }
         Asked::Said(error) => match error.print(&rt) {
             Ok(()) => said_status(error.kind()),
             Err(_) => WRITE_FAILED,
         },
-        Asked::Usage => BAD_USAGE,
-        Asked::NoMemory => NO_MEMORY,
+        asked => answered(alloc, &mut files, &mut out, &mut err, asked),
     };
     ExitCode::from(status)
+}
+
+/// The exit status of the answer to what the words ask for.
+fn answered<T: Texts, S: Sink, E: Sink>(
+    alloc: Global,
+    files: &mut T,
+    out: &mut S,
+    err: &mut E,
+    asked: Asked,
+) -> u8 {
+    match asked {
+        Asked::Work(wanted) => answer_of(alloc, work(alloc, files, wanted), out, err),
+        Asked::Page(wanted) => answer_of(alloc, page(alloc, files, wanted), out, err),
+        Asked::Log(question) => answer_of(alloc, log_of(alloc, files, question), out, err),
+        Asked::Run(single) => answer_of(alloc, run_shown(alloc, files, &single), out, err),
+        Asked::Runs(several) => answer_of(alloc, runs_shown(alloc, files, &several), out, err),
+        Asked::Why(question) => answer_why(alloc, reason(alloc, files, question), out, err),
+        Asked::Follow(following) => {
+            let made = followed_shown(alloc, files, &following);
+            answer_why(alloc, made, out, err)
+        }
+        Asked::NoMemory => NO_MEMORY,
+        Asked::Usage | Asked::Said(_) => BAD_USAGE,
+    }
 }
 
 /// The exit status where clap has the last word: help and the version are asked for, all else is a fault of usage.

@@ -1,6 +1,7 @@
-//! How a source names the agents that it makes.
+//! How a source names the agents and the channels that it makes.
 
-ghost use Rattle.std.specs.Prelude.{◌≤◌, length};
+ghost use Rattle.std.specs.Prelude.{◌≡◌, ◌≤◌, drop, length, take, IfOk};
+ghost use Rattle.np_look.specs.Binders.{AreNamed, StandsIn};
 
 use np_syntax::{List, Memory, Proc, ProcForm};
 use picture_svg::Binder;
@@ -29,22 +30,44 @@ fn gap_len(bytes: &[u8]) -> usize
     count.min(bytes.len())
 }
 
-/// The second word from this offset on.
-fn second_word(bytes: &[u8], at: u32) -> &[u8] {
-    let (_, rest) = bytes.split_at((at as usize).min(bytes.len()));
-    let (_, rest) = rest.split_at(name_len(rest));
-    let (_, rest) = rest.split_at(gap_len(rest));
-    let (word, _) = rest.split_at(name_len(rest));
-    word
+/// So many bytes in front.
+fn front(bytes: &[u8], count: usize) -> &[u8]
+    requires { count ≤ length bytes.now }
+    ensures { result.now ≡ take count bytes.now }
+{
+    let (front, _) = bytes.split_at(count);
+    front
 }
 
-/// Notes the name that stands behind the word `agent` of a process.
+/// The bytes behind so many.
+fn behind(bytes: &[u8], count: usize) -> &[u8]
+    requires { count ≤ length bytes.now }
+    ensures { result.now ≡ drop count bytes.now }
+{
+    let (_, rest) = bytes.split_at(count);
+    rest
+}
+
+/// The second word from this offset on.
+fn second_word(bytes: &[u8], at: u32) -> &[u8]
+    ensures { StandsIn bytes.now result.now }
+{
+    let from = behind(bytes, (at as usize).min(bytes.len()));
+    let gap = behind(from, name_len(from));
+    let word = behind(gap, gap_len(gap));
+    front(word, name_len(word))
+}
+
+/// Notes the name that stands behind the first word of a process, `agent` or `new`.
 fn add_binder(
     alloc: Global,
     binders: &mut List<Binder>,
     bytes: &[u8],
     p: &Proc,
-) -> Result<(), Memory> {
+) -> Result<(), Memory>
+    requires { AreNamed bytes.now binders.old }
+    ensures { AreNamed bytes.now binders.new }
+{
     let name = List::from_slice(alloc, second_word(bytes, p.at))?;
     binders.add(Binder {
         node: p.tag.node,
@@ -52,13 +75,16 @@ fn add_binder(
     })
 }
 
-/// Notes how a process names the agents that it makes.
+/// Notes how a process names what it makes.
 fn add_binders(
     alloc: Global,
     binders: &mut List<Binder>,
     bytes: &[u8],
     p: &Proc,
-) -> Result<(), Memory> {
+) -> Result<(), Memory>
+    requires { AreNamed bytes.now binders.old }
+    ensures { AreNamed bytes.now binders.new }
+{
     match p.form.get() {
         ProcForm::Agent(_, body, rest) => {
             add_binder(alloc, binders, bytes, p)?;
@@ -72,8 +98,11 @@ fn add_binders(
             add_binders(alloc, binders, bytes, first)?;
             add_binders(alloc, binders, bytes, second)
         }
-        ProcForm::New(_, _, body)
-        | ProcForm::Inp(_, _, body)
+        ProcForm::New(_, _, body) => {
+            add_binder(alloc, binders, bytes, p)?;
+            add_binders(alloc, binders, bytes, body)
+        }
+        ProcForm::Inp(_, _, body)
         | ProcForm::Rep(_, _, body)
         | ProcForm::Migrate(_, body)
         | ProcForm::Let(_, _, body) => add_binders(alloc, binders, bytes, body),
@@ -86,8 +115,10 @@ fn add_binders(
     }
 }
 
-/// How the source of these bytes names the agents that its process makes.
-pub fn binders_of(alloc: Global, bytes: &[u8], main: &Proc) -> Result<List<Binder>, Memory> {
+/// How the source of these bytes names the agents and the channels that its process makes.
+pub fn binders_of(alloc: Global, bytes: &[u8], main: &Proc) -> Result<List<Binder>, Memory>
+    ensures { IfOk result (AreNamed bytes.now) }
+{
     let mut binders = List::new(alloc);
     add_binders(alloc, &mut binders, bytes, main)?;
     Ok(binders)

@@ -4,7 +4,12 @@ ghost use Rattle.std.specs.Prelude.{◌≡◌, ◌≤◌, IfOk, IfSome};
 ghost use Rattle.np_syntax.specs.declared.limits.TheConstants.{LARGEST_BUDGET};
 ghost use Rattle.np_look.specs.Words.{IsWanted};
 
-use clap::{Arg, ArgMatches, Command, Error};
+use super::follow_words::{Following, asked_follow, follow};
+use super::page_words::{PageWanted, asked_page, page};
+use super::part_words::{Focus, Stretch, focus_by, view_by, with_parts};
+use super::run_words::{Several, Single, asked_run, asked_runs, run, runs, seed_there};
+use super::shiviz_words::shiviz;
+use clap::{Arg, ArgAction, ArgMatches, Command, Error};
 use np_io::Word;
 use np_syntax::{LARGEST_BUDGET, Memory, USUAL_BUDGET};
 use std::alloc::{AllocError, Global};
@@ -16,6 +21,14 @@ pub enum Level {
     Low,
 }
 
+/// What is shown: one level, a part of one, or both side by side.
+#[derive(Clone, Copy)]
+pub enum View {
+    One(Level),
+    Part(Level, Stretch),
+    Both,
+}
+
 /// What passes messages on: a daemon alone, or with caches beside it.
 #[derive(Clone, Copy)]
 pub enum Infrastructure {
@@ -23,14 +36,16 @@ pub enum Infrastructure {
     Cache,
 }
 
-/// The picture that is wanted: of a history of a source, or of a run of it that has at most so many events.
+/// The picture that is wanted: of a history of a source, or of a run of it that has at most so many events, by a seed or without one.
 #[derive(Drop)]
 pub struct Wanted {
     pub file: Word,
     pub history: Option<Word>,
-    pub level: Level,
+    pub view: View,
+    pub focus: Focus,
     pub infrastructure: Infrastructure,
     pub budget: u32,
+    pub seed: Option<u64>,
 }
 
 /// What is to be told: the refusal of a source, or of a history of it; or what a word names that stands in its place.
@@ -41,11 +56,16 @@ pub struct Question {
     pub infrastructure: Infrastructure,
 }
 
-/// What the words ask for, or what clap has to say of them. `Usage` is a budget that is none.
+/// What the words ask for, or what clap has to say of them. `Np` are words of np behind `why --`, and `Usage` is a budget that is none.
 #[derive(Drop)]
 pub enum Asked {
     Work(Wanted),
+    Page(PageWanted),
     Why(Question),
+    Run(Single),
+    Runs(Several),
+    Follow(Following),
+    Log(Question),
     Said(Error),
     Usage,
     NoMemory,
@@ -58,7 +78,7 @@ const EXAMPLE: &str = "Example: np_look picture letter.np > letter.svg";
 const WHY_EXAMPLE: &str = "Examples: np_look why letter.np, np_look why Mismatch";
 
 /// With an option that has one of these words as its value, and the first of them where it does not stand there.
-fn with_choice<'a>(
+pub(super) fn with_choice<'a>(
     alloc: Global,
     command: Result<Command<'a>, AllocError>,
     id: &'a str,
@@ -75,7 +95,7 @@ fn with_choice<'a>(
 }
 
 /// With the option that has a number as its value.
-fn with_budget<'a>(
+pub(super) fn with_budget<'a>(
     alloc: Global,
     command: Result<Command<'a>, AllocError>,
 ) -> Result<Command<'a>, AllocError> {
@@ -83,8 +103,37 @@ fn with_budget<'a>(
     command?.arg(Arg::new(alloc, "budget").long("budget").help(help))
 }
 
+/// With an option that has a value.
+pub(super) fn with_valued<'a>(
+    alloc: Global,
+    command: Result<Command<'a>, AllocError>,
+    id: &'a str,
+    help: &'a str,
+) -> Result<Command<'a>, AllocError> {
+    command?.arg(Arg::new(alloc, id).long(id).help(help))
+}
+
+/// With an option without a value.
+pub(super) fn with_flag<'a>(
+    alloc: Global,
+    command: Result<Command<'a>, AllocError>,
+    id: &'a str,
+    help: &'a str,
+) -> Result<Command<'a>, AllocError> {
+    let flag = Arg::new(alloc, id).long(id).help(help);
+    command?.arg(flag.action(ArgAction::SetTrue))
+}
+
+/// Whether an option without a value was given.
+pub(super) fn is_set(found: &ArgMatches<'_>, id: &str) -> bool {
+    match found.get_str(id) {
+        Some(text) => text == "true",
+        None => false,
+    }
+}
+
 /// With a word that has to stand there, or may, in its place.
-fn with_operand<'a>(
+pub(super) fn with_operand<'a>(
     alloc: Global,
     command: Result<Command<'a>, AllocError>,
     id: &'a str,
@@ -97,7 +146,7 @@ fn with_operand<'a>(
 /// The words of the mode `picture`.
 fn picture<'a>(
     alloc: Global,
-    levels: &'a [&'a str],
+    views: &'a [&'a str],
     infrastructures: &'a [&'a str],
 ) -> Result<Command<'a>, AllocError> {
     let command = Command::new(alloc, "picture")
@@ -106,10 +155,13 @@ fn picture<'a>(
     let command = with_operand(alloc, Ok(command), "FILE", true, "The source");
     let history = "A history of a run of it; without one it is run";
     let command = with_operand(alloc, command, "HISTORY", false, history);
-    let level = "What the source says, or what the sites do";
-    let command = with_choice(alloc, command, "level", levels, "low", level);
+    let level = "What the source says, what the sites do, or both";
+    let command = with_choice(alloc, command, "level", views, "low", level);
     let infra = "What passes messages on";
     let command = with_choice(alloc, command, "infra", infrastructures, "central", infra);
+    let seed = "Chooses each event of the run by this seed";
+    let command = with_valued(alloc, command, "seed", seed);
+    let command = with_parts(alloc, command);
     with_budget(alloc, command)
 }
 
@@ -128,6 +180,7 @@ fn why<'a>(alloc: Global, infrastructures: &'a [&'a str]) -> Result<Command<'a>,
 /// The command line. The words leave out the program's name.
 fn command<'a>(
     alloc: Global,
+    views: &'a [&'a str],
     levels: &'a [&'a str],
     infrastructures: &'a [&'a str],
 ) -> Result<Command<'a>, AllocError> {
@@ -137,12 +190,17 @@ fn command<'a>(
         .after_help(EXAMPLE)
         .no_binary_name(true)
         .subcommand_required(true);
-    let command = command.subcommand(picture(alloc, levels, infrastructures)?)?;
-    command.subcommand(why(alloc, infrastructures)?)
+    let command = command.subcommand(picture(alloc, views, infrastructures)?)?;
+    let command = command.subcommand(page(alloc, infrastructures)?)?;
+    let command = command.subcommand(shiviz(alloc, infrastructures)?)?;
+    let command = command.subcommand(why(alloc, infrastructures)?)?;
+    let command = command.subcommand(run(alloc, levels, infrastructures)?)?;
+    let command = command.subcommand(runs(alloc, levels, infrastructures)?)?;
+    command.subcommand(follow(alloc)?)
 }
 
 /// The budget that a word says.
-fn budget_of(word: Option<&str>) -> Option<u32>
+pub(super) fn budget_of(word: Option<&str>) -> Option<u32>
     ensures { IfSome result (λ budget. budget ≤ LARGEST_BUDGET) }
 {
     let Some(word) = word else {
@@ -154,14 +212,26 @@ fn budget_of(word: Option<&str>) -> Option<u32>
     }
 }
 
-fn level_of(word: Option<&str>) -> Level {
+pub(super) fn level_of(word: Option<&str>) -> Level {
     match word {
         Some("high") => Level::High,
         _ => Level::Low,
     }
 }
 
-fn infrastructure_of(word: Option<&str>) -> Infrastructure {
+/// What is shown, or nothing where a part of both levels is asked for.
+fn view_of(found: &ArgMatches<'_>) -> Option<View> {
+    match found.get_str("level") {
+        Some("high") => Some(view_by(found, Level::High)),
+        Some("both") => match view_by(found, Level::Low) {
+            View::One(_) => Some(View::Both),
+            _ => None,
+        },
+        _ => Some(view_by(found, Level::Low)),
+    }
+}
+
+pub(super) fn infrastructure_of(word: Option<&str>) -> Infrastructure {
     match word {
         Some("cache") => Infrastructure::Cache,
         _ => Infrastructure::Central,
@@ -169,15 +239,21 @@ fn infrastructure_of(word: Option<&str>) -> Infrastructure {
 }
 
 /// A copy of a word, if there is one.
-fn further_word(alloc: Global, word: Option<&str>) -> Result<Option<Word>, Memory> {
+pub(super) fn further_word(alloc: Global, word: Option<&str>) -> Result<Option<Word>, Memory> {
     match word {
         Some(word) => Ok(Some(Word::new(alloc, word)?)),
         None => Ok(None),
     }
 }
 
-/// What the words behind `picture` ask for, with this budget.
-fn wanted_by(alloc: Global, found: &ArgMatches<'_>, budget: u32) -> Result<Wanted, Memory>
+/// What the words behind `picture` ask for, with this budget, seed and view.
+fn wanted_by(
+    alloc: Global,
+    found: &ArgMatches<'_>,
+    budget: u32,
+    seed: Option<u64>,
+    view: View,
+) -> Result<Wanted, Memory>
     ensures { IfOk result (λ wanted. wanted.budget ≡ budget) }
 {
     let file = Word::new(alloc, found.get_str("FILE").unwrap_or(""))?;
@@ -185,9 +261,11 @@ fn wanted_by(alloc: Global, found: &ArgMatches<'_>, budget: u32) -> Result<Wante
     Ok(Wanted {
         file,
         history,
-        level: level_of(found.get_str("level")),
+        view,
+        focus: focus_by(alloc, found)?,
         infrastructure: infrastructure_of(found.get_str("infra")),
         budget,
+        seed,
     })
 }
 
@@ -211,13 +289,28 @@ fn asked_why(alloc: Global, found: &ArgMatches<'_>) -> Asked
     }
 }
 
+fn asked_log(alloc: Global, found: &ArgMatches<'_>) -> Asked
+    ensures { IsWanted result }
+{
+    match question_of(alloc, found) {
+        Ok(question) => Asked::Log(question),
+        Err(Memory) => Asked::NoMemory,
+    }
+}
+
 fn asked_of(alloc: Global, found: &ArgMatches<'_>) -> Asked
     ensures { IsWanted result }
 {
     let Some(budget) = budget_of(found.get_str("budget")) else {
         return Asked::Usage;
     };
-    match wanted_by(alloc, found, budget) {
+    let Some(seed) = seed_there(found.get_str("seed")) else {
+        return Asked::Usage;
+    };
+    let Some(view) = view_of(found) else {
+        return Asked::Usage;
+    };
+    match wanted_by(alloc, found, budget, seed, view) {
         Ok(wanted) => Asked::Work(wanted),
         Err(Memory) => Asked::NoMemory,
     }
@@ -227,14 +320,25 @@ fn asked_of(alloc: Global, found: &ArgMatches<'_>) -> Asked
 pub fn asked_by(alloc: Global, words: &[Word]) -> Asked
     ensures { IsWanted result }
 {
+    let views = ["high", "low", "both"];
     let levels = ["high", "low"];
     let infrastructures = ["central", "cache"];
-    let Ok(command) = command(alloc, levels.as_slice(), infrastructures.as_slice()) else {
+    let Ok(command) = command(
+        alloc,
+        views.as_slice(),
+        levels.as_slice(),
+        infrastructures.as_slice(),
+    ) else {
         return Asked::NoMemory;
     };
     match command.try_get_matches_from(words) {
         Ok(matches) => match matches.subcommand() {
             Some(("why", found)) => asked_why(alloc, found),
+            Some(("run", found)) => asked_run(alloc, found),
+            Some(("runs", found)) => asked_runs(alloc, found),
+            Some(("follow", found)) => asked_follow(alloc, found),
+            Some(("page", found)) => asked_page(alloc, found),
+            Some(("shiviz", found)) => asked_log(alloc, found),
             Some((_, found)) => asked_of(alloc, found),
             None => Asked::Usage,
         },

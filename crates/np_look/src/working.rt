@@ -4,13 +4,13 @@ ghost use Rattle.std.specs.Prelude.{◌≡◌, ◌<◌, ◌≤◌, ◌^◌, leng
 ghost use Rattle.np_syntax.specs.declared.limits.TheConstants.{LONGEST_SOURCE};
 ghost use Rattle.np_calculus.specs.Runs.{RunsWell};
 ghost use Rattle.np_calculus.specs.Starts.{start_low};
-ghost use Rattle.picture_svg.specs.Pictures.{IsPicture};
-ghost use Rattle.np_look.specs.Looks.{FollowsAt, IsPictureOf, IsShown, events_at, lift_by};
+ghost use Rattle.np_look.specs.Looks.{IsShown, IsViewed, lift_by};
 
 use super::answering::Shown;
+use super::levels::{both_levels, one_level, part_of_level};
 use super::names::binders_of;
 use super::reading::{LONGEST_HISTORY, read_text};
-use super::words::{Infrastructure, Level, Wanted};
+use super::words::{Infrastructure, View, Wanted};
 use cache_encode::{encode_cached, law_cached_runs_well};
 use daemon_encode::{encode, law_low_runs_well};
 use history_text::{HistFail, read_history};
@@ -21,7 +21,7 @@ use np_safety::law_runs_well;
 use np_serial::{ReplayFail, SerialRun, run_serial_low};
 use np_syntax::{End, Event, LONGEST_SOURCE, List, LowProgram, Memory, Text};
 use np_verdict::{Refusal, checked_source};
-use picture_svg::{Binder, picture_text};
+use run_choices::run_seeded_low;
 use run_merge::lift;
 use run_pictures::{Followed, MOST_STEPS};
 use run_steps::{follow, follow_high};
@@ -29,14 +29,14 @@ use std::alloc::Global;
 
 /// The events that are looked at, and how their run ended.
 #[derive(Drop)]
-struct Run {
-    events: List<Event>,
-    end: End,
+pub(super) struct Run {
+    pub events: List<Event>,
+    pub end: End,
 }
 
 /// Makes the picture that is wanted.
 pub fn work<T: Texts>(alloc: Global, texts: &mut T, wanted: Wanted) -> Result<Shown, Refusal>
-    ensures { IfOk result (IsShown wanted.level wanted.infrastructure) }
+    ensures { IfOk result (IsShown wanted.view wanted.infrastructure) }
 {
     let bytes = read_text(alloc, texts, &wanted.file, LONGEST_SOURCE, Refusal::TooLong)?;
     let history = history_of(alloc, texts, &wanted.history)?;
@@ -47,7 +47,7 @@ pub fn work<T: Texts>(alloc: Global, texts: &mut T, wanted: Wanted) -> Result<Sh
 }
 
 /// The run of the history of a name, if there is a name.
-fn history_of<T: Texts>(
+pub(super) fn history_of<T: Texts>(
     alloc: Global,
     texts: &mut T,
     name: &Option<Word>,
@@ -91,7 +91,7 @@ fn of_source(
     history: Option<Run>,
     checked: &Checked,
 ) -> Result<Shown, Refusal>
-    ensures { IfOk result (IsShown wanted.now.level wanted.now.infrastructure) }
+    ensures { IfOk result (IsShown wanted.now.view wanted.now.infrastructure) }
 {
     match lowered(alloc, wanted.infrastructure, checked) {
         Ok(low) => {
@@ -103,14 +103,35 @@ fn of_source(
     }
 }
 
+/// A run that is made: by a seed, or one event after another in turn.
+fn made_run(
+    alloc: Global,
+    budget: u32,
+    seed: Option<u64>,
+    low: &LowProgram,
+) -> Result<SerialRun, Memory>
+    requires { RunsWell (start_low low.now) low.now.at }
+{
+    match seed {
+        Some(seed) => run_seeded_low(alloc, low, seed, budget),
+        None => run_serial_low(alloc, low, budget),
+    }
+}
+
 /// The run that is looked at: this one, or one that is made.
-fn run_of(alloc: Global, budget: u32, history: Option<Run>, low: &LowProgram) -> Result<Run, Memory>
+pub(super) fn run_of(
+    alloc: Global,
+    budget: u32,
+    seed: Option<u64>,
+    history: Option<Run>,
+    low: &LowProgram,
+) -> Result<Run, Memory>
     requires { RunsWell (start_low low.now) low.now.at }
 {
     if let Some(run) = history {
         return Ok(run);
     }
-    match run_serial_low(alloc, low, budget) {
+    match made_run(alloc, budget, seed, low) {
         Ok(SerialRun { events, last, end }) => {
             drop(last);
             Ok(Run { events, end })
@@ -129,9 +150,9 @@ fn of_program(
     low: &LowProgram,
 ) -> Result<Shown, Refusal>
     requires { RunsWell (start_low low.now) low.now.at }
-    ensures { IfOk result (IsShown wanted.now.level wanted.now.infrastructure) }
+    ensures { IfOk result (IsShown wanted.now.view wanted.now.infrastructure) }
 {
-    match run_of(alloc, wanted.budget, history, low) {
+    match run_of(alloc, wanted.budget, wanted.seed, history, low) {
         Ok(Run { events, end }) => {
             let text = picture_of(alloc, wanted, bytes, checked, low, events.as_slice())?;
             Ok(Shown { text, end })
@@ -140,7 +161,7 @@ fn of_program(
     }
 }
 
-/// The picture of events of the low program of a source, at the level that is wanted.
+/// The picture of events of the low program of a source, as it is wanted.
 fn picture_of(
     alloc: Global,
     wanted: &Wanted,
@@ -150,72 +171,20 @@ fn picture_of(
     events: &[Event],
 ) -> Result<Text, Refusal>
     requires { RunsWell (start_low low.now) low.now.at }
-    ensures { IfOk result (IsPictureOf (events_at wanted.now.level wanted.now.infrastructure events.now)) }
+    ensures { IfOk result (IsViewed wanted.now.view wanted.now.infrastructure events.now) }
 {
     let binders = binders_of(alloc, bytes, &checked.program().main);
-    match followed_at(alloc, wanted, checked, low, events) {
-        Ok(followed) => shown(alloc, wanted, &low.sites, binders, &followed),
-        Err(refusal) => Err(refusal),
+    match wanted.view {
+        View::One(level) => one_level(alloc, wanted, level, binders, checked, low, events),
+        View::Part(level, stretch) => {
+            part_of_level(alloc, wanted, level, stretch, binders, checked, low, events)
+        }
+        View::Both => both_levels(alloc, wanted, binders, checked, low, events),
     }
 }
 
-/// The steps of the level that is wanted.
-fn followed_at(
-    alloc: Global,
-    wanted: &Wanted,
-    checked: &Checked,
-    low: &LowProgram,
-    events: &[Event],
-) -> Result<Followed, Refusal>
-    requires { RunsWell (start_low low.now) low.now.at }
-    ensures { IfOk result (FollowsAt wanted.now.level wanted.now.infrastructure events.now) }
-{
-    match wanted.level {
-        Level::Low => followed_low(alloc, low, events),
-        Level::High => followed_high(alloc, wanted.infrastructure, checked, events),
-    }
-}
-
-/// What is counted at a level.
-fn unit_of(level: Level) -> &'static [u8] {
-    match level {
-        Level::Low => b" events of the sites",
-        Level::High => b" events of the source",
-    }
-}
-
-/// The picture of steps, by the names that the source gives, if they were found.
-fn shown(
-    alloc: Global,
-    wanted: &Wanted,
-    sites: &List<Text>,
-    binders: Result<List<Binder>, Memory>,
-    followed: &Followed,
-) -> Result<Text, Refusal>
-    ensures { IfOk result (IsPicture followed.now.steps) }
-{
-    let Ok(binders) = binders else {
-        return Err(Refusal::Memory);
-    };
-    if MOST_STEPS < followed.steps.len() {
-        return Err(Refusal::TooManyEvents);
-    }
-    let title = wanted.file.text().as_bytes();
-    let unit = unit_of(wanted.level);
-    match picture_text(
-        alloc,
-        title,
-        unit,
-        sites.as_slice(),
-        binders.as_slice(),
-        followed,
-    ) {
-        Ok(text) => Ok(text),
-        Err(Memory) => Err(Refusal::Memory),
-    }
-}
-
-fn of_replay(fail: ReplayFail) -> Refusal {
+/// Why events are not followed.
+pub(super) fn of_replay(fail: ReplayFail) -> Refusal {
     match fail {
         ReplayFail::Memory => Refusal::Memory,
         ReplayFail::NotARun(index) => Refusal::NotARun(index),
@@ -241,7 +210,7 @@ pub(super) fn followed_low(
 }
 
 /// The events of the source that are read off events.
-fn lifted_by(
+pub(super) fn lifted_by(
     alloc: Global,
     infrastructure: Infrastructure,
     events: &[Event],
@@ -255,7 +224,7 @@ fn lifted_by(
 }
 
 /// The steps of the events of the source that are read off events.
-fn followed_high(
+pub(super) fn followed_high(
     alloc: Global,
     infrastructure: Infrastructure,
     checked: &Checked,

@@ -1,5 +1,5 @@
 -- Each shape of a picture as an element (docs/PICTURES.md, "Pictures").
-use Rattle.std.specs.Prelude.{ℕ, List, [], ◌∷◌, ◌++◌, codes, decimal}
+use Rattle.std.specs.Prelude.{ℕ, Bool, true, false, List, [], ◌∷◌, ◌++◌, Option, None, Some, codes, decimal}
 use Rattle.markup_text.specs.declared.words.Tag.{Tag}
 use Rattle.markup_text.specs.declared.words.Tag.TheVariants as tags
 use Rattle.markup_text.specs.declared.words.AttributeName.{AttributeName}
@@ -10,6 +10,7 @@ use Rattle.markup_text.specs.declared.element.Element.{Element}
 use Rattle.picture_svg.specs.declared.shapes.Flight.{Flight}
 use Rattle.picture_svg.specs.declared.shapes.Form.{Form}
 use Rattle.picture_svg.specs.declared.shapes.Form.TheVariants as forms
+use Rattle.picture_svg.specs.declared.shapes.Head.{Head}
 use Rattle.picture_svg.specs.declared.shapes.Hue.{Hue}
 use Rattle.picture_svg.specs.declared.shapes.Hue.TheVariants as hues
 use Rattle.picture_svg.specs.declared.shapes.Look.{Look}
@@ -28,6 +29,7 @@ look_word looks.Site = codes "site"
 look_word looks.Title = codes "title"
 look_word looks.Small = codes "small"
 look_word looks.Path = codes "path"
+look_word looks.Idle = codes "idle"
 look_word looks.Birth = codes "birth"
 look_word looks.Message = codes "message"
 look_word looks.Net = codes "net"
@@ -44,6 +46,7 @@ look_word looks.Name = codes "name"
 look_word looks.Say = codes "say"
 look_word looks.Number = codes "number"
 look_word looks.End = codes "end"
+look_word looks.Ribbon = codes "ribbon"
 
 abbrev pub hue_word : Hue → List ℕ
 hue_word hues.Plain = []
@@ -51,8 +54,12 @@ hue_word hues.Main = codes " main"
 hue_word hues.Daemon = codes " daemon"
 hue_word (hues.Agent number) = codes " a" ++ decimal number
 
-abbrev pub class_of : Look → Hue → Attribute
-class_of look hue = record { name = names.Class; value = values.Words (look_word look ++ hue_word hue) }
+abbrev pub pale_word : Bool → List ℕ
+pale_word true = codes " pale"
+pale_word false = []
+
+abbrev pub class_of : Look → Hue → Bool → Attribute
+class_of look hue pale = record { name = names.Class; value = values.Words (look_word look ++ hue_word hue ++ pale_word pale) }
 
 -- ---- places and measures
 
@@ -93,7 +100,7 @@ words_of _ = []
 abbrev pub shape_element : Shape → Element
 shape_element shape = record {
   tag = tag_of shape.form;
-  attributes = class_of shape.look shape.hue ∷ form_of shape.form;
+  attributes = class_of shape.look shape.hue shape.pale ∷ form_of shape.form;
   content = words_of shape.form;
 }
 
@@ -106,18 +113,38 @@ radius_of _ = DOT
 abbrev pub spot_element : Spot → Element
 spot_element spot = record {
   tag = tags.Circle;
-  attributes = class_of spot.look spot.hue ∷ number names.Event spot.event ∷ disc spot.at (radius_of spot.look);
+  attributes = class_of spot.look spot.hue spot.pale ∷ number names.Event spot.event ∷ disc spot.at (radius_of spot.look);
   content = [];
 }
+
+-- a point of a way, behind the letter that says how it is reached
+abbrev pub reached : List ℕ → Point → List ℕ
+reached letter at = letter ++ decimal at.x ++ codes " " ++ decimal at.y
+
+abbrev pub head_way : Head → List ℕ
+head_way head = reached (codes "M") head.left ++ reached (codes "L") head.tip ++ reached (codes "L") head.right ++ codes "Z"
+
+abbrev pub head_part : Option Head → List ℕ
+head_part None = []
+head_part (Some head) = head_way head
+
+-- from its start to its end, and then round its head
+abbrev pub way : Flight → List ℕ
+way flight = reached (codes "M") flight.start ++ reached (codes "L") flight.end ++ head_part flight.head
+
+abbrev pub way_of : Flight → Attribute
+way_of flight = record { name = names.Data; value = values.Words (way flight) }
 
 -- an arrow, with the number of the event that it comes to
 abbrev pub flight_element : Flight → Element
 flight_element flight = record {
-  tag = tags.Line;
-  attributes = class_of flight.look flight.hue ∷ number names.Event flight.to ∷ line flight.start flight.end;
+  tag = tags.Path;
+  attributes = class_of flight.look flight.hue flight.pale ∷ number names.Event flight.to ∷ way_of flight ∷ [];
   content = [];
 }
 
-abbrev pub root_attributes : ℕ → ℕ → List Attribute
-root_attributes width height =
-    record { name = names.Namespace; value = values.Words (codes "http://www.w3.org/2000/svg") } ∷ number names.Width width ∷ number names.Height height ∷ []
+-- those of a picture, which begins so far from the left
+abbrev pub root_attributes : ℕ → ℕ → ℕ → List Attribute
+root_attributes left width height =
+    record { name = names.Namespace; value = values.Words (codes "http://www.w3.org/2000/svg") }
+    ∷ number names.X left ∷ number names.Width width ∷ number names.Height height ∷ []

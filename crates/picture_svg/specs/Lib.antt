@@ -1,3 +1,4 @@
+pub mod Casts
 pub mod Elements
 pub mod Pictures
 pub mod Placed

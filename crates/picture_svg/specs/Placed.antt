@@ -2,6 +2,7 @@
 use Rattle.std.specs.Prelude.{ℕ, ◌+◌, List, [], ◌∷◌, Option, None, Some, slice_get, slice_index_or}
 use Rattle.run_pictures.specs.declared.layout.Arrow.{Arrow}
 use Rattle.run_pictures.specs.declared.layout.Mark.{Mark}
+use Rattle.run_pictures.specs.declared.layout.Post.{Post}
 use Rattle.picture_svg.specs.declared.shapes.Flight.{Flight}
 use Rattle.picture_svg.specs.declared.shapes.Point.{Point}
 use Rattle.picture_svg.specs.declared.shapes.Spot.{Spot}
@@ -44,4 +45,17 @@ joined middles marks arrow =
       to = arrow.to;
       start = point_at middles (slice_get marks arrow.from);
       end = point_at middles (slice_get marks arrow.to);
+    }
+
+-- where the arrow of a post ends: as far down as it begins, in the middle of its column
+abbrev pub beside : List ℕ → ℕ → Point → Point
+beside middles column start = record { x = slice_index_or middles column 0; y = start.y }
+
+abbrev pub posted : List ℕ → List Mark → Post → Joint
+posted middles marks post =
+    record {
+      from = post.event;
+      to = post.event;
+      start = point_at middles (slice_get marks post.event);
+      end = beside middles post.column (point_at middles (slice_get marks post.event));
     }

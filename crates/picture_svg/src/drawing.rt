@@ -1,12 +1,13 @@
 //! The marks of the events and the arrows between them, as shapes.
 
-ghost use Rattle.std.specs.Prelude.{◌≡◌, ◌<◌, ◌^◌, length, map, slice_get, IfOk};
+ghost use Rattle.std.specs.Prelude.{◌≡◌, ◌<◌, ◌^◌, length, map, slice_get, slice_index_or, IfOk};
 ghost use Rattle.picture_svg.specs.Placed as spec;
 
 use super::cast::Cast;
+use super::heads::head_of;
 use super::shapes::{Flight, Hue, Look, Point, Spot};
 use np_syntax::{Kind, List, Memory, Role};
-use run_pictures::{Arrow, Mark, Step};
+use run_pictures::{Arrow, Mark, Post, Step};
 use std::alloc::Global;
 
 /// Where a mark stands, where these are the middles of the columns.
@@ -49,25 +50,35 @@ fn look_of(step: &Step) -> Look {
     }
 }
 
+/// Whether the event of a number is pale.
+pub(crate) fn is_pale(pale: &[bool], event: u32) -> bool {
+    pale.get(event as usize).copied().unwrap_or(false)
+}
+
 /// The mark of the event of a number.
-fn spot_of(cast: &Cast, middles: &[u32], steps: &[Step], event: u32, mark: Mark) -> Spot
+fn spot_of(
+    cast: &Cast,
+    middles: &[u32],
+    steps: &[Step],
+    pale: &[bool],
+    event: u32,
+    mark: Mark,
+) -> Spot
     ensures event { result.event ≡ event }
     ensures at { result.at ≡ spec.point_of middles.now mark }
 {
     let at = point_of(middles, mark);
-    match steps.get(event as usize) {
-        Some(step) => Spot {
-            event,
-            at,
-            look: look_of(step),
-            hue: cast.hue(step.agent),
-        },
-        None => Spot {
-            event,
-            at,
-            look: Look::Tick,
-            hue: Hue::Plain,
-        },
+    let pale = is_pale(pale, event);
+    let (look, hue) = match steps.get(event as usize) {
+        Some(step) => (look_of(step), cast.hue(step.agent)),
+        None => (Look::Tick, Hue::Plain),
+    };
+    Spot {
+        event,
+        at,
+        look,
+        hue,
+        pale,
     }
 }
 
@@ -77,6 +88,7 @@ pub(crate) fn spots_of(
     cast: &Cast,
     middles: &[u32],
     steps: &[Step],
+    pale: &[bool],
     marks: &[Mark],
 ) -> Result<List<Spot>, Memory>
     requires { length marks.now < 2 ^ 32 }
@@ -85,7 +97,7 @@ pub(crate) fn spots_of(
     let mut spots = List::new(alloc);
     let mut event = 0u32;
     for mark in marks {
-        spots.add(spot_of(cast, middles, steps, event, *mark))?;
+        spots.add(spot_of(cast, middles, steps, pale, event, *mark))?;
         event += 1;
     }
     Ok(spots)
@@ -100,7 +112,15 @@ fn way_look(step: &Step) -> Look {
     }
 }
 
-fn flight_of(cast: &Cast, middles: &[u32], steps: &[Step], marks: &[Mark], arrow: Arrow) -> Flight
+/// What an arrow joins, how it looks and whose colour it has.
+fn flight_of(
+    cast: &Cast,
+    middles: &[u32],
+    steps: &[Step],
+    pale: &[bool],
+    marks: &[Mark],
+    arrow: Arrow,
+) -> Flight
     ensures { spec.joining result ≡ spec.joined middles.now marks.now arrow }
 {
     let Arrow { from, to } = arrow;
@@ -110,13 +130,20 @@ fn flight_of(cast: &Cast, middles: &[u32], steps: &[Step], marks: &[Mark], arrow
         Some(step) => (way_look(step), cast.hue(step.agent)),
         None => (Look::Net, Hue::Plain),
     };
+    let head = match look {
+        Look::Path => None,
+        _ => head_of(start, end),
+    };
+    let pale = is_pale(pale, from) || is_pale(pale, to);
     Flight {
         from,
         to,
         start,
         end,
+        head,
         look,
         hue,
+        pale,
     }
 }
 
@@ -126,6 +153,7 @@ pub(crate) fn flights_of(
     cast: &Cast,
     middles: &[u32],
     steps: &[Step],
+    pale: &[bool],
     marks: &[Mark],
     arrows: &[Arrow],
 ) -> Result<List<Flight>, Memory>
@@ -133,7 +161,69 @@ pub(crate) fn flights_of(
 {
     let mut flights = List::new(alloc);
     for arrow in arrows {
-        flights.add(flight_of(cast, middles, steps, marks, *arrow))?;
+        flights.add(flight_of(cast, middles, steps, pale, marks, *arrow))?;
+    }
+    Ok(flights)
+}
+
+/// The middle of a column.
+fn middle_of(middles: &[u32], column: u32) -> u32
+    ensures { result ≡ slice_index_or middles.now column 0 }
+{
+    match middles.get(column as usize) {
+        Some(middle) => *middle,
+        None => 0,
+    }
+}
+
+/// The arrow of a post: from its mark, on the same row, to the column of the agent to which it goes.
+fn post_of(
+    cast: &Cast,
+    middles: &[u32],
+    steps: &[Step],
+    pale: &[bool],
+    marks: &[Mark],
+    post: Post,
+) -> Flight
+    ensures { spec.joining result ≡ spec.posted middles.now marks.now post }
+{
+    let Post { event, column } = post;
+    let start = point_at(middles, marks, event);
+    let end = Point {
+        x: middle_of(middles, column),
+        y: start.y,
+    };
+    let hue = match steps.get(event as usize) {
+        Some(step) => cast.hue(step.agent),
+        None => Hue::Plain,
+    };
+    Flight {
+        from: event,
+        to: event,
+        start,
+        end,
+        head: head_of(start, end),
+        look: Look::Message,
+        hue,
+        pale: is_pale(pale, event),
+    }
+}
+
+/// The arrows of posts.
+pub(crate) fn posts_of(
+    alloc: Global,
+    cast: &Cast,
+    middles: &[u32],
+    steps: &[Step],
+    pale: &[bool],
+    marks: &[Mark],
+    posts: &[Post],
+) -> Result<List<Flight>, Memory>
+    ensures { IfOk result (λ flights. map spec.joining flights ≡ map (spec.posted middles.now marks.now) posts.now) }
+{
+    let mut flights = List::new(alloc);
+    for post in posts {
+        flights.add(post_of(cast, middles, steps, pale, marks, *post))?;
     }
     Ok(flights)
 }

@@ -3,7 +3,7 @@
 ghost use Rattle.std.specs.Prelude.{◌≡◌, ◌++◌, ◌∷◌, [], IfOk, OnOk};
 ghost use Rattle.picture_svg.specs.Elements as spec;
 
-use super::shapes::{Flight, Form, Hue, Look, Point, Shape, Spot};
+use super::shapes::{Flight, Form, Head, Hue, Look, Point, Shape, Spot};
 use itoa::Buffer;
 use markup_text::{Attribute, AttributeName, AttributeValue, Element, Tag};
 use np_syntax::{List, Memory, Text};
@@ -24,6 +24,7 @@ fn look_word(look: Look) -> &'static [u8]
         Look::Title => b"title",
         Look::Small => b"small",
         Look::Path => b"path",
+        Look::Idle => b"idle",
         Look::Birth => b"birth",
         Look::Message => b"message",
         Look::Net => b"net",
@@ -40,10 +41,12 @@ fn look_word(look: Look) -> &'static [u8]
         Look::Say => b"say",
         Look::Number => b"number",
         Look::End => b"end",
+        Look::Ribbon => b"ribbon",
     }
 }
 
-fn put_hue(text: &mut Text, hue: Hue) -> Result<(), Memory>
+/// Appends the class of a colour, with a space before it.
+pub fn put_hue(text: &mut Text, hue: Hue) -> Result<(), Memory>
     ensures { OnOk result (text.new ≡ text.old ++ spec.hue_word hue) }
 {
     match hue {
@@ -57,12 +60,19 @@ fn put_hue(text: &mut Text, hue: Hue) -> Result<(), Memory>
     }
 }
 
-/// The attribute that names the look and the colour.
-fn class_of(alloc: Global, look: Look, hue: Hue) -> Result<Attribute, Memory>
-    ensures { IfOk result (λ made. made ≡ spec.class_of look hue) }
+fn put_pale(text: &mut Text, pale: bool) -> Result<(), Memory>
+    ensures { OnOk result (text.new ≡ text.old ++ spec.pale_word pale) }
+{
+    if pale { text.append(b" pale") } else { Ok(()) }
+}
+
+/// The attribute that names the look and the colour, and whether a shape is pale.
+fn class_of(alloc: Global, look: Look, hue: Hue, pale: bool) -> Result<Attribute, Memory>
+    ensures { IfOk result (λ made. made ≡ spec.class_of look hue pale) }
 {
     let mut text = List::from_slice(alloc, look_word(look))?;
     put_hue(&mut text, hue)?;
+    put_pale(&mut text, pale)?;
     Ok(Attribute {
         name: AttributeName::Class,
         value: AttributeValue::Words(text),
@@ -170,18 +180,18 @@ fn words_of(alloc: Global, form: &Form) -> Result<Text, Memory>
 }
 
 /// The attributes that begin with the class.
-fn attributes_of(alloc: Global, look: Look, hue: Hue) -> Result<List<Attribute>, Memory>
-    ensures { IfOk result (λ made. made ≡ spec.class_of look hue ∷ []) }
+fn attributes_of(alloc: Global, look: Look, hue: Hue, pale: bool) -> Result<List<Attribute>, Memory>
+    ensures { IfOk result (λ made. made ≡ spec.class_of look hue pale ∷ []) }
 {
     let mut attributes = List::new(alloc);
-    attributes.add(class_of(alloc, look, hue)?)?;
+    attributes.add(class_of(alloc, look, hue, pale)?)?;
     Ok(attributes)
 }
 
 pub(crate) fn shape_element(alloc: Global, shape: &Shape) -> Result<Element, Memory>
     ensures { IfOk result (λ element. element ≡ spec.shape_element shape.now) }
 {
-    let mut attributes = attributes_of(alloc, shape.look, shape.hue)?;
+    let mut attributes = attributes_of(alloc, shape.look, shape.hue, shape.pale)?;
     add_form(&mut attributes, &shape.form)?;
     let content = words_of(alloc, &shape.form)?;
     Ok(Element {
@@ -204,7 +214,7 @@ fn radius_of(look: Look) -> u32
 pub(crate) fn spot_element(alloc: Global, spot: &Spot) -> Result<Element, Memory>
     ensures { IfOk result (λ element. element ≡ spec.spot_element spot.now) }
 {
-    let mut attributes = attributes_of(alloc, spot.look, spot.hue)?;
+    let mut attributes = attributes_of(alloc, spot.look, spot.hue, spot.pale)?;
     add_number(&mut attributes, AttributeName::Event, spot.event)?;
     add_disc(&mut attributes, spot.at, radius_of(spot.look))?;
     Ok(Element {
@@ -214,27 +224,70 @@ pub(crate) fn spot_element(alloc: Global, spot: &Spot) -> Result<Element, Memory
     })
 }
 
+/// Appends a point of a way, behind the letter that says how it is reached.
+fn put_point(text: &mut Text, letter: &[u8], at: Point) -> Result<(), Memory>
+    ensures { OnOk result (text.new ≡ text.old ++ spec.reached letter.now at) }
+{
+    text.append(letter)?;
+    text.append(Buffer::new().format(at.x).as_bytes())?;
+    text.append(b" ")?;
+    text.append(Buffer::new().format(at.y).as_bytes())
+}
+
+fn put_head(text: &mut Text, head: Head) -> Result<(), Memory>
+    ensures { OnOk result (text.new ≡ text.old ++ spec.head_way head) }
+{
+    put_point(text, b"M", head.left)?;
+    put_point(text, b"L", head.tip)?;
+    put_point(text, b"L", head.right)?;
+    text.append(b"Z")
+}
+
+fn put_way(text: &mut Text, flight: &Flight) -> Result<(), Memory>
+    ensures { OnOk result (text.new ≡ text.old ++ spec.way flight.now) }
+{
+    put_point(text, b"M", flight.start)?;
+    put_point(text, b"L", flight.end)?;
+    match flight.head {
+        Some(head) => put_head(text, head),
+        None => Ok(()),
+    }
+}
+
+/// The way of an arrow, from its start to its end, and then round its head.
+fn way_of(alloc: Global, flight: &Flight) -> Result<Attribute, Memory>
+    ensures { IfOk result (λ made. made ≡ spec.way_of flight.now) }
+{
+    let mut text = List::new(alloc);
+    put_way(&mut text, flight)?;
+    Ok(Attribute {
+        name: AttributeName::Data,
+        value: AttributeValue::Words(text),
+    })
+}
+
 /// The element of an arrow, with the number of the event that it comes to.
 pub(crate) fn flight_element(alloc: Global, flight: &Flight) -> Result<Element, Memory>
     ensures { IfOk result (λ element. element ≡ spec.flight_element flight.now) }
 {
-    let mut attributes = attributes_of(alloc, flight.look, flight.hue)?;
+    let mut attributes = attributes_of(alloc, flight.look, flight.hue, flight.pale)?;
     add_number(&mut attributes, AttributeName::Event, flight.to)?;
-    add_line(&mut attributes, flight.start, flight.end)?;
+    attributes.add(way_of(alloc, flight)?)?;
     Ok(Element {
-        tag: Tag::Line,
+        tag: Tag::Path,
         attributes,
         content: List::new(alloc),
     })
 }
 
-/// The attributes of the picture as a whole.
+/// The attributes of a picture as a whole, which begins so far from the left.
 pub(crate) fn root_attributes(
     alloc: Global,
+    left: u32,
     width: u32,
     height: u32,
 ) -> Result<List<Attribute>, Memory>
-    ensures { IfOk result (λ made. made ≡ spec.root_attributes width height) }
+    ensures { IfOk result (λ made. made ≡ spec.root_attributes left width height) }
 {
     let mut attributes = List::new(alloc);
     let value = AttributeValue::Words(List::from_slice(alloc, b"http://www.w3.org/2000/svg")?);
@@ -242,6 +295,7 @@ pub(crate) fn root_attributes(
         name: AttributeName::Namespace,
         value,
     })?;
+    add_number(&mut attributes, AttributeName::X, left)?;
     add_number(&mut attributes, AttributeName::Width, width)?;
     add_number(&mut attributes, AttributeName::Height, height)?;
     Ok(attributes)

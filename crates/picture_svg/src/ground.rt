@@ -5,8 +5,11 @@ use super::drawing::point_at;
 use super::frame::{Band, Frame};
 use super::shapes::{Form, Hue, Look, Point, Shape};
 use np_syntax::{List, Memory, Text};
-use run_pictures::{Birth, Column, Layout, Stay};
+use run_pictures::{Birth, Column, Layout, Mark, Stay};
 use std::alloc::Global;
+
+/// How high a ribbon is.
+const RIBBON: u32 = 24;
 
 /// Where the bands begin, how far down the names of the sites stand, and how far the bands reach behind the last row.
 const HEAD: u32 = 70;
@@ -30,6 +33,7 @@ pub(crate) fn add_line(
     shapes.add(Shape {
         look,
         hue,
+        pale: false,
         form: Form::Line { from, to },
     })
 }
@@ -46,6 +50,7 @@ pub(crate) fn add_words(
     shapes.add(Shape {
         look,
         hue,
+        pale: false,
         form: Form::Words { at, text },
     })
 }
@@ -62,6 +67,7 @@ fn add_plate(
     shapes.add(Shape {
         look,
         hue,
+        pale: false,
         form: Form::Plate {
             at,
             width,
@@ -118,6 +124,7 @@ fn add_bands(
 /// The path of an agent where it stays.
 fn add_stay(
     shapes: &mut List<Shape>,
+    look: Look,
     cast: &Cast,
     columns: &[Column],
     middles: &[u32],
@@ -132,7 +139,7 @@ fn add_stay(
         y: stay.from.saturating_sub(PILL),
     };
     let to = Point { x: *x, y: stay.to };
-    add_line(shapes, Look::Path, cast.hue(column.agent), from, to)
+    add_line(shapes, look, cast.hue(column.agent), from, to)
 }
 
 /// From the mark of the event that makes an agent to the column in which that begins.
@@ -208,8 +215,11 @@ fn add_stays(
     middles: &[u32],
 ) -> Result<(), Memory> {
     let columns = layout.columns.as_slice();
+    for idle in layout.idles.as_slice() {
+        add_stay(shapes, Look::Idle, cast, columns, middles, idle)?;
+    }
     for stay in layout.stays.as_slice() {
-        add_stay(shapes, cast, columns, middles, stay)?;
+        add_stay(shapes, Look::Path, cast, columns, middles, stay)?;
     }
     for birth in layout.births.as_slice() {
         add_birth(shapes, cast, layout, middles, birth)?;
@@ -220,7 +230,19 @@ fn add_stays(
     Ok(())
 }
 
-/// All that stands below the marks.
+/// The ribbons that go through rows of both levels, from the left to the right of a picture.
+fn add_ribbons(shapes: &mut List<Shape>, width: u32, rows: &[Mark]) -> Result<(), Memory> {
+    for row in rows {
+        let at = Point {
+            x: 0,
+            y: row.y.saturating_sub(RIBBON / 2),
+        };
+        add_plate(shapes, Look::Ribbon, Hue::Plain, at, width, RIBBON, 0)?;
+    }
+    Ok(())
+}
+
+/// All that stands below the marks. Through the rows of these marks, ribbons go.
 pub(crate) fn ground_of(
     alloc: Global,
     cast: &Cast,
@@ -228,6 +250,7 @@ pub(crate) fn ground_of(
     layout: &Layout,
     frame: &Frame,
     width: u32,
+    ribbons: &[Mark],
 ) -> Result<List<Shape>, Memory> {
     let mut shapes = List::new(alloc);
     let corner = Point { x: 0, y: 0 };
@@ -242,6 +265,7 @@ pub(crate) fn ground_of(
         0,
     )?;
     add_bands(alloc, &mut shapes, foot, frame.bands.as_slice(), sites)?;
+    add_ribbons(&mut shapes, width, ribbons)?;
     add_ends(&mut shapes, foot, frame.bands.as_slice())?;
     add_stays(alloc, &mut shapes, cast, layout, frame.middles.as_slice())?;
     Ok(shapes)

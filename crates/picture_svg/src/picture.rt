@@ -3,25 +3,30 @@
 ghost use Rattle.std.specs.Prelude.{◌≤◌, length, IfOk};
 ghost use Rattle.run_pictures.specs.declared.marks.TheConstants.{MOST_STEPS};
 ghost use Rattle.run_pictures.specs.Layouts.{IsLayout};
-ghost use Rattle.picture_svg.specs.Pictures.{IsDrawn, IsPicture};
+ghost use Rattle.picture_svg.specs.Pictures.{IsDrawn, IsPicture, IsPictureOfBoth};
 
 use super::cast::{Binder, Cast, cast_of};
-use super::drawing::{flights_of, spots_of};
+use super::drawing::{flights_of, posts_of, spots_of};
 use super::frame::frame_of;
 use super::ground::{add_words, ground_of, height_of};
 use super::shapes::{Drawing, Hue, Look, Point, Shape};
 use super::style::STYLE;
-use super::svg::svg_text;
+use super::svg::{both_svg, svg_text};
 use super::telling::sentences_of;
 use itoa::Buffer;
 use np_syntax::{List, Memory, Text};
-use run_pictures::{Followed, Layout, lay_out};
+use run_pictures::{Followed, Layout, Mark, lay_beside, lay_out};
 use std::alloc::Global;
 
 /// How much room the numbers and the sentences take.
 const NUMBERS: u32 = 48;
 
-const SENTENCES: u32 = 340;
+const SENTENCES: u32 = 420;
+
+/// What is counted at each level.
+pub const HIGH_UNIT: &[u8] = b" events of the source";
+
+pub const LOW_UNIT: &[u8] = b" events of the sites";
 
 /// What the picture is of: the name of the source, and how many events there are, and of what.
 fn add_title(
@@ -47,7 +52,7 @@ fn add_title(
     )
 }
 
-/// The drawing of a layout of a run.
+/// The drawing of a layout of a run. Through the rows of these marks, ribbons go.
 fn draw(
     alloc: Global,
     title: &[u8],
@@ -56,27 +61,32 @@ fn draw(
     cast: &Cast,
     followed: &Followed,
     layout: &Layout,
+    ribbons: &[Mark],
 ) -> Result<Drawing, Memory>
     requires { length layout.now.marks ≤ MOST_STEPS }
     ensures { IfOk result (IsDrawn layout.now) }
 {
     let steps = followed.steps.as_slice();
+    let pale = followed.pale.as_slice();
     let marks = layout.marks.as_slice();
     let frame = frame_of(alloc, sites.len(), layout.columns.as_slice())?;
     let middles = frame.middles.as_slice();
     let left = frame.right.saturating_add(NUMBERS);
     let width = left.saturating_add(SENTENCES);
-    let ground = ground_of(alloc, cast, sites, layout, &frame, width)?;
-    let flights = flights_of(alloc, cast, middles, steps, marks, layout.arrows.as_slice())?;
-    let spots = spots_of(alloc, cast, middles, steps, marks)?;
-    let printed = followed.printed.as_slice();
-    let mut words = sentences_of(alloc, cast, sites, steps, printed, marks, left)?;
+    let ground = ground_of(alloc, cast, sites, layout, &frame, width, ribbons)?;
+    let arrows = layout.arrows.as_slice();
+    let flights = flights_of(alloc, cast, middles, steps, pale, marks, arrows)?;
+    let sent = layout.posts.as_slice();
+    let posts = posts_of(alloc, cast, middles, steps, pale, marks, sent)?;
+    let spots = spots_of(alloc, cast, middles, steps, pale, marks)?;
+    let mut words = sentences_of(alloc, cast, sites, followed, marks, left)?;
     add_title(alloc, &mut words, title, unit, steps.len())?;
     Ok(Drawing {
         width,
         height: height_of(layout),
         ground,
         flights,
+        posts,
         spots,
         words,
     })
@@ -97,8 +107,35 @@ pub fn picture_text(
 {
     let steps = followed.steps.as_slice();
     let count = u32::try_from(sites.len()).unwrap_or(0);
-    let cast = cast_of(alloc, count, steps, binders)?;
+    let cast = cast_of(alloc, count, followed.makers.as_slice(), steps, binders)?;
     let layout = lay_out(alloc, steps)?;
-    let drawing = draw(alloc, title, unit, sites, &cast, followed, &layout)?;
+    let drawing = draw(alloc, title, unit, sites, &cast, followed, &layout, &[])?;
     svg_text(alloc, STYLE, &drawing)
+}
+
+/// The picture of what the source says beside that of what the sites do.
+pub fn both_text(
+    alloc: Global,
+    title: &[u8],
+    sites: &[Text],
+    binders: &[Binder],
+    high: &Followed,
+    low: &Followed,
+    twins: &[u32],
+) -> Result<Text, Memory>
+    requires high { length high.now.steps ≤ MOST_STEPS }
+    requires low { length low.now.steps ≤ MOST_STEPS }
+    ensures { IfOk result (IsPictureOfBoth high.now.steps low.now.steps twins.now) }
+{
+    let count = u32::try_from(sites.len()).unwrap_or(0);
+    let lows = low.steps.as_slice();
+    let highs = high.steps.as_slice();
+    let below = lay_out(alloc, lows)?;
+    let above = lay_beside(alloc, highs, &below, twins)?;
+    let ribbons = above.marks.as_slice();
+    let cast = cast_of(alloc, count, high.makers.as_slice(), highs, binders)?;
+    let first = draw(alloc, title, HIGH_UNIT, sites, &cast, high, &above, ribbons)?;
+    let cast = cast_of(alloc, count, low.makers.as_slice(), lows, binders)?;
+    let second = draw(alloc, b"", LOW_UNIT, sites, &cast, low, &below, ribbons)?;
+    both_svg(alloc, STYLE, &first, &second)
 }

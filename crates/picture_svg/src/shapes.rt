@@ -20,6 +20,7 @@ pub enum Look {
     Title,
     Small,
     Path,
+    Idle,
     Birth,
     Message,
     Net,
@@ -36,12 +37,21 @@ pub enum Look {
     Say,
     Number,
     End,
+    Ribbon,
 }
 
 #[derive(Clone, Copy)]
 pub struct Point {
     pub x: u32,
     pub y: u32,
+}
+
+/// The head of an arrow, by its corners.
+#[derive(Clone, Copy)]
+pub struct Head {
+    pub tip: Point,
+    pub left: Point,
+    pub right: Point,
 }
 
 /// What a shape is. A disc stands around its point.
@@ -72,6 +82,7 @@ pub enum Form {
 pub struct Shape {
     pub look: Look,
     pub hue: Hue,
+    pub pale: bool,
     pub form: Form,
 }
 
@@ -82,27 +93,31 @@ pub struct Spot {
     pub at: Point,
     pub look: Look,
     pub hue: Hue,
+    pub pale: bool,
 }
 
-/// The arrow between two events, by their numbers.
+/// The arrow between two events, by their numbers. That of a Post begins and ends with one event.
 #[derive(Clone, Copy)]
 pub struct Flight {
     pub from: u32,
     pub to: u32,
     pub start: Point,
     pub end: Point,
+    pub head: Option<Head>,
     pub look: Look,
     pub hue: Hue,
+    pub pale: bool,
 }
 
-/// A picture: what stands below, the arrows, the marks of the events, and what is said beside them, in this order; and how large
-/// it is.
+/// A picture: what stands below, the arrows, those of posts, the marks of the events, and what is said beside them, in this order;
+/// and how large it is.
 #[derive(Drop)]
 pub struct Drawing {
     pub width: u32,
     pub height: u32,
     pub ground: List<Shape>,
     pub flights: List<Flight>,
+    pub posts: List<Flight>,
     pub spots: List<Spot>,
     pub words: List<Shape>,
 }

@@ -1,10 +1,10 @@
 //! The text of a picture.
 
-ghost use Rattle.std.specs.Prelude.{◌≡◌, ◌++◌, codes, map, IfOk, OnOk};
+ghost use Rattle.std.specs.Prelude.{◌≡◌, ◌+◌, ◌++◌, codes, map, IfOk, IfSome, OnOk};
 ghost use Rattle.std.specs.List.{flat_map};
 ghost use Rattle.markup_text.specs.Markup.{element_text, markup_text};
 ghost use Rattle.picture_svg.specs.Elements.{flight_element, shape_element, spot_element};
-ghost use Rattle.picture_svg.specs.Svg.{body_text, style_element, svg};
+ghost use Rattle.picture_svg.specs.Svg.{body_text, style_element, svg, svg_of_both};
 
 use super::elements::{flight_element, root_attributes, shape_element, spot_element};
 use super::shapes::{Drawing, Flight, Shape, Spot};
@@ -62,18 +62,61 @@ fn put_body(alloc: Global, text: &mut Text, style: &[u8], drawing: &Drawing) -> 
     put_style(alloc, text, style)?;
     put_shapes(alloc, text, drawing.ground.as_slice())?;
     put_flights(alloc, text, drawing.flights.as_slice())?;
+    put_flights(alloc, text, drawing.posts.as_slice())?;
     put_spots(alloc, text, drawing.spots.as_slice())?;
     put_shapes(alloc, text, drawing.words.as_slice())
 }
 
-/// The text of a picture with a style: markup, in which each shape is an element.
-pub(crate) fn svg_text(alloc: Global, style: &[u8], drawing: &Drawing) -> Result<Text, Memory>
-    ensures { IfOk result (λ text. text ≡ markup_text (svg style.now drawing.now) ++ codes "\n") }
+/// Appends a picture with a style, which begins so far from the left: markup, in which each shape is an element.
+fn put_svg(
+    alloc: Global,
+    text: &mut Text,
+    left: u32,
+    style: &[u8],
+    drawing: &Drawing,
+) -> Result<(), Memory>
+    ensures { OnOk result (text.new ≡ text.old ++ markup_text (svg left style.now drawing.now)) }
 {
-    let attributes = root_attributes(alloc, drawing.width, drawing.height)?;
+    let attributes = root_attributes(alloc, left, drawing.width, drawing.height)?;
+    put_opening(text, Tag::Svg, attributes.as_slice())?;
+    put_body(alloc, text, style, drawing)?;
+    put_closing(text, Tag::Svg)
+}
+
+/// The text of a picture with a style.
+pub(crate) fn svg_text(alloc: Global, style: &[u8], drawing: &Drawing) -> Result<Text, Memory>
+    ensures { IfOk result (λ text. text ≡ markup_text (svg 0 style.now drawing.now) ++ codes "\n") }
+{
+    let mut text = List::new(alloc);
+    put_svg(alloc, &mut text, 0, style, drawing)?;
+    text.append(b"\n")?;
+    Ok(text)
+}
+
+/// The sum of two numbers, where it is one.
+fn sum_of(first: u32, second: u32) -> Option<u32>
+    ensures { IfSome result (λ sum. sum ≡ first + second) }
+{
+    first.checked_add(second)
+}
+
+/// The text of two pictures side by side. Numbers have no room for a picture that is 2 ^ 32 wide: it wants memory.
+pub(crate) fn both_svg(
+    alloc: Global,
+    style: &[u8],
+    first: &Drawing,
+    second: &Drawing,
+) -> Result<Text, Memory>
+    ensures { IfOk result (λ text. text ≡ markup_text (svg_of_both style.now first.now second.now) ++ codes "\n") }
+{
+    let Some(width) = sum_of(first.width, second.width) else {
+        return Err(Memory);
+    };
+    let attributes = root_attributes(alloc, 0, width, second.height)?;
     let mut text = List::new(alloc);
     put_opening(&mut text, Tag::Svg, attributes.as_slice())?;
-    put_body(alloc, &mut text, style, drawing)?;
+    put_svg(alloc, &mut text, 0, style, first)?;
+    put_svg(alloc, &mut text, first.width, style, second)?;
     put_closing(&mut text, Tag::Svg)?;
     text.append(b"\n")?;
     Ok(text)

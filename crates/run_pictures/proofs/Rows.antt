@@ -1,12 +1,12 @@
 -- Rows that follow one another rise.
-use Rattle.std.proofs.Common.{◌≡◌, ℕ, zero, suc, ◌+◌, ◌/◌, ◌≤◌, ◌<◌, List, [], ◌∷◌, ◌++◌, append_assoc, append-nil, refl, length, map, drop, drop-cons, get_or, true, false, arith, add-one, ap, sym, ◌∙◌}
+use Rattle.std.proofs.Common.{◌≡◌, ℕ, zero, suc, ◌+◌, ◌/◌, ◌≤◌, ◌<◌, List, [], ◌∷◌, ◌++◌, append_assoc, append-nil, refl, length, map, drop, drop-cons, get_or, slice_get, true, false, arith, add-one, ap, sym, ◌∙◌}
 use Rattle.std.proofs.lemmas.List.{map_push}
 use Rattle.run_pictures.specs.declared.layout.Mark.{Mark}
 use Rattle.np_syntax.specs.declared.process.Role.{Role}
 use Rattle.np_syntax.specs.declared.process.Role.TheVariants as roles
 use Rattle.np_syntax.specs.declared.event.Kind.{Kind}
 use Rattle.run_pictures.specs.declared.step.Step.{Step}
-use Rattle.run_pictures.specs.Rows.{Rises, is_send, is_told, middles, row_height, told_height, told_of}
+use Rattle.run_pictures.specs.Rows.{Rises, is_send, is_told, middles, row_by, row_height, rows_by, told_height, told_of}
 use Rattle.std.specs.Prelude.{Bool, if◌then◌else◌}
 use Rattle.run_pictures.specs.declared.marks.TheConstants.{QUIET_ROW}
 
@@ -57,3 +57,14 @@ pub rows-end : (marks : List Mark) (end : ℕ) (steps : List Step) (i : ℕ) (al
     → map (λ (mark : Mark). mark.y) marks ++ middles end (drop i steps) ≡ all → map (λ (mark : Mark). mark.y) marks ≡ all
 rows-end marks end steps i all past rows =
     sym (append-nil (map (λ (mark : Mark). mark.y) marks)) ∙ ap (λ l. map (λ (mark : Mark). mark.y) marks ++ middles end l) (sym (drop-past steps i past)) ∙ rows
+
+-- one step more, as far down as its twin
+pub rows-beside : (marks more : List Mark) (below : List Mark) (twins : List ℕ) (i j : ℕ) (m : Mark) → i ≡ j → more ≡ marks ++ m ∷ [] → m.y ≡ row_by below (slice_get twins i)
+    → map (λ (mark : Mark). mark.y) marks ≡ rows_by below twins j → map (λ (mark : Mark). mark.y) more ≡ rows_by below twins (j + 1)
+rows-beside marks more below twins i j m same grown at rows =
+    let y : Mark → ℕ = λ mark. mark.y in
+    ap (map y) grown
+    ∙ map_push y marks m
+    ∙ ap (λ l. l ++ m.y ∷ []) rows
+    ∙ ap (λ v. rows_by below twins j ++ v ∷ []) (at ∙ ap (λ n. row_by below (slice_get twins n)) same)
+    ∙ ap (rows_by below twins) (sym (add-one j))

@@ -1,9 +1,11 @@
 -- The rows of a picture, one below the other (docs/PICTURES.md, "Pictures").
-use Rattle.std.specs.Prelude.{ℕ, ◌+◌, ◌/◌, ◌≤◌, suc, Bool, true, false, List, [], ◌∷◌, if◌then◌else◌}
+use Rattle.std.specs.Prelude.{ℕ, ◌+◌, ◌/◌, ◌≤◌, zero, suc, Bool, true, false, List, [], ◌∷◌, ◌++◌, Option, None, Some, slice_get}
+use Rattle.std.specs.Prelude.{if◌then◌else◌}
 use Rattle.np_syntax.specs.declared.process.Role.{Role}
 use Rattle.np_syntax.specs.declared.process.Role.TheVariants as roles
 use Rattle.np_syntax.specs.declared.event.Kind.{Kind}
 use Rattle.np_syntax.specs.declared.event.Kind.TheVariants as kinds
+use Rattle.run_pictures.specs.declared.layout.Mark.{Mark}
 use Rattle.run_pictures.specs.declared.step.Step.{Step}
 use Rattle.run_pictures.specs.declared.marks.TheConstants.{OWN_ROW, QUIET_ROW, SENT_ROW}
 
@@ -35,3 +37,18 @@ middles at (step ∷ steps) = (at + row_height step / 2) ∷ middles (at + row_h
 abbrev pub Rises : ℕ → List ℕ → Type 0
 Rises least [] = Unit {0}
 Rises least (y ∷ ys) = (least ≤ y) × Rises (suc y) ys
+
+-- how far down a mark stands, if there is one
+abbrev pub row_of : Option Mark → ℕ
+row_of None = 0
+row_of (Some mark) = mark.y
+
+-- how far down the twin of a step stands, if there is one
+abbrev pub row_by : List Mark → Option ℕ → ℕ
+row_by below None = 0
+row_by below (Some twin) = row_of (slice_get below twin)
+
+-- the rows of the first steps, each that of its twin
+abbrev pub rows_by : List Mark → List ℕ → ℕ → List ℕ
+rows_by below twins zero = []
+rows_by below twins (suc n) = rows_by below twins n ++ row_by below (slice_get twins n) ∷ []

@@ -70,9 +70,9 @@ fn arrow_between(steps: &[Step], from: u32, to: u32) -> Option<Arrow>
     if to <= from {
         return None;
     }
-    let start = steps.get(from as usize).copied()?;
-    let end = steps.get(to as usize).copied()?;
-    if carries(&start, &end) || moves(&start, &end) {
+    let start = steps.get(from as usize)?;
+    let end = steps.get(to as usize)?;
+    if carries(start, end) || moves(start, end) {
         Some(Arrow { from, to })
     } else {
         None

@@ -1,12 +1,13 @@
 //! A layout, as data.
 
 ghost use Rattle.std.specs.Prelude.{◌≤◌, length, IfOk};
-ghost use Rattle.run_pictures.specs.Layouts.{IsLayout};
+ghost use Rattle.run_pictures.specs.Layouts.{IsBeside, IsLayout};
 
 use super::arrows::arrows_of;
 use super::columns::Columns;
-use super::marks::{MOST_STEPS, Marked, marks_of};
-use super::stays::stays_of;
+use super::marks::{MOST_STEPS, Marked, marks_beside, marks_of};
+use super::posts::posts_of;
+use super::stays::{Stood, stays_of};
 use super::step::Step;
 use np_syntax::{List, Memory, Name};
 use std::alloc::Global;
@@ -47,6 +48,13 @@ pub struct Birth {
     pub column: u32,
 }
 
+/// From a Post to the column in which the agent stood last to which it goes.
+#[derive(Clone, Copy)]
+pub struct Post {
+    pub event: u32,
+    pub column: u32,
+}
+
 /// The marks of the events in their order, with all that stands around them, and where the last row ends.
 #[derive(Drop)]
 pub struct Layout {
@@ -55,6 +63,8 @@ pub struct Layout {
     pub arrows: List<Arrow>,
     pub stays: List<Stay>,
     pub births: List<Birth>,
+    pub idles: List<Stay>,
+    pub posts: List<Post>,
     pub end: u32,
 }
 
@@ -65,14 +75,70 @@ pub fn lay_out(alloc: Global, steps: &[Step]) -> Result<Layout, Memory>
 {
     let mut columns = Columns::new(alloc);
     let Marked { marks, end } = marks_of(alloc, &mut columns, steps)?;
-    let (stays, births) = stays_of(alloc, &mut columns, steps, marks.as_slice())?;
+    let stood = stays_of(alloc, &mut columns, steps, marks.as_slice(), end)?;
     let arrows = arrows_of(alloc, steps)?;
+    let made = columns.into_list();
+    let standing = made.as_slice();
+    let posts = posts_of(
+        alloc,
+        standing,
+        steps,
+        marks.as_slice(),
+        stood.births.as_slice(),
+    )?;
+    let Stood {
+        stays,
+        births,
+        idles,
+    } = stood;
     Ok(Layout {
-        columns: columns.into_list(),
+        columns: made,
         marks,
         arrows,
         stays,
         births,
+        idles,
+        posts,
         end,
+    })
+}
+
+/// Lays out the steps of a run beside another layout, where each stands as far down as its twin, by these numbers.
+pub fn lay_beside(
+    alloc: Global,
+    steps: &[Step],
+    below: &Layout,
+    twins: &[u32],
+) -> Result<Layout, Memory>
+    requires { length steps.now ≤ MOST_STEPS }
+    ensures { IfOk result (IsBeside steps.now below.now.marks twins.now) }
+{
+    let mut columns = Columns::new(alloc);
+    let marks = marks_beside(alloc, &mut columns, steps, below.marks.as_slice(), twins)?;
+    let stood = stays_of(alloc, &mut columns, steps, marks.as_slice(), below.end)?;
+    let arrows = arrows_of(alloc, steps)?;
+    let made = columns.into_list();
+    let standing = made.as_slice();
+    let posts = posts_of(
+        alloc,
+        standing,
+        steps,
+        marks.as_slice(),
+        stood.births.as_slice(),
+    )?;
+    let Stood {
+        stays,
+        births,
+        idles,
+    } = stood;
+    Ok(Layout {
+        columns: made,
+        marks,
+        arrows,
+        stays,
+        births,
+        idles,
+        posts,
+        end: below.end,
     })
 }

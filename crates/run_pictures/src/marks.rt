@@ -1,6 +1,6 @@
 //! Rows, and the marks of the events in them.
 
-ghost use Rattle.std.specs.Prelude.{◌≡◌, ◌≤◌, ◌+◌, ◌*◌, length, map, IfOk, OnOk};
+ghost use Rattle.std.specs.Prelude.{◌≡◌, ◌≤◌, ◌+◌, ◌*◌, length, map, slice_get, IfOk, OnOk};
 ghost use Rattle.run_pictures.specs.Columns.{Extends, StandFor};
 ghost use Rattle.run_pictures.specs.Rows as spec;
 
@@ -78,4 +78,48 @@ pub(super) fn marks_of(
         end += height;
     }
     Ok(Marked { marks, end })
+}
+
+/// How far down the twin of a step stands, if there is one.
+fn row_by(below: &[Mark], twin: Option<u32>) -> u32
+    ensures { result ≡ spec.row_by below.now twin }
+{
+    match twin {
+        Some(twin) => match below.get(twin as usize) {
+            Some(mark) => mark.y,
+            None => 0,
+        },
+        None => 0,
+    }
+}
+
+/// The twin of the step of a number, if there is one.
+fn twin_at(twins: &[u32], place: usize) -> Option<u32>
+    ensures { result ≡ slice_get twins.now place }
+{
+    twins.get(place).copied()
+}
+
+/// A mark for each step, as far down as its twin among other marks, in the column of its site and of who acts.
+pub(super) fn marks_beside(
+    alloc: Global,
+    columns: &mut Columns,
+    steps: &[Step],
+    below: &[Mark],
+    twins: &[u32],
+) -> Result<List<Mark>, Memory>
+    ensures stand { IfOk result (λ marks. StandFor columns.new.list marks steps.now (length steps.now)) }
+    ensures rows { IfOk result (λ marks. map (λ mark. mark.y) marks ≡ spec.rows_by below.now twins.now (length steps.now)) }
+{
+    let mut marks = List::new(alloc);
+    let mut place = 0usize;
+    for step in steps {
+        let site = step.event.site;
+        let agent = step.agent;
+        let column = columns.at(Column { site, agent })?;
+        let y = row_by(below, twin_at(twins, place));
+        marks.add(Mark { column, y })?;
+        place += 1;
+    }
+    Ok(marks)
 }

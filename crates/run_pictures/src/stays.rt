@@ -60,8 +60,31 @@ impl Staying {
         match step.event.kind {
             Kind::Arrive => self.add(step.agent, mark.column, mark.y, mark.y),
             Kind::Land if !step.here => Ok(()),
+            Kind::Depart => self.leave(step.agent, mark),
             _ => self.reach(step.agent, mark.column, mark.y),
         }
+    }
+
+    /// An agent stays as far as this mark, and is under way then.
+    fn leave(&mut self, agent: Name, mark: Mark) -> Result<(), Memory> {
+        self.reach(agent, mark.column, mark.y)?;
+        self.last.remove(agent);
+        Ok(())
+    }
+
+    /// Where agents stand idle behind their last events, up to the end.
+    fn idles(&self, alloc: Global, end: u32) -> Result<List<Stay>, Memory> {
+        let mut idles = List::new(alloc);
+        for index in 0..self.last.len() {
+            if let Some((_, stay)) = self.last_of(self.last.key(index)) {
+                idles.add(Stay {
+                    column: stay.column,
+                    from: stay.to,
+                    to: end,
+                })?;
+            }
+        }
+        Ok(idles)
     }
 }
 
@@ -95,13 +118,22 @@ fn bear(
     staying.add(agent, column, mark.y, mark.y)
 }
 
-/// The stays of the agents, and the births of those that are made.
+/// The stays of the agents, the births of those that are made, and where agents are idle at the end.
+#[derive(Drop)]
+pub(super) struct Stood {
+    pub stays: List<Stay>,
+    pub births: List<Birth>,
+    pub idles: List<Stay>,
+}
+
+/// Where the agents of steps with these marks stand, up to this row.
 pub(super) fn stays_of(
     alloc: Global,
     columns: &mut Columns,
     steps: &[Step],
     marks: &[Mark],
-) -> Result<(List<Stay>, List<Birth>), Memory>
+    end: u32,
+) -> Result<Stood, Memory>
     ensures { OnOk result (Extends columns.old.list columns.new.list) }
 {
     let mut staying = Staying::new(alloc);
@@ -112,6 +144,11 @@ pub(super) fn stays_of(
         bear(columns, &mut staying, &mut births, event, step, *mark)?;
         event = event.saturating_add(1);
     }
+    let idles = staying.idles(alloc, end)?;
     let Staying { stays, last: _ } = staying;
-    Ok((stays, births))
+    Ok(Stood {
+        stays,
+        births,
+        idles,
+    })
 }

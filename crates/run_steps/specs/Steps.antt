@@ -2,16 +2,18 @@
 use Rattle.std.specs.Prelude.{◌≡◌, ℕ, List, [], ◌∷◌, map, Option, None, Some, option_map}
 use Rattle.std.specs.Option.{unwrap_or}
 use Rattle.std.specs.FinMap as table
+use Rattle.np_syntax.specs.Options.{◌>>=◌}
 use Rattle.np_syntax.specs.Printed.{value_text}
 use Rattle.np_syntax.specs.declared.value.Name.{Name}
 use Rattle.np_syntax.specs.declared.event.Event.{Event}
 use Rattle.np_syntax.specs.declared.event.Kind.{Kind}
 use Rattle.np_syntax.specs.declared.event.Kind.TheVariants as kind
 use Rattle.np_calculus.specs.Config.{Config}
-use Rattle.np_calculus.specs.Reductions.{apply, run}
+use Rattle.np_calculus.specs.Reductions.{apply, one_made, run}
 use Rattle.np_calculus.specs.Seen.{is_at}
 use Rattle.run_pictures.specs.declared.step.Step.{Step}
 use Rattle.run_pictures.specs.declared.step.Followed.{Followed}
+use Rattle.run_steps.specs.Messages.{coming, either, going}
 
 -- the agent of the atom of a mark
 abbrev pub actor_in : Config → Name → Option Name
@@ -31,9 +33,22 @@ acts_in k c actor = actor_in c actor
 abbrev pub agent_in : Config → Event → Name
 agent_in c e = unwrap_or (acts_in e.kind c e.actor) e.actor
 
+-- To whom goes what an event of a kind sends, as it stands after the event: to the agent in which the output of a post stands, or that
+-- of a location test, or to that of the packet.
+abbrev pub goal_in : Kind → Config → Event → Option Name
+goal_in kind.Post d e = actor_in d e.actor
+goal_in kind.Local d e = one_made e.made >>= actor_in d
+goal_in k d e = target_in d e.actor
+
 -- an event with what is told of it, between two configurations
 abbrev pub step_of : Config → Config → Event → Step
-step_of c d e = record { event = e; agent = agent_in c e; here = is_at c (agent_in c e) e.site; target = target_in d e.actor }
+step_of c d e = record {
+  event = e;
+  agent = agent_in c e;
+  here = is_at c (agent_in c e) e.site;
+  target = goal_in e.kind d e;
+  message = either (coming e.kind c e) (going e.kind d e);
+}
 
 abbrev pub each_of : {A B : Type 0} → Option A → (A → List B) → List B
 each_of None f = []

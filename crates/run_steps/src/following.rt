@@ -7,11 +7,14 @@ ghost use Rattle.np_calculus.specs.Starts.{start_high, start_low};
 ghost use Rattle.np_configuration.specs.declared.fail.ApplyFail.TheVariants as apply_fail;
 ghost use Rattle.np_serial.specs.declared.fail.ReplayFail.TheVariants as fail;
 ghost use Rattle.np_serial.specs.Replays.{IsRefusal};
-ghost use Rattle.run_steps.specs.Steps.{IsFollowed, Takes, actor_in, agent_in, steps, target_in};
+ghost use Rattle.run_steps.specs.Steps.{IsFollowed, Takes, actor_in, agent_in, goal_in, steps, target_in};
 
+use super::messages::{coming_in, either, going_in};
 use np_configuration::{ApplyFail, Cfg, apply, start_high, start_low};
 use np_serial::ReplayFail;
-use np_syntax::{Event, Kind, List, LowProgram, Memory, Name, Program, Text, Value, print_value};
+use np_syntax::{
+    Event, Kind, List, LowProgram, Made, Memory, Name, Program, Text, Value, print_value,
+};
 use run_pictures::{Followed, Step};
 use std::alloc::Global;
 
@@ -62,7 +65,13 @@ fn followed(
 {
     let steps = steps_on(alloc, reached, events)?;
     match printed_texts(alloc, sites, reached.said()) {
-        Ok(printed) => Ok(Followed { steps, printed }),
+        Ok(printed) => Ok(Followed {
+            steps,
+            printed,
+            numbers: List::new(alloc),
+            makers: List::new(alloc),
+            pale: List::new(alloc),
+        }),
         Err(Memory) => Err(ReplayFail::Memory),
     }
 }
@@ -119,13 +128,15 @@ fn take_step(alloc: Global, reached: &mut Cfg, event: &Event) -> Result<Step, Ap
 {
     let agent = agent_in(reached, event);
     let here = reached.is_at(agent, event.site);
+    let coming = coming_in(alloc, reached, event)?;
     apply(alloc, reached, event)?;
-    let target = target_in(reached, event.actor);
+    let going = going_in(alloc, reached, event)?;
     Ok(Step {
         event: *event,
         agent,
         here,
-        target,
+        target: goal_in(reached, event),
+        message: either(coming, going),
     })
 }
 
@@ -146,6 +157,20 @@ fn actor_in(reached: &Cfg, mark: Name) -> Option<Name>
     ensures { result ≡ actor_in reached.now mark }
 {
     Some(reached.atom(mark)?.agent)
+}
+
+/// To whom goes what an event sends, as it stands after the event.
+fn goal_in(reached: &Cfg, event: &Event) -> Option<Name>
+    ensures { result ≡ goal_in event.now.kind reached.now event.now }
+{
+    match event.kind {
+        Kind::Post => actor_in(reached, event.actor),
+        Kind::Local => match event.made {
+            Made::One(mark) => actor_in(reached, mark),
+            Made::Nothing | Made::Two(_, _) => None,
+        },
+        _ => target_in(reached, event.actor),
+    }
 }
 
 /// The agent to which the packet of a mark goes.

@@ -1,0 +1,8 @@
+use Rattle.std.proofs.Common.{◌≡◌, ◌++◌, drop}
+use Rattle.std.specs.List.{flat_map}
+use Rattle.page_html.specs.Sources.{word_text}
+use Rattle.page_html.proofs.source.put_words.Given as goal
+
+-- those so far, and those still to come
+abbrev pub invariant-loop-word : goal.invariant-loop-word
+invariant-loop-word l = l.text ++ flat_map word_text (drop l.word-index l.words) ≡ l.initial.text ++ flat_map word_text l.words

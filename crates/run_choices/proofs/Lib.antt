@@ -1,0 +1,5 @@
+pub mod Chosen
+pub mod Following
+pub mod Lists
+pub mod Named
+pub mod Runs

@@ -1,0 +1,6 @@
+pub mod Choices
+pub mod Draws
+pub mod Held
+pub mod Lines
+pub mod Runs
+pub mod Seeded
