@@ -7,7 +7,7 @@ ghost use Rattle.np_look.specs.Endings.{end_status};
 
 use np_io::{Sink, write_all};
 use np_syntax::{End, Text};
-use np_verdict::{BUDGET_SPENT, DONE, NO_MEMORY, Refusal, WRITE_FAILED, line, status};
+use np_verdict::{BUDGET_SPENT, DONE, NO_MEMORY, READ_FAILED, Refusal, WRITE_FAILED, line, status};
 use refusal_diagnoses::Told;
 use std::alloc::Global;
 
@@ -51,9 +51,20 @@ pub fn answer_why<O: Sink, E: Sink>(
     match made {
         Ok(Told { text, status }) => match write_all(out, text.as_slice()) {
             Ok(()) => status,
-            Err(_) => WRITE_FAILED,
+            Err(_) => keep_from(err, b"np_look: 6 WriteFault\n", WRITE_FAILED),
         },
+        Err(Refusal::ReadFault) => keep_from(err, b"np_look: 4 ReadFault\n", READ_FAILED),
         Err(refusal) => refuse(alloc, refusal, err),
+    }
+}
+
+/// Writes what keeps np_look from telling, and answers the status.
+fn keep_from<E: Sink>(err: &mut E, line: &[u8], status: u8) -> u8
+    ensures { (result ≡ status) ⊎ (result ≡ WRITE_FAILED) }
+{
+    match write_all(err, line) {
+        Ok(()) => status,
+        Err(_) => WRITE_FAILED,
     }
 }
 

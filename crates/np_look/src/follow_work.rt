@@ -9,6 +9,7 @@ ghost use Rattle.np_syntax.specs.declared.limits.TheConstants.{LONGEST_SOURCE};
 
 use super::follow_words::Following;
 use super::reading::{LONGEST_HISTORY, read_text};
+use history_reasons::layout_of;
 use history_text::{HistFail, read_history};
 use np_check::Checked;
 use np_configuration::{Cfg, start_high};
@@ -18,7 +19,15 @@ use np_serial::{ReplayFail, follow};
 use np_syntax::{Event, LONGEST_SOURCE, List, Memory, Text};
 use np_verdict::{DONE, Refusal, checked_source, replay_report};
 use refusal_diagnoses::{Told, judged, told_of};
+use source_places::{Range, line_at, marked, offset_of_line, without_marks};
 use std::alloc::Global;
+
+/// What a line of a high text has to be.
+const WANTED: &[u8] = b"an event that the source can make there";
+
+/// How to go on.
+const NEXT: &[u8] =
+    b"compare the line with those before it, and the source with the one that was run";
 
 /// Follows a high text, and tells what it prints or where it stops.
 pub fn followed_shown<T: Texts>(
@@ -85,7 +94,14 @@ fn told(alloc: Global, name: &[u8], bytes: &[u8], refusal: Refusal) -> Result<To
 fn told_by(alloc: Global, name: &[u8], bytes: &[u8], refusal: Refusal) -> Result<Told, Memory>
     requires { length bytes.now ≤ LONGEST_HISTORY }
 {
-    told_of(alloc, name, bytes, refusal)
+    let mut reasons = without_marks(alloc, WANTED, NEXT)?;
+    if let Refusal::NotARun(index) = refusal {
+        let start = offset_of_line(bytes, layout_of(bytes).line_of(index as usize));
+        let to = start.saturating_add(line_at(bytes, start).len());
+        let label = List::from_slice(alloc, b"is not enabled here")?;
+        reasons.refused = Some(marked(Range { from: start, to }, start, label));
+    }
+    told_of(alloc, name, bytes, refusal, &reasons)
 }
 
 /// What is told, or that memory ran out.

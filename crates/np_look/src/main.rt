@@ -33,6 +33,7 @@ mod run_work;
 mod runs_work;
 mod shiviz_words;
 mod sides;
+mod why_words;
 mod words;
 mod working;
 
@@ -40,6 +41,7 @@ use answering::{answer_of, answer_why};
 use clap::error::ErrorKind;
 use follow_work::followed_shown;
 use logs::log_of;
+use look_reasons::reason_of_words;
 use np_io::{ErrSink, FileTexts, OutSink, Sink, Texts, Word};
 use np_syntax::{List, Memory};
 use np_verdict::{BAD_USAGE, DONE, NO_MEMORY, WRITE_FAILED};
@@ -94,6 +96,10 @@ fn answered<T: Texts, S: Sink, E: Sink>(
         Asked::Run(single) => answer_of(alloc, run_shown(alloc, files, &single), out, err),
         Asked::Runs(several) => answer_of(alloc, runs_shown(alloc, files, &several), out, err),
         Asked::Why(question) => answer_why(alloc, reason(alloc, files, question), out, err),
+        Asked::Np(words) => {
+            let made = reason_of_words(alloc, files, words.as_slice());
+            answer_why(alloc, made, out, err)
+        }
         Asked::Follow(following) => {
             let made = followed_shown(alloc, files, &following);
             answer_why(alloc, made, out, err)

@@ -9,9 +9,10 @@ use super::page_words::{PageWanted, asked_page, page};
 use super::part_words::{Focus, Stretch, focus_by, view_by, with_parts};
 use super::run_words::{Several, Single, asked_run, asked_runs, run, runs, seed_there};
 use super::shiviz_words::shiviz;
+use super::why_words::asked_of_np;
 use clap::{Arg, ArgAction, ArgMatches, Command, Error};
 use np_io::Word;
-use np_syntax::{LARGEST_BUDGET, Memory, USUAL_BUDGET};
+use np_syntax::{LARGEST_BUDGET, List, Memory, USUAL_BUDGET};
 use std::alloc::{AllocError, Global};
 
 /// Which level of a run is looked at: what the source says, or what the sites do.
@@ -65,6 +66,7 @@ pub enum Asked {
     Run(Single),
     Runs(Several),
     Follow(Following),
+    Np(List<Word>),
     Log(Question),
     Said(Error),
     Usage,
@@ -75,7 +77,8 @@ const ABOUT: &str = "Shows runs of Nomadic Pict programs to people";
 
 const EXAMPLE: &str = "Example: np_look picture letter.np > letter.svg";
 
-const WHY_EXAMPLE: &str = "Examples: np_look why letter.np, np_look why Mismatch";
+const WHY_EXAMPLE: &str =
+    "Examples: np_look why letter.np, np_look why Mismatch, np_look why -- run a.np --budget 0";
 
 /// With an option that has one of these words as its value, and the first of them where it does not stand there.
 pub(super) fn with_choice<'a>(
@@ -320,6 +323,9 @@ fn asked_of(alloc: Global, found: &ArgMatches<'_>) -> Asked
 pub fn asked_by(alloc: Global, words: &[Word]) -> Asked
     ensures { IsWanted result }
 {
+    if let Some(asked) = asked_of_np(alloc, words) {
+        return asked;
+    }
     let views = ["high", "low", "both"];
     let levels = ["high", "low"];
     let infrastructures = ["central", "cache"];

@@ -1,2 +1,3 @@
 pub mod Diagnoses
 pub mod Judged
+pub mod Marks

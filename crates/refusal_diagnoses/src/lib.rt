@@ -1,17 +1,19 @@
 //! What is said of a refusal: where it is, what np writes of it, the line, marked there, and how to go on.
 //!
-//! The refusal that is told is the one that np names, and the line is the one of its offset (`IsToldAt`). What the marks and the
-//! advice say is not pinned; it is a table of the topics.
+//! The refusal that is told is the one that np names, at its place: an offset of a source, or the line of a history (`IsToldThere`).
+//! Behind what np writes of it stand lines, in which no control and no turning character stands (`shown_lines`). The mark that says
+//! what is refused holds np's offset, but at the end of a source (`MarksIn`).
 //!
-//! Contracts: `judged` (`IsJudged`), `told_of` (`IsRefused`), `diagnosis` (`IsDiagnosis`), `spot_of`.
+//! Contracts: `judged` (`IsJudged`), `told_of` (`IsRefused`), `told_usage` (`IsUsage`), `source_reasons` (`MarksIn`), `spot_of`.
 #![tactic(auto)]
 
-mod advice;
-mod diagnosing;
 mod judging;
+mod places;
+mod resolved;
+mod source;
 mod spot;
 mod telling;
 
-pub use diagnosing::diagnosis;
-pub use judging::{Told, judged, nothing, told_of};
+pub use judging::{Told, judged, nothing, told_of, told_usage};
+pub use source::source_reasons;
 pub use spot::{Spot, spot_of};

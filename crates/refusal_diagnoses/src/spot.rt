@@ -5,12 +5,12 @@ ghost use Rattle.refusal_diagnoses.specs.Diagnoses as spec;
 
 use np_verdict::Refusal;
 
-/// An offset of a source, a line of a history by its number, an event of a history by its index, or no place.
+/// An offset of a source, a line of a history by its number, where the mark is, or no place.
 #[derive(Clone, Copy)]
 pub enum Spot {
     Offset(u32),
     Line(u32),
-    Event(u32),
+    Marked,
     Nowhere,
 }
 
@@ -31,15 +31,14 @@ pub fn spot_of(refusal: Refusal) -> Spot
         | Refusal::LocationTest(at) => Spot::Offset(at),
         Refusal::TypeFault(fault) => Spot::Offset(fault.at),
         Refusal::HistSyntax(line) => Spot::Line(line),
-        Refusal::NotARun(index) | Refusal::NotOurs(index) => Spot::Event(index),
+        Refusal::NotARun(_) | Refusal::NotOurs(_) | Refusal::NoLine(_) | Refusal::BudgetPast(_) =>
+            Spot::Marked,
         Refusal::Memory
         | Refusal::Usage
         | Refusal::ReadFault
         | Refusal::TooLong
         | Refusal::TooManyNodes(_)
         | Refusal::TooManyEvents
-        | Refusal::HistoryTooLong
-        | Refusal::NoLine(_)
-        | Refusal::BudgetPast(_) => Spot::Nowhere,
+        | Refusal::HistoryTooLong => Spot::Nowhere,
     }
 }

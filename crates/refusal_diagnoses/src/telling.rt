@@ -1,15 +1,15 @@
 //! What is said of a refusal.
 
-ghost use Rattle.std.specs.Prelude.{◌≡◌, ◌++◌, ◌≤◌, ◌<◌, ◌^◌, length, IfOk, OnOk};
+ghost use Rattle.std.specs.Prelude.{◌≡◌, ◌++◌, ◌<◌, ◌^◌, None, Some, length, IfOk, OnOk};
 ghost use Rattle.np_verdict.specs.Lines.{line_of};
-ghost use Rattle.refusal_diagnoses.specs.Diagnoses.{IsTold, IsToldAt, header};
+ghost use Rattle.refusal_diagnoses.specs.Diagnoses.{IsDiagnosis, IsToldThere, IsUsage, header, place_text};
 
-use super::advice::{advice_of, label_of, marked};
+use super::places::place_for;
+use super::spot::spot_of;
 use itoa::Buffer;
 use np_syntax::{List, Memory, Text};
 use np_verdict::{Refusal, line};
-use refusal_topics::{tip_of, topic_of_refusal};
-use source_places::{Place, onward, place_at, put_shown, put_snippet};
+use source_places::{Place, Reasons, lines_of, put_lines, put_shown};
 use std::alloc::Global;
 
 /// Appends what np writes of a refusal.
@@ -20,62 +20,92 @@ fn put_refusal(alloc: Global, text: &mut Text, refusal: Refusal) -> Result<(), M
     text.append(words.as_slice())
 }
 
-/// The file, the line and the column, and what np writes of a refusal.
-fn header_of(alloc: Global, file: &[u8], place: Place, refusal: Refusal) -> Result<Text, Memory>
-    ensures { IfOk result (λ text. text ≡ header file.now place refusal) }
+/// Appends a line and a column.
+fn put_place(text: &mut Text, place: Place) -> Result<(), Memory>
+    ensures { OnOk result (text.new ≡ text.old ++ place_text place) }
 {
-    let mut text = List::new(alloc);
-    put_shown(&mut text, file)?;
     text.append(b":")?;
     text.append(Buffer::new().format(place.line).as_bytes())?;
     text.append(b":")?;
-    text.append(Buffer::new().format(place.column).as_bytes())?;
+    text.append(Buffer::new().format(place.column).as_bytes())
+}
+
+/// The file, the line and the column, and what np writes of a refusal.
+fn placed_header(alloc: Global, file: &[u8], place: Place, refusal: Refusal) -> Result<Text, Memory>
+    ensures { IfOk result (λ text. text ≡ header file.now (Some place) refusal) }
+{
+    let mut text = List::new(alloc);
+    put_shown(&mut text, file)?;
+    put_place(&mut text, place)?;
     text.append(b": ")?;
     put_refusal(alloc, &mut text, refusal)?;
     Ok(text)
 }
 
-/// What is said of a refusal at an offset of a text. `whole` says that the whole line is marked, and not one token.
-pub(super) fn told_at(
-    alloc: Global,
-    file: &[u8],
-    bytes: &[u8],
-    at: usize,
-    whole: bool,
-    refusal: Refusal,
-) -> Result<Text, Memory>
-    requires within { at ≤ length bytes.now }
-    requires short { length bytes.now < 2 ^ 31 }
-    ensures { IfOk result (IsToldAt file.now bytes.now at refusal) }
+/// The file, and what np writes of a refusal.
+fn bare_header(alloc: Global, file: &[u8], refusal: Refusal) -> Result<Text, Memory>
+    ensures { IfOk result (λ text. text ≡ header file.now None refusal) }
 {
-    let place = place_at(bytes, at);
-    let rest = onward(bytes, at);
-    let tip = tip_of(topic_of_refusal(refusal));
-    let above = marked(alloc, rest, whole)?;
-    let label = label_of(alloc, tip, rest)?;
-    let advice = advice_of(alloc, tip)?;
-    let mut text = header_of(alloc, file, place, refusal)?;
-    put_snippet(
-        alloc,
-        &mut text,
-        bytes,
-        place,
-        above.as_slice(),
-        label.as_slice(),
-    )?;
-    text.append(advice.as_slice())?;
-    Ok(text)
-}
-
-/// What is said of a refusal that has no place.
-pub(super) fn told(alloc: Global, file: &[u8], refusal: Refusal) -> Result<Text, Memory>
-    ensures { IfOk result (IsTold file.now refusal) }
-{
-    let advice = advice_of(alloc, tip_of(topic_of_refusal(refusal)))?;
     let mut text = List::new(alloc);
     put_shown(&mut text, file)?;
     text.append(b": ")?;
     put_refusal(alloc, &mut text, refusal)?;
-    text.append(advice.as_slice())?;
+    Ok(text)
+}
+
+/// What stands before the lines that tell a refusal.
+fn header_of(
+    alloc: Global,
+    file: &[u8],
+    place: Option<Place>,
+    refusal: Refusal,
+) -> Result<Text, Memory>
+    ensures { IfOk result (λ text. text ≡ header file.now place refusal) }
+{
+    match place {
+        Some(place) => placed_header(alloc, file, place, refusal),
+        None => bare_header(alloc, file, refusal),
+    }
+}
+
+/// What is said of a refusal at a place of a text, if it has one.
+fn told_there(
+    alloc: Global,
+    file: &[u8],
+    bytes: &[u8],
+    place: Option<Place>,
+    refusal: Refusal,
+    reasons: &Reasons,
+) -> Result<Text, Memory>
+    requires { length bytes.now < 2 ^ 31 }
+    ensures { IfOk result (IsToldThere file.now place refusal) }
+{
+    let lines = lines_of(alloc, bytes, reasons)?;
+    let mut text = header_of(alloc, file, place, refusal)?;
+    put_lines(&mut text, lines.as_slice())?;
+    Ok(text)
+}
+
+/// What is said of a refusal of the text of a file.
+pub(super) fn diagnosis(
+    alloc: Global,
+    file: &[u8],
+    bytes: &[u8],
+    refusal: Refusal,
+    reasons: &Reasons,
+) -> Result<Text, Memory>
+    requires { length bytes.now < 2 ^ 31 }
+    ensures { IfOk result (IsDiagnosis file.now bytes.now refusal) }
+{
+    let place = place_for(bytes, spot_of(refusal), reasons);
+    told_there(alloc, file, bytes, place, refusal, reasons)
+}
+
+/// What is said of words that np does not take.
+pub(super) fn usage_text(alloc: Global, lines: &[Text]) -> Result<Text, Memory>
+    ensures { IfOk result IsUsage }
+{
+    let mut text = List::from_slice(alloc, b"np: 22 Usage\n")?;
+    put_lines(&mut text, lines)?;
     Ok(text)
 }

@@ -5,17 +5,15 @@
 //! said is true of the refusal is not proved.
 //!
 //! Contracts: `topic_of`, `topic_word`, `topic_number`, `topic_of_refusal` (`IsTopicOf`), `put_title`, `explanation`
-//! (`BeginsWith`), `tip_of`.
+//! (`BeginsWith`).
 #![tactic(auto)]
 
 mod explaining;
 mod explaining_rules;
 mod telling;
 mod telling_text;
-mod tips;
 mod topic;
 
 pub use telling::topic_of_refusal;
 pub use telling_text::{explanation, put_title};
-pub use tips::{Label, Tip, tip_of};
 pub use topic::{TOPICS, Topic, topic_number, topic_of, topic_word};

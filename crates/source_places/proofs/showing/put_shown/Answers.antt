@@ -1,6 +1,25 @@
-use Rattle.std.proofs.Common.{arith}
-use Rattle.std.proofs.lemmas.Grind.{common_steps}
+use Rattle.std.proofs.Common.{◌+◌, ◌-◌, ◌++◌, append_assoc, ap, drop, length, sym, ◌∙◌}
+use Rattle.std.proofs.lemmas.List.{append-nil}
+use Rattle.source_places.specs.Shown.{front_len, shown_front, shown_some}
+use Rattle.source_places.proofs.Walks.{shown-none, shown-step}
 use Rattle.source_places.proofs.showing.put_shown.Goals as goal
 
-pub loop-byte-preserved : goal.loop-byte-preserved
-loop-byte-preserved c = grind (arith, common_steps)
+pub loop-preserved : goal.loop-preserved
+loop-preserved c =
+    let n = length c.args.bytes.now in
+    let i = c.loop.index in
+    let rest = c.loop.rest.now in
+    let k = n - (i + 1) in
+    let left = drop (front_len rest) rest in
+    ap (λ r. c.put_front.new.text ++ shown_some k r) (c.behind_front-rest.ensures ∙ ap (λ m. drop m rest) c.front_len.ensures.is)
+    ∙ ap (λ t. t ++ shown_some k left) c.in_ok-put_front.ensures
+    ∙ append_assoc c.loop.text (shown_front rest) (shown_some k left)
+    ∙ ap (λ l. c.loop.text ++ l) (sym (shown-step n i rest c.loop-test.true))
+    ∙ c.loop.invariant
+
+pub returns : goal.returns
+returns c =
+    let n = length c.args.bytes.now in
+    sym (append-nil c.loop.text)
+    ∙ ap (λ l. c.loop.text ++ l) (sym (shown-none n c.loop.index c.loop.rest.now c.loop-test.false))
+    ∙ c.loop.invariant

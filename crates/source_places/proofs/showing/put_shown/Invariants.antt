@@ -1,8 +1,7 @@
-use Rattle.std.proofs.Common.{◌≡◌, ◌++◌, take}
-use Rattle.std.specs.List.{flat_map}
-use Rattle.source_places.specs.Shown.{shown_byte}
+use Rattle.std.proofs.Common.{◌≡◌, ◌++◌, ◌-◌, length}
+use Rattle.source_places.specs.Shown.{shown_some}
 use Rattle.source_places.proofs.showing.put_shown.Given as goal
 
--- the bytes so far
-abbrev pub invariant-loop-byte : goal.invariant-loop-byte
-invariant-loop-byte l = l.text ≡ l.fn.text ++ flat_map shown_byte (take l.byte-index l.bytes)
+-- the characters so far, and then those still to come
+abbrev pub invariant-loop : goal.invariant-loop
+invariant-loop l = l.text ++ shown_some (length l.bytes - l.index) l.rest ≡ l.fn.text ++ shown_some (length l.bytes) l.bytes
