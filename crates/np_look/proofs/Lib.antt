@@ -1,3 +1,0 @@
-mod Lines
-mod Shown
-pub mod Standing

@@ -5,18 +5,12 @@ ghost use Rattle.np_verdict.specs.Lines.{status_of};
 ghost use Rattle.np_verdict.specs.declared.statuses.TheConstants.{NO_MEMORY, WRITE_FAILED};
 ghost use Rattle.np_look.specs.Endings.{end_status};
 
+use look_sources::Shown;
 use np_io::{Sink, write_all};
-use np_syntax::{End, Text};
+use np_syntax::End;
 use np_verdict::{BUDGET_SPENT, DONE, NO_MEMORY, READ_FAILED, Refusal, WRITE_FAILED, line, status};
 use refusal_diagnoses::Told;
 use std::alloc::Global;
-
-/// A picture, and how the run ended that it is of. A history ends at rest.
-#[derive(Drop)]
-pub struct Shown {
-    pub text: Text,
-    pub end: End,
-}
 
 /// Writes the picture that was made on `out`, or the line of its refusal on `err`, and answers the exit status: the one that np
 /// has, unless that cannot be written.

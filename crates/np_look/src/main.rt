@@ -2,59 +2,33 @@
 //! writes such a run as one HTML file, and `shiviz` a history as a log; `why` tells why np refuses a source or a history; `run` makes a
 //! run in which a seed chooses each next event, and `runs` many; `follow` follows the high text of a run.
 //!
-//! In the picture just the events of the level that is wanted stand, in their order: those of the low program, or those of the
-//! source that are read off them, or both side by side, or those in a part of a level. A source or a history that is refused has
-//! the line and the exit status that np gives it, and nothing is written on the output then. A picture that is written whole has the
-//! status of its run.
+//! Each mode has a library: `look_pictures`, `look_pages`, `look_runs`, `look_reasons`; `look_words` reads the words. A source or a
+//! history that is refused has the line and the exit status that np gives it, and nothing is written on the output then. A picture
+//! that is written whole has the status of its run.
 //!
-//! Contracts: `picture_of` (`IsViewed`), `page_of` (`IsPageOf`), `log_by` (`IsLogOf`), `run_shown` (`IsRunShown`), `followed` (`Follows`),
-//! `answer_of`, `asked_by` (`IsWanted`).
+//! Contracts: `answer_of`, `answer_why`.
 #![tactic(auto)]
 
 mod answering;
-mod codes;
-mod drafts;
-mod follow_words;
-mod follow_work;
-mod heads;
-mod levels;
-mod logs;
-mod names;
-mod page_words;
-mod pages;
-mod part_words;
-mod parts;
-mod pasts;
-mod reading;
+mod progress;
 mod reasons;
-mod rows;
-mod run_words;
-mod run_work;
-mod runs_work;
-mod shiviz_words;
-mod sides;
-mod why_words;
-mod words;
-mod working;
 
 use answering::{answer_of, answer_why};
 use clap::error::ErrorKind;
-use follow_work::followed_shown;
-use logs::log_of;
+use look_pages::page;
+use look_pictures::{log_of, picture};
 use look_reasons::reason_of_words;
+use look_runs::{Progress, followed_shown, run_shown, runs_shown};
+use look_words::{Asked, asked_by};
 use np_io::{ErrSink, FileTexts, OutSink, Sink, Texts, Word};
 use np_syntax::{List, Memory};
 use np_verdict::{BAD_USAGE, DONE, NO_MEMORY, WRITE_FAILED};
-use pages::page;
+use progress::Teller;
 use reasons::reason;
-use run_work::run_shown;
-use runs_work::runs_shown;
 use std::alloc::Global;
 use std::env;
-use std::io::{Error, ErrorKind as Fault};
+use std::io::{Error, ErrorKind as Fault, IsTerminal};
 use std::process::ExitCode;
-use words::{Asked, asked_by};
-use working::work;
 
 fn main(rt: HostRuntime) -> ExitCode {
     let texts: Vec<String> = match env::args(&rt) {
@@ -70,31 +44,42 @@ fn main(rt: HostRuntime) -> ExitCode {
     let mut files = FileTexts::new(&rt);
     let mut out = OutSink::new(rt.stdout());
     let mut err = ErrSink::new(rt.stderr());
+    let writer = rt.stderr();
+    let writer = if writer.is_terminal() {
+        Some(writer)
+    } else {
+        None
+    };
+    let mut teller = Teller::new(&rt, writer);
     let alloc = rt.alloc();
     let status = match asked_by(alloc, words.as_slice()) {
         Asked::Said(error) => match error.print(&rt) {
             Ok(()) => said_status(error.kind()),
             Err(_) => WRITE_FAILED,
         },
-        asked => answered(alloc, &mut files, &mut out, &mut err, asked),
+        asked => answered(alloc, &mut files, &mut out, &mut err, &mut teller, asked),
     };
     ExitCode::from(status)
 }
 
 /// The exit status of the answer to what the words ask for.
-fn answered<T: Texts, S: Sink, E: Sink>(
+fn answered<T: Texts, S: Sink, E: Sink, P: Progress>(
     alloc: Global,
     files: &mut T,
     out: &mut S,
     err: &mut E,
+    progress: &mut P,
     asked: Asked,
 ) -> u8 {
     match asked {
-        Asked::Work(wanted) => answer_of(alloc, work(alloc, files, wanted), out, err),
+        Asked::Work(wanted) => answer_of(alloc, picture(alloc, files, wanted), out, err),
         Asked::Page(wanted) => answer_of(alloc, page(alloc, files, wanted), out, err),
         Asked::Log(question) => answer_of(alloc, log_of(alloc, files, question), out, err),
         Asked::Run(single) => answer_of(alloc, run_shown(alloc, files, &single), out, err),
-        Asked::Runs(several) => answer_of(alloc, runs_shown(alloc, files, &several), out, err),
+        Asked::Runs(several) => {
+            let made = runs_shown(alloc, files, progress, &several);
+            answer_of(alloc, made, out, err)
+        },
         Asked::Why(question) => answer_why(alloc, reason(alloc, files, question), out, err),
         Asked::Np(words) => {
             let made = reason_of_words(alloc, files, words.as_slice());

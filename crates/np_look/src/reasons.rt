@@ -3,9 +3,8 @@
 ghost use Rattle.std.specs.Prelude.{IfErr};
 ghost use Rattle.look_reasons.specs.Unread.{IsUnread};
 
-use super::why_words::np_infrastructure;
-use super::words::Question;
 use look_reasons::reason_of;
+use look_words::{Infrastructure, Question};
 use np_io::Texts;
 use np_verdict::Refusal;
 use refusal_diagnoses::Told;
@@ -27,4 +26,12 @@ pub fn reason<T: Texts>(alloc: Global, texts: &mut T, question: Question) -> Res
         &history,
         np_infrastructure(infrastructure),
     )
+}
+
+/// The infrastructure as np names it.
+fn np_infrastructure(infrastructure: Infrastructure) -> np_words::Infrastructure {
+    match infrastructure {
+        Infrastructure::Central => np_words::Infrastructure::Central,
+        Infrastructure::Cache => np_words::Infrastructure::Cache,
+    }
 }

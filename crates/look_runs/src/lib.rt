@@ -1,0 +1,12 @@
+//! Runs by seed and what is written of them, their outputs counted, and high texts that are followed from the start of their source.
+//!
+//! Contracts: `run_shown` (`IsRunShown`), `runs_shown`, `followed` (`Follows`, `Stops`).
+#![tactic(auto)]
+
+mod follow_work;
+mod run_work;
+mod runs_work;
+
+pub use follow_work::{followed, followed_shown};
+pub use run_work::run_shown;
+pub use runs_work::{Progress, runs_shown};

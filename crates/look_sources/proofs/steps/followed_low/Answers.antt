@@ -1,0 +1,6 @@
+use Rattle.std.proofs.Common.{arith}
+use Rattle.np_serial.proofs.SerialEvents.{low-sites}
+use Rattle.look_sources.proofs.steps.followed_low.Goals as goal
+
+pub follow-requires-clause-sites : goal.follow-requires-clause-sites
+follow-requires-clause-sites c = omega (arith, c.requires.sites, low-sites c.args.low.now)

@@ -1,0 +1,206 @@
+//! The words of the modes `run` and `runs`.
+
+ghost use Rattle.std.specs.Prelude.{◌≤◌, IfSome};
+ghost use Rattle.np_syntax.specs.declared.limits.TheConstants.{LARGEST_BUDGET};
+ghost use Rattle.look_words.specs.Words.{IsWanted};
+ghost use Rattle.look_words.specs.declared.run_words.TheConstants.{MOST_RUNS};
+
+use super::words::{
+    Asked, Infrastructure, Level, budget_of, infrastructure_of, is_set, level_of, with_budget,
+    with_choice, with_flag, with_operand, with_valued,
+};
+use clap::{ArgMatches, Command};
+use np_io::Word;
+use np_syntax::Memory;
+use std::alloc::{AllocError, Global};
+
+/// How many runs `runs` makes where the words do not say it.
+const USUAL_RUNS: u32 = 100;
+
+/// The largest number of runs that the words may say.
+pub const MOST_RUNS: u32 = 1_000_000;
+
+/// Which run of a source is made: each event is chosen by a generator of this seed.
+#[derive(Clone, Copy)]
+pub struct Way {
+    pub seed: u64,
+    pub level: Level,
+    pub infrastructure: Infrastructure,
+    pub budget: u32,
+}
+
+/// The run of a source that is wanted, with its history or without it.
+#[derive(Drop)]
+pub struct Single {
+    pub file: Word,
+    pub way: Way,
+    pub history: bool,
+}
+
+/// The runs of a source that are wanted: so many, of the seeds from that of the way on.
+#[derive(Drop)]
+pub struct Several {
+    pub file: Word,
+    pub way: Way,
+    pub runs: u32,
+    pub unordered: bool,
+}
+
+const ABOUT_RUN: &str =
+    "Makes a run in which each next event is chosen by a seed among all that can happen";
+
+const ABOUT_RUNS: &str = "Makes runs by many seeds, and writes each output once";
+
+const GENERATOR: &str =
+    "The generator is PCG-XSH-RR 64/32 (Pcg32 of rand_pcg); a seed gives the same run on each machine.";
+
+/// With the options that both modes have.
+fn with_way<'a>(
+    alloc: Global,
+    command: Result<Command<'a>, AllocError>,
+    levels: &'a [&'a str],
+    infrastructures: &'a [&'a str],
+) -> Result<Command<'a>, AllocError> {
+    let command = with_operand(alloc, command, "FILE", true, "The source");
+    let level = "What the source says, or what the sites do";
+    let command = with_choice(alloc, command, "level", levels, "high", level);
+    let infra = "What passes messages on";
+    let command = with_choice(alloc, command, "infra", infrastructures, "central", infra);
+    with_budget(alloc, command)
+}
+
+/// The words of the mode `run`.
+pub fn run<'a>(
+    alloc: Global,
+    levels: &'a [&'a str],
+    infrastructures: &'a [&'a str],
+) -> Result<Command<'a>, AllocError> {
+    let command = Command::new(alloc, "run")
+        .about(ABOUT_RUN)
+        .after_help(GENERATOR);
+    let command = with_way(alloc, Ok(command), levels, infrastructures);
+    let command = with_valued(
+        alloc,
+        command,
+        "seed",
+        "The seed, a number (0 if it is left out)",
+    );
+    with_flag(alloc, command, "history", "Writes the history too")
+}
+
+/// The words of the mode `runs`.
+pub fn runs<'a>(
+    alloc: Global,
+    levels: &'a [&'a str],
+    infrastructures: &'a [&'a str],
+) -> Result<Command<'a>, AllocError> {
+    let command = Command::new(alloc, "runs")
+        .about(ABOUT_RUNS)
+        .after_help(GENERATOR);
+    let command = with_way(alloc, Ok(command), levels, infrastructures);
+    let command = with_valued(
+        alloc,
+        command,
+        "runs",
+        "How many runs (100 if it is left out)",
+    );
+    let command = with_valued(
+        alloc,
+        command,
+        "from",
+        "The first seed (1 if it is left out)",
+    );
+    with_flag(
+        alloc,
+        command,
+        "unordered",
+        "Counts two orders of the same lines as one",
+    )
+}
+
+/// The seed that a word says.
+pub fn seed_of(word: Option<&str>, usual: u64) -> Option<u64> {
+    match word {
+        Some(word) => match word.parse::<u64>() {
+            Ok(seed) => Some(seed),
+            Err(_) => None,
+        },
+        None => Some(usual),
+    }
+}
+
+/// The seed that stands there, if one does; nothing where it is no number.
+pub fn seed_there(word: Option<&str>) -> Option<Option<u64>> {
+    match word {
+        Some(word) => match word.parse::<u64>() {
+            Ok(seed) => Some(Some(seed)),
+            Err(_) => None,
+        },
+        None => Some(None),
+    }
+}
+
+/// The number of runs that a word says.
+fn runs_of(word: Option<&str>) -> Option<u32>
+    ensures { IfSome result (λ runs. runs ≤ MOST_RUNS) }
+{
+    let Some(word) = word else {
+        return Some(USUAL_RUNS);
+    };
+    match word.parse::<u32>() {
+        Ok(runs) if 1 <= runs && runs <= MOST_RUNS => Some(runs),
+        _ => None,
+    }
+}
+
+/// The way that the words say, whose seed stands behind this option.
+fn way_of(found: &ArgMatches<'_>, option: &str, usual: u64) -> Option<Way>
+    ensures { IfSome result (λ way. way.budget ≤ LARGEST_BUDGET) }
+{
+    let seed = seed_of(found.get_str(option), usual)?;
+    let budget = budget_of(found.get_str("budget"))?;
+    Some(Way {
+        seed,
+        level: level_of(found.get_str("level")),
+        infrastructure: infrastructure_of(found.get_str("infra")),
+        budget,
+    })
+}
+
+/// What the words behind `run` ask for.
+pub fn asked_run(alloc: Global, found: &ArgMatches<'_>) -> Asked
+    ensures { IsWanted result }
+{
+    let Some(way) = way_of(found, "seed", 0) else {
+        return Asked::Usage;
+    };
+    match Word::new(alloc, found.get_str("FILE").unwrap_or("")) {
+        Ok(file) => Asked::Run(Single {
+            file,
+            way,
+            history: is_set(found, "history"),
+        }),
+        Err(Memory) => Asked::NoMemory,
+    }
+}
+
+/// What the words behind `runs` ask for.
+pub fn asked_runs(alloc: Global, found: &ArgMatches<'_>) -> Asked
+    ensures { IsWanted result }
+{
+    let Some(way) = way_of(found, "from", 1) else {
+        return Asked::Usage;
+    };
+    let Some(runs) = runs_of(found.get_str("runs")) else {
+        return Asked::Usage;
+    };
+    match Word::new(alloc, found.get_str("FILE").unwrap_or("")) {
+        Ok(file) => Asked::Runs(Several {
+            file,
+            way,
+            runs,
+            unordered: is_set(found, "unordered"),
+        }),
+        Err(Memory) => Asked::NoMemory,
+    }
+}

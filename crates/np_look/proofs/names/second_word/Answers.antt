@@ -1,7 +1,0 @@
-use Rattle.np_look.proofs.Standing.{stands-behind, stands-front}
-use Rattle.np_look.proofs.names.second_word.Goals as goal
-
-pub returns : goal.returns
-returns c =
-    stands-behind _ _ _ _ c.behind-from.ensures
-    (stands-behind _ _ _ _ c.behind-gap.ensures (stands-behind _ _ _ _ c.behind-word.ensures (stands-front _ _ _ c.front.ensures)))

@@ -1,4 +1,0 @@
-use Rattle.np_look.proofs.pages.of_program.Goals as goal
-
-pub returns-in_ok-text-in-Ok : goal.returns-in_ok-text-in-Ok
-returns-in_ok-text-in-Ok c = record { events = c.in-Ok.run'.events; page = c.in_ok-text-in-Ok.ensures }
