@@ -7,10 +7,10 @@
 #![tactic(auto)]
 
 mod follow_words;
+mod modes;
 mod page_words;
 mod part_words;
 mod run_words;
-mod shiviz_words;
 mod why_words;
 mod words;
 

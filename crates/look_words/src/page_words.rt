@@ -4,14 +4,11 @@ ghost use Rattle.std.specs.Prelude.{◌≡◌, IfOk};
 ghost use Rattle.look_words.specs.Words.{IsWanted};
 
 use super::run_words::seed_there;
-use super::words::{
-    Asked, Infrastructure, budget_of, further_word, has_both, infrastructure_of, with_budget,
-    with_choice, with_operand, with_valued,
-};
-use clap::{ArgMatches, Command};
+use super::words::{Asked, Infrastructure, budget_of, further_word, has_both, infrastructure_of};
+use clap::ArgMatches;
 use np_io::Word;
 use np_syntax::Memory;
-use std::alloc::{AllocError, Global};
+use std::alloc::Global;
 
 /// The page that is wanted: of a history of a source, or of a run of it that has at most so many events, by a seed or without one.
 #[derive(Drop)]
@@ -21,26 +18,6 @@ pub struct PageWanted {
     pub infrastructure: Infrastructure,
     pub budget: u32,
     pub seed: Option<u64>,
-}
-
-const EXAMPLE: &str = "Example: np_look page letter.np > letter.html";
-
-/// The words of the mode `page`.
-pub(super) fn page<'a>(
-    alloc: Global,
-    infrastructures: &'a [&'a str],
-) -> Result<Command<'a>, AllocError> {
-    let command = Command::new(alloc, "page")
-        .about("Writes a run as one HTML file, which needs no network")
-        .after_help(EXAMPLE);
-    let command = with_operand(alloc, Ok(command), "FILE", true, "The source");
-    let history = "A history of a run of it; without one it is run";
-    let command = with_operand(alloc, command, "HISTORY", false, history);
-    let infra = "What passes messages on";
-    let command = with_choice(alloc, command, "infra", infrastructures, "central", infra);
-    let seed = "Chooses each event of the run by this seed";
-    let command = with_valued(alloc, command, "seed", seed);
-    with_budget(alloc, command)
 }
 
 /// What the words behind `page` ask for, with this budget and seed.

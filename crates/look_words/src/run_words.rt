@@ -5,14 +5,11 @@ ghost use Rattle.np_syntax.specs.declared.limits.TheConstants.{LARGEST_BUDGET};
 ghost use Rattle.look_words.specs.Words.{IsWanted};
 ghost use Rattle.look_words.specs.declared.run_words.TheConstants.{MOST_RUNS};
 
-use super::words::{
-    Asked, Infrastructure, Level, budget_of, infrastructure_of, is_set, level_of, with_budget,
-    with_choice, with_flag, with_operand, with_valued,
-};
-use clap::{ArgMatches, Command};
+use super::words::{Asked, Infrastructure, Level, budget_of, infrastructure_of, is_set, level_of};
+use clap::ArgMatches;
 use np_io::Word;
 use np_syntax::Memory;
-use std::alloc::{AllocError, Global};
+use std::alloc::Global;
 
 /// How many runs `runs` makes where the words do not say it.
 const USUAL_RUNS: u32 = 100;
@@ -44,78 +41,6 @@ pub struct Several {
     pub way: Way,
     pub runs: u32,
     pub unordered: bool,
-}
-
-const ABOUT_RUN: &str =
-    "Makes a run in which each next event is chosen by a seed among all that can happen";
-
-const ABOUT_RUNS: &str = "Makes runs by many seeds, and writes each output once";
-
-const GENERATOR: &str =
-    "The generator is PCG-XSH-RR 64/32 (Pcg32 of rand_pcg); a seed gives the same run on each machine.";
-
-/// With the options that both modes have.
-fn with_way<'a>(
-    alloc: Global,
-    command: Result<Command<'a>, AllocError>,
-    levels: &'a [&'a str],
-    infrastructures: &'a [&'a str],
-) -> Result<Command<'a>, AllocError> {
-    let command = with_operand(alloc, command, "FILE", true, "The source");
-    let level = "What the source says, or what the sites do";
-    let command = with_choice(alloc, command, "level", levels, "high", level);
-    let infra = "What passes messages on";
-    let command = with_choice(alloc, command, "infra", infrastructures, "central", infra);
-    with_budget(alloc, command)
-}
-
-/// The words of the mode `run`.
-pub fn run<'a>(
-    alloc: Global,
-    levels: &'a [&'a str],
-    infrastructures: &'a [&'a str],
-) -> Result<Command<'a>, AllocError> {
-    let command = Command::new(alloc, "run")
-        .about(ABOUT_RUN)
-        .after_help(GENERATOR);
-    let command = with_way(alloc, Ok(command), levels, infrastructures);
-    let command = with_valued(
-        alloc,
-        command,
-        "seed",
-        "The seed, a number (0 if it is left out)",
-    );
-    with_flag(alloc, command, "history", "Writes the history too")
-}
-
-/// The words of the mode `runs`.
-pub fn runs<'a>(
-    alloc: Global,
-    levels: &'a [&'a str],
-    infrastructures: &'a [&'a str],
-) -> Result<Command<'a>, AllocError> {
-    let command = Command::new(alloc, "runs")
-        .about(ABOUT_RUNS)
-        .after_help(GENERATOR);
-    let command = with_way(alloc, Ok(command), levels, infrastructures);
-    let command = with_valued(
-        alloc,
-        command,
-        "runs",
-        "How many runs (100 if it is left out)",
-    );
-    let command = with_valued(
-        alloc,
-        command,
-        "from",
-        "The first seed (1 if it is left out)",
-    );
-    with_flag(
-        alloc,
-        command,
-        "unordered",
-        "Counts two orders of the same lines as one",
-    )
 }
 
 /// The seed that a word says.

@@ -4,16 +4,16 @@ ghost use Rattle.std.specs.Prelude.{◌≡◌, ◌≤◌, IfOk, IfSome};
 ghost use Rattle.np_syntax.specs.declared.limits.TheConstants.{LARGEST_BUDGET};
 ghost use Rattle.look_words.specs.Words.{IsWanted};
 
-use super::follow_words::{Following, asked_follow, follow};
-use super::page_words::{PageWanted, asked_page, page};
-use super::part_words::{Focus, Stretch, focus_by, view_by, with_parts};
-use super::run_words::{Several, Single, asked_run, asked_runs, run, runs, seed_there};
-use super::shiviz_words::shiviz;
+use super::follow_words::{Following, asked_follow};
+use super::modes::command;
+use super::page_words::{PageWanted, asked_page};
+use super::part_words::{Focus, Stretch, focus_by, view_by};
+use super::run_words::{Several, Single, asked_run, asked_runs, seed_there};
 use super::why_words::asked_of_np;
-use clap::{Arg, ArgAction, ArgMatches, Command, Error};
+use clap::{ArgMatches, Error};
 use np_io::Word;
 use np_syntax::{LARGEST_BUDGET, List, Memory, USUAL_BUDGET};
-use std::alloc::{AllocError, Global};
+use std::alloc::Global;
 
 /// Which level of a run is looked at: what the source says, or what the sites do.
 #[derive(Clone, Copy)]
@@ -74,133 +74,12 @@ pub enum Asked {
     NoMemory,
 }
 
-const ABOUT: &str = "Shows runs of Nomadic Pict programs to people";
-
-const EXAMPLE: &str = "Example: np_look picture letter.np > letter.svg";
-
-const WHY_EXAMPLE: &str =
-    "Examples: np_look why letter.np, np_look why Mismatch, np_look why -- run a.np --budget 0";
-
-/// With an option that has one of these words as its value, and the first of them where it does not stand there.
-pub(super) fn with_choice<'a>(
-    alloc: Global,
-    command: Result<Command<'a>, AllocError>,
-    id: &'a str,
-    words: &'a [&'a str],
-    usual: &'a str,
-    help: &'a str,
-) -> Result<Command<'a>, AllocError> {
-    let choice = Arg::new(alloc, id)
-        .long(id)
-        .help(help)
-        .value_parser(words)
-        .default_value(usual);
-    command?.arg(choice)
-}
-
-/// With the option that has a number as its value.
-pub(super) fn with_budget<'a>(
-    alloc: Global,
-    command: Result<Command<'a>, AllocError>,
-) -> Result<Command<'a>, AllocError> {
-    let help = "How many events the run may have";
-    command?.arg(Arg::new(alloc, "budget").long("budget").help(help))
-}
-
-/// With an option that has a value.
-pub(super) fn with_valued<'a>(
-    alloc: Global,
-    command: Result<Command<'a>, AllocError>,
-    id: &'a str,
-    help: &'a str,
-) -> Result<Command<'a>, AllocError> {
-    command?.arg(Arg::new(alloc, id).long(id).help(help))
-}
-
-/// With an option without a value.
-pub(super) fn with_flag<'a>(
-    alloc: Global,
-    command: Result<Command<'a>, AllocError>,
-    id: &'a str,
-    help: &'a str,
-) -> Result<Command<'a>, AllocError> {
-    let flag = Arg::new(alloc, id).long(id).help(help);
-    command?.arg(flag.action(ArgAction::SetTrue))
-}
-
 /// Whether an option without a value was given.
 pub(super) fn is_set(found: &ArgMatches<'_>, id: &str) -> bool {
     match found.get_str(id) {
         Some(text) => text == "true",
         None => false,
     }
-}
-
-/// With a word that has to stand there, or may, in its place.
-pub(super) fn with_operand<'a>(
-    alloc: Global,
-    command: Result<Command<'a>, AllocError>,
-    id: &'a str,
-    required: bool,
-    help: &'a str,
-) -> Result<Command<'a>, AllocError> {
-    command?.arg(Arg::new(alloc, id).required(required).help(help))
-}
-
-/// The words of the mode `picture`.
-fn picture<'a>(
-    alloc: Global,
-    views: &'a [&'a str],
-    infrastructures: &'a [&'a str],
-) -> Result<Command<'a>, AllocError> {
-    let command = Command::new(alloc, "picture")
-        .about("Writes the picture of a run, as SVG")
-        .after_help(EXAMPLE);
-    let command = with_operand(alloc, Ok(command), "FILE", true, "The source");
-    let history = "A history of a run of it; without one it is run";
-    let command = with_operand(alloc, command, "HISTORY", false, history);
-    let level = "What the source says, what the sites do, or both";
-    let command = with_choice(alloc, command, "level", views, "low", level);
-    let infra = "What passes messages on";
-    let command = with_choice(alloc, command, "infra", infrastructures, "central", infra);
-    let seed = "Chooses each event of the run by this seed";
-    let command = with_valued(alloc, command, "seed", seed);
-    let command = with_parts(alloc, command);
-    with_budget(alloc, command)
-}
-
-/// The words of the mode `why`.
-fn why<'a>(alloc: Global, infrastructures: &'a [&'a str]) -> Result<Command<'a>, AllocError> {
-    let command = Command::new(alloc, "why")
-        .about("Tells why np refuses a source or a history, or what a refusal is")
-        .after_help(WHY_EXAMPLE);
-    let first = "The source, or the name or number of a refusal";
-    let command = with_operand(alloc, Ok(command), "FILE", true, first);
-    let command = with_operand(alloc, command, "HISTORY", false, "A history of it");
-    let infra = "What passes messages on";
-    with_choice(alloc, command, "infra", infrastructures, "central", infra)
-}
-
-/// The command line. The words leave out the program's name.
-fn command<'a>(
-    alloc: Global,
-    views: &'a [&'a str],
-    levels: &'a [&'a str],
-    infrastructures: &'a [&'a str],
-) -> Result<Command<'a>, AllocError> {
-    let command = Command::new(alloc, "np_look")
-        .about(ABOUT)
-        .version("1, proved with rattle-kit-13f")
-        .after_help(EXAMPLE)
-        .no_binary_name(true)
-        .subcommand_required(true);
-    let command = command.subcommand(picture(alloc, views, infrastructures)?)?;
-    let command = command.subcommand(page(alloc, infrastructures)?)?;
-    let command = command.subcommand(shiviz(alloc, infrastructures)?)?;
-    let command = command.subcommand(why(alloc, infrastructures)?)?;
-    let command = command.subcommand(run(alloc, levels, infrastructures)?)?;
-    let command = command.subcommand(runs(alloc, levels, infrastructures)?)?;
-    command.subcommand(follow(alloc)?)
 }
 
 /// The budget that a word says.
@@ -335,15 +214,7 @@ pub fn asked_by(alloc: Global, words: &[Word]) -> Asked
     if let Some(asked) = asked_of_np(alloc, words) {
         return asked;
     }
-    let views = ["high", "low", "both"];
-    let levels = ["high", "low"];
-    let infrastructures = ["central", "cache"];
-    let Ok(command) = command(
-        alloc,
-        views.as_slice(),
-        levels.as_slice(),
-        infrastructures.as_slice(),
-    ) else {
+    let Ok(command) = command(alloc) else {
         return Asked::NoMemory;
     };
     match command.try_get_matches_from(words) {

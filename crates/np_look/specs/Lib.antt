@@ -1,1 +1,2 @@
+pub mod Dressed
 pub mod Endings

@@ -10,25 +10,39 @@
 #![tactic(auto)]
 
 mod answering;
+mod colours;
 mod progress;
 mod reasons;
 
 use answering::{answer_of, answer_why};
 use clap::error::ErrorKind;
+use colours::{are_wanted, dressed};
 use look_pages::page;
 use look_pictures::{log_of, picture};
 use look_reasons::reason_of_words;
 use look_runs::{Progress, followed_shown, run_shown, runs_shown};
+use look_sources::Shown;
 use look_words::{Asked, asked_by};
 use np_io::{ErrSink, FileTexts, OutSink, Sink, Texts, Word};
 use np_syntax::{List, Memory};
-use np_verdict::{BAD_USAGE, DONE, NO_MEMORY, WRITE_FAILED};
+use np_verdict::{BAD_USAGE, DONE, NO_MEMORY, Refusal, WRITE_FAILED};
 use progress::Teller;
 use reasons::reason;
+use refusal_diagnoses::Told;
 use std::alloc::Global;
 use std::env;
 use std::io::{Error, ErrorKind as Fault, IsTerminal};
 use std::process::ExitCode;
+
+/// What np_look reads from and writes to.
+#[derive(Drop)]
+struct Desk<T, S, E, P> {
+    files: T,
+    out: S,
+    err: E,
+    progress: P,
+    in_colours: bool,
+}
 
 fn main(rt: HostRuntime) -> ExitCode {
     let texts: Vec<String> = match env::args(&rt) {
@@ -41,23 +55,20 @@ fn main(rt: HostRuntime) -> ExitCode {
     let Ok(words) = words_of(rt.alloc(), texts.as_slice()) else {
         return ExitCode::from(NO_MEMORY);
     };
-    let mut files = FileTexts::new(&rt);
-    let mut out = OutSink::new(rt.stdout());
-    let mut err = ErrSink::new(rt.stderr());
-    let writer = rt.stderr();
-    let writer = if writer.is_terminal() {
-        Some(writer)
-    } else {
-        None
+    let is_watched = rt.stderr().is_terminal();
+    let mut desk = Desk {
+        files: FileTexts::new(&rt),
+        out: OutSink::new(rt.stdout()),
+        err: ErrSink::new(rt.stderr()),
+        progress: Teller::new(&rt, rt.stderr(), is_watched),
+        in_colours: rt.stdout().is_terminal() && are_wanted(&rt),
     };
-    let mut teller = Teller::new(&rt, writer);
-    let alloc = rt.alloc();
-    let status = match asked_by(alloc, words.as_slice()) {
+    let status = match asked_by(rt.alloc(), words.as_slice()) {
         Asked::Said(error) => match error.print(&rt) {
             Ok(()) => said_status(error.kind()),
             Err(_) => WRITE_FAILED,
         },
-        asked => answered(alloc, &mut files, &mut out, &mut err, &mut teller, asked),
+        asked => answered(rt.alloc(), &mut desk, asked),
     };
     ExitCode::from(status)
 }
@@ -65,33 +76,49 @@ fn main(rt: HostRuntime) -> ExitCode {
 /// The exit status of the answer to what the words ask for.
 fn answered<T: Texts, S: Sink, E: Sink, P: Progress>(
     alloc: Global,
-    files: &mut T,
-    out: &mut S,
-    err: &mut E,
-    progress: &mut P,
+    desk: &mut Desk<T, S, E, P>,
     asked: Asked,
 ) -> u8 {
     match asked {
-        Asked::Work(wanted) => answer_of(alloc, picture(alloc, files, wanted), out, err),
-        Asked::Page(wanted) => answer_of(alloc, page(alloc, files, wanted), out, err),
-        Asked::Log(question) => answer_of(alloc, log_of(alloc, files, question), out, err),
-        Asked::Run(single) => answer_of(alloc, run_shown(alloc, files, &single), out, err),
+        Asked::Work(wanted) => shown(alloc, picture(alloc, &mut desk.files, wanted), desk),
+        Asked::Page(wanted) => shown(alloc, page(alloc, &mut desk.files, wanted), desk),
+        Asked::Log(question) => shown(alloc, log_of(alloc, &mut desk.files, question), desk),
+        Asked::Run(single) => shown(alloc, run_shown(alloc, &mut desk.files, &single), desk),
         Asked::Runs(several) => {
-            let made = runs_shown(alloc, files, progress, &several);
-            answer_of(alloc, made, out, err)
-        },
-        Asked::Why(question) => answer_why(alloc, reason(alloc, files, question), out, err),
+            let made = runs_shown(alloc, &mut desk.files, &mut desk.progress, &several);
+            shown(alloc, made, desk)
+        }
+        Asked::Why(question) => told(alloc, reason(alloc, &mut desk.files, question), desk),
         Asked::Np(words) => {
-            let made = reason_of_words(alloc, files, words.as_slice());
-            answer_why(alloc, made, out, err)
+            let made = reason_of_words(alloc, &mut desk.files, words.as_slice());
+            told(alloc, made, desk)
         }
         Asked::Follow(following) => {
-            let made = followed_shown(alloc, files, &following);
-            answer_why(alloc, made, out, err)
+            let made = followed_shown(alloc, &mut desk.files, &following);
+            told(alloc, made, desk)
         }
         Asked::NoMemory => NO_MEMORY,
         Asked::Usage | Asked::Said(_) => BAD_USAGE,
     }
+}
+
+/// Writes what is shown.
+fn shown<T: Texts, S: Sink, E: Sink, P: Progress>(
+    alloc: Global,
+    made: Result<Shown, Refusal>,
+    desk: &mut Desk<T, S, E, P>,
+) -> u8 {
+    answer_of(alloc, made, &mut desk.out, &mut desk.err)
+}
+
+/// Writes what is told.
+fn told<T: Texts, S: Sink, E: Sink, P: Progress>(
+    alloc: Global,
+    made: Result<Told, Refusal>,
+    desk: &mut Desk<T, S, E, P>,
+) -> u8 {
+    let made = dressed(alloc, made, desk.in_colours);
+    answer_why(alloc, made, &mut desk.out, &mut desk.err)
 }
 
 /// The exit status where clap has the last word: help and the version are asked for, all else is a fault of usage.

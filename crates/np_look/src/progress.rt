@@ -5,20 +5,22 @@ use look_runs::Progress;
 use std::io::Write;
 use std::time::{Clock, Instant};
 
-/// Tells it on a terminal, at most once a second, and not in the first; without a writer, never.
+/// Tells it where somebody watches, at most once a second, and not in the first.
 #[derive(Drop)]
 pub struct Teller<'a, C, W> {
     clock: &'a C,
-    writer: Option<W>,
+    writer: W,
+    is_watched: bool,
     last: Option<Instant>,
     has_told: bool,
 }
 
 impl<'a, C: Clock, W: Write> Teller<'a, C, W> {
-    pub fn new(clock: &'a C, writer: Option<W>) -> Teller<'a, C, W> {
+    pub fn new(clock: &'a C, writer: W, is_watched: bool) -> Teller<'a, C, W> {
         Teller {
             clock,
             writer,
+            is_watched,
             last: None,
             has_told: false,
         }
@@ -57,15 +59,13 @@ fn tell<W: Write>(writer: &mut W, runs: u32, of: u32, end: &[u8]) {
 
 impl<'a, C: Clock, W: Write> Progress for Teller<'a, C, W> {
     fn made(&mut self, runs: u32, of: u32) {
-        let is_due = self.is_due();
-        let is_last = self.has_told && of <= runs;
-        let Some(writer) = &mut self.writer else {
+        if !self.is_watched {
             return;
-        };
-        if is_last {
-            tell(writer, runs, of, b"\n");
-        } else if is_due {
-            tell(writer, runs, of, b"");
+        }
+        if self.has_told && of <= runs {
+            tell(&mut self.writer, runs, of, b"\n");
+        } else if self.is_due() {
+            tell(&mut self.writer, runs, of, b"");
             self.has_told = true;
         }
     }
