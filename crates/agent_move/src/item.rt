@@ -2,16 +2,17 @@ ghost use Rattle.std.specs.Prelude.{◌≡◌};
 ghost use Rattle.agent_move.specs.Loads.{site_for};
 
 use crate::load::Load;
+use np_syntax::Boxed;
 use site_links::Addressed;
 
 /// A load under way from a site to a site, with the stamp of the event that put it on its way. A packet is under way to its
-/// own site.
+/// own site. The load has a block of its own, so that a place for an item is small: links have many places, and most stay free.
 #[derive(Drop)]
 pub struct Item {
     pub(crate) stamp: u64,
     pub(crate) from: u32,
     pub(crate) to: u32,
-    pub(crate) load: Load,
+    pub(crate) load: Boxed<Load>,
     pub ghost addressed: { site_for load to ≡ to },
 }
 
@@ -27,7 +28,7 @@ impl Item {
     pub fn load(&self) -> &Load
         ensures { result.now ≡ self.now.load }
     {
-        &self.load
+        self.load.get()
     }
 }
 

@@ -4,12 +4,13 @@ ghost use Rattle.agent_move.specs.Loads.{site_for};
 
 use crate::item::Item;
 use crate::load::Load;
+use crate::space::Space;
 use agent_pool::Agent;
 use np_calculus::Packet;
 use np_syntax::Name;
 
-/// An agent under way to a site. It takes no memory.
-pub fn pack_agent(agent: Agent, stamp: u64, from: u32, to: u32) -> Item
+/// An agent under way to a site. It takes no memory but this space.
+pub fn pack_agent(space: Space, agent: Agent, stamp: u64, from: u32, to: u32) -> Item
     ensures stamp { result.stamp ≡ stamp }
     ensures from { result.from ≡ from }
     ensures to { result.to ≡ to }
@@ -19,12 +20,12 @@ pub fn pack_agent(agent: Agent, stamp: u64, from: u32, to: u32) -> Item
         stamp,
         from,
         to,
-        load: Load::Agent(agent),
+        load: space.fill(Load::Agent(agent)),
     }
 }
 
-/// A packet under way to its site. It takes no memory.
-pub fn pack_packet(mark: Name, packet: Packet, stamp: u64, from: u32) -> Item
+/// A packet under way to its site. It takes no memory but this space.
+pub fn pack_packet(space: Space, mark: Name, packet: Packet, stamp: u64, from: u32) -> Item
     ensures stamp { result.stamp ≡ stamp }
     ensures from { result.from ≡ from }
     ensures to { result.to ≡ packet.to }
@@ -35,7 +36,7 @@ pub fn pack_packet(mark: Name, packet: Packet, stamp: u64, from: u32) -> Item
         stamp,
         from,
         to,
-        load: Load::Packet(mark, packet),
+        load: space.fill(Load::Packet(mark, packet)),
     }
 }
 
@@ -47,5 +48,5 @@ pub fn unpack(item: Item) -> (u64, u32, u32, Load)
     ensures load { result.3 ≡ item.load }
     ensures addressed { site_for result.3 result.2 ≡ result.2 }
 {
-    (item.stamp, item.from, item.to, item.load)
+    (item.stamp, item.from, item.to, item.load.into_inner())
 }

@@ -1,8 +1,8 @@
 //! Links: an item that is put in a round is taken in that round.
 
-ghost use Rattle.std.specs.Prelude.{◌≡◌, ◌<◌};
+ghost use Rattle.std.specs.Prelude.{◌≡◌, ◌<◌, IfOk};
 
-use agent_move::{Item, pack_packet};
+use agent_move::{Item, Space, pack_packet};
 use crew_inboxes::Inboxes;
 use np_calculus::Packet;
 use np_syntax::{Memory, Name, Role, Tag, Value};
@@ -15,9 +15,10 @@ use std::thread::{Threads, join_mut};
 const LOOKS: u32 = 100_000_000;
 
 /// A packet on its way, which has its number as its stamp.
-fn parcel(from: u32, to: u32, number: u32) -> Item
-    ensures { (result.from ≡ from) × (result.to ≡ to) }
+fn parcel(alloc: Global, from: u32, to: u32, number: u32) -> Result<Item, Memory>
+    ensures { IfOk result (λ item. (item.from ≡ from) × (item.to ≡ to)) }
 {
+    let space = Space::new(alloc)?;
     let name = Name {
         site: from,
         n: number,
@@ -33,7 +34,7 @@ fn parcel(from: u32, to: u32, number: u32) -> Item
         value: Value::Truth(true),
         tag,
     };
-    pack_packet(name, packet, number as u64, from)
+    Ok(pack_packet(space, name, packet, number as u64, from))
 }
 
 fn is_seen(flag: &AtomicBool) -> bool {
@@ -48,6 +49,7 @@ fn is_seen(flag: &AtomicBool) -> bool {
 /// Puts one item, and a second once the first was taken.
 fn send_both<R, P: Port<R, Item>>(
     rt: &R,
+    alloc: Global,
     port: &mut P,
     from: u32,
     to: u32,
@@ -55,12 +57,27 @@ fn send_both<R, P: Port<R, Item>>(
 ) -> bool
     requires { (to < P.among port.old) × (from ≡ P.site port.old) }
 {
-    let first = parcel(from, to, 1);
-    if port.put(rt, to, first).is_err() || !is_seen(taken) {
-        return false;
+    send_parcel(rt, alloc, port, from, to, 1)
+        && is_seen(taken)
+        && send_parcel(rt, alloc, port, from, to, 2)
+}
+
+/// Puts a parcel on the link.
+fn send_parcel<R, P: Port<R, Item>>(
+    rt: &R,
+    alloc: Global,
+    port: &mut P,
+    from: u32,
+    to: u32,
+    number: u32,
+) -> bool
+    requires { (to < P.among port.old) × (from ≡ P.site port.old) }
+    ensures { (P.among port.new ≡ P.among port.old) × (P.site port.new ≡ P.site port.old) }
+{
+    match parcel(alloc, from, to, number) {
+        Ok(item) => port.put(rt, to, item).is_ok(),
+        Err(_) => false,
     }
-    let second = parcel(from, to, 2);
-    port.put(rt, to, second).is_ok()
 }
 
 fn take_within<R, P: Port<R, Item>>(rt: &R, port: &mut P) -> Option<u64> {
@@ -82,6 +99,7 @@ fn take_both<R, P: Port<R, Item>>(rt: &R, port: &mut P, taken: &AtomicBool) -> b
 
 fn on_two_threads<R: Threads + Sync, P: Port<R, Item>>(
     rt: &R,
+    alloc: Global,
     sender: &mut P,
     receiver: &mut P,
     from: u32,
@@ -94,7 +112,7 @@ fn on_two_threads<R: Threads + Sync, P: Port<R, Item>>(
         rt,
         &mut || -> bool
             requires { (to < P.among sender.now) × (from ≡ P.site sender.now) }
-        { send_both(rt, sender, from, to, &taken) },
+        { send_both(rt, alloc, sender, from, to, &taken) },
         &mut || take_both(rt, receiver, &taken),
     );
     sent && got
@@ -107,7 +125,7 @@ fn goes_within_a_round<R: Threads + Sync, P: Port<R, Item>>(
 ) -> Result<bool, Memory> {
     let mut ports = P::make(alloc, 2)?;
     let (left, right) = ports.as_mut_slice().split_at_mut(1);
-    Ok(on_two_threads(rt, &mut left[0], &mut right[0], 0, 1))
+    Ok(on_two_threads(rt, alloc, &mut left[0], &mut right[0], 0, 1))
 }
 
 #[test]

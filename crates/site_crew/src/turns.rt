@@ -12,8 +12,8 @@ use std::thread;
 use std::thread::Threads;
 
 /// How often a site on a thread of its own looks whether something was put for it, while another is at work, before its turn ends
-/// quiet.
-const LOOKS: u32 = 300;
+/// quiet: on idle processors for half a millisecond, some hundred events of another site.
+const LOOKS: u32 = 1_000;
 
 /// How often a site looks over this kind of links.
 fn looks_over<R, P: Port<R, Item>>() -> u32 {

@@ -8,7 +8,7 @@ use std::collections::VecDeque;
 use std::marker::Model;
 
 /// For how many items a line has room at first.
-pub const PLACES: u32 = 64;
+pub const PLACES: u32 = 16;
 
 /// Items that wait to be put on a link, first come first served. `spare` is for how many more there is room.
 pub struct Line {

@@ -7,7 +7,7 @@ ghost use Rattle.site_state.specs.Standings.{Stays};
 use super::leaving::{depart_in, print_in, send_in};
 use super::noting::event_of;
 use super::site::Site;
-use agent_move::{pack_agent, pack_packet};
+use agent_move::{Space, pack_agent, pack_packet};
 use agent_pool::Ready;
 use np_code::Code;
 use np_site_runs::{law_leaving, law_own_events};
@@ -56,12 +56,13 @@ impl Site {
     {
         law_leaving();
         self.outgoing.reserve()?;
+        let space = Space::new(alloc)?;
         let packet = send_in(&mut self.agents, alloc, code, name, r)?;
         let stamp = self.clock.tick();
         let event = event_of(self.site, r, Made::Nothing);
         self.history.push(stamp, event);
         let to = packet.to;
-        let item = pack_packet(r.actor, packet, stamp, self.site);
+        let item = pack_packet(space, r.actor, packet, stamp, self.site);
         self.outgoing.put(to, item);
         Ok(())
     }
@@ -83,11 +84,12 @@ impl Site {
     {
         law_leaving();
         self.outgoing.reserve()?;
+        let space = Space::new(alloc)?;
         let (to, agent) = depart_in(&mut self.agents, alloc, code, name, r)?;
         let stamp = self.clock.tick();
         let event = event_of(self.site, r, Made::Nothing);
         self.history.push(stamp, event);
-        let item = pack_agent(agent, stamp, self.site, to);
+        let item = pack_agent(space, agent, stamp, self.site, to);
         self.outgoing.put(to, item);
         Ok(())
     }

@@ -74,15 +74,25 @@ impl Signs {
         let Some(sign) = self.sites.get(site as usize) else {
             return false;
         };
-        if !sign.looks.load(Ordering::SeqCst) {
-            sign.looks.store(true, Ordering::SeqCst);
-            let _ = self.busy.fetch_sub(1, Ordering::SeqCst);
+        if !sign.looks.load(Ordering::SeqCst) && !self.rest(sign) {
+            return true;
         }
         if self.busy.load(Ordering::SeqCst) == 0 {
             return false;
         }
         yield_now();
         true
+    }
+
+    /// A site marks that it looks, and is at work no longer. Who told it of something either sees the mark, and counts it again, or told
+    /// it before that, and then the site sees so itself and stays at work: false.
+    fn rest(&self, sign: &Sign) -> bool {
+        sign.looks.store(true, Ordering::SeqCst);
+        let told = sign.is_told();
+        if !told || !sign.looks.swap(false, Ordering::SeqCst) {
+            let _ = self.busy.fetch_sub(1, Ordering::SeqCst);
+        }
+        !told
     }
 
     /// A site that has found something is at work again.
@@ -107,6 +117,11 @@ impl Signs {
 }
 
 impl Sign {
+    /// Whether a sender has put something since the site collected last.
+    fn is_told(&self) -> bool {
+        self.low.load(Ordering::SeqCst) != 0 || self.high.load(Ordering::SeqCst) != 0
+    }
+
     /// A sender has put something. Where its bit is set already it is only read.
     fn tell(&self, from: u32) {
         if from < WORD {
