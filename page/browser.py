@@ -22,6 +22,7 @@ KEYS = {
     "a": ("KeyA", 65, None),
 }
 CONTROL = 2
+SHIFT = 8
 
 
 class Socket:

@@ -10,6 +10,7 @@ import { fragmentOf, sourceOf } from './link.mjs';
 import { COURSES, HISTORY, SOURCE, budget, chosen, level, offer, showOptions } from './options.mjs';
 import { Picture } from './picture.mjs';
 import { Programs, modulesOf } from './program.mjs';
+import { count, showTab, tabBeside } from './tabs.mjs';
 import { namesOf, tokensOf } from './tokens.mjs';
 
 const PAUSE = 200;
@@ -35,26 +36,14 @@ const status = (text) => find('status').replaceChildren(text);
 // ---- tabs
 
 function openTab(name) {
-  document.body.dataset.tab = name;
-  for (const tab of find('tabs').children) {
-    tab.setAttribute('aria-selected', String(tab.dataset.tab === name));
-    tab.tabIndex = tab.dataset.tab === name ? 0 : -1;
-  }
+  showTab(name);
   if (name === 'picture') draw();
   if (name === 'low') showLow();
 }
 
 function moveTab(event) {
-  const step = { ArrowRight: 1, ArrowLeft: -1 }[event.key];
-  if (!step) return;
-  const tabs = [...find('tabs').children].filter((tab) => tab.offsetParent !== null);
-  const next = tabs[(tabs.indexOf(event.target) + step + tabs.length) % tabs.length];
-  next.focus();
-  openTab(next.dataset.tab);
-}
-
-function count(name, number) {
-  find(`tab-${name}`).querySelector('.count').replaceChildren(number === null ? '' : number.toLocaleString('en'));
+  const next = tabBeside(event);
+  if (next) openTab(next);
 }
 
 // ---- checks
