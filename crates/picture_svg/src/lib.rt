@@ -14,6 +14,7 @@ mod elements;
 mod frame;
 mod ground;
 mod heads;
+mod letters;
 mod picture;
 mod saying;
 mod shapes;

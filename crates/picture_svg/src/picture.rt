@@ -3,13 +3,15 @@
 ghost use Rattle.std.specs.Prelude.{◌≤◌, length, IfOk};
 ghost use Rattle.run_pictures.specs.declared.marks.TheConstants.{MOST_STEPS};
 ghost use Rattle.run_pictures.specs.Layouts.{IsLayout};
+ghost use Rattle.picture_svg.specs.declared.shapes.TheConstants.{WIDEST};
 ghost use Rattle.picture_svg.specs.Pictures.{IsDrawn, IsPicture, IsPictureOfBoth};
 
 use super::cast::{Binder, Cast, cast_of};
 use super::drawing::{flights_of, posts_of, spots_of};
 use super::frame::frame_of;
 use super::ground::{add_words, ground_of, height_of};
-use super::shapes::{Drawing, Hue, Look, Point, Shape};
+use super::letters::words_reach;
+use super::shapes::{Drawing, Hue, Look, Point, Shape, WIDEST};
 use super::style::STYLE;
 use super::svg::{both_svg, svg_text};
 use super::telling::sentences_of;
@@ -18,10 +20,12 @@ use np_syntax::{List, Memory, Text};
 use run_pictures::{Followed, Layout, Mark, lay_beside, lay_out};
 use std::alloc::Global;
 
-/// How much room the numbers and the sentences take.
+/// How much room the numbers take, the sentences at least, and what is left free behind them.
 const NUMBERS: u32 = 48;
 
 const SENTENCES: u32 = 420;
+
+const MARGIN: u32 = 16;
 
 /// What is counted at each level.
 pub const HIGH_UNIT: &[u8] = b" events of the source";
@@ -52,6 +56,15 @@ fn add_title(
     )
 }
 
+/// How wide a picture is in which the sentences begin so far from the left: as wide as its words need.
+fn width_of(left: u32, words: &[Shape]) -> u32
+    ensures { result ≤ WIDEST }
+{
+    let needed = words_reach(words).saturating_add(MARGIN);
+    let usual = left.saturating_add(SENTENCES);
+    usual.max(needed).min(WIDEST)
+}
+
 /// The drawing of a layout of a run. Through the rows of these marks, ribbons go.
 fn draw(
     alloc: Global,
@@ -64,7 +77,8 @@ fn draw(
     ribbons: &[Mark],
 ) -> Result<Drawing, Memory>
     requires { length layout.now.marks ≤ MOST_STEPS }
-    ensures { IfOk result (IsDrawn layout.now) }
+    ensures drawn { IfOk result (IsDrawn layout.now) }
+    ensures width { IfOk result (λ drawing. drawing.width ≤ WIDEST) }
 {
     let steps = followed.steps.as_slice();
     let pale = followed.pale.as_slice();
@@ -72,15 +86,15 @@ fn draw(
     let frame = frame_of(alloc, sites.len(), layout.columns.as_slice())?;
     let middles = frame.middles.as_slice();
     let left = frame.right.saturating_add(NUMBERS);
-    let width = left.saturating_add(SENTENCES);
+    let mut words = sentences_of(alloc, cast, sites, followed, marks, left)?;
+    add_title(alloc, &mut words, title, unit, steps.len())?;
+    let width = width_of(left, words.as_slice());
     let ground = ground_of(alloc, cast, sites, layout, &frame, width, ribbons)?;
     let arrows = layout.arrows.as_slice();
     let flights = flights_of(alloc, cast, middles, steps, pale, marks, arrows)?;
     let sent = layout.posts.as_slice();
     let posts = posts_of(alloc, cast, middles, steps, pale, marks, sent)?;
     let spots = spots_of(alloc, cast, middles, steps, pale, marks)?;
-    let mut words = sentences_of(alloc, cast, sites, followed, marks, left)?;
-    add_title(alloc, &mut words, title, unit, steps.len())?;
     Ok(Drawing {
         width,
         height: height_of(layout),

@@ -109,6 +109,9 @@ pub struct Flight {
     pub pale: bool,
 }
 
+/// How wide a picture is at most: of two side by side the width is a number too.
+pub const WIDEST: u32 = 1_000_000_000;
+
 /// A picture: what stands below, the arrows, those of posts, the marks of the events, and what is said beside them, in this order;
 /// and how large it is.
 #[derive(Drop)]

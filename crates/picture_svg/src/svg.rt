@@ -1,8 +1,9 @@
 //! The text of a picture.
 
-ghost use Rattle.std.specs.Prelude.{◌≡◌, ◌+◌, ◌++◌, codes, map, IfOk, IfSome, OnOk};
+ghost use Rattle.std.specs.Prelude.{◌≡◌, ◌≤◌, ◌++◌, codes, map, IfOk, OnOk};
 ghost use Rattle.std.specs.List.{flat_map};
 ghost use Rattle.markup_text.specs.Markup.{element_text, markup_text};
+ghost use Rattle.picture_svg.specs.declared.shapes.TheConstants.{WIDEST};
 ghost use Rattle.picture_svg.specs.Elements.{flight_element, shape_element, spot_element};
 ghost use Rattle.picture_svg.specs.Svg.{body_text, style_element, svg, svg_of_both};
 
@@ -93,25 +94,18 @@ pub(crate) fn svg_text(alloc: Global, style: &[u8], drawing: &Drawing) -> Result
     Ok(text)
 }
 
-/// The sum of two numbers, where it is one.
-fn sum_of(first: u32, second: u32) -> Option<u32>
-    ensures { IfSome result (λ sum. sum ≡ first + second) }
-{
-    first.checked_add(second)
-}
-
-/// The text of two pictures side by side. Numbers have no room for a picture that is 2 ^ 32 wide: it wants memory.
+/// The text of two pictures side by side.
 pub(crate) fn both_svg(
     alloc: Global,
     style: &[u8],
     first: &Drawing,
     second: &Drawing,
 ) -> Result<Text, Memory>
+    requires first { first.now.width ≤ WIDEST }
+    requires second { second.now.width ≤ WIDEST }
     ensures { IfOk result (λ text. text ≡ markup_text (svg_of_both style.now first.now second.now) ++ codes "\n") }
 {
-    let Some(width) = sum_of(first.width, second.width) else {
-        return Err(Memory);
-    };
+    let width = first.width + second.width;
     let attributes = root_attributes(alloc, 0, width, second.height)?;
     let mut text = List::new(alloc);
     put_opening(&mut text, Tag::Svg, attributes.as_slice())?;

@@ -1,6 +1,6 @@
 use denote.Exit.{no}
 use denote.Param.Send.{arg_send, param_send}
-use Rattle.crew_inboxes.proofs.Items.{item_send}
+use Rattle.site_turn.proofs.Crossing.Items.{item_send}
 use Rattle.crew_inboxes.proofs.making.add_way.Goals as goal
 
 pub outlet-requires-send-I : goal.outlet-requires-send-I

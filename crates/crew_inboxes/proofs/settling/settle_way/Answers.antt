@@ -2,7 +2,7 @@ use Rattle.std.proofs.Common.{ap, length, sym}
 use Rattle.std.proofs.Math.Logic.{∥∥₁_map}
 use denote.Exit.{no}
 use denote.Param.Send.{arg_send, param_send}
-use Rattle.crew_inboxes.proofs.Items.{item_send}
+use Rattle.site_turn.proofs.Crossing.Items.{item_send}
 use Rattle.crew_inboxes.proofs.Idle.{idle_waiting, way_idle}
 use Rattle.crew_inboxes.proofs.settling.settle_way.Goals as goal
 

@@ -14,9 +14,9 @@ returns c =
       above = c.in_ok-above.above;
       high_laid = subst (λ s. IsBeside s c.in_ok-below.below.marks c.args.twins.now c.in_ok-above.above) c.as_slice-highs.ensures c.in_ok-above.ensures;
       first = c.in_ok-first.first;
-      first_drawn = c.in_ok-first.ensures;
+      first_drawn = c.in_ok-first.ensures.drawn;
       second = c.in_ok-second.second;
-      second_drawn = c.in_ok-second.ensures;
+      second_drawn = c.in_ok-second.ensures.drawn;
       style = STYLE.now;
       written = is;
     }) c.both_svg.ensures

@@ -12,7 +12,7 @@ returns c =
       layout = c.in_ok-layout.layout;
       laid = subst (λ s. IsLayout s c.in_ok-layout.layout) c.as_slice-steps.ensures c.in_ok-layout.ensures;
       drawing = c.in_ok-drawing.drawing;
-      drawn = c.in_ok-drawing.ensures;
+      drawn = c.in_ok-drawing.ensures.drawn;
       style = STYLE.now;
       written = is;
     }) c.svg_text.ensures

@@ -13,6 +13,5 @@ returns c =
     let style = c.args.style.now in
     both-written tags.Svg (root_attributes 0 (first.width + second.width) second.height) (root_attributes 0 first.width first.height) (root_attributes first.width second.width second.height)
     (elements style first) (elements style second) c.new-text.result c.put_opening.new.text c.put_svg.new.text c.put_svg-2.new.text c.put_closing.new.text c.append.new.self c.new-text.ensures
-    (c.in_ok-put_opening.ensures ∙ ap (λ l. c.new-text.result ++ opening tags.Svg l) (c.as_slice.ensures ∙ c.in_ok-attributes.ensures)
-    ∙ ap (λ w. c.new-text.result ++ opening tags.Svg (root_attributes 0 w second.height)) c.in-Some.ensures)
+    (c.in_ok-put_opening.ensures ∙ ap (λ l. c.new-text.result ++ opening tags.Svg l) (c.as_slice.ensures ∙ c.in_ok-attributes.ensures))
     c.in_ok-put_svg.ensures c.in_ok-put_svg-2.ensures c.in_ok-put_closing.ensures c.in_ok-append.ensures

@@ -5,7 +5,7 @@ use denote.Exit.{no}
 use denote.Param.Send.{arg_send, param_send}
 use Rattle.site_links.proofs.Rows.{rows_same, rows_more, rows_less, rows_was}
 use Rattle.crew_inboxes.specs.Ways.{sent_by}
-use Rattle.crew_inboxes.proofs.Items.{item_send}
+use Rattle.site_turn.proofs.Crossing.Items.{item_send}
 use Rattle.crew_inboxes.proofs.Taking.{numbered_set}
 use Rattle.crew_inboxes.proofs.Links.{Changes, keeps_put}
 use Rattle.crew_inboxes.proofs.inboxes.InboxesPortItem.put.Goals as goal

@@ -8,7 +8,7 @@ use Rattle.site_inboxes.specs.Views.{number_in}
 use Rattle.site_links.specs.declared.places.TheConstants.{PLACES}
 use Rattle.site_links.proofs.Rows.{rows_same, rows_others, rows_here}
 use Rattle.crew_inboxes.specs.Ways.{sent_by, last_by, taken_of, waiting_of}
-use Rattle.crew_inboxes.proofs.Items.{item_send}
+use Rattle.site_turn.proofs.Crossing.Items.{item_send}
 use Rattle.crew_inboxes.proofs.Taking.{numbered_set, taken_same, waiting_same}
 use Rattle.crew_inboxes.proofs.Links.{Changes, keeps_but, out_still, in_still, same_rests, settled_linked, way_within, back_within, way_joined, way_counts, way_rests}
 use Rattle.crew_inboxes.proofs.inboxes.InboxesPortItem.settle.Goals as goal

@@ -7,7 +7,7 @@ use Rattle.np_inbox_rule.specs.Steps.{sent_in, last_in}
 use Rattle.site_inboxes.specs.Views.{number_in, sites_in}
 use Rattle.site_links.proofs.Rows.{rows_same}
 use Rattle.crew_inboxes.specs.Ways.{sent_by, taken_of}
-use Rattle.crew_inboxes.proofs.Items.{item_send}
+use Rattle.site_turn.proofs.Crossing.Items.{item_send}
 use Rattle.crew_inboxes.proofs.Taking.{numbered_set, taken_same, taken_here, taken_others, takes_item, waiting_same}
 use Rattle.crew_inboxes.proofs.Links.{Changes, keeps_same, keeps_changed, count_more, same_rests, taken_rests}
 use Rattle.crew_inboxes.proofs.inboxes.InboxesPortItem.take.Goals as goal
