@@ -1,5 +1,6 @@
 -- Where a byte stands in a text (docs/PICTURES.md, "Refusals").
-use Rattle.std.specs.Prelude.{◌≡◌, ℕ, zero, suc, ◌+◌, ◌-◌, ◌≤◌, Bool, true, false, List, [], ◌∷◌, take, drop, length, slice_index, nat_eq, nat_lt, ◌&&◌, if◌then◌else◌}
+use Rattle.std.specs.Prelude.{◌≡◌, ℕ, zero, suc, ◌+◌, ◌-◌, ◌≤◌, Bool, true, false, List, [], ◌∷◌, take, drop, length}
+use Rattle.std.specs.Prelude.{slice_index, nat_eq, nat_lt, ◌&&◌, if◌then◌else◌}
 use Rattle.std.specs.List.{prefix_len}
 use Rattle.source_places.specs.declared.place.Place.{Place}
 use Rattle.source_places.specs.declared.place.Row.{Row}

@@ -1,5 +1,6 @@
 -- Bytes of a source or of a history as they are shown on a terminal (docs/PICTURES.md, "Refusals").
-use Rattle.std.specs.Prelude.{ℕ, zero, suc, ◌+◌, ◌-◌, ◌/◌, ◌%◌, Bool, List, [], ◌∷◌, ◌++◌, Option, Some, None, codes, length, min, take, drop, nat_eq, nat_le, nat_lt, ◌&&◌, ◌||◌, if◌then◌else◌}
+use Rattle.std.specs.Prelude.{ℕ, zero, suc, ◌+◌, ◌-◌, ◌/◌, ◌%◌, Bool, List, [], ◌∷◌, ◌++◌, Option, Some, None, codes, length, min}
+use Rattle.std.specs.Prelude.{take, drop, nat_eq, nat_le, nat_lt, ◌&&◌, ◌||◌, if◌then◌else◌}
 use Rattle.std.specs.List.{flat_map, list_any, prefix_len}
 use Rattle.bstr.specs.Utf8.{decoded}
 use Rattle.markup_text.specs.Escapes.{hex_digit, numbered}

@@ -1,9 +1,8 @@
 //! Why a source has no tokens, and why a name in it stands for nothing: what is marked, what was wanted and how to go on.
 //!
-//! The mark holds np's offset (`Holds`). What is said is a table of what stands there.
+//! What is said is a table of what stands there; that the mark holds np's offset is said where a diagnosis is put together.
 //!
-//! Contracts: `char_reasons`, `string_reasons`, `number_reasons`, `unbound_reasons`, `twice_reasons`, `many_reasons`, `home_reasons`
-//! (`MarksAt`).
+//! Contracts: none beyond that each call meets its conditions.
 #![tactic(auto)]
 
 mod chars;

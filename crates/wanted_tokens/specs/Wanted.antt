@@ -1,5 +1,5 @@
 -- Which tokens are wanted at a place of a source (docs/PICTURES.md, "Refusals").
-use Rattle.std.specs.Prelude.{◌≡◌, ◌≢◌, ◌⊎◌, ℕ, ◌+◌, ◌≤◌, List, ◌++◌, codes, take}
+use Rattle.std.specs.Prelude.{◌≡◌, ◌≢◌, ◌⊎◌, ℕ, ◌+◌, List, [], ◌∷◌, ◌++◌, codes, take}
 use Rattle.np_syntax.specs.declared.limits.TheConstants.{DEEPEST}
 use Rattle.np_lex.specs.Tokens.{Lexes}
 use Rattle.np_lex.specs.declared.token.Token.{Token}
@@ -57,3 +57,23 @@ pub record StopsThere (bytes : List ℕ) (at : ℕ) (kind : Kind) : Type 0 where
 -- it is not wanted: there are no tokens, or they are refused at it
 abbrev pub IsUnwanted : List ℕ → ℕ → Kind → Type 0
 IsUnwanted bytes at kind = ((tokens : List Token) → Lexes 0 (with_token bytes at kind) tokens → ⊥) ⊎ StopsThere bytes at kind
+
+-- ---- the kinds that are answered
+
+-- a kind is one of these
+abbrev pub Has : List Kind → Kind → Type 0
+Has [] kind = ⊥
+Has (first ∷ kinds) kind = (first ≡ kind) ⊎ Has kinds kind
+
+-- of some kinds just those are chosen that are wanted at a place, in their order
+pub data Chosen (bytes : List ℕ) (at : ℕ) : List Kind → List Kind → Type 0 where
+  none : Chosen bytes at [] []
+  wanted : {kind : Kind} {kinds chosen : List Kind} → IsWanted bytes at kind → Chosen bytes at kinds chosen
+      → Chosen bytes at (kind ∷ kinds) (kind ∷ chosen)
+  unwanted : {kind : Kind} {kinds chosen : List Kind} → IsUnwanted bytes at kind → Chosen bytes at kinds chosen
+      → Chosen bytes at (kind ∷ kinds) chosen
+
+-- these are the kinds that are wanted at a place, and no others: each kind is one of them and wanted, or neither
+abbrev pub AreWanted : List ℕ → ℕ → List Kind → Type 0
+AreWanted bytes at kinds = (kind : Kind) → (Has kinds kind × IsWanted bytes at kind)
+    ⊎ ((Has kinds kind → ⊥) × IsUnwanted bytes at kind)

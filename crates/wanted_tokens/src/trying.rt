@@ -1,7 +1,8 @@
 //! Which kinds of tokens are wanted at a place.
 
-ghost use Rattle.std.specs.Prelude.{◌≡◌, ◌≢◌, ◌≤◌, IfOk, MatchBool, length};
+ghost use Rattle.std.specs.Prelude.{◌≡◌, ◌≢◌, ◌≤◌, ◌∷◌, ◌++◌, [], if◌then◌else◌, IfOk, MatchBool, OnOk, length};
 ghost use Rattle.np_syntax.specs.declared.limits.TheConstants.{LONGEST_SOURCE};
+ghost use Rattle.source_forms.specs.declared.kind.TheConstants.{KINDS};
 ghost use Rattle.wanted_tokens.specs.Wanted as spec;
 
 use np_lex::{LexFail, Tokens, lex};
@@ -58,16 +59,36 @@ fn is_wanted(alloc: Global, bytes: &[u8], at: usize, kind: Kind) -> Result<bool,
     }
 }
 
+/// Adds a kind, if it goes on.
+fn add_if(wanted: &mut List<Kind>, goes: bool, kind: Kind) -> Result<(), Memory>
+    ensures { OnOk result (wanted.new ≡ (if goes then wanted.old ++ kind ∷ [] else wanted.old)) }
+{
+    if goes {
+        return wanted.add(kind);
+    }
+    Ok(())
+}
+
+/// Those of some kinds of tokens that are wanted at a place, in their order.
+fn wanted_of(alloc: Global, bytes: &[u8], at: usize, kinds: &[Kind]) -> Result<List<Kind>, Memory>
+    requires short { length bytes.now ≤ LONGEST_SOURCE }
+    requires within { at ≤ length bytes.now }
+    ensures { IfOk result (λ wanted. spec.Chosen bytes.now at kinds.now wanted) }
+{
+    let mut wanted = List::new(alloc);
+    for kind in kinds {
+        let goes = is_wanted(alloc, bytes, at, *kind)?;
+        add_if(&mut wanted, goes, *kind)?;
+    }
+    Ok(wanted)
+}
+
 /// The kinds of tokens that are wanted at a place, in the order of all kinds.
 pub fn wanted_at(alloc: Global, bytes: &[u8], at: usize) -> Result<List<Kind>, Memory>
     requires short { length bytes.now ≤ LONGEST_SOURCE }
     requires within { at ≤ length bytes.now }
+    ensures just { IfOk result (spec.AreWanted bytes.now at) }
+    ensures order { IfOk result (spec.Chosen bytes.now at KINDS) }
 {
-    let mut wanted = List::new(alloc);
-    for kind in KINDS {
-        if is_wanted(alloc, bytes, at, kind)? {
-            wanted.add(kind)?;
-        }
-    }
-    Ok(wanted)
+    wanted_of(alloc, bytes, at, KINDS.as_slice())
 }
