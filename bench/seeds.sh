@@ -5,8 +5,9 @@
 #
 # It builds nothing: NP and NP_LOOK are the built programs, by default crates/np/out/np and crates/np_look/out/np_look. For each
 # of the seeds 1 to SEEDS, by default 1,000, the run of the low program with INFRA, by default central, is replayed by np, and
-# the run of the source by the same seed is followed by np_look. Both have to print what the run printed. It prints how many
-# runs were followed, and how many different outputs came; with a run that was not followed it ends with status 1.
+# resumed by it; and the run of the source by the same seed is followed by np_look. Each has to print what the run printed, so the
+# runs have to come to rest. It prints how many runs were followed, and how many different outputs came; with a run that was not
+# followed it ends with status 1.
 set -euo pipefail
 cd "$(dirname "$0")/.."
 source=${1:?"a source is missing"}
@@ -24,10 +25,12 @@ failed=0
 for ((seed = 1; seed <= seeds; seed++)); do
     "$look" run "$source" --seed "$seed" --level low --infra "$infra" --history >"$folder/low" || [ $? -eq 1 ]
     "$np" replay "$source" "$folder/low" --infra "$infra" >"$folder/replayed" || true
+    "$np" resume "$source" "$folder/low" --infra "$infra" --serial >"$folder/resumed" || true
     "$look" run "$source" --seed "$seed" --level high --history >"$folder/high" || [ $? -eq 1 ]
     "$look" follow "$source" "$folder/high" >"$folder/followed" || true
-    for pair in low:replayed high:followed; do
-        if ! cmp -s <(printed "$folder/${pair%:*}") <(printed "$folder/${pair#*:}") || ! grep -q '^a run of ' "$folder/${pair#*:}"; then
+    for pair in low:replayed low:resumed high:followed; do
+        if ! cmp -s <(printed "$folder/${pair%:*}") <(printed "$folder/${pair#*:}") ||
+            ! grep -q '^a run of \|^at rest$' "$folder/${pair#*:}"; then
             echo "seed $seed: the ${pair%:*} run is not followed"
             failed=1
         fi

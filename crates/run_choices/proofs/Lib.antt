@@ -1,5 +1,11 @@
+pub mod Carried
 pub mod Chosen
+pub mod Drawing
 pub mod Following
 pub mod Lists
 pub mod Named
+pub mod Orderly
 pub mod Runs
+pub mod Served
+pub mod Starting
+pub mod Turned

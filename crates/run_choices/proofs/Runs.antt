@@ -19,7 +19,7 @@ turn-for c d h e l applies =
     let p = each-is-picked c h (choice_of e) l n.choice in
     (record { draw = p.0; first = n.first; second = n.second }, ap (λ o. o >>= λ s. event_by c s n.first n.second) p.1 ∙ n.gives)
 
-same-next : (c d f : Config) (e : Event) → apply c e ≡ Some d → apply c e ≡ Some f → d ≡ f
+pub same-next : (c d f : Config) (e : Event) → apply c e ≡ Some d → apply c e ≡ Some f → d ≡ f
 same-next c d f e one two = let same : Some d ≡ Some f = sym one ∙ two in sym (done same)
 
 module _ (start : Config) (order : List Event → Held) (orders : Orders start order) where

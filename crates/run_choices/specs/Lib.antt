@@ -1,6 +1,7 @@
 pub mod Choices
 pub mod Draws
 pub mod Held
+pub mod InTurn
 pub mod Lines
 pub mod Runs
 pub mod Seeded

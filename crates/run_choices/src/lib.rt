@@ -6,8 +6,12 @@
 //! each machine. It is a run from the start, event by event, and at rest exactly where nothing is enabled. Each choice can be
 //! made, each event that is enabled is one of the choices, and for each run there are draws by which just it is made.
 //!
-//! Contracts: `run_seeded`, `run_seeded_low` (`IsSerialRun`), `Waiting::chosen`, `event_of`, `law_each_can_go`,
-//! `law_each_is_named`, `law_each_run`.
+//! `run_seeded_low` makes, in the same way, a run of a low program that its sites could make by themselves: a choice of what is
+//! under way stands for what is first on the same link, and an event makes the next names of its site. For each such run there
+//! are draws by which just it is made.
+//!
+//! Contracts: `run_seeded` (`IsSerialRun`), `run_seeded_low` (`IsSerialRun`, `IsOurs`, `IsDrawn`), `Waiting::chosen`,
+//! `event_of`, `serve`, `law_each_can_go`, `law_each_is_named`, `law_each_run`, `law_each_is_served`, `law_each_own_run`.
 #![tactic(auto)]
 
 mod choice;
@@ -17,8 +21,13 @@ mod laws;
 mod line;
 mod lines;
 mod seeded;
+mod seeded_low;
+mod serving;
 mod waiting;
 
 pub use choice::{Choice, Draw};
-pub use laws::{law_each_can_go, law_each_is_named, law_each_run};
-pub use seeded::{run_seeded, run_seeded_low};
+pub use laws::{
+    law_each_can_go, law_each_is_named, law_each_is_served, law_each_own_run, law_each_run,
+};
+pub use seeded::run_seeded;
+pub use seeded_low::run_seeded_low;

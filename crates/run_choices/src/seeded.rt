@@ -1,13 +1,13 @@
-//! Runs by seed.
+//! Runs by seed of the high level, and what both levels need.
 
-ghost use Rattle.std.specs.Prelude.{◌≡◌, ◌+◌, ◌↔◌, ◌≤◌, [], Some, IfOk, OnOk};
+ghost use Rattle.std.specs.Prelude.{◌≡◌, ◌+◌, ◌++◌, ◌∷◌, ◌↔◌, ◌≤◌, [], Some, IfOk, OnOk};
 ghost use Rattle.np_calculus.specs.Begins.{AreNew};
 ghost use Rattle.np_calculus.specs.Idle.{Idle};
 ghost use Rattle.np_calculus.specs.Parts.{IsLodged};
 ghost use Rattle.np_calculus.specs.Reductions.{apply};
 ghost use Rattle.np_calculus.specs.Runs.{RunsWell};
 ghost use Rattle.np_calculus.specs.Sight.{inside};
-ghost use Rattle.np_calculus.specs.Starts.{start_high, start_low};
+ghost use Rattle.np_calculus.specs.Starts.{start_high};
 ghost use Rattle.np_calculus.specs.Well.{Has};
 ghost use Rattle.np_serial.specs.Serial.{AreFresh, IsEnabled, IsReached, IsSerialRun};
 ghost use Rattle.np_syntax.specs.declared.limits.TheConstants.{MOST_SITES};
@@ -20,9 +20,9 @@ use super::choice::{Choice, Draw, drawn};
 use super::events::{Fresh, event_of};
 use super::waiting::Waiting;
 use np_calculus::{DAEMON_MARK, MAIN_MARK};
-use np_configuration::{ApplyFail, Cfg, apply, start_high, start_low};
+use np_configuration::{ApplyFail, Cfg, apply, start_high};
 use np_serial::SerialRun;
-use np_syntax::{Boxed, End, Event, List, LowProgram, Memory, Name, Program};
+use np_syntax::{Boxed, End, Event, List, Memory, Name, Program};
 use rand_core::SeedableRng;
 use rand_pcg::Pcg32;
 use std::alloc::Global;
@@ -34,20 +34,6 @@ pub fn run_seeded(alloc: Global, p: &Program, seed: u64, budget: u32) -> Result<
 {
     let start = start_high(alloc, p)?;
     run_from(alloc, start, p.at, seed, budget)
-}
-
-/// Runs a low program in the same way, with the daemon beside main.
-pub fn run_seeded_low(
-    alloc: Global,
-    q: &LowProgram,
-    seed: u64,
-    budget: u32,
-) -> Result<SerialRun, Memory>
-    requires { RunsWell (start_low q.now) q.now.at }
-    ensures { IfOk result (λ r. IsSerialRun (start_low q.now) budget r.events r.last r.end) }
-{
-    let start = start_low(alloc, q)?;
-    run_from(alloc, start, q.at, seed, budget)
 }
 
 /// Runs from a start. The first name that an event makes is of the site `at`.
@@ -105,7 +91,7 @@ fn run_on(
 }
 
 /// All that can happen at a start.
-fn first_waiting(alloc: Global, start: &Cfg) -> Result<Waiting, Memory>
+pub fn first_waiting(alloc: Global, start: &Cfg) -> Result<Waiting, Memory>
     requires { FirstMarks start.now }
     ensures { IfOk result (λ waiting. Lists start.now (held waiting)) }
 {
@@ -139,6 +125,23 @@ fn advance(
     ensures lists { OnOk result (Lists c.new (held waiting.new)) }
 {
     let event = enabled(alloc, c, choice, fresh)?;
+    make(alloc, c, waiting, events, event)
+}
+
+/// Makes an event that is enabled, lists anew what it touched, and notes it behind the others.
+pub fn make(
+    alloc: Global,
+    c: &mut Cfg,
+    waiting: &mut Waiting,
+    events: &mut List<Event>,
+    event: Event,
+) -> Result<(), Memory>
+    requires enabled { Has (apply c.old event) }
+    requires lists { Lists c.old (held waiting.old) }
+    ensures leads { OnOk result (apply c.old event ≡ Some c.new) }
+    ensures noted { OnOk result (events.new ≡ events.old ++ event ∷ []) }
+    ensures lists { OnOk result (Lists c.new (held waiting.new)) }
+{
     let agent = agent_in(c, event.actor);
     turn(alloc, c, &event)?;
     waiting.follow(c, &event, agent)?;
@@ -176,7 +179,7 @@ fn beyond(start: &Cfg) -> u32
 }
 
 /// How a run ends that has used its budget.
-fn end_of(last: &Cfg, waiting: &Waiting) -> End
+pub fn end_of(last: &Cfg, waiting: &Waiting) -> End
     requires lodged { IsLodged (inside last.now) }
     requires lists { Lists last.now (held waiting.now) }
     ensures rest { (result ≡ End.Rest) ↔ Idle last.now }

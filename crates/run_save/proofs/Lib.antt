@@ -1,4 +1,5 @@
 pub mod GoingOn
+pub mod LeftLaws
 pub mod LinkLaws
 pub mod NameLaws
 pub mod RunLaws

@@ -37,7 +37,7 @@ same_item-is (Packet a) (Packet b) e =
     let n : a.n ≡ b.n = grind (arith, e) in
     λ i. Packet (record { site = site i; n = n i })
 
-same_item-itself : (a : Item) → same_item a a ≡ true
+pub same_item-itself : (a : Item) → same_item a a ≡ true
 same_item-itself (Agent a) = grind arith
 same_item-itself (Packet a) = grind arith
 

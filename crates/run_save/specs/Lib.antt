@@ -1,3 +1,4 @@
+pub mod Left
 pub mod Notes
 pub mod Ours
 pub mod Travels

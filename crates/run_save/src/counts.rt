@@ -7,7 +7,7 @@ use indexmap::IndexMap;
 use np_syntax::{Made, Memory, Name};
 
 /// How many names a site has made.
-fn count(made: &IndexMap<u32, u64>, site: u32) -> u64
+pub fn count(made: &IndexMap<u32, u64>, site: u32) -> u64
     ensures { result ≡ count_of made.now site }
 {
     made.get(&site).copied().unwrap_or(0)

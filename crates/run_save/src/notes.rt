@@ -1,12 +1,13 @@
-ghost use Rattle.std.specs.Prelude.{◌≡◌, List as Items, [], ◌∷◌, ◌++◌, IfOk, OnOk, MatchOption, Some};
+ghost use Rattle.std.specs.Prelude.{◌≡◌, List as Items, [], ◌∷◌, ◌++◌, IfOk, OnOk, MatchOption, Some, slice_get};
 ghost use Rattle.np_syntax.specs.declared.event.Event.{Event as OneEvent};
 ghost use Rattle.np_calculus.specs.Config.{Config as OneConfig};
 ghost use Rattle.np_calculus.specs.Reductions.{apply, run};
 ghost use Rattle.run_save.specs.Ours.{IsOursFrom};
+ghost use Rattle.run_save.specs.Left.{link_first, noted_count, noted_first};
 ghost use Rattle.run_save.specs.Notes.{AreNoted, IsNoted, IsTold, SetsQueue, TakesFirst, Tells, waiting};
 ghost use Rattle.run_save.specs.Travels.{Travels, none_yet, puts, takes, travels_on};
 
-use super::counts::makes;
+use super::counts::{count, makes};
 use super::queue::Queue;
 use super::trips::{Item, Link, Trip, departure, sending};
 use indexmap::IndexMap;
@@ -74,6 +75,16 @@ fn take_first(queues: &mut IndexMap<Link, Queue>, link: Link) -> Option<Item>
     queue.pop()
 }
 
+/// The first that waits on a link.
+fn first_on(queues: &IndexMap<Link, Queue>, link: Link) -> Option<Item>
+    ensures { result ≡ slice_get (waiting queues.now link) 0 }
+{
+    match queues.get(&link) {
+        Some(queue) => queue.first(),
+        None => None,
+    }
+}
+
 impl Links {
     /// Nothing was put yet. It takes no memory.
     fn new(alloc: Global) -> Links
@@ -110,6 +121,14 @@ impl Links {
             Some(first) => first == item,
             None => false,
         }
+    }
+
+    /// The first on the link on which an item was put last, to this site.
+    fn first_beside(&self, item: Item, to: u32) -> Option<Item>
+        ensures { result ≡ link_first self.now item to }
+    {
+        let from = self.senders.get(&item).copied()?;
+        first_on(&self.queues, Link { from, to })
     }
 
     /// Notes what an event puts on a link or takes from one, and tells whether what it takes was the first there.
@@ -154,5 +173,18 @@ impl Notes {
             return Ok(false);
         }
         self.links.note(after, e)
+    }
+    /// How many names a site has made.
+    pub fn count(&self, site: u32) -> u64
+        ensures { result ≡ noted_count self.now site }
+    {
+        count(&self.made, site)
+    }
+
+    /// The first on the link on which an item was put last, to this site.
+    pub fn first_beside(&self, item: Item, to: u32) -> Option<Item>
+        ensures { result ≡ noted_first self.now item to }
+    {
+        self.links.first_beside(item, to)
     }
 }

@@ -1,4 +1,4 @@
-ghost use Rattle.std.specs.Prelude.{◌≡◌, [], ◌∷◌, ◌++◌, OnOk, MatchOption};
+ghost use Rattle.std.specs.Prelude.{◌≡◌, [], ◌∷◌, ◌++◌, OnOk, MatchOption, slice_get};
 
 use super::trips::Item;
 use np_syntax::Memory;
@@ -51,5 +51,11 @@ impl Queue {
         ensures { MatchOption result (self.old ≡ []) (λ first. self.old ≡ first ∷ self.new) }
     {
         self.items.pop_front()
+    }
+    /// The first item, which stays.
+    pub fn first(&self) -> Option<Item>
+        ensures { result ≡ slice_get self.now 0 }
+    {
+        self.items.front().copied()
     }
 }

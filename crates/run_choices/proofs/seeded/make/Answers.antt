@@ -5,12 +5,12 @@ use Rattle.run_choices.specs.Held.{Agrees, held}
 use Rattle.run_choices.specs.Runs.{touched}
 use Rattle.run_choices.proofs.Following.{followed}
 use Rattle.run_choices.proofs.Lists.{on-ok}
-use Rattle.run_choices.proofs.seeded.advance.Goals as goal
+use Rattle.run_choices.proofs.seeded.make.Goals as goal
 
 pub returns-clause-lists : goal.returns-clause-lists
 returns-clause-lists c =
     let after = c.turn.new.c in
-    let event = c.in_ok-event.event in
+    let event = c.args.event in
     let list = held c.follow.new.self in
     on-ok c.add.result
     (followed c.args.c.now after event c.in_ok-turn.ensures (held c.args.waiting.now) list c.requires.lists c.in_ok-follow.ensures.step
