@@ -14,6 +14,13 @@ use std::thread::{Threads, join_mut};
 /// How often a thread looks for what the other does before it gives up.
 const LOOKS: u32 = 100_000_000;
 
+/// What both threads see: whether the first item was taken. Memory for items is had by `alloc`.
+#[derive(Drop)]
+struct Meeting {
+    alloc: Global,
+    taken: AtomicBool,
+}
+
 /// A packet on its way, which has its number as its stamp.
 fn parcel(alloc: Global, from: u32, to: u32, number: u32) -> Result<Item, Memory>
     ensures { IfOk result (λ item. (item.from ≡ from) × (item.to ≡ to)) }
@@ -49,16 +56,16 @@ fn is_seen(flag: &AtomicBool) -> bool {
 /// Puts one item, and a second once the first was taken.
 fn send_both<R, P: Port<R, Item>>(
     rt: &R,
-    alloc: Global,
     port: &mut P,
     from: u32,
     to: u32,
-    taken: &AtomicBool,
+    meeting: &Meeting,
 ) -> bool
     requires { (to < P.among port.old) × (from ≡ P.site port.old) }
 {
+    let alloc = meeting.alloc;
     send_parcel(rt, alloc, port, from, to, 1)
-        && is_seen(taken)
+        && is_seen(&meeting.taken)
         && send_parcel(rt, alloc, port, from, to, 2)
 }
 
@@ -90,30 +97,33 @@ fn take_within<R, P: Port<R, Item>>(rt: &R, port: &mut P) -> Option<u64> {
 }
 
 /// Takes both items, and tells when it has the first.
-fn take_both<R, P: Port<R, Item>>(rt: &R, port: &mut P, taken: &AtomicBool) -> bool {
+fn take_both<R, P: Port<R, Item>>(rt: &R, port: &mut P, meeting: &Meeting) -> bool {
     let first = take_within(rt, port);
-    taken.store(true, Ordering::SeqCst);
+    meeting.taken.store(true, Ordering::SeqCst);
     let second = take_within(rt, port);
     first == Some(1) && second == Some(2)
 }
 
 fn on_two_threads<R: Threads + Sync, P: Port<R, Item>>(
     rt: &R,
-    alloc: Global,
     sender: &mut P,
     receiver: &mut P,
     from: u32,
     to: u32,
+    alloc: Global,
 ) -> bool
     requires { (to < P.among sender.old) × (from ≡ P.site sender.old) }
 {
-    let taken = AtomicBool::new(false);
+    let meeting = Meeting {
+        alloc,
+        taken: AtomicBool::new(false),
+    };
     let (sent, got) = join_mut(
         rt,
         &mut || -> bool
             requires { (to < P.among sender.now) × (from ≡ P.site sender.now) }
-        { send_both(rt, alloc, sender, from, to, &taken) },
-        &mut || take_both(rt, receiver, &taken),
+        { send_both(rt, sender, from, to, &meeting) },
+        &mut || take_both(rt, receiver, &meeting),
     );
     sent && got
 }
@@ -125,7 +135,7 @@ fn goes_within_a_round<R: Threads + Sync, P: Port<R, Item>>(
 ) -> Result<bool, Memory> {
     let mut ports = P::make(alloc, 2)?;
     let (left, right) = ports.as_mut_slice().split_at_mut(1);
-    Ok(on_two_threads(rt, alloc, &mut left[0], &mut right[0], 0, 1))
+    Ok(on_two_threads(rt, &mut left[0], &mut right[0], 0, 1, alloc))
 }
 
 #[test]
