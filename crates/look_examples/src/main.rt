@@ -1,23 +1,31 @@
-//! Runs worked examples of what `np_look why` tells: words, files, the status and the text that must come.
+//! Runs worked examples of np_look: what `why` tells, and what runs by seed print.
 //!
-//! The words name the files of examples. It prints of each file whether all its examples came as they should, and of each one that
-//! did not its words, with what came.
+//! The words name files. One that ends in `.np` is a source, which is run by the seeds 1 to 100, at both levels and with both
+//! infrastructures; each different output is printed once. Of each run of a low program the events are followed by `replay`, and
+//! what is read off them from the start of the source: both have to print the same, and to rest where the run does. What must
+//! come of each source stands in `stdout`: it is worked out from the language, not from the program's output.
+//!
+//! Each other file has examples of `why`: words, files, the status and the text that must come. It prints whether all came as
+//! they should, and of each one that did not its words, with what came.
 //!
 //! Contracts: none beyond that each call it makes meets its conditions.
 #![tactic(auto)]
 
+mod alike;
 mod asking;
 mod case;
+mod outputs;
 mod reading;
+mod reasons;
+mod seeds;
+mod sources;
 
-use asking::{Came, came_of};
-use case::Case;
 use np_example_files::ExampleFail;
-use np_syntax::List;
-use reading::cases_of;
+use reasons::try_reasons;
+use sources::try_source;
 use std::alloc::Global;
+use std::env;
 use std::rt::Files;
-use std::{env, fs};
 
 fn main(rt: HostRuntime) -> Result<(), ExampleFail> {
     let alloc = rt.alloc();
@@ -28,54 +36,15 @@ fn main(rt: HostRuntime) -> Result<(), ExampleFail> {
     Ok(())
 }
 
-/// Tries each example of a file.
+/// Tries the examples of a file.
 fn try_file<R: Files + Alloc + Print>(
     rt: &R,
     alloc: Global,
     file: &str,
 ) -> Result<(), ExampleFail> {
-    let bytes = fs::read(rt, file)?;
-    let cases = cases_of(alloc, bytes.as_slice())?;
-    let mut failed: u64 = 0;
-    for case in cases.as_slice() {
-        if !try_case(rt, alloc, case)? {
-            failed = failed.saturating_add(1);
-        }
-    }
-    tell(rt, file, cases.len() as u64, failed)
-}
-
-/// Prints what came of the examples of a file. How many there are is told only if one did not come.
-fn tell<R: Print>(rt: &R, file: &str, cases: u64, failed: u64) -> Result<(), ExampleFail> {
-    if failed == 0 && cases > 0 {
-        println!(rt; "{file}: all examples came")?;
+    if file.ends_with(".np") {
+        try_source(rt, alloc, file)
     } else {
-        println!(rt; "{file}: {failed} of {cases} examples did not come")?;
+        try_reasons(rt, alloc, file)
     }
-    Ok(())
-}
-
-/// Whether an example comes as it should; else it is printed, with what came.
-fn try_case<R: Print + Alloc>(rt: &R, alloc: Global, case: &Case) -> Result<bool, ExampleFail> {
-    let came = came_of(alloc, case)?;
-    if came.status == case.status && came.text.as_slice() == case.wanted.as_slice() {
-        return Ok(true);
-    }
-    show(rt, alloc, case, &came)?;
-    Ok(false)
-}
-
-/// Prints an example that did not come.
-fn show<R: Print + Alloc>(
-    rt: &R,
-    alloc: Global,
-    case: &Case,
-    came: &Came,
-) -> Result<(), ExampleFail> {
-    let text = String::from_utf8_lossy(alloc, came.text.as_slice())?;
-    let line = case.line;
-    let status = came.status;
-    let text = text.as_str();
-    println!(rt; "line {line}: status {status}\n{text}")?;
-    Ok(())
 }

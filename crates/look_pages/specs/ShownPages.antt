@@ -1,6 +1,7 @@
 -- The page of a run (docs/PICTURES.md, "Pages").
-use Rattle.std.specs.Prelude.{◌≡◌, ℕ, List, map, take}
+use Rattle.std.specs.Prelude.{◌≡◌, ℕ, List, Option, map, take}
 use Rattle.np_syntax.specs.declared.event.Event.{Event}
+use Rattle.np_syntax.specs.declared.program.LowProgram.{LowProgram}
 use Rattle.np_verdict.specs.Faults.{Accepted, Stage}
 use Rattle.history_text.specs.Spelling.{event_line}
 use Rattle.history_text.specs.declared.format.Format.TheVariants.{First}
@@ -14,10 +15,12 @@ use Rattle.page_html.specs.declared.page.View.{View}
 use Rattle.page_html.specs.declared.script.TheConstants.{SCRIPT}
 use Rattle.page_html.specs.declared.style.TheConstants.{STYLE}
 use Rattle.page_html.specs.Pages.{IsFormedPage, page_text}
+use Rattle.look_sources.specs.Looked.{IsLooked, IsLookedAt}
+use Rattle.look_sources.specs.declared.runs.Run.{Run}
 use Rattle.look_sources.specs.declared.shown.Shown.{Shown}
 use Rattle.look_pages.specs.declared.drafts.TheConstants.{MOST_DRAWN_HIGH, MOST_DRAWN_LOW, MOST_ROWS}
-use Rattle.look_words.specs.declared.words.Infrastructure.{Infrastructure}
-use Rattle.look_sources.specs.Lifts.{lift_by}
+use Rattle.look_words.specs.declared.page_words.PageWanted.{PageWanted}
+use Rattle.np_on_sites.specs.ByInfrastructure.{lift_by}
 
 -- the event of a step, as a line of a history
 abbrev pub line_of : Step → List ℕ
@@ -47,13 +50,20 @@ pub record IsPageOf (source : List ℕ) (high low : List Event) (text : List ℕ
   pub of_low : map (λ (step : Step). step.event) lows ≡ low
   pub shows : IsPageOfSteps source highs lows text
 
--- what is shown is the page of a source with some events of the sites, and with those of the source that are read off them
-pub record IsShownOf (source : List ℕ) (infrastructure : Infrastructure) (shown : Shown) : Type 0 where
-  pub events : List Event
-  pub page : IsPageOf source (lift_by infrastructure events) events shown.text
+-- what is shown is the page of a source with the events of the run that is looked at, and with those of the source that are read off them
+pub record IsShownOf (source : List ℕ) (wanted : PageWanted) (history : Option Run) (low : LowProgram) (shown : Shown) : Type 0 where
+  pub run : Run
+  pub looked : IsLookedAt history low wanted.budget wanted.seed run
+  pub page : IsPageOf source (lift_by wanted.infrastructure run.events) run.events shown.text
 
--- the same of a source that np accepts
-pub record IsShownPage (infrastructure : Infrastructure) (shown : Shown) : Type 0 where
+-- the same of the history that is named
+pub record IsShownWith (source : List ℕ) (wanted : PageWanted) (shown : Shown) : Type 0 where
+  pub run : Run
+  pub looked : IsLooked wanted.history wanted.infrastructure wanted.budget wanted.seed run
+  pub page : IsPageOf source (lift_by wanted.infrastructure run.events) run.events shown.text
+
+-- and of a source that np accepts
+pub record IsShownPage (wanted : PageWanted) (shown : Shown) : Type 0 where
   pub source : List ℕ
   pub accepted : Accepted Stage.program source
-  pub is : IsShownOf source infrastructure shown
+  pub is : IsShownWith source wanted shown

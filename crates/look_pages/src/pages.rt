@@ -4,8 +4,9 @@ ghost use Rattle.std.specs.Prelude.{◌≤◌, length, IfOk};
 ghost use Rattle.np_syntax.specs.declared.limits.TheConstants.{LONGEST_SOURCE};
 ghost use Rattle.np_calculus.specs.Runs.{RunsWell};
 ghost use Rattle.np_calculus.specs.Starts.{start_low};
-ghost use Rattle.look_sources.specs.Lifts.{lift_by};
-ghost use Rattle.look_pages.specs.ShownPages.{IsPageOf, IsShownOf, IsShownPage};
+ghost use Rattle.np_on_sites.specs.ByInfrastructure.{lift_by};
+ghost use Rattle.look_sources.specs.Looked.{IsFound};
+ghost use Rattle.look_pages.specs.ShownPages.{IsPageOf, IsShownOf, IsShownPage, IsShownWith};
 
 use super::drafts::{About, text_for, told_of};
 use super::sides::{high_side, join, low_side};
@@ -19,15 +20,31 @@ use std::alloc::Global;
 
 /// Makes the page that is wanted.
 pub fn page<T: Texts>(alloc: Global, texts: &mut T, wanted: PageWanted) -> Result<Shown, Refusal>
-    ensures { IfOk result (IsShownPage wanted.infrastructure) }
+    ensures { IfOk result (IsShownPage wanted) }
 {
     let bytes = read_text(alloc, texts, &wanted.file, LONGEST_SOURCE, Refusal::TooLong)?;
-    let history = history_of(alloc, texts, &wanted.history)?;
     let source = bytes.as_slice();
     let checked = checked_source(alloc, source)?;
-    let made = of_source(alloc, &wanted, source, history, &checked);
+    let made = of_history(alloc, texts, &wanted, source, &checked);
     drop(checked);
     made
+}
+
+/// The page of the history of a source that is named, or of a run of it that is made.
+fn of_history<T: Texts>(
+    alloc: Global,
+    texts: &mut T,
+    wanted: &PageWanted,
+    bytes: &[u8],
+    checked: &Checked,
+) -> Result<Shown, Refusal>
+    requires { length bytes.now ≤ LONGEST_SOURCE }
+    ensures { IfOk result (IsShownWith bytes.now wanted.now) }
+{
+    match history_of(alloc, texts, &wanted.history) {
+        Ok(history) => of_source(alloc, wanted, bytes, history, checked),
+        Err(refusal) => Err(refusal),
+    }
 }
 
 /// The page of a run of a source: of this one, or of one that is made.
@@ -38,9 +55,11 @@ fn of_source(
     history: Option<Run>,
     checked: &Checked,
 ) -> Result<Shown, Refusal>
-    requires { length bytes.now ≤ LONGEST_SOURCE }
-    ensures { IfOk result (IsShownOf bytes.now wanted.now.infrastructure) }
+    requires short { length bytes.now ≤ LONGEST_SOURCE }
+    requires found { IsFound wanted.now.history history }
+    ensures { IfOk result (IsShownWith bytes.now wanted.now) }
 {
+    let _ = checked.program();
     match lowered(alloc, wanted.infrastructure, checked) {
         Ok(low) => {
             let made = of_program(alloc, wanted, bytes, history, checked, &low);
@@ -62,7 +81,7 @@ fn of_program(
 ) -> Result<Shown, Refusal>
     requires runs { RunsWell (start_low low.now) low.now.at }
     requires short { length bytes.now ≤ LONGEST_SOURCE }
-    ensures { IfOk result (IsShownOf bytes.now wanted.now.infrastructure) }
+    ensures { IfOk result (IsShownOf bytes.now wanted.now history low.now) }
 {
     match run_of(alloc, wanted.budget, wanted.seed, history, low) {
         Ok(run) => {

@@ -3,14 +3,14 @@
 ghost use Rattle.std.specs.Prelude.{◌≡◌, ◌<◌, ◌≤◌, ◌^◌, length, map, take, IfOk};
 ghost use Rattle.np_calculus.specs.Runs.{RunsWell};
 ghost use Rattle.np_calculus.specs.Starts.{start_low};
-ghost use Rattle.look_sources.specs.Lifts.{lift_by};
+ghost use Rattle.np_on_sites.specs.ByInfrastructure.{lift_by};
 
 use look_sources::{lifted_by, of_replay};
-use look_words::Infrastructure;
 use np_check::Checked;
 use np_safety::law_runs_well;
 use np_syntax::{Event, List, LowProgram, Memory, copy_texts};
 use np_verdict::Refusal;
+use np_words::Infrastructure;
 use run_pictures::{Followed, MOST_STEPS, Step};
 use run_steps::{follow, follow_high};
 use run_views::{Causes, causes_high, causes_low};

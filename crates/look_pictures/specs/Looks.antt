@@ -1,20 +1,32 @@
 -- What is looked at (docs/PICTURES.md, "Pictures").
 use Rattle.std.specs.Prelude.{◌≡◌, ℕ, true, List, Option, None, Some, map}
 use Rattle.np_syntax.specs.declared.event.Event.{Event}
+use Rattle.np_syntax.specs.declared.program.LowProgram.{LowProgram}
+use Rattle.np_syntax.specs.declared.program.Program.{Program}
+use Rattle.np_calculus.specs.Starts.{start_high}
+use Rattle.np_check.specs.Faults.{IsAccepted}
+use Rattle.np_serial.specs.Serial.{IsSerialRun}
+use Rattle.np_serial.specs.declared.serial.SerialRun.{SerialRun}
+use Rattle.run_choices.specs.Runs.{AreChosen}
 use Rattle.run_pictures.specs.declared.step.Followed.{Followed}
 use Rattle.run_pictures.specs.declared.step.Step.{Step}
 use Rattle.run_pictures.specs.declared.parts.Part.{Part}
 use Rattle.run_pictures.specs.Parts.{part_of}
 use Rattle.picture_svg.specs.Pictures.{IsPicture, IsPictureOfBoth}
 use Rattle.shiviz_log.specs.Logs.{log}
-use Rattle.look_sources.specs.Lifts.{AreTwins, lift_by}
+use Rattle.look_sources.specs.Lifts.{AreTwins}
+use Rattle.np_on_sites.specs.ByInfrastructure.{lift_by, low_by}
+use Rattle.look_sources.specs.Looked.{IsFound, IsLooked, IsLookedAt}
+use Rattle.look_sources.specs.declared.runs.Run.{Run}
 use Rattle.look_sources.specs.declared.shown.Shown.{Shown}
-use Rattle.look_words.specs.declared.words.Infrastructure.{Infrastructure}
+use Rattle.np_words.specs.declared.modes.Infrastructure.{Infrastructure}
 use Rattle.look_words.specs.declared.words.Level.{Level}
 use Rattle.look_words.specs.declared.words.Level.TheVariants as levels
 use Rattle.look_words.specs.declared.part_words.Stretch.{Stretch}
+use Rattle.look_words.specs.declared.words.Question.{Question}
 use Rattle.look_words.specs.declared.words.View.{View}
 use Rattle.look_words.specs.declared.words.View.TheVariants as views
+use Rattle.look_words.specs.declared.words.Wanted.{Wanted}
 
 -- the events of a level: those of the sites, or those of the source
 abbrev pub events_at : Level → Infrastructure → List Event → List Event
@@ -64,10 +76,19 @@ IsViewed (views.One level) infrastructure events text = IsPictureOf (events_at l
 IsViewed (views.Part level stretch) infrastructure events text = IsPictureOfPart stretch (events_at level infrastructure events) text
 IsViewed views.Both infrastructure events text = IsPictureOfLevels infrastructure events text
 
--- what is shown is a view of some events of the sites
-pub record IsShown (view : View) (infrastructure : Infrastructure) (shown : Shown) : Type 0 where
-  pub events : List Event
-  pub viewed : IsViewed view infrastructure events shown.text
+-- what is shown is a view of the run that is looked at, of a history or of none
+pub record IsShownOf (wanted : Wanted) (history : Option Run) (low : LowProgram) (shown : Shown) : Type 0 where
+  pub run : Run
+  pub looked : IsLookedAt history low wanted.budget wanted.seed run
+  pub viewed : IsViewed wanted.view wanted.infrastructure run.events shown.text
+  pub ends : shown.end ≡ run.end
+
+-- the same of the low program of a source that np accepts, and of the history that is named
+pub record IsShown (wanted : Wanted) (shown : Shown) : Type 0 where
+  pub run : Run
+  pub looked : IsLooked wanted.history wanted.infrastructure wanted.budget wanted.seed run
+  pub viewed : IsViewed wanted.view wanted.infrastructure run.events shown.text
+  pub ends : shown.end ≡ run.end
 
 -- what is shown of a run of the source by itself: a picture of its events, or of a part of them
 abbrev pub IsViewedAlone : View → List Event → List ℕ → Type 0
@@ -75,10 +96,15 @@ IsViewedAlone (views.One level) events text = IsPictureOf events text
 IsViewedAlone (views.Part level stretch) events text = IsPictureOfPart stretch events text
 IsViewedAlone views.Both events text = IsPictureOf events text
 
--- what is shown is a view of some events of the source
-pub record IsShownAlone (view : View) (shown : Shown) : Type 0 where
-  pub events : List Event
-  pub viewed : IsViewedAlone view events shown.text
+-- what is shown is a view of a run of a source by itself, in which the draws of the seed choose each event
+pub record IsShownAlone (seed : ℕ) (wanted : Wanted) (shown : Shown) : Type 0 where
+  pub p : Program
+  pub accepted : IsAccepted p
+  pub run : SerialRun
+  pub goes : IsSerialRun (start_high p) wanted.budget run.events run.last run.end
+  pub drawn : AreChosen (start_high p) seed run.events
+  pub viewed : IsViewedAlone wanted.view run.events shown.text
+  pub ends : shown.end ≡ run.end
 
 -- the seed of a run of the source by itself: the one that is given, where only what the source says is looked at
 abbrev pub level_seed : Option ℕ → Level → Option ℕ
@@ -91,12 +117,22 @@ source_seed seed (views.Part level stretch) = level_seed seed level
 source_seed seed views.Both = None
 
 -- what is shown is what is wanted
-abbrev pub IsDrawn : Option ℕ → View → Infrastructure → Shown → Type 0
-IsDrawn None view infrastructure shown = IsShown view infrastructure shown
-IsDrawn (Some seed) view infrastructure shown = IsShownAlone view shown
+abbrev pub IsDrawn : Option ℕ → Wanted → Shown → Type 0
+IsDrawn None wanted shown = IsShown wanted shown
+IsDrawn (Some seed) wanted shown = IsShownAlone seed wanted shown
 
 -- the text is a log in which just these events stand, in this order
 pub record IsLogOf (sites : List (List ℕ)) (events : List Event) (text : List ℕ) : Type 0 where
   pub steps : List Step
   pub of : map (λ step. step.event) steps ≡ events
   pub is : text ≡ log sites steps
+
+-- what is shown is a log of the history that is named, at the sites of a source that np accepts
+pub record IsShownLog (question : Question) (shown : Shown) : Type 0 where
+  pub p : Program
+  pub accepted : IsAccepted p
+  pub low : LowProgram
+  pub translated : low ≡ low_by question.infrastructure p
+  pub run : Run
+  pub found : IsFound question.history (Some run)
+  pub log : IsLogOf low.sites run.events shown.text

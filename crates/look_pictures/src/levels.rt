@@ -4,7 +4,7 @@ ghost use Rattle.std.specs.Prelude.{◌≡◌, map, IfOk};
 ghost use Rattle.np_calculus.specs.Runs.{RunsWell};
 ghost use Rattle.np_calculus.specs.Starts.{start_low};
 ghost use Rattle.picture_svg.specs.Pictures.{IsPicture, IsPictureOfBoth};
-ghost use Rattle.look_sources.specs.Lifts.{lift_by};
+ghost use Rattle.np_on_sites.specs.ByInfrastructure.{lift_by};
 ghost use Rattle.look_pictures.specs.Looks.{FollowsAt, IsPictureOf, IsPictureOfLevels, IsPictureOfPart, events_at};
 
 use super::parts::part_shown;

@@ -1,27 +1,25 @@
 //! The log of a history, for ShiViz.
 
-ghost use Rattle.std.specs.Prelude.{◌≤◌, length, IfOk};
+ghost use Rattle.std.specs.Prelude.{◌≡◌, Some, IfOk};
 ghost use Rattle.np_calculus.specs.Runs.{RunsWell};
 ghost use Rattle.np_calculus.specs.Starts.{start_low};
-ghost use Rattle.look_pictures.specs.Looks.{IsLogOf};
-ghost use Rattle.look_sources.specs.declared.reading.TheConstants.{LONGEST_HISTORY};
+ghost use Rattle.np_on_sites.specs.ByInfrastructure.{low_by};
+ghost use Rattle.look_sources.specs.Looked.{IsFound};
+ghost use Rattle.look_pictures.specs.Looks.{IsLogOf, IsShownLog};
 
-use history_text::{HistFail, read_history};
-use look_sources::{LONGEST_HISTORY, Shown, followed_low, lowered, read_text};
-use look_words::{Infrastructure, Question};
+use look_sources::{Run, Shown, followed_low, history_of, lowered, read_text};
+use look_words::Question;
 use np_check::Checked;
 use np_io::Texts;
-use np_syntax::{End, Event, LONGEST_SOURCE, LowProgram, Memory, Text};
+use np_syntax::{Event, LONGEST_SOURCE, LowProgram, Memory, Text};
 use np_verdict::{Refusal, checked_source};
 use shiviz_log::log_text;
 use std::alloc::Global;
 
 /// Makes the log of the history that is named, or says why there is none.
-pub fn log_of<T: Texts>(
-    alloc: Global,
-    texts: &mut T,
-    question: Question,
-) -> Result<Shown, Refusal> {
+pub fn log_of<T: Texts>(alloc: Global, texts: &mut T, question: Question) -> Result<Shown, Refusal>
+    ensures { IfOk result (IsShownLog question) }
+{
     let bytes = read_text(
         alloc,
         texts,
@@ -29,45 +27,41 @@ pub fn log_of<T: Texts>(
         LONGEST_SOURCE,
         Refusal::TooLong,
     )?;
-    let Some(name) = &question.history else {
-        return Err(Refusal::Usage);
-    };
-    let lines = read_text(alloc, texts, name, LONGEST_HISTORY, Refusal::HistoryTooLong)?;
     let checked = checked_source(alloc, bytes.as_slice())?;
-    let made = logged(alloc, question.infrastructure, &checked, lines.as_slice());
+    let made = match history_of(alloc, texts, &question.history)? {
+        Some(run) => logged(alloc, &question, &checked, &run),
+        None => Err(Refusal::Usage),
+    };
     drop(checked);
     made
 }
 
-/// The log of the text of a history of a checked source.
+/// The log of a history of a checked source.
 fn logged(
     alloc: Global,
-    infrastructure: Infrastructure,
+    question: &Question,
     checked: &Checked,
-    lines: &[u8],
+    run: &Run,
 ) -> Result<Shown, Refusal>
-    requires { length lines.now ≤ LONGEST_HISTORY }
+    requires { IsFound question.now.history (Some run.now) }
+    ensures { IfOk result (IsShownLog question.now) }
 {
-    let events = match read_history(alloc, lines) {
-        Ok(events) => events,
-        Err(HistFail::Memory) => return Err(Refusal::Memory),
-        Err(HistFail::HistSyntax(line)) => return Err(Refusal::HistSyntax(line)),
-    };
-    match lowered(alloc, infrastructure, checked) {
+    let _ = checked.program();
+    match lowered(alloc, question.infrastructure, checked) {
         Ok(low) => {
-            let text = log_by(alloc, &low, events.as_slice());
+            let made = log_text_of(alloc, &low, run.events.as_slice());
             drop(low);
             Ok(Shown {
-                text: text?,
-                end: End::Rest,
+                text: made?,
+                end: run.end,
             })
         }
         Err(Memory) => Err(Refusal::Memory),
     }
 }
 
-/// The log of events of a low program.
-fn log_by(alloc: Global, low: &LowProgram, events: &[Event]) -> Result<Text, Refusal>
+/// The text of the log of events of a low program.
+fn log_text_of(alloc: Global, low: &LowProgram, events: &[Event]) -> Result<Text, Refusal>
     requires { RunsWell (start_low low.now) low.now.at }
     ensures { IfOk result (IsLogOf low.now.sites events.now) }
 {

@@ -4,7 +4,9 @@ ghost use Rattle.std.specs.Prelude.{IfOk};
 ghost use Rattle.np_calculus.specs.Runs.{RunsWell};
 ghost use Rattle.np_calculus.specs.Starts.{start_low};
 ghost use Rattle.std.specs.Prelude.{◌≡◌};
-ghost use Rattle.look_pictures.specs.Looks.{IsDrawn, IsShown, IsShownAlone, IsViewed, IsViewedAlone, level_seed, source_seed};
+ghost use Rattle.np_on_sites.specs.ByInfrastructure.{low_by};
+ghost use Rattle.look_sources.specs.Looked.{IsFound};
+ghost use Rattle.look_pictures.specs.Looks.{IsDrawn, IsShown, IsShownAlone, IsShownOf, IsViewed, IsViewedAlone, level_seed, source_seed};
 
 use super::levels::{both_levels, one_level, part_of_level, part_of_source, whole_source};
 use look_sources::{Run, Shown, binders_of, history_of, lowered, read_text, run_of};
@@ -12,7 +14,6 @@ use look_words::{Level, View, Wanted};
 use np_check::Checked;
 use np_io::Texts;
 use np_safety::law_runs_well;
-use np_serial::SerialRun;
 use np_syntax::{Event, LONGEST_SOURCE, LowProgram, Memory, Text};
 use np_verdict::{Refusal, checked_source};
 use run_choices::run_seeded;
@@ -20,14 +21,13 @@ use std::alloc::Global;
 
 /// Makes the picture that is wanted.
 pub fn picture<T: Texts>(alloc: Global, texts: &mut T, wanted: Wanted) -> Result<Shown, Refusal>
-    ensures { IfOk result (IsDrawn (source_seed wanted.seed wanted.view) wanted.view wanted.infrastructure) }
+    ensures { IfOk result (IsDrawn (source_seed wanted.seed wanted.view) wanted) }
 {
     let bytes = read_text(alloc, texts, &wanted.file, LONGEST_SOURCE, Refusal::TooLong)?;
-    let history = history_of(alloc, texts, &wanted.history)?;
     let checked = checked_source(alloc, bytes.as_slice())?;
     let made = match source_seed(wanted.seed, wanted.view) {
         Some(seed) => alone(alloc, &wanted, seed, bytes.as_slice(), &checked),
-        None => of_source(alloc, &wanted, bytes.as_slice(), history, &checked),
+        None => of_history(alloc, texts, &wanted, bytes.as_slice(), &checked),
     };
     drop(checked);
     made
@@ -62,14 +62,13 @@ fn alone(
     bytes: &[u8],
     checked: &Checked,
 ) -> Result<Shown, Refusal>
-    ensures { IfOk result (IsShownAlone wanted.now.view) }
+    ensures { IfOk result (IsShownAlone seed wanted.now) }
 {
     law_runs_well();
     match run_seeded(alloc, checked.program(), seed, wanted.budget) {
-        Ok(SerialRun { events, last, end }) => {
-            drop(last);
-            let text = picture_alone(alloc, wanted, bytes, checked, events.as_slice())?;
-            Ok(Shown { text, end })
+        Ok(run) => {
+            let text = picture_alone(alloc, wanted, bytes, checked, run.events.as_slice())?;
+            Ok(Shown { text, end: run.end })
         }
         Err(Memory) => Err(Refusal::Memory),
     }
@@ -93,6 +92,22 @@ fn picture_alone(
     }
 }
 
+/// The picture of the history of a source that is named, or of a run of it that is made.
+fn of_history<T: Texts>(
+    alloc: Global,
+    texts: &mut T,
+    wanted: &Wanted,
+    bytes: &[u8],
+    checked: &Checked,
+) -> Result<Shown, Refusal>
+    ensures { IfOk result (IsShown wanted.now) }
+{
+    match history_of(alloc, texts, &wanted.history) {
+        Ok(history) => of_source(alloc, wanted, bytes, history, checked),
+        Err(refusal) => Err(refusal),
+    }
+}
+
 /// The picture of a run of a source: of this one, or of one that is made.
 fn of_source(
     alloc: Global,
@@ -101,8 +116,10 @@ fn of_source(
     history: Option<Run>,
     checked: &Checked,
 ) -> Result<Shown, Refusal>
-    ensures { IfOk result (IsShown wanted.now.view wanted.now.infrastructure) }
+    requires { IsFound wanted.now.history history }
+    ensures { IfOk result (IsShown wanted.now) }
 {
+    let _ = checked.program();
     match lowered(alloc, wanted.infrastructure, checked) {
         Ok(low) => {
             let made = of_program(alloc, wanted, bytes, history, checked, &low);
@@ -123,12 +140,12 @@ fn of_program(
     low: &LowProgram,
 ) -> Result<Shown, Refusal>
     requires { RunsWell (start_low low.now) low.now.at }
-    ensures { IfOk result (IsShown wanted.now.view wanted.now.infrastructure) }
+    ensures { IfOk result (IsShownOf wanted.now history low.now) }
 {
     match run_of(alloc, wanted.budget, wanted.seed, history, low) {
-        Ok(Run { events, end }) => {
-            let text = picture_of(alloc, wanted, bytes, checked, low, events.as_slice())?;
-            Ok(Shown { text, end })
+        Ok(run) => {
+            let text = picture_of(alloc, wanted, bytes, checked, low, run.events.as_slice())?;
+            Ok(Shown { text, end: run.end })
         }
         Err(Memory) => Err(Refusal::Memory),
     }

@@ -1,2 +1,3 @@
 pub mod Binders
 pub mod Lifts
+pub mod Looked

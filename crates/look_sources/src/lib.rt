@@ -4,8 +4,8 @@
 //! run that is looked at, `followed_low` and `followed_high` its steps at each level, and `binders_of` how the source names the agents
 //! and the channels that it makes.
 //!
-//! Contracts: `read_text`, `lowered` (`RunsWell`), `lifted_by` (`lift_by`), `twins_by` (`AreTwins`), `followed_low`, `followed_high`,
-//! `followed_source`, `binders_of` (`AreNamed`).
+//! Contracts: `read_text`, `lowered` (`low_by`, `RunsWell`), `lifted_by` (`lift_by`), `twins_by` (`AreTwins`), `history_of` (`IsFound`),
+//! `run_of` (`IsLookedAt`), `followed_low`, `followed_high`, `followed_source`, `binders_of` (`AreNamed`).
 #![tactic(auto)]
 
 mod names;

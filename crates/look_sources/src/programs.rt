@@ -3,15 +3,16 @@
 ghost use Rattle.std.specs.Prelude.{◌≡◌, IfOk};
 ghost use Rattle.np_calculus.specs.Runs.{RunsWell};
 ghost use Rattle.np_calculus.specs.Starts.{start_low};
-ghost use Rattle.look_sources.specs.Lifts.{AreTwins, lift_by};
+ghost use Rattle.look_sources.specs.Lifts.{AreTwins};
+ghost use Rattle.np_on_sites.specs.ByInfrastructure.{lift_by, low_by};
 
 use cache_encode::{encode_cached, law_cached_runs_well};
 use daemon_encode::{encode, law_low_runs_well};
-use look_words::Infrastructure;
 use np_check::Checked;
 use np_lift::lift_cached;
 use np_syntax::{Event, List, LowProgram, Memory};
 use np_verdict::Refusal;
+use np_words::Infrastructure;
 use run_merge::lift;
 use run_pictures::MOST_STEPS;
 use run_twins::{cached_twins, twins};
@@ -23,7 +24,8 @@ pub fn lowered(
     infrastructure: Infrastructure,
     checked: &Checked,
 ) -> Result<LowProgram, Memory>
-    ensures { IfOk result (λ low. RunsWell (start_low low) low.at) }
+    ensures gives { IfOk result (λ low. low ≡ low_by infrastructure checked.now) }
+    ensures runs { IfOk result (λ low. RunsWell (start_low low) low.at) }
 {
     law_low_runs_well();
     law_cached_runs_well();

@@ -1,7 +1,9 @@
 //! The run that is looked at.
 
+ghost use Rattle.std.specs.Prelude.{◌≡◌, None, Some, IfOk};
 ghost use Rattle.np_calculus.specs.Runs.{RunsWell};
 ghost use Rattle.np_calculus.specs.Starts.{start_low};
+ghost use Rattle.look_sources.specs.Looked.{IsFound, IsLookedAt, IsMade, IsOfHistory};
 
 use super::reading::{LONGEST_HISTORY, read_text};
 use history_text::{HistFail, read_history};
@@ -19,42 +21,70 @@ pub struct Run {
     pub end: End,
 }
 
-/// The run of the history of a name, if there is a name.
-pub fn history_of<T: Texts>(
-    alloc: Global,
-    texts: &mut T,
-    name: &Option<Word>,
-) -> Result<Option<Run>, Refusal> {
-    let Some(name) = name else {
-        return Ok(None);
-    };
+/// The run of the history of a name.
+fn read_run<T: Texts>(alloc: Global, texts: &mut T, name: &Word) -> Result<Run, Refusal>
+    ensures { IfOk result IsOfHistory }
+{
     let lines = read_text(alloc, texts, name, LONGEST_HISTORY, Refusal::HistoryTooLong)?;
     match read_history(alloc, lines.as_slice()) {
-        Ok(events) => Ok(Some(Run {
+        Ok(events) => Ok(Run {
             events,
             end: End::Rest,
-        })),
+        }),
         Err(HistFail::Memory) => Err(Refusal::Memory),
         Err(HistFail::HistSyntax(line)) => Err(Refusal::HistSyntax(line)),
     }
 }
 
-/// A run that is made: by a seed, or one event after another in turn.
-fn made_run(
+/// The run of the history of a name, if there is a name.
+pub fn history_of<T: Texts>(
     alloc: Global,
-    budget: u32,
-    seed: Option<u64>,
-    low: &LowProgram,
-) -> Result<SerialRun, Memory>
-    requires { RunsWell (start_low low.now) low.now.at }
+    texts: &mut T,
+    name: &Option<Word>,
+) -> Result<Option<Run>, Refusal>
+    ensures { IfOk result (IsFound name.now) }
 {
-    match seed {
-        Some(seed) => run_seeded_low(alloc, low, seed, budget),
-        None => run_serial_low(alloc, low, budget),
+    match name {
+        Some(name) => match read_run(alloc, texts, name) {
+            Ok(run) => Ok(Some(run)),
+            Err(refusal) => Err(refusal),
+        },
+        None => Ok(None),
     }
 }
 
-/// The run that is looked at: this one, or one that is made.
+/// What is kept of a run.
+fn kept(run: SerialRun) -> Run
+    ensures { result ≡ record { events = run.events; end = run.end } }
+{
+    let SerialRun { events, last, end } = run;
+    drop(last);
+    Run { events, end }
+}
+
+/// A run by a seed.
+fn seeded(alloc: Global, budget: u32, seed: u64, low: &LowProgram) -> Result<Run, Memory>
+    requires { RunsWell (start_low low.now) low.now.at }
+    ensures { IfOk result (IsMade low.now budget (Some seed)) }
+{
+    match run_seeded_low(alloc, low, seed, budget) {
+        Ok(run) => Ok(kept(run)),
+        Err(memory) => Err(memory),
+    }
+}
+
+/// A run in which one event after another is made in turn.
+fn in_turn(alloc: Global, budget: u32, low: &LowProgram) -> Result<Run, Memory>
+    requires { RunsWell (start_low low.now) low.now.at }
+    ensures { IfOk result (IsMade low.now budget None) }
+{
+    match run_serial_low(alloc, low, budget) {
+        Ok(run) => Ok(kept(run)),
+        Err(memory) => Err(memory),
+    }
+}
+
+/// The run that is looked at: this one, or one that is made, by a seed or in turn.
 pub fn run_of(
     alloc: Global,
     budget: u32,
@@ -63,15 +93,11 @@ pub fn run_of(
     low: &LowProgram,
 ) -> Result<Run, Memory>
     requires { RunsWell (start_low low.now) low.now.at }
+    ensures { IfOk result (IsLookedAt history low.now budget seed) }
 {
-    if let Some(run) = history {
-        return Ok(run);
-    }
-    match made_run(alloc, budget, seed, low) {
-        Ok(SerialRun { events, last, end }) => {
-            drop(last);
-            Ok(Run { events, end })
-        }
-        Err(memory) => Err(memory),
+    match (history, seed) {
+        (Some(run), _) => Ok(run),
+        (None, Some(seed)) => seeded(alloc, budget, seed, low),
+        (None, None) => in_turn(alloc, budget, low),
     }
 }

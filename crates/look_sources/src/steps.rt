@@ -3,15 +3,15 @@
 ghost use Rattle.std.specs.Prelude.{◌≡◌, ◌<◌, ◌≤◌, ◌^◌, length, map, IfOk};
 ghost use Rattle.np_calculus.specs.Runs.{RunsWell};
 ghost use Rattle.np_calculus.specs.Starts.{start_low};
-ghost use Rattle.look_sources.specs.Lifts.{lift_by};
+ghost use Rattle.np_on_sites.specs.ByInfrastructure.{lift_by};
 
 use super::programs::lifted_by;
-use look_words::Infrastructure;
 use np_check::Checked;
 use np_safety::law_runs_well;
 use np_serial::ReplayFail;
 use np_syntax::{Event, LowProgram, Memory};
 use np_verdict::Refusal;
+use np_words::Infrastructure;
 use run_pictures::{Followed, MOST_STEPS};
 use run_steps::{follow, follow_high};
 use std::alloc::Global;

@@ -18,4 +18,4 @@ pub use follow_words::Following;
 pub use page_words::PageWanted;
 pub use part_words::{Focus, Stretch};
 pub use run_words::{Several, Single, Way};
-pub use words::{Asked, Infrastructure, Level, Question, View, Wanted, asked_by};
+pub use words::{Asked, Level, Question, View, Wanted, asked_by};

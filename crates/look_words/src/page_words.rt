@@ -4,10 +4,11 @@ ghost use Rattle.std.specs.Prelude.{◌≡◌, IfOk};
 ghost use Rattle.look_words.specs.Words.{IsWanted};
 
 use super::run_words::seed_there;
-use super::words::{Asked, Infrastructure, budget_of, further_word, has_both, infrastructure_of};
+use super::words::{Asked, budget_of, further_word, has_both, infrastructure_of};
 use clap::ArgMatches;
 use np_io::Word;
 use np_syntax::Memory;
+use np_words::Infrastructure;
 use std::alloc::Global;
 
 /// The page that is wanted: of a history of a source, or of a run of it that has at most so many events, by a seed or without one.

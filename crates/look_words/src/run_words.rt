@@ -5,10 +5,11 @@ ghost use Rattle.np_syntax.specs.declared.limits.TheConstants.{LARGEST_BUDGET};
 ghost use Rattle.look_words.specs.Words.{IsWanted};
 ghost use Rattle.look_words.specs.declared.run_words.TheConstants.{MOST_RUNS};
 
-use super::words::{Asked, Infrastructure, Level, budget_of, infrastructure_of, is_set, level_of};
+use super::words::{Asked, Level, budget_of, infrastructure_of, is_set, level_of};
 use clap::ArgMatches;
 use np_io::Word;
 use np_syntax::Memory;
+use np_words::Infrastructure;
 use std::alloc::Global;
 
 /// How many runs `runs` makes where the words do not say it.

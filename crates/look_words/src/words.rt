@@ -13,6 +13,7 @@ use super::why_words::asked_of_np;
 use clap::{ArgMatches, Error};
 use np_io::Word;
 use np_syntax::{LARGEST_BUDGET, List, Memory, USUAL_BUDGET};
+use np_words::Infrastructure;
 use std::alloc::Global;
 
 /// Which level of a run is looked at: what the source says, or what the sites do.
@@ -28,13 +29,6 @@ pub enum View {
     One(Level),
     Part(Level, Stretch),
     Both,
-}
-
-/// What passes messages on: a daemon alone, or with caches beside it.
-#[derive(Clone, Copy)]
-pub enum Infrastructure {
-    Central,
-    Cache,
 }
 
 /// The picture that is wanted: of a history of a source, or of a run of it that has at most so many events, by a seed or without one.

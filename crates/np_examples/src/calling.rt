@@ -71,10 +71,18 @@ fn sink_of(alloc: Global, piece: usize, failing: &[u64]) -> Result<MemSink, Memo
 }
 
 /// Standard output and standard error of a call.
-pub(crate) fn sinks_of(alloc: Global, devices: &Devices) -> Result<(MemSink, MemSink), Memory> {
-    let out = sink_of(alloc, devices.piece, devices.out.as_slice())?;
-    let err = sink_of(alloc, devices.piece, devices.err.as_slice())?;
-    Ok((out, err))
+#[derive(Drop)]
+pub(crate) struct Sinks {
+    pub out: MemSink,
+    pub err: MemSink,
+}
+
+impl Sinks {
+    pub(crate) fn new(alloc: Global, devices: &Devices) -> Result<Sinks, Memory> {
+        let out = sink_of(alloc, devices.piece, devices.out.as_slice())?;
+        let err = sink_of(alloc, devices.piece, devices.err.as_slice())?;
+        Ok(Sinks { out, err })
+    }
 }
 
 /// What is seen of a run on the sites of this source, if there is both.
@@ -95,11 +103,10 @@ fn seen_of<R: Threads + Wait + Sync>(
     alloc: Global,
     words: &[Word],
     texts: &mut MemTexts,
-    out: &mut MemSink,
-    err: &mut MemSink,
+    sinks: &mut Sinks,
     source: Option<&[u8]>,
 ) -> Result<(Told, Option<Reading>), ExampleFail> {
-    let answer = np(rt, alloc, words, texts, out, err);
+    let answer = np(rt, alloc, words, texts, &mut sinks.out, &mut sinks.err);
     let reading = reading_in(alloc, source, &answer.kept);
     let told = answer.told();
     Ok((told, reading?))
@@ -111,11 +118,10 @@ pub(crate) fn seen_into<R: Threads + Wait + Sync>(
     alloc: Global,
     case: &Case<'_>,
     trial: &Trial,
-    out: &mut MemSink,
-    err: &mut MemSink,
+    sinks: &mut Sinks,
 ) -> Result<(Told, Option<Reading>), ExampleFail> {
     let words = words_of(alloc, trial.words.as_str())?;
     let mut texts = texts_of(alloc, case, trial)?;
     let source = case.source_bytes();
-    seen_of(rt, alloc, words.as_slice(), &mut texts, out, err, source)
+    seen_of(rt, alloc, words.as_slice(), &mut texts, sinks, source)
 }

@@ -1,6 +1,6 @@
 //! Trying a case: each call that its example asks for, and each that follows one.
 
-use super::calling::{seen_into, sinks_of};
+use super::calling::{Sinks, seen_into};
 use super::case::Case;
 use super::changes::add_change;
 use super::following::add_following;
@@ -10,7 +10,6 @@ use super::tally::Tally;
 use super::trial::{Came, Check, Then, Trial, Wanted};
 use super::verdict::holds;
 use np_example_files::{Change, ExampleFail};
-use np_io::MemSink;
 use np_run::Told;
 use std::alloc::Global;
 use std::sync::Wait;
@@ -116,21 +115,9 @@ fn passes_low<R: Print + Threads + Wait + Sync>(
     case: &Case<'_>,
     came: &Came<'_>,
 ) -> Result<bool, ExampleFail> {
-    Ok(
-        judge_low(rt, alloc, case, came)?
-            && (!case.example.as_high || passes_high(rt, alloc, case)?),
-    )
-}
-
-/// Whether the run of the low program does what the example wants.
-fn judge_low(
-    rt: &impl Print,
-    alloc: Global,
-    case: &Case<'_>,
-    came: &Came<'_>,
-) -> Result<bool, ExampleFail> {
     let low = trial_of(alloc, Check::Low, "low run", Wanted::Said, Then::Nothing)?;
-    judge(rt, alloc, case, &low, came)
+    let passed = judge(rt, alloc, case, &low, came)?;
+    Ok(passed && (!case.example.as_high || passes_high(rt, alloc, case)?))
 }
 
 /// Whether the run at the high level prints the lines of the low program's run, in any order.
@@ -211,21 +198,8 @@ fn is_passed<R: Print + Threads + Wait + Sync>(
     trial: &Trial,
     left: &mut Vec<Trial>,
 ) -> Result<bool, ExampleFail> {
-    let (mut out, mut err) = sinks_of(alloc, &case.example.devices)?;
-    is_passed_into(rt, alloc, case, trial, left, &mut out, &mut err)
-}
-
-/// The same, of a call that writes to these sinks.
-fn is_passed_into<R: Print + Threads + Wait + Sync>(
-    rt: &R,
-    alloc: Global,
-    case: &Case<'_>,
-    trial: &Trial,
-    left: &mut Vec<Trial>,
-    out: &mut MemSink,
-    err: &mut MemSink,
-) -> Result<bool, ExampleFail> {
-    let (told, reading) = seen_into(rt, alloc, case, trial, out, err)?;
+    let mut sinks = Sinks::new(alloc, &case.example.devices)?;
+    let (told, reading) = seen_into(rt, alloc, case, trial, &mut sinks)?;
     let Told { status, events } = told;
     let came = Came {
         status,
@@ -234,8 +208,8 @@ fn is_passed_into<R: Print + Threads + Wait + Sync>(
         first: reading.and_then(|reading| reading.first),
         moves: reading.and_then(|reading| reading.moves),
         reads_off: reading.map(|reading| reading.is_run),
-        out: out.bytes(),
-        err: err.bytes(),
+        out: sinks.out.bytes(),
+        err: sinks.err.bytes(),
     };
     let passed = judge(rt, alloc, case, trial, &came)?;
     if passed {

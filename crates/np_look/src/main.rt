@@ -98,7 +98,7 @@ fn answered<T: Texts, S: Sink, E: Sink, P: Progress>(
             told(alloc, made, desk)
         }
         Asked::NoMemory => NO_MEMORY,
-        Asked::Usage | Asked::Said(_) => BAD_USAGE,
+        Asked::Usage | Asked::Said(_) => shown(alloc, Err(Refusal::Usage), desk),
     }
 }
 

@@ -4,7 +4,7 @@ ghost use Rattle.std.specs.Prelude.{IfErr};
 ghost use Rattle.look_reasons.specs.Unread.{IsUnread};
 
 use look_reasons::reason_of;
-use look_words::{Infrastructure, Question};
+use look_words::Question;
 use np_io::Texts;
 use np_verdict::Refusal;
 use refusal_diagnoses::Told;
@@ -19,19 +19,5 @@ pub fn reason<T: Texts>(alloc: Global, texts: &mut T, question: Question) -> Res
         history,
         infrastructure,
     } = question;
-    reason_of(
-        alloc,
-        texts,
-        &file,
-        &history,
-        np_infrastructure(infrastructure),
-    )
-}
-
-/// The infrastructure as np names it.
-fn np_infrastructure(infrastructure: Infrastructure) -> np_words::Infrastructure {
-    match infrastructure {
-        Infrastructure::Central => np_words::Infrastructure::Central,
-        Infrastructure::Cache => np_words::Infrastructure::Cache,
-    }
+    reason_of(alloc, texts, &file, &history, infrastructure)
 }

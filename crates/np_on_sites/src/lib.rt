@@ -8,7 +8,7 @@
 //! free. A run that goes on from saved events begins with them. The calls ask for `Wait`, since those of inboxes may.
 //!
 //! Contracts: `run_on_sites` (`IsSitesRun`), `redo_on_sites` (`IsToGoOn`), `resume_on_sites` (`IsResumed`), `law_source_runs`
-//! (`IsSourceRun`), `law_low_runs_safely`.
+//! (`IsRunOfSource`), `law_low_runs_safely`.
 #![tactic(auto)]
 
 mod beginning;

@@ -1,5 +1,5 @@
 -- What is marked of a source that np refuses (docs/PICTURES.md, "Refusals").
-use Rattle.std.specs.Prelude.{ℕ, ◌<◌, List, length, Option, IfSome}
+use Rattle.std.specs.Prelude.{ℕ, ◌<◌, List, length, Option, IsSomeAnd}
 use Rattle.np_verdict.specs.declared.refusal.Refusal.{Refusal}
 use Rattle.refusal_diagnoses.specs.declared.spot.Spot.{Spot}
 use Rattle.refusal_diagnoses.specs.declared.spot.Spot.TheVariants as spots
@@ -13,10 +13,10 @@ abbrev pub offset_at : Spot → ℕ → ℕ
 offset_at (spots.Offset at) len = at
 offset_at _ len = len
 
--- what is marked as refused holds an offset that is not at the end
+-- something is marked as refused, and its range holds an offset that is not at the end
 abbrev pub MarksAt : Option Mark → ℕ → ℕ → Type 0
-MarksAt mark at len = at < len → IfSome mark (λ mark. Holds mark at)
+MarksAt mark at len = at < len → IsSomeAnd mark (λ mark. Holds mark at)
 
--- what is marked as refused holds np's offset, but at the end of the source
+-- where np has an offset, something is marked as refused, and its range holds that offset, but at the end of the source
 abbrev pub MarksIn : List ℕ → Refusal → Reasons → Type 0
 MarksIn bytes refusal reasons = MarksAt reasons.refused (offset_at (spot_of refusal) (length bytes)) (length bytes)

@@ -7,9 +7,9 @@ ghost use Rattle.source_places.specs.Holds.{Holds};
 
 use super::resolved::fault_reasons;
 use super::spot::{Spot, spot_of};
-use np_syntax::{LONGEST_SOURCE, Memory};
+use np_syntax::{LONGEST_SOURCE, List, Memory};
 use np_verdict::{Refusal, tokens_of};
-use source_places::{Mark, Reasons, marked, without_marks};
+use source_places::{Mark, Range, Reasons, marked, without_marks};
 use std::alloc::Global;
 use syntax_reasons::{reasons_of_depth, reasons_of_syntax};
 use token_reasons::{
@@ -72,12 +72,13 @@ fn held(mark: Mark, at: usize, len: usize) -> Mark
     marked(range, at, label)
 }
 
-/// The same, if there is a mark.
-fn holding(mark: Option<Mark>, at: usize, len: usize) -> Option<Mark>
+/// The same of what may be marked: where nothing is, the offset alone is marked, without a label.
+fn holding(alloc: Global, mark: Option<Mark>, at: usize, len: usize) -> Option<Mark>
     ensures { MarksAt result at len }
 {
     match mark {
         Some(mark) => Some(held(mark, at, len)),
+        None if at < len => Some(marked(Range { from: at, to: at }, at, List::new(alloc))),
         None => None,
     }
 }
@@ -107,7 +108,7 @@ pub fn source_reasons(alloc: Global, bytes: &[u8], refusal: Refusal) -> Result<R
     } = found;
     let at = offset_at(spot_of(refusal), bytes.len());
     Ok(Reasons {
-        refused: holding(refused, at, bytes.len()),
+        refused: holding(alloc, refused, at, bytes.len()),
         beside,
         wanted,
         why,

@@ -30,11 +30,11 @@ use Rattle.np_configuration.specs.Errands.{errand_of}
 use Rattle.run_views.specs.Past.{agent_of_atom, is_among, later_names, made_agent, names_of, writes}
 use Rattle.run_views.proofs.Among.{among-cases, among-every, among-first, among-later, among-left, among-right}
 use Rattle.run_views.proofs.Traced.{traced}
-use Rattle.run_choices.specs.declared.entry.Entry.{Entry}
-use Rattle.run_choices.specs.declared.entry.Entry.TheVariants as entry
-use Rattle.run_choices.specs.Held.{Agrees, Held, InStep, Lists}
-use Rattle.run_choices.specs.Lines.{stands}
-use Rattle.run_choices.specs.Runs.{agent_in, touched}
+use Rattle.choice_entries.specs.declared.entry.Entry.{Entry}
+use Rattle.choice_entries.specs.declared.entry.Entry.TheVariants as entry
+use Rattle.choice_lists.specs.Held.{Agrees, Held, InStep, Lists, touched}
+use Rattle.choice_lists.specs.Lines.{stands}
+use Rattle.run_choices.specs.Runs.{agent_in}
 use Rattle.run_choices.specs.Seeded.{FirstMarks}
 
 true-false : {b : Bool} → b ≡ true → b ≡ false → ⊥

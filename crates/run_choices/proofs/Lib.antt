@@ -2,7 +2,6 @@ pub mod Carried
 pub mod Chosen
 pub mod Drawing
 pub mod Following
-pub mod Lists
 pub mod Named
 pub mod Orderly
 pub mod Runs

@@ -1,5 +1,6 @@
 -- What holds along a run that is ours: which names are new, at which sites agents are, and what is left on the links.
-use Rattle.std.proofs.Common.{◌≡◌, ◌⊎◌, inl, inr, ⊎_elim, ℕ, ◌+◌, ◌<◌, ◌≤◌, Bool, true, false, cond, nat_eq, nat_lt, List, [], ◌∷◌, ◌++◌, length, take, Option, None, Some, IsSome, refl, sym, ap, subst, ◌∙◌, arith}
+use Rattle.std.proofs.Common.{◌≡◌, ◌⊎◌, inl, inr, ⊎_elim, ℕ, ◌+◌, ◌<◌, ◌≤◌, Bool, true, false, cond, nat_eq, nat_lt}
+use Rattle.std.proofs.Common.{List, [], ◌∷◌, ◌++◌, length, take, Option, None, Some, IsSome, refl, sym, ap, subst, ◌∙◌, arith}
 use Rattle.std.specs.Prelude.{IfSome}
 use Rattle.std.proofs.Math.Seq.{take-append_seam}
 use Rattle.std.proofs.lemmas.Bool.{eq-eqb, eqb-true}
@@ -9,7 +10,8 @@ use Rattle.std.specs.FinMap as map
 use Rattle.std.specs.FinSet as set
 use Rattle.np_syntax.specs.Options.{◌>>=◌}
 use Rattle.np_syntax.proofs.Options.{done, none_of, then, when}
-use Rattle.np_calculus.proofs.Common.{Name, Event, Kind, Made, NameSet, same_name, same_name-is, same_name-itself, Config, Contents, inside, Change, Write, apply, act, acting_in, acting, change, layer, sight, Expr, Env, eval, out-Value, way}
+use Rattle.np_calculus.proofs.Common.{Name, Event, Kind, Made, NameSet, same_name, same_name-is, same_name-itself, Config, Contents, inside, Change}
+use Rattle.np_calculus.proofs.Common.{Write, apply, act, acting_in, acting, change, layer, sight, Expr, Env, eval, out-Value, way}
 use Rattle.np_syntax.specs.declared.event.Kind.TheVariants as kind
 use Rattle.np_syntax.specs.declared.event.Made.TheVariants as made
 use Rattle.np_tables.proofs.Tables.{born_insert}

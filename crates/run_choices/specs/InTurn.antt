@@ -23,12 +23,13 @@ use Rattle.run_save.specs.Left.{first_beside, names_made}
 use Rattle.run_save.specs.Notes.{AreNoted}
 use Rattle.run_save.specs.Ours.{IsOursFrom}
 use Rattle.run_save.specs.Travels.{travels}
-use Rattle.run_choices.specs.declared.choice.Choice.{Choice}
-use Rattle.run_choices.specs.declared.choice.Choice.TheVariants as choice
-use Rattle.run_choices.specs.declared.choice.Draw.{Draw}
-use Rattle.run_choices.specs.Choices.{IsChoice, choice_of, event_by}
-use Rattle.run_choices.specs.Draws.{draws, seeded}
-use Rattle.run_choices.specs.Held.{Held, Lists, chosen_by}
+use Rattle.choice_lists.specs.declared.choice.Choice.{Choice}
+use Rattle.choice_lists.specs.declared.choice.Choice.TheVariants as choice
+use Rattle.choice_lists.specs.declared.choice.Draw.{Draw}
+use Rattle.choice_lists.specs.Choices.{IsChoice, choice_of, event_by}
+use Rattle.choice_lists.specs.Draws.{draws, seeded}
+use Rattle.run_choices.specs.Made.{AreMade}
+use Rattle.choice_lists.specs.Held.{Held, Lists, chosen_by}
 use Rattle.run_choices.specs.Runs.{Orders}
 use Rattle.run_choices.specs.Seeded.{FirstMarks}
 
@@ -164,14 +165,10 @@ EachOwnRun = (start last : Config) (order : List Event → Held) → Orders star
     → IsOursFrom start events
     → (draws : List Draw) × MakesInTurn order start [] start draws events
 
--- the same, where each list has all choices in some order
-abbrev pub AreDrawn : Config → List Event → Config → List Draw → List Event → Type 0
-AreDrawn start made c [] [] = Unit {0}
-AreDrawn start made c (d ∷ ds) (e ∷ es) =
-    (h : Held) × Lists c h × (event_drawn h start made c d ≡ Some e)
-    × ((next : Config) → apply c e ≡ Some next → AreDrawn start (made ++ e ∷ []) next ds es)
-AreDrawn start made c _ _ = ⊥
+-- an event that the sites make of a draw, where the list has all choices in some order
+abbrev pub MakesNext : Config → List Event → Config → Draw → Event → Type 0
+MakesNext start made c draw event = (h : Held) × Lists c h × (event_drawn h start made c draw ≡ Some event)
 
 -- the events are those that the sites make of the draws of a generator of this seed
 abbrev pub IsDrawn : Config → ℕ → List Event → Type 0
-IsDrawn start seed events = AreDrawn start [] start (draws pcg32 (seeded seed) (length events)) events
+IsDrawn start seed events = AreMade (MakesNext start) [] start (draws pcg32 (seeded seed) (length events)) events

@@ -1,5 +1,5 @@
 -- Runs that are chosen (docs/SCHEDULES.md, "What is proved").
-use Rattle.std.specs.Prelude.{◌≡◌, List, [], ◌∷◌, ◌++◌, Option, Some}
+use Rattle.std.specs.Prelude.{◌≡◌, ℕ, List, [], ◌∷◌, ◌++◌, length, Option, Some}
 use Rattle.std.specs.Option.{option_map}
 use Rattle.std.specs.FinMap as map
 use Rattle.np_syntax.specs.Options.{◌>>=◌}
@@ -7,22 +7,19 @@ use Rattle.np_syntax.specs.declared.value.Name.{Name}
 use Rattle.np_syntax.specs.declared.event.Event.{Event}
 use Rattle.np_calculus.specs.Begins.{AreNew}
 use Rattle.np_calculus.specs.Config.{Config}
-use Rattle.np_calculus.specs.Footprints.{listed}
 use Rattle.np_calculus.specs.Reductions.{apply, run}
 use Rattle.np_serial.specs.Serial.{IsEnabled, IsReached}
-use Rattle.run_choices.specs.declared.choice.Choice.{Choice}
-use Rattle.run_choices.specs.declared.choice.Draw.{Draw}
-use Rattle.run_choices.specs.Choices.{IsChoice, choice_of, event_by}
-use Rattle.run_choices.specs.Held.{Held, Lists, chosen_by}
-use Rattle.run_views.specs.Past.{names_of}
+use Rattle.rand_pcg.specs.Pcg.{pcg32}
+use Rattle.choice_lists.specs.declared.choice.Choice.{Choice}
+use Rattle.choice_lists.specs.declared.choice.Draw.{Draw}
+use Rattle.choice_lists.specs.Choices.{IsChoice, choice_of, event_by}
+use Rattle.choice_lists.specs.Draws.{draws, seeded}
+use Rattle.choice_lists.specs.Held.{Held, Lists, chosen_by}
+use Rattle.run_choices.specs.Made.{AreMade}
 
 -- the agent of the atom of a mark
 abbrev pub agent_in : Config → Name → Option Name
 agent_in c mark = option_map (λ a. a.agent) (map.get c.atoms mark)
-
--- the names that an event touches: those that stand in it, and the agent of its atom
-abbrev pub touched : Event → Option Name → List Name
-touched e agent = names_of e ++ listed agent
 
 -- ---- one event
 
@@ -78,3 +75,22 @@ Orders start order = (events : List Event) (c : Config) → run start events ≡
 abbrev pub EachRun : Type 0
 EachRun = (start last : Config) (order : List Event → Held) → Orders start order → (events : List Event) → run start events ≡ Some last
     → (turns : List Turn) × MakesFrom order [] start turns events
+
+-- ---- runs by seed
+
+-- an event that a draw chooses among all that is enabled, under the names that it makes
+pub record IsChosen (c : Config) (draw : Draw) (event : Event) : Type 0 where
+  pub order : Held
+  pub lists : Lists c order
+  pub choice : Choice
+  pub picked : chosen_by order draw ≡ Some choice
+  pub first : Name
+  pub second : Name
+  pub is : event_by c choice first second ≡ Some event
+
+abbrev pub ChoosesNext : List Event → Config → Draw → Event → Type 0
+ChoosesNext made c draw event = IsChosen c draw event
+
+-- the events are those that the draws of a generator of this seed choose
+abbrev pub AreChosen : Config → ℕ → List Event → Type 0
+AreChosen start seed events = AreMade ChoosesNext [] start (draws pcg32 (seeded seed) (length events)) events

@@ -11,14 +11,13 @@ ghost use Rattle.np_calculus.specs.Starts.{start_high};
 ghost use Rattle.np_calculus.specs.Well.{Has};
 ghost use Rattle.np_serial.specs.Serial.{AreFresh, IsEnabled, IsReached, IsSerialRun};
 ghost use Rattle.np_syntax.specs.declared.limits.TheConstants.{MOST_SITES};
-ghost use Rattle.run_choices.specs.Choices.{IsChoice, event_by};
-ghost use Rattle.run_choices.specs.Held.{Lists, held};
-ghost use Rattle.run_choices.specs.Runs.{agent_in};
+ghost use Rattle.choice_lists.specs.Choices.{IsChoice, event_by};
+ghost use Rattle.choice_lists.specs.Held.{Lists, held};
+ghost use Rattle.run_choices.specs.Runs.{AreChosen, agent_in};
 ghost use Rattle.run_choices.specs.Seeded.{Chooses, FirstMarks};
 
-use super::choice::{Choice, Draw, drawn};
 use super::events::{Fresh, event_of};
-use super::waiting::Waiting;
+use choice_lists::{Choice, Draw, Waiting, drawn};
 use np_calculus::{DAEMON_MARK, MAIN_MARK};
 use np_configuration::{ApplyFail, Cfg, apply, start_high};
 use np_serial::SerialRun;
@@ -30,7 +29,8 @@ use std::alloc::Global;
 /// Runs a program at the high level for at most so many events, each of them chosen by a generator of this seed.
 pub fn run_seeded(alloc: Global, p: &Program, seed: u64, budget: u32) -> Result<SerialRun, Memory>
     requires { RunsWell (start_high p.now) p.now.at }
-    ensures { IfOk result (λ r. IsSerialRun (start_high p.now) budget r.events r.last r.end) }
+    ensures run { IfOk result (λ r. IsSerialRun (start_high p.now) budget r.events r.last r.end) }
+    ensures drawn { IfOk result (λ r. AreChosen (start_high p.now) seed r.events) }
 {
     let start = start_high(alloc, p)?;
     run_from(alloc, start, p.at, seed, budget)
@@ -41,7 +41,8 @@ fn run_from(alloc: Global, start: Cfg, at: u32, seed: u64, budget: u32) -> Resul
     requires runs { RunsWell start at }
     requires fresh { AreFresh start.born start.sites 0 }
     requires first { FirstMarks start }
-    ensures { IfOk result (λ r. IsSerialRun start budget r.events r.last r.end) }
+    ensures run { IfOk result (λ r. IsSerialRun start budget r.events r.last r.end) }
+    ensures drawn { IfOk result (λ r. AreChosen start seed r.events) }
 {
     let mut last = start;
     let mut events = List::new(alloc);
@@ -71,7 +72,8 @@ fn run_on(
     requires fresh { AreFresh last.old.born last.old.sites 0 }
     requires first { FirstMarks last.old }
     requires none { events.old ≡ [] }
-    ensures { IfOk result (λ end. IsSerialRun last.old budget events.new last.new end) }
+    ensures run { IfOk result (λ end. IsSerialRun last.old budget events.new last.new end) }
+    ensures drawn { IfOk result (λ end. AreChosen last.old seed events.new) }
 {
     let mut waiting = first_waiting(alloc, last)?;
     let mut words = Pcg32::seed_from_u64(seed);

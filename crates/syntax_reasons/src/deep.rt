@@ -1,5 +1,8 @@
 //! Where a source is too deep.
 
+ghost use Rattle.std.specs.Prelude.{IfOk, IsSomeAnd};
+ghost use Rattle.source_places.specs.Holds.{Holds};
+
 use np_lex::{Sign, Token};
 use np_syntax::{List, Memory};
 use source_forms::{
@@ -101,7 +104,9 @@ fn next_words(depth: Depth, kind: Kind) -> &'static [u8] {
 }
 
 /// What is told of the token that passes the greatest depth.
-pub fn reasons_of_depth(alloc: Global, tokens: &[Token], at: u32) -> Result<Reasons, Memory> {
+pub fn reasons_of_depth(alloc: Global, tokens: &[Token], at: u32) -> Result<Reasons, Memory>
+    ensures { IfOk result (λ reasons. IsSomeAnd reasons.refused (λ mark. Holds mark at)) }
+{
     let index = index_at(tokens, at);
     let reading = reading_of(alloc, tokens.get(..index).unwrap_or(tokens))?;
     let (depth, first) = passed_at(tokens, &reading, index);

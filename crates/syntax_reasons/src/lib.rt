@@ -1,9 +1,9 @@
 //! Why the tokens of a source are no program's: where they stop, what was wanted there, and how to go on.
 //!
-//! The mark holds np's offset, but for the end of the source, which is marked behind the last token. What to do next is a table of
-//! what stands there, what was wanted and which forms are open (`ROWS`).
+//! The mark holds np's offset (`MarksIn`), but for the end of the source, which is marked behind the last token. What to do next is
+//! a table of what stands there, what was wanted and which forms are open (`ROWS`).
 //!
-//! Contracts: none beyond that each call meets its conditions.
+//! Contracts: `reasons_of_syntax` (`MarksIn`), `reasons_of_depth` (`Holds`).
 #![tactic(auto)]
 
 mod advice;

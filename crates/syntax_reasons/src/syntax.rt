@@ -1,7 +1,8 @@
 //! Where tokens stop being those of a program.
 
-ghost use Rattle.std.specs.Prelude.{◌≤◌, length};
+ghost use Rattle.std.specs.Prelude.{◌≤◌, length, IfOk};
 ghost use Rattle.np_syntax.specs.declared.limits.TheConstants.{LONGEST_SOURCE};
+ghost use Rattle.syntax_reasons.specs.Reasons.{MarksIn};
 
 use super::advice::{filling, row_for};
 use super::row::{Fill, Row};
@@ -39,23 +40,26 @@ fn token_range(view: &View<'_>, index: usize) -> Range {
 }
 
 /// The mark on the token at fault, or behind the last one where the source ends.
-fn refused_mark(view: &View<'_>, at: usize) -> Result<Option<Mark>, Memory> {
+fn refused_mark(view: &View<'_>, at: usize) -> Result<Option<Mark>, Memory>
+    ensures { IfOk result (MarksIn view.now.bytes.now at) }
+{
     let label = found_text(view)?;
     let index = view.reading.at;
     if view.kind() != Kind::End {
         return Ok(Some(marked(token_range(view, index), at, label)));
     }
+    let end = token_range(view, index.saturating_sub(1)).to;
+    let range = Range {
+        from: end,
+        to: end.saturating_add(1),
+    };
+    if at < view.bytes.len() {
+        return Ok(Some(marked(range, at, label)));
+    }
     if index == 0 {
         return Ok(None);
     }
-    let end = token_range(view, index.saturating_sub(1)).to;
-    Ok(Some(Mark {
-        range: Range {
-            from: end,
-            to: end.saturating_add(1),
-        },
-        label,
-    }))
+    Ok(Some(Mark { range, label }))
 }
 
 /// The mark on the first token of a form that is open.
@@ -119,7 +123,9 @@ fn advice_of(view: &View<'_>, row: Option<Row>) -> Result<Text, Memory> {
 }
 
 /// What is told of the token that was seen.
-fn reasons_of(view: &View<'_>, at: usize) -> Result<Reasons, Memory> {
+fn reasons_of(view: &View<'_>, at: usize) -> Result<Reasons, Memory>
+    ensures { IfOk result (λ reasons. MarksIn view.now.bytes.now at reasons.refused) }
+{
     let row = row_for(view)?;
     let of_ended = match row {
         Some(row) => row.of_ended,
@@ -150,6 +156,7 @@ pub fn reasons_of_syntax(
 ) -> Result<Reasons, Memory>
     requires short { length bytes.now ≤ LONGEST_SOURCE }
     requires within { at ≤ length bytes.now }
+    ensures { IfOk result (λ reasons. MarksIn bytes.now at reasons.refused) }
 {
     let reading: Reading = reading_of(alloc, tokens)?;
     let wanted = wanted_at(alloc, bytes, at)?;

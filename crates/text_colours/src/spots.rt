@@ -90,6 +90,16 @@ fn word_len(line: &[u8]) -> usize
     0
 }
 
+/// The word of a line that says what follows, if it has one.
+fn word_spot(line: &[u8]) -> Spot
+    ensures from { result.from ≤ result.to }
+    ensures to { result.to ≤ length line.now }
+{
+    let to = word_len(line);
+    let paint = if to == 0 { Paint::Plain } else { Paint::Bold };
+    Spot { paint, from: 0, to }
+}
+
 /// What is painted of a line.
 pub(super) fn spot_of(line: &[u8], is_first: bool) -> Spot
     ensures from { result.from ≤ result.to }
@@ -104,10 +114,6 @@ pub(super) fn spot_of(line: &[u8], is_first: bool) -> Spot
     }
     match marked(line) {
         Some(spot) => spot,
-        None => Spot {
-            paint: Paint::Bold,
-            from: 0,
-            to: word_len(line),
-        },
+        None => word_spot(line),
     }
 }

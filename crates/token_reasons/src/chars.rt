@@ -1,5 +1,8 @@
 //! Bytes at which no token begins, and numbers that are too great.
 
+ghost use Rattle.std.specs.Prelude.{IfOk};
+ghost use Rattle.token_reasons.specs.Marks.{MarksAt};
+
 use np_syntax::{List, Memory, Text};
 use source_places::{Range, Reasons, filled, front_len, marked, number_text};
 use std::alloc::Global;
@@ -44,7 +47,9 @@ pub(super) fn told(
     label: Text,
     wanted: &[u8],
     next: &[u8],
-) -> Result<Reasons, Memory> {
+) -> Result<Reasons, Memory>
+    ensures { IfOk result (MarksAt at) }
+{
     let found = Range {
         from: at,
         to: at.saturating_add(len),
@@ -61,7 +66,9 @@ pub(super) fn told(
 }
 
 /// What is told of a name that is too long.
-fn name_reasons(alloc: Global, at: usize, rest: &[u8]) -> Result<Reasons, Memory> {
+fn name_reasons(alloc: Global, at: usize, rest: &[u8]) -> Result<Reasons, Memory>
+    ensures { IfOk result (MarksAt at) }
+{
     let len = rest.iter().take_while(|byte| is_in_name(**byte)).count();
     let digits = number_text(alloc, len as u64)?;
     let label = filled(alloc, b"a name of % bytes", digits.as_slice())?;
@@ -76,7 +83,9 @@ fn name_reasons(alloc: Global, at: usize, rest: &[u8]) -> Result<Reasons, Memory
 }
 
 /// What is told of a byte at which no token begins.
-pub fn char_reasons(alloc: Global, bytes: &[u8], at: usize) -> Result<Reasons, Memory> {
+pub fn char_reasons(alloc: Global, bytes: &[u8], at: usize) -> Result<Reasons, Memory>
+    ensures { IfOk result (MarksAt at) }
+{
     let rest = bytes.get(at..).unwrap_or(&[]);
     let byte = rest.first().copied().unwrap_or(0);
     if byte.is_ascii_alphabetic() {
@@ -88,7 +97,9 @@ pub fn char_reasons(alloc: Global, bytes: &[u8], at: usize) -> Result<Reasons, M
 }
 
 /// What is told of a number that is too great.
-pub fn number_reasons(alloc: Global, bytes: &[u8], at: usize) -> Result<Reasons, Memory> {
+pub fn number_reasons(alloc: Global, bytes: &[u8], at: usize) -> Result<Reasons, Memory>
+    ensures { IfOk result (MarksAt at) }
+{
     let rest = bytes.get(at..).unwrap_or(&[]);
     let len = rest.iter().take_while(|byte| byte.is_ascii_digit()).count();
     let digits = number_text(alloc, len as u64)?;

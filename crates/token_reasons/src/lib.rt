@@ -1,8 +1,10 @@
 //! Why a source has no tokens, and why a name in it stands for nothing: what is marked, what was wanted and how to go on.
 //!
-//! What is said is a table of what stands there; that the mark holds np's offset is said where a diagnosis is put together.
+//! Each of them marks what is refused, and the range that is marked holds np's offset (`MarksAt`). What is said is a table of what
+//! stands there.
 //!
-//! Contracts: none beyond that each call meets its conditions.
+//! Contracts: `char_reasons`, `number_reasons`, `string_reasons`, `unbound_reasons`, `twice_reasons`, `many_reasons`, `home_reasons`
+//! (`MarksAt`).
 #![tactic(auto)]
 
 mod chars;

@@ -1,5 +1,8 @@
 //! Names that stand for nothing, and names in the list of sites.
 
+ghost use Rattle.std.specs.Prelude.{IfOk};
+ghost use Rattle.token_reasons.specs.Marks.{MarksAt};
+
 use np_lex::{Sign, Token};
 use np_syntax::{List, Memory};
 use source_forms::{Span, index_at, range_of, sign_behind, token_text};
@@ -35,7 +38,9 @@ fn told(
     wanted: &[u8],
     next: &[u8],
     beside: Option<Mark>,
-) -> Result<Reasons, Memory> {
+) -> Result<Reasons, Memory>
+    ensures { IfOk result (MarksAt at) }
+{
     let (found, name) = found_at(source, at);
     let label = filled(alloc, label, name)?;
     let wanted = List::from_slice(alloc, wanted)?;
@@ -50,7 +55,9 @@ fn told(
 }
 
 /// What is told of a name that no site and no binder in scope has.
-pub fn unbound_reasons(alloc: Global, source: Source<'_>, at: u32) -> Result<Reasons, Memory> {
+pub fn unbound_reasons(alloc: Global, source: Source<'_>, at: u32) -> Result<Reasons, Memory>
+    ensures { IfOk result (MarksAt at) }
+{
     let wanted = b"a site, or a name that is bound where this stands";
     let next = b"bind it further out, by `new`, `agent`, `let` or the pattern of an input";
     told(
@@ -75,7 +82,9 @@ fn first_written(source: Source<'_>, name: &[u8]) -> usize {
 }
 
 /// What is told of a site that stands in the list before.
-pub fn twice_reasons(alloc: Global, source: Source<'_>, at: u32) -> Result<Reasons, Memory> {
+pub fn twice_reasons(alloc: Global, source: Source<'_>, at: u32) -> Result<Reasons, Memory>
+    ensures { IfOk result (MarksAt at) }
+{
     let (_, name) = found_at(source, at);
     let first = first_written(source, name);
     let label = filled(alloc, b"the first %", name)?;
@@ -94,14 +103,18 @@ pub fn twice_reasons(alloc: Global, source: Source<'_>, at: u32) -> Result<Reaso
 }
 
 /// What is told of the site that is one too many.
-pub fn many_reasons(alloc: Global, source: Source<'_>, at: u32) -> Result<Reasons, Memory> {
+pub fn many_reasons(alloc: Global, source: Source<'_>, at: u32) -> Result<Reasons, Memory>
+    ensures { IfOk result (MarksAt at) }
+{
     let next = b"leave out sites: several agents may stand at one site";
     let wanted = b"at most 128 sites";
     told(alloc, source, at, b"the 129th site", wanted, next, None)
 }
 
 /// What is told of a name behind `main at` that is no site.
-pub fn home_reasons(alloc: Global, source: Source<'_>, at: u32) -> Result<Reasons, Memory> {
+pub fn home_reasons(alloc: Global, source: Source<'_>, at: u32) -> Result<Reasons, Memory>
+    ensures { IfOk result (MarksAt at) }
+{
     let last = sign_behind(source.tokens, 0, Sign::Semi).saturating_sub(1);
     let label = List::from_slice(alloc, b"the sites")?;
     let range = range_of(source.tokens, Span { first: 1, last });

@@ -1,5 +1,8 @@
 //! Strings that are none.
 
+ghost use Rattle.std.specs.Prelude.{IfOk};
+ghost use Rattle.token_reasons.specs.Marks.{MarksAt};
+
 use np_syntax::{List, Memory};
 use source_places::{Mark, Range, Reasons, counted, filled, marked};
 use std::alloc::Global;
@@ -66,7 +69,9 @@ fn told(
     beside: Option<Mark>,
     wanted: &[u8],
     next: &[u8],
-) -> Result<Reasons, Memory> {
+) -> Result<Reasons, Memory>
+    ensures { IfOk result (MarksAt at) }
+{
     let label = List::from_slice(alloc, b"begins a string")?;
     let wanted = List::from_slice(alloc, wanted)?;
     let next = List::from_slice(alloc, next)?;
@@ -80,7 +85,9 @@ fn told(
 }
 
 /// What is told of a string that is too long.
-fn long_reasons(alloc: Global, at: usize, to: usize, read: u64) -> Result<Reasons, Memory> {
+fn long_reasons(alloc: Global, at: usize, to: usize, read: u64) -> Result<Reasons, Memory>
+    ensures { IfOk result (MarksAt at) }
+{
     let count = counted(alloc, read)?;
     let label = filled(alloc, b"a string of % bytes", count.as_slice())?;
     let wanted = List::from_slice(alloc, b"at most 1,024 bytes, after the escapes are read")?;
@@ -95,7 +102,9 @@ fn long_reasons(alloc: Global, at: usize, to: usize, read: u64) -> Result<Reason
 }
 
 /// What is told of a string that is none.
-pub fn string_reasons(alloc: Global, bytes: &[u8], at: usize) -> Result<Reasons, Memory> {
+pub fn string_reasons(alloc: Global, bytes: &[u8], at: usize) -> Result<Reasons, Memory>
+    ensures { IfOk result (MarksAt at) }
+{
     let quote = at.saturating_add(1);
     match flaw_of(bytes, at) {
         Flaw::Open(to) => {

@@ -1,7 +1,17 @@
-use Rattle.std.proofs.lemmas.Result.{IfOk-weaker}
-use Rattle.np_calculus.specs.Starts.{start_low}
-use Rattle.look_runs.specs.Seeded.{IsRun}
+use Rattle.std.proofs.Common.{refl}
 use Rattle.look_runs.proofs.run_work.run_low.Goals as goal
 
-pub returns : goal.returns
-returns c = IfOk-weaker c.run_seeded_low.result _ (IsRun c.args.way.budget) (λ run is. record { start = start_low c.args.low.now; goes = is }) c.run_seeded_low.ensures.run
+pub returns-in-Ok : goal.returns-in-Ok
+returns-in-Ok c =
+    let is = c.in-Ok.ensures in
+    let low = c.args.low.now in
+    let run = c.in-Ok.run' in
+    record {
+      low = low;
+      translated = c.requires.low;
+      goes = is.run;
+      ours = is.ours;
+      drawn = is.drawn;
+      source = c.law_source_runs.ensures.runs c.args.way.infrastructure c.args.checked.now low run.events run.last.said run.end c.program.ensures.accepted c.requires.low
+          (record { last = run.last; reaches = is.run.reaches; said = refl; rests = is.run.rest.0 });
+    }

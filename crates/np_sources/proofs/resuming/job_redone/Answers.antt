@@ -17,7 +17,7 @@ pub job_of_kept-requires-clause-run : goal.job_of_kept-requires-clause-run
 job_of_kept-requires-clause-run g c =
     let infrastructure = c.args.course.infrastructure in let budget = c.args.course.budget in
     let p = c.args.checked.now in let low = c.args.low.now in let kept = c.in-Some.kept in
-    read_off c.law_source_runs.ensures infrastructure budget p low kept
+    read_off c.law_source_runs.ensures.sites infrastructure budget p low kept
     (its (RunsOnSites infrastructure budget p low) c.in_ok-kept.field-0 kept c.in-Some.is c.in_ok-kept.ensures.made)
 
 pub returns-in-Ok-clause-made : goal.returns-in-Ok-clause-made
@@ -25,7 +25,7 @@ returns-in-Ok-clause-made g c =
     let e = c.in-Ok.ensures in let k = c.in_ok-kept.ensures in let is = c.in-Some.is in let o = c.in_ok-kept.field-0 in
     let infrastructure = c.args.course.infrastructure in let budget = c.args.course.budget in
     let p = c.args.checked.now in let low = c.args.low.now in let events = c.args.events.now in let kept = c.in-Some.kept in
-    keeps_resumed infrastructure c.args.shown p kept c.law_source_runs.ensures budget low c.args._bytes.now events c.requires.typed c.requires.free
+    keeps_resumed infrastructure c.args.shown p kept c.law_source_runs.ensures.sites budget low c.args._bytes.now events c.requires.typed c.requires.free
     (its (RunsOnSites infrastructure budget p low) o kept is k.made)
     (its (λ _. IsSome (run (start_low low) events)) o kept is k.run)
     (its (λ _. CanGoOn budget low events) o kept is k.can)

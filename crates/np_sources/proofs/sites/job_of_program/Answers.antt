@@ -3,7 +3,7 @@ use Rattle.np_sources.proofs.Promises.{keeps_run, only_memory, read_off}
 use Rattle.np_sources.proofs.sites.job_of_program.Goals as goal
 
 pub job_of_kept-requires-clause-run : goal.job_of_kept-requires-clause-run
-job_of_kept-requires-clause-run g c = read_off c.law_source_runs.ensures _ _ _ _ _ c.in_ok-kept.ensures.made
+job_of_kept-requires-clause-run g c = read_off c.law_source_runs.ensures.sites _ _ _ _ _ c.in_ok-kept.ensures.made
 
 pub returns-clause-made : goal.returns-clause-made
 returns-clause-made g c =

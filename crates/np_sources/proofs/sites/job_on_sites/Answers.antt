@@ -7,7 +7,7 @@ returns-in_err-checked-clause-refused g c = residual c.from_residual.result c.in
 pub returns-clause-made : goal.returns-clause-made
 returns-clause-made g c =
     let course = c.args.course in let checked = c.in_ok-checked in
-    kept_of c.law_source_runs.ensures course.infrastructure course.budget c.args.shown c.args.bytes.now checked.checked checked.ensures.found checked.ensures.free
+    kept_of c.law_source_runs.ensures.sites course.infrastructure course.budget c.args.shown c.args.bytes.now checked.checked checked.ensures.found checked.ensures.free
     c.job_of_program-made.result c.job_of_program-made.ensures.made
 
 pub returns-clause-refused : goal.returns-clause-refused

@@ -4,6 +4,7 @@ use Rattle.np_calculus.specs.Config.{Config}
 use Rattle.np_calculus.specs.Runs.{RunsWell}
 use Rattle.np_serial.specs.Serial.{AreFresh, IsSerialRun}
 use Rattle.np_serial.proofs.SerialEvents.{high-fresh, high-sites}
+use Rattle.run_choices.specs.Runs.{AreChosen}
 use Rattle.run_choices.specs.Seeded.{FirstMarks}
 use Rattle.run_choices.proofs.Following.{high-first}
 use Rattle.run_choices.proofs.seeded.run_seeded.Goals as goal
@@ -20,5 +21,9 @@ run_from-requires-clause-fresh c = subst (λ (s : Config). AreFresh s.born s.sit
 pub run_from-requires-clause-first : goal.run_from-requires-clause-first
 run_from-requires-clause-first c = subst FirstMarks (sym c.in_ok-start.ensures) (high-first c.args.p.now)
 
-pub returns : goal.returns
-returns c = subst (λ (s : Config). IfOk c.run_from.result (λ r. IsSerialRun s c.args.budget r.events r.last r.end)) c.in_ok-start.ensures c.run_from.ensures
+pub returns-clause-run : goal.returns-clause-run
+returns-clause-run c =
+    subst (λ (s : Config). IfOk c.run_from.result (λ r. IsSerialRun s c.args.budget r.events r.last r.end)) c.in_ok-start.ensures c.run_from.ensures.run
+
+pub returns-clause-drawn : goal.returns-clause-drawn
+returns-clause-drawn c = subst (λ (s : Config). IfOk c.run_from.result (λ r. AreChosen s c.args.seed r.events)) c.in_ok-start.ensures c.run_from.ensures.drawn

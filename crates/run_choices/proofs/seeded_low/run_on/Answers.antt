@@ -8,12 +8,12 @@ use Rattle.rand_pcg.specs.Pcg.{pcg32}
 use Rattle.run_save.specs.Notes.{AreNoted}
 use Rattle.run_save.specs.Ours.{IsOursFrom}
 use Rattle.run_save.proofs.RunLaws.{nothing-ours}
-use Rattle.run_choices.specs.declared.choice.Draw.{Draw}
-use Rattle.run_choices.specs.Draws.{behind, drawn, draws, seeded}
-use Rattle.run_choices.specs.Held.{held}
-use Rattle.run_choices.specs.InTurn.{AreDrawn, event_behind, event_drawn}
+use Rattle.choice_lists.specs.Draws.{behind, draws, seeded}
+use Rattle.run_choices.specs.Made.{AreMade}
+use Rattle.choice_lists.specs.Held.{held}
+use Rattle.run_choices.specs.InTurn.{MakesNext, event_behind, event_drawn}
 use Rattle.run_choices.proofs.Chosen.{chosen-is, none-idle}
-use Rattle.run_choices.proofs.Drawing.{behind-next, drawn-more, draws-next}
+use Rattle.run_choices.proofs.Drawing.{made-next, words-next}
 use Rattle.run_choices.proofs.Turned.{noted-event}
 use Rattle.run_choices.proofs.seeded_low.run_on.Goals as goal
 
@@ -31,7 +31,7 @@ loop-n-init c = record {
   made = ap length c.requires.none;
   lists = c.in_ok-waiting.ensures;
   words = c.seed_from_u64-words.ensures;
-  drawn = subst (λ (es : List Event). AreDrawn c.args.last.now [] c.args.last.now [] es) (sym c.requires.none) tt;
+  drawn = subst (λ (es : List Event). AreMade (MakesNext c.args.last.now) [] c.args.last.now [] es) (sym c.requires.none) tt;
 }
 
 pub returns-in_default-clause-run : goal.returns-in_default-clause-run
@@ -46,7 +46,7 @@ returns-in_default-clause-ours c = c.loop-n.invariant.course.run.ours
 
 pub returns-in_default-clause-drawn : goal.returns-in_default-clause-drawn
 returns-in_default-clause-drawn c =
-    subst (λ (n : ℕ). AreDrawn c.args.last.now [] c.args.last.now (draws pcg32 (seeded c.args.seed) n) c.loop-n.events) (sym c.loop-n.invariant.made) c.loop-n.invariant.drawn
+    subst (λ (n : ℕ). AreMade (MakesNext c.args.last.now) [] c.args.last.now (draws pcg32 (seeded c.args.seed) n) c.loop-n.events) (sym c.loop-n.invariant.made) c.loop-n.invariant.drawn
 
 pub serve-requires-clause-course : goal.serve-requires-clause-course
 serve-requires-clause-course c = (c.args.last.now, c.loop-n.invariant.course)
@@ -64,9 +64,6 @@ loop-n-preserved c =
     let i = c.loop-n.invariant in
     let g : Lcg = seeded c.args.seed in
     let s = c.in_ok-serve.ensures.made in
-    let pair : drawn pcg32 (behind pcg32 g c.loop-n.n) ≡ (c.drawn-draw.result, c.drawn-draw.new.words) = ap (drawn pcg32) (sym i.words) ∙ sym c.drawn-draw.ensures in
-    let draw : (drawn pcg32 (behind pcg32 g c.loop-n.n)).0 ≡ c.drawn-draw.result = ap (λ (p : Draw × Lcg). p.0) pair in
-    let words : (drawn pcg32 (behind pcg32 g c.loop-n.n)).1 ≡ c.drawn-draw.new.words = ap (λ (p : Draw × Lcg). p.1) pair in
     let event : event_drawn (held c.loop-n.waiting) start c.loop-n.events c.loop-n.last c.drawn-draw.result ≡ Some s.event =
     ap (λ o. o >>= event_behind start c.loop-n.events c.loop-n.last) (sym c.chosen.ensures ∙ c.in-Some.is)
     ∙ sym (noted-event start c.loop-n.last c.loop-n.notes c.loop-n.events i.course c.in-Some.choice) ∙ s.is in
@@ -74,11 +71,10 @@ loop-n-preserved c =
       course = c.in_ok-serve.ensures.course start i.course;
       made = omega (arith, ap length s.noted, length-append c.loop-n.events (s.event ∷ []), i.made);
       lists = c.in_ok-serve.ensures.lists;
-      words = sym words ∙ sym (behind-next pcg32 g c.loop-n.n);
-      drawn = subst (λ (es : List Event). AreDrawn start [] start (draws pcg32 g (c.loop-n.n + 1)) es) (sym s.noted)
-          (subst (λ (ds : List Draw). AreDrawn start [] start ds (c.loop-n.events ++ s.event ∷ []))
-          (sym (draws-next pcg32 g c.loop-n.n ∙ ap (λ d. draws pcg32 g c.loop-n.n ++ d ∷ []) draw))
-          (drawn-more start (held c.loop-n.waiting) c.drawn-draw.result s.event [] start c.loop-n.last (draws pcg32 g c.loop-n.n) c.loop-n.events i.drawn i.course.run.reaches i.lists event));
+      words = words-next pcg32 g c.loop-n.n c.loop-n.words c.drawn-draw.new.words c.drawn-draw.result i.words c.drawn-draw.ensures;
+      drawn =
+          made-next pcg32 g c.loop-n.n c.loop-n.words c.drawn-draw.new.words c.drawn-draw.result i.words c.drawn-draw.ensures (MakesNext start) start c.loop-n.last s.event
+          c.loop-n.events _ i.drawn i.course.run.reaches (held c.loop-n.waiting, i.lists, event) s.noted;
     }
 
 pub end_of-requires-clause-lodged : goal.end_of-requires-clause-lodged
@@ -99,4 +95,4 @@ returns-clause-ours c = c.loop-n.invariant.course.run.ours
 
 pub returns-clause-drawn : goal.returns-clause-drawn
 returns-clause-drawn c =
-    subst (λ (n : ℕ). AreDrawn c.args.last.now [] c.args.last.now (draws pcg32 (seeded c.args.seed) n) c.loop-n.events) (sym c.loop-n.invariant.made) c.loop-n.invariant.drawn
+    subst (λ (n : ℕ). AreMade (MakesNext c.args.last.now) [] c.args.last.now (draws pcg32 (seeded c.args.seed) n) c.loop-n.events) (sym c.loop-n.invariant.made) c.loop-n.invariant.drawn

@@ -1,8 +1,9 @@
 use Rattle.std.proofs.Common.{◌≡◌, [], length}
 use Rattle.rand_pcg.specs.Pcg.{pcg32}
-use Rattle.run_choices.specs.Draws.{behind, draws, seeded}
-use Rattle.run_choices.specs.Held.{Lists, held}
-use Rattle.run_choices.specs.InTurn.{AreDrawn, IsCourse}
+use Rattle.choice_lists.specs.Draws.{behind, draws, seeded}
+use Rattle.run_choices.specs.Made.{AreMade}
+use Rattle.choice_lists.specs.Held.{Lists, held}
+use Rattle.run_choices.specs.InTurn.{IsCourse, MakesNext}
 use Rattle.run_choices.proofs.seeded_low.run_on.Given as goal
 
 abbrev pub invariant-loop-n : goal.invariant-loop-n
@@ -11,5 +12,5 @@ invariant-loop-n l = record {
   made : length l.events ≡ l.n;
   lists : Lists l.last (held l.waiting);
   words : l.words ≡ behind pcg32 (seeded l.fn.seed) l.n;
-  drawn : AreDrawn l.fn.last [] l.fn.last (draws pcg32 (seeded l.fn.seed) l.n) l.events;
+  drawn : AreMade (MakesNext l.fn.last) [] l.fn.last (draws pcg32 (seeded l.fn.seed) l.n) l.events;
 }

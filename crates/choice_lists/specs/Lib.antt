@@ -1,0 +1,4 @@
+pub mod Choices
+pub mod Draws
+pub mod Held
+pub mod Lines
