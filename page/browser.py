@@ -95,11 +95,11 @@ class Browser:
             time.sleep(0.1)
         raise SystemExit("Chromium does not start")
 
-    def call(self, method, session=None, **words):
+    def call(self, method, tab=None, **words):
         self.number += 1
         message = {"id": self.number, "method": method, "params": words}
-        if session:
-            message["sessionId"] = session
+        if tab:
+            message["sessionId"] = tab
         self.socket.send(json.dumps(message))
         while True:
             answer = json.loads(self.socket.receive())
@@ -126,13 +126,13 @@ class Page:
     def __init__(self, browser, address):
         self.browser = browser
         self.target = browser.call("Target.createTarget", url="about:blank")["targetId"]
-        self.session = browser.call("Target.attachToTarget", targetId=self.target, flatten=True)["sessionId"]
+        self.tab = browser.call("Target.attachToTarget", targetId=self.target, flatten=True)["sessionId"]
         for domain in ("Page", "Runtime", "Log", "Network", "DOM"):
             self.call(f"{domain}.enable")
         self.call("Page.navigate", url=address)
 
     def call(self, method, **words):
-        return self.browser.call(method, self.session, **words)
+        return self.browser.call(method, self.tab, **words)
 
     def value(self, expression):
         """What an expression comes to, once it is settled."""
@@ -189,7 +189,7 @@ class Page:
     def said(self, *methods):
         """What the browser told of this page by such events."""
         self.value("0")
-        return [it["params"] for it in self.browser.events if it.get("sessionId") == self.session and it["method"] in methods]
+        return [it["params"] for it in self.browser.events if it.get("sessionId") == self.tab and it["method"] in methods]
 
     def close(self):
         self.browser.call("Target.closeTarget", targetId=self.target)

@@ -14,8 +14,8 @@ def holds(what, is_so, beside=""):
         faults.append(what)
 
 
-def opened(browser, fragment=""):
-    page = browser.open(PAGE + fragment)
+def opened(browser, fragment="", address=PAGE):
+    page = browser.open(address + fragment)
     page.size(1280, 860)
     ready = page.wait("document.body && document.body.dataset.ready")
     holds("the page begins", ready and page.value("document.body.dataset.ready") == "yes", page.value("document.body?.innerText"))

@@ -6,6 +6,7 @@ import os
 import subprocess
 import tempfile
 import time
+from collections import Counter
 
 from checks import holds, opened
 from worked import example_calls, look_calls, source_calls
@@ -39,15 +40,10 @@ def in_page(page, program, words, texts):
     return [status, base64.b64decode(out), base64.b64decode(err)], fault, took, memory
 
 
-def help_of(programs, *words):
-    return subprocess.run([programs["np_look"], *words], capture_output=True, text=True, check=False).stdout
-
-
 def compare(browser, programs):
     page = opened(browser)
-    picturing = help_of(programs, "picture", "--help")
-    calls = [*source_calls(), *example_calls(), *look_calls(help_of(programs, "--help"), picturing)]
-    same = late = 0
+    calls = [*source_calls(), *example_calls(), *look_calls(programs)]
+    same, late = Counter(), 0
     slowest, most, begun = (0, ""), (0, ""), time.monotonic()
     with tempfile.TemporaryDirectory(prefix="page-") as room:
         for program, words, texts in calls:
@@ -56,7 +52,7 @@ def compare(browser, programs):
                 late += 1
                 continue
             came, fault, took, memory = in_page(page, program, words, texts)
-            same += came == wanted
+            same[program] += came == wanted
             call = " ".join([program, *words])
             slowest, most = max(slowest, (took, call)), max(most, (memory, call))
             if came != wanted:
@@ -64,6 +60,7 @@ def compare(browser, programs):
                 text = f"{differs}, {came[0]} and {wanted[0]}; {fault}"
                 holds(f"{program} {' '.join(words)[:100]}", False, text)
     took = time.monotonic() - begun
-    print(f"{same} of {len(calls) - late} calls the same, {late} left out as the native program took over {LONGEST} s; {took:.0f} s")
+    each = ", ".join(f"{count} of {program}" for program, count in same.items())
+    print(f"{same.total()} of {len(calls) - late} calls the same ({each}), {late} left out as they take over {LONGEST} s; {took:.0f} s")
     print(f"slowest in the page: {slowest[1][:80]}, {slowest[0]:.0f} ms; most memory: {most[1][:80]}, {most[0] / 2**20:.0f} MiB")
     page.close()

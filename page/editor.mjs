@@ -81,13 +81,6 @@ export class Editor {
     this.lines.replaceChildren(...linesOf(this.text, Object.values(this.marks).flat()));
   }
 
-  // The place of a line and a column, counted in characters from 1.
-  place(line, column) {
-    const lines = this.text.split('\n');
-    const before = lines.slice(0, line - 1).reduce((sum, text) => sum + text.length + 1, 0);
-    return before + [...(lines[line - 1] ?? '')].slice(0, column - 1).join('').length;
-  }
-
   lineOf(place) {
     return this.text.slice(0, place).split('\n').length;
   }

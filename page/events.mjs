@@ -24,30 +24,17 @@ const WORDS = {
   Post: 'sends a message',
 };
 
-// The events, each Arrive with the node of the Depart before it: what an agent's process makes is of that agent too.
-function withDepartures(events) {
-  const agents = new Map();
-  const departed = new Map();
-  return events.map((event) => {
-    const agent = agents.get(event.actor);
-    if (event.kind === 'Agent') agents.set(event.made, event.made).set(event.further, event.made);
-    else if (event.made !== '-') agents.set(event.made, agent);
-    if (event.kind === 'Depart') departed.set(agent, event.node);
-    return event.kind === 'Arrive' ? { ...event, node: departed.get(agent) ?? event.node } : event;
-  });
-}
-
 // The events of a run at both levels, with the source and the sites that they are of.
 export class Run {
   constructor(source, sites, high, low) {
     this.source = source;
     this.sites = sites;
-    this.levels = { high: withDepartures(high), low: withDepartures(low) };
+    this.levels = { high, low };
     this.nodes = nodesOf(source);
   }
 
   event({ level, number }) {
-    return this.levels[level]?.[number];
+    return this.levels[level]?.event(number);
   }
 
   place(event) {
@@ -84,15 +71,16 @@ function rowOf(run, level, event, onChoose) {
 
 // Shows the events of a level.
 export function showEvents(run, level, onChoose) {
-  const events = run.levels[level] ?? [];
+  const trace = run.levels[level];
   const head = ['Event', 'What happens', 'Site', 'Source', 'Line'].map((word) => {
     const cell = made('th', '', word);
     cell.scope = 'col';
     return cell;
   });
-  const rows = events.slice(0, MOST_ROWS).map((event) => rowOf(run, level, event, onChoose));
+  const shown = Math.min(trace.length, MOST_ROWS);
+  const rows = Array.from({ length: shown }, (_, number) => rowOf(run, level, trace.event(number), onChoose));
   const table = made('table', '', made('thead', '', made('tr', '', ...head)), made('tbody', '', ...rows));
-  const more = Math.max(0, events.length - MOST_ROWS);
+  const more = trace.length - shown;
   const rest = made('p', 'hint', more ? `${plural(more, 'more event', 'more events')} in the history` : '');
   find('events').replaceChildren(table, rest);
 }

@@ -2,17 +2,18 @@
 
 import { find, made } from './dom.mjs';
 
-export const examples = JSON.parse(find('examples').textContent);
+const given = JSON.parse(find('examples').textContent);
+
+export const examples = given.sources;
 
 export function listExamples() {
-  const names = Object.keys(examples);
-  const isStep = (name) => name.startsWith('tutorial-');
-  const option = (name) => new Option(name, name);
-  const group = (label, part) => {
-    const element = made('optgroup', '', ...part.map(option));
+  const group = (label, options) => {
+    const element = made('optgroup', '', ...options.map(([text, name]) => new Option(text, name)));
     element.label = label;
     return element;
   };
-  find('example').append(group('Examples', names.filter((name) => !isStep(name))), group('Steps of the tutorial', names.filter(isStep)));
+  const steps = new Set(given.steps.map(([, name]) => name).filter((name) => name.startsWith('tutorial-')));
+  const others = Object.keys(examples).filter((name) => !steps.has(name));
+  find('example').append(group('Examples', others.map((name) => [name, name])), group('Steps of the tutorial', given.steps));
   find('example').value = 'letter.np';
 }

@@ -1,5 +1,5 @@
-// What a program asks of the system it runs on: words, texts by name, output, memory, and numbers of 128 bits. It has one thread: where
-// it wants to start another one it is told that there is none, and goes on by itself.
+// What a program asks of the system it runs on: words, texts by name, output, memory, a clock, and numbers of 128 bits. It has one thread:
+// where it wants to start another one it is told that there is none, and goes on by itself. No terminal is there, and no variable is set.
 
 import { Heap } from './heap.mjs';
 
@@ -67,6 +67,14 @@ class Host {
     this.heap.data().setBigUint64(Number(place) + 8, BigInt(block), true);
   }
 
+  // Stores how long this worker has been there, in seconds and in what is left of them in nanoseconds.
+  time(place) {
+    const all = Math.round(performance.now() * 1e6);
+    this.heap.data().setBigUint64(Number(place), BigInt(Math.floor(all / 1e9)), true);
+    this.heap.data().setBigUint64(Number(place) + 8, BigInt(all % 1e9), true);
+    return 0;
+  }
+
   wide(place, number) {
     this.heap.data().setBigUint64(Number(place), BigInt.asUintN(64, number), true);
     this.heap.data().setBigUint64(Number(place) + 8, BigInt.asUintN(64, number >> 64n), true);
@@ -86,6 +94,15 @@ function files(host) {
     rattle_set_errno: (error) => {
       host.error = error;
     },
+  };
+}
+
+function surroundings(host) {
+  return {
+    isatty: () => 0,
+    rattle_env: () => -1n,
+    rattle_env_at: () => -1n,
+    clock_gettime: (_clock, place) => host.time(place),
   };
 }
 
@@ -155,7 +172,7 @@ function statusOf(start) {
 // is its status and what it wrote; or no status and a fault, where it did not come to its end.
 export function called(module, words, texts) {
   const host = new Host(words, texts);
-  const env = { ...files(host), ...memory(host), ...threads(), ...numbers(host), ...ends() };
+  const env = { ...files(host), ...surroundings(host), ...memory(host), ...threads(), ...numbers(host), ...ends() };
   const instance = new WebAssembly.Instance(module, { env }).exports;
   host.heap = new Heap(instance.memory, Number(instance.__heap_base.value));
   const { status, fault } = statusOf(instance.started);

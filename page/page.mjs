@@ -1,23 +1,32 @@
 // The page: what is chosen, what is called, and what is shown of it.
 
-import { answerOf, eventsOf, faultElements, printedElements, readOff } from './answers.mjs';
+import { answerOf, faultElements, firstLines, printedElements, runsElements } from './answers.mjs';
 import { Diagnosis } from './diagnosis.mjs';
 import { decoded, find, made, plural } from './dom.mjs';
 import { Editor } from './editor.mjs';
 import { examples, listExamples } from './examples.mjs';
 import { Run, lightRow, showEvents, tellingOf } from './events.mjs';
 import { fragmentOf, sourceOf } from './link.mjs';
-import { COURSES, HISTORY, SOURCE, budget, chosen, level, offer, showOptions } from './options.mjs';
+import { COURSES, HISTORY, SOURCE, budget, chooseSeed, chosen, drawingOf, isLong, level, showOptions, stretchOf } from './options.mjs';
 import { Picture } from './picture.mjs';
 import { Programs, modulesOf } from './program.mjs';
 import { count, showTab, tabBeside } from './tabs.mjs';
 import { namesOf, tokensOf } from './tokens.mjs';
+import { readOff, traceOf } from './trace.mjs';
 
 const PAUSE = 200;
-const MOST_PICTURED = 6000;
-const MOST_LINES = 5000;
-const NO_SITES = 'A run at the high level has no history, and no picture: run the source on its sites.';
-const TOO_MANY = 'too many to be seen one by one: choose the other level, or a smaller budget.';
+const MOST_BYTES = 2 ** 27;
+const NO_SITES = 'A run at the high level has no history, and no picture: run the source on its sites, or by a seed.';
+const NO_LOW = 'This run is one of the source alone. Run it on its sites to see what they do.';
+const NOT_BOTH = 'Both levels are drawn of short runs only: choose one of them.';
+const NO_LINK = 'The link holds no source that can be read.';
+const NO_HISTORY = 'No history yet: run the source on its sites, or open one.';
+const WAITING = {
+  printed: 'Run the source: what it prints stands here.',
+  picture: 'Run the source: its picture stands here.',
+  events: 'Run the source: its events stand here.',
+  counts: '',
+};
 
 let programs = null; // runs, pictures and histories
 let checks = null; // checks while one types
@@ -25,6 +34,7 @@ let run = null; // the run that is shown, with its history
 let choice = null; // the event that is chosen
 let pending = 0; // the timer of the next check
 let checking = false;
+let calls = 0; // how many calls are under way
 
 const editor = new Editor(changed);
 const diagnosis = new Diagnosis(editor);
@@ -70,6 +80,7 @@ function judge(answer) {
   else if (answer.out.length) diagnosis.refused(decoded(answer.out));
   else diagnosis.clear(decoded(answer.err) || `No answer: ${answer.fault ?? `status ${answer.status}`}`);
   stale();
+  if (document.body.dataset.tab === 'low') showLow();
 }
 
 // Says where what is shown is of another source than the one that stands in the editor.
@@ -80,18 +91,25 @@ function stale() {
   for (const pane of ['printed', 'picture', 'events']) find(pane).classList.toggle('stale', old);
 }
 
+// Tells what a refusal is in general.
+async function explain() {
+  const answer = await checks.call('np_look', ['why', diagnosis.topic], {});
+  diagnosis.explain(decoded(answer.out));
+}
+
 // ---- runs
 
-function busy(is) {
-  find('stop').hidden = !is;
-  find('run').disabled = is;
-  document.body.setAttribute('aria-busy', String(is));
+function busy(change) {
+  calls += change;
+  find('stop').hidden = calls === 0;
+  find('run').disabled = calls > 0;
+  document.body.setAttribute('aria-busy', String(calls > 0));
 }
 
 async function called(program, words, texts) {
-  busy(true);
+  busy(1);
   const answer = await programs.call(program, words, texts);
-  busy(false);
+  busy(-1);
   const took = answer.stopped ? 'stopped' : `${Math.round(answer.milliseconds)} ms, status ${answer.status}`;
   status(`${program} ${words.join(' ')}: ${took}`);
   return answer;
@@ -101,28 +119,36 @@ async function start() {
   const source = editor.text;
   const kind = chosen('infrastructure');
   const course = chosen('course');
+  const drawing = drawingOf(course);
   const [program, words] = COURSES[course]();
   const answer = await called(program, words, { [SOURCE]: source });
   if (document.body.dataset.tab === 'source' || document.body.dataset.tab === 'low') openTab('printed');
-  if (course.startsWith('runs')) return showRuns(answer);
-  await shown(answer, source, kind);
+  if (course.startsWith('runs')) showRuns(answer);
+  else shown(answer, source, kind, drawing);
 }
 
+const isDone = (answer) => answer.status === 0 || answer.status === 1;
+const sitesOf = (source) => namesOf(tokensOf(source)).sites;
+
 // Shows what a run wrote, with its history.
-async function shown(answer, source, kind) {
-  if (answer.status !== 0 && answer.status !== 1) return refused(answer);
+function shown(answer, source, kind, drawing = null) {
+  if (!isDone(answer)) return refused(answer);
+  if (answer.out.length > MOST_BYTES) return tooLong(answer);
   const said = answerOf(answer.out);
-  const { sites } = namesOf(tokensOf(source));
-  const low = eventsOf(said.history);
-  run = new Run(source, sites, said.high ? eventsOf(said.high) : readOff(low), low);
-  run.infrastructure = kind;
-  run.history = said.history ? `${said.history.join('\n')}\n` : null;
+  const low = traceOf(said.history, false);
+  run = new Run(source, sitesOf(source), said.high ? traceOf(said.high, true) : readOff(low), low);
+  Object.assign(run, { infrastructure: kind, drawing, history: said.history });
   find('printed').replaceChildren(...printedElements(said));
-  count('printed', said.printed.length);
-  count('events', run.levels.high.length || run.levels.low.length);
-  count('history', run.history ? run.levels.low.length : null);
-  showHistory('The history of this run.');
+  counts(said.count);
+  showHistory('The history of this run.', said.history);
   afterRun();
+}
+
+function counts(printed) {
+  const { high, low } = run.levels;
+  count('printed', printed);
+  count('events', high.length || low.length);
+  count('history', run.history ? low.length : null);
 }
 
 const counted = ({ high, low }) => `${plural(high.length, 'event', 'events')} read off ${low.length.toLocaleString('en')} of the sites`;
@@ -133,6 +159,8 @@ function afterRun() {
   showEvents(run, high ? 'high' : 'low', choose);
   find('counts').replaceChildren(run.history && high ? counted(run.levels) : '');
   find('save').disabled = run.history === null;
+  find('from').value = 1;
+  pastOf(null);
   picture.clear();
   stale();
   if (document.body.dataset.tab === 'picture') draw();
@@ -146,32 +174,72 @@ function refused(answer) {
   check();
 }
 
+function tooLong(answer) {
+  forget();
+  const size = Math.round(answer.out.length / 2 ** 20).toLocaleString('en');
+  const text = `The text of the run has ${size} MiB: too much for this page. Choose a smaller budget.`;
+  find('printed').replaceChildren(made('p', 'fault', text));
+}
+
 // What many runs by seeds printed, in the place of one run.
 function showRuns(answer) {
   forget();
-  const text = decoded(answer.out);
-  const done = (answer.status === 0 || answer.status === 1) && text;
-  find('printed').replaceChildren(...(done ? [made('pre', '', text)] : faultElements(answer)));
-  count('printed', null);
+  openTab('printed');
+  const elements = isDone(answer) ? runsElements(decoded(answer.out), runSeed) : faultElements(answer);
+  find('printed').replaceChildren(...elements);
+  if (!isDone(answer)) check();
+}
+
+function runSeed(seed) {
+  chooseSeed(seed);
+  showOptions();
+  start();
 }
 
 // ---- the picture
 
+// Draws the run as it is asked for, unless that picture stands there.
 async function draw() {
-  if (!run || run.drawn === level()) return;
+  if (!run) return;
   const wanted = level();
-  run.drawn = wanted;
-  if (!run.history) return picture.clear(made('p', 'hint', NO_SITES));
+  const hint = noPicture(wanted);
   const events = eventsIn(wanted);
-  if (events > MOST_PICTURED) return picture.clear(made('p', 'hint', `There are ${events.toLocaleString('en')} events, ${TOO_MANY}`));
-  const words = ['picture', SOURCE, HISTORY, '--level', wanted, ...infrastructure()];
-  const answer = await called('np_look', words, { [SOURCE]: run.source, [HISTORY]: run.history });
-  if (answer.status !== 0 && answer.status !== 1) return picture.clear(...faultElements(answer));
-  picture.show(decoded(answer.out), wanted);
+  const { words, before } = stretchOf(hint ? 0 : events);
+  const key = [wanted, before, run.past].join();
+  if (run.drawn === key) return;
+  const drawn = run;
+  run.drawn = key;
+  if (hint) return picture.clear(made('p', 'hint', hint));
+  const answer = await called('np_look', [...pictured(wanted), ...words], { [SOURCE]: run.source, [HISTORY]: run.history ?? '' });
+  if (answer.stopped) drawn.drawn = null;
+  if (drawn !== run || (drawn.drawn ?? key) !== key) return;
+  if (!isDone(answer)) return picture.clear(...faultElements(answer));
+  picture.show(decoded(answer.out), wanted, before);
   if (choice) light();
 }
 
-const eventsIn = (level) => run.levels[level === 'high' ? 'high' : 'low'].length;
+// Why there is no picture of a level, if there is none.
+function noPicture(wanted) {
+  if (run.history) return wanted === 'both' && isLong(run.levels.low.length) ? NOT_BOTH : null;
+  if (!run.drawing) return NO_SITES;
+  return wanted === 'high' ? null : NO_LOW;
+}
+
+function pictured(wanted) {
+  const past = run.past ? ['--past', run.past] : [];
+  if (!run.history) return ['picture', SOURCE, '--level', wanted, ...run.drawing];
+  return ['picture', SOURCE, HISTORY, '--level', wanted, ...past, ...infrastructure()];
+}
+
+// How many events a level has; where that is not known of what is read off, it has no more than the sites.
+const eventsIn = (wanted) => (wanted === 'high' ? run.levels.high.length || run.levels.low.length : run.levels.low.length);
+
+// Draws pale what did not lead to a printed line, or all as strong again.
+function pastOf(line) {
+  if (run) run.past = line;
+  find('whole').hidden = line === null;
+  find('whole').replaceChildren(line === null ? '' : `All, not only what led to line ${line}`);
+}
 
 // ---- an event
 
@@ -205,13 +273,10 @@ async function showLow() {
   find('low').replaceChildren(answer.status === 0 ? decoded(answer.out) : decoded(answer.err) || 'No low text.');
 }
 
-function showHistory(title) {
-  const history = run?.history ?? null;
-  find('acts').hidden = history === null;
-  find('history-of').replaceChildren(history ? title : 'No history yet: run the source on its sites, or open one.');
-  const lines = history ? history.split('\n') : [];
-  const rest = lines.length > MOST_LINES ? `\n${plural(lines.length - MOST_LINES, 'more line', 'more lines')}` : '';
-  find('history').replaceChildren(lines.slice(0, MOST_LINES).join('\n') + rest);
+function showHistory(title, text) {
+  find('acts').hidden = text === null;
+  find('history-of').replaceChildren(text === null ? NO_HISTORY : title);
+  find('history').replaceChildren(firstLines(text ?? ''));
   find('told').replaceChildren();
 }
 
@@ -222,16 +287,15 @@ const texts = () => ({ [SOURCE]: editor.text, [HISTORY]: run.history });
 async function openHistory() {
   const [file] = find('file').files;
   if (!file) return;
-  const text = new Uint8Array(await file.arrayBuffer());
+  const bytes = new Uint8Array(await file.arrayBuffer());
   find('file').value = '';
-  run = new Run(editor.text, namesOf(tokensOf(editor.text)).sites, [], []);
-  run.infrastructure = chosen('infrastructure');
-  run.history = decoded(text);
+  forget();
+  run = new Run(editor.text, sitesOf(editor.text), traceOf(null, true), traceOf(null, false));
+  Object.assign(run, { infrastructure: chosen('infrastructure'), drawing: null, history: bytes });
   find('printed').replaceChildren(made('p', 'hint', 'A history is open: replay it, or resume it.'));
-  count('printed', null);
-  count('history', null);
+  find('save').disabled = false;
   openTab('history');
-  showHistory(`Opened: ${file.name}`);
+  showHistory(`Opened: ${file.name}`, `${decoded(bytes.subarray(0, MOST_BYTES))}\n`);
   await replay();
 }
 
@@ -239,13 +303,11 @@ async function openHistory() {
 async function replay() {
   const answer = await called('np', ['replay', SOURCE, HISTORY, ...infrastructure()], texts());
   if (answer.status !== 0) return historyRefused(answer);
-  const { printed, end } = answerOf(answer.out);
-  find('told').replaceChildren(made('div', 'printed', ...printedElements({ printed, end })));
-  find('printed').replaceChildren(...printedElements({ printed, end }));
-  count('printed', printed.length);
+  const said = answerOf(answer.out);
+  find('told').replaceChildren(made('div', 'printed', ...printedElements(said)));
+  find('printed').replaceChildren(...printedElements(said));
   await takeEvents();
-  count('history', run.levels.low.length);
-  count('events', run.levels.high.length || run.levels.low.length);
+  counts(said.count);
   afterRun();
 }
 
@@ -253,17 +315,20 @@ async function replay() {
 async function takeEvents() {
   const answer = await called('np', ['upgrade', HISTORY], { [HISTORY]: run.history });
   const { infrastructure: kind, history, levels } = run;
-  const low = eventsOf(answerOf(answer.out).history);
-  run = new Run(editor.text, namesOf(tokensOf(editor.text)).sites, kind === 'central' ? readOff(low) : levels.high, low);
-  Object.assign(run, { infrastructure: kind, history });
+  const low = traceOf(answerOf(answer.out).history, false);
+  run = new Run(editor.text, sitesOf(editor.text), kind === 'central' ? readOff(low) : levels.high, low);
+  Object.assign(run, { infrastructure: kind, drawing: null, history });
 }
 
+// Shows what led to a printed line, here and in the picture.
 async function past() {
-  const answer = await called('np', ['past', SOURCE, HISTORY, '--line', chosen('line'), ...infrastructure()], texts());
+  const line = chosen('line');
+  const answer = await called('np', ['past', SOURCE, HISTORY, '--line', line, ...infrastructure()], texts());
   if (answer.status !== 0) return historyRefused(answer);
   const said = answerOf(answer.out);
-  const events = made('pre', '', said.history.join('\n'));
+  const events = made('pre', '', firstLines(said.history));
   find('told').replaceChildren(made('div', 'printed', ...printedElements(said)), events);
+  pastOf(line);
 }
 
 async function resume() {
@@ -271,9 +336,9 @@ async function resume() {
   const words = ['resume', SOURCE, HISTORY, '--serial', '--history', '--high', ...budget(), '--infra', kind];
   const source = editor.text;
   const answer = await called('np', words, texts());
-  if (answer.status !== 0 && answer.status !== 1) return historyRefused(answer);
-  await shown(answer, source, kind);
-  find('told').replaceChildren(made('div', 'printed', ...printedElements(answerOf(answer.out))));
+  if (!isDone(answer)) return historyRefused(answer);
+  shown(answer, source, kind);
+  if (run) find('told').replaceChildren(...[...find('printed').children].map((element) => element.cloneNode(true)));
 }
 
 // Tells why a history is refused.
@@ -296,11 +361,13 @@ function saveHistory() {
 function forget() {
   run = null;
   choose(null);
+  pastOf(null);
+  stretchOf(0);
   picture.clear();
-  showHistory('');
+  showHistory('', null);
   find('save').disabled = true;
   for (const name of ['printed', 'events', 'history']) count(name, null);
-  for (const pane of ['printed', 'events', 'counts']) find(pane).replaceChildren();
+  for (const [pane, words] of Object.entries(WAITING)) find(pane).replaceChildren(made('span', 'hint', words));
   stale();
 }
 
@@ -325,7 +392,10 @@ function load(source) {
 
 function fromLink() {
   const source = sourceOf(location.hash);
-  if (source === null) return false;
+  if (source === null) {
+    if (location.hash) status(NO_LINK);
+    return false;
+  }
   load(source);
   return true;
 }
@@ -345,6 +415,11 @@ function listenToButtons() {
   on('resume', 'click', resume);
   on('past', 'click', past);
   on('drop', 'click', forget);
+  on('explain', 'click', explain);
+  on('whole', 'click', () => {
+    pastOf(null);
+    draw();
+  });
   on('more', 'click', () => find('more').setAttribute('aria-expanded', String(document.body.classList.toggle('open'))));
 }
 
@@ -357,6 +432,7 @@ function listenToChoices() {
     if (run?.levels[level()]?.length) showEvents(run, level(), choose);
     draw();
   });
+  on('from', 'change', draw);
   on('tabs', 'click', (event) => event.target.closest('[role=tab]') && openTab(event.target.closest('[role=tab]').dataset.tab));
   on('tabs', 'keydown', moveTab);
   addEventListener('hashchange', fromLink);
@@ -372,12 +448,12 @@ async function begin() {
   listenToChoices();
   showOptions();
   editor.text = examples['letter.np'];
+  forget();
   find('run').disabled = true;
   const modules = await modulesOf(['np', 'np_look']);
   const script = JSON.parse(find('worker').textContent);
   programs = new Programs(modules, script);
   checks = new Programs(modules, script);
-  await offer(checks);
   find('run').disabled = false;
   if (!fromLink()) await check();
   globalThis.np = { call: (program, words, given) => programs.call(program, words, given) };

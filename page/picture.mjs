@@ -45,7 +45,8 @@ export class Picture {
     this.pane.replaceChildren(...content);
   }
 
-  show(text, level) {
+  // Shows a picture of a level, whose first event is the one behind so many others.
+  show(text, level, before) {
     const svg = pictureOf(text);
     if (!svg) return this.clear(made('p', 'fault', 'np_look wrote no picture that this page can show.'));
     const host = made('div', 'shown');
@@ -58,6 +59,7 @@ export class Picture {
     this.pane.classList.add('picks');
     this.svg = svg;
     this.level = level;
+    this.before = before;
     this.marks = [...svg.querySelectorAll('circle[data-e]')];
     this.chosen = null;
   }
@@ -78,7 +80,7 @@ export class Picture {
   }
 
   eventOf(mark) {
-    return Number(mark.getAttribute('data-e'));
+    return this.before + Number(mark.getAttribute('data-e'));
   }
 
   // The level of a mark: where both stand side by side, the source is at the left.

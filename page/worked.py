@@ -1,13 +1,15 @@
-"""Calls of np that can be made as they stand: those of the worked examples, and of each source and history of examples/."""
+"""Calls of np and np_look that can be made as they stand: those of the worked examples, and of each source and history of examples/."""
 
 import glob
 import os
 import re
+import subprocess
 
 TOP = os.path.dirname(os.path.dirname(os.path.abspath(__file__)))
 EXAMPLES = os.path.join(TOP, "examples")
-# What needs a device that fails, or the program of the examples itself.
-NOT_CALLS = re.compile(rb"^(fail|piece|low run|low with|replays (?!itself)|resumes)", re.M)
+LOOK_EXAMPLES = os.path.join(TOP, "crates", "look_examples", "data")
+# What needs a device that fails.
+NOT_CALLS = re.compile(rb"^(fail|piece)", re.M)
 PIECE = re.compile(rb'^(\d+ )?"(.*)"$')
 
 
@@ -114,34 +116,51 @@ def source_calls():
         yield "np", ["upgrade", history], texts
 
 
-def look_calls(help_text, picture_help):
-    """Calls of np_look: pictures, diagnoses and help; runs by a seed where it has them."""
+LEVELS = ("high", "low", "both")
+INFRASTRUCTURES = ("central", "cache")
+MODES = ("picture", "page", "shiviz", "why", "run", "runs", "follow")
+LARGE = ("ring-10.np", "ring-100.np")
+
+
+def look_calls(programs):
+    """Calls of each mode of np_look. The high texts that it follows are written by these native programs."""
     yield "np_look", [], {}
-    for words in ("--help", "picture --help", "why --help", "nothing", "why Mismatch", "why 10", "why none.np"):
+    for words in ("--help", "--version", "nothing", "why Mismatch", "why 10", "why none.np", *(f"{mode} --help" for mode in MODES)):
         yield "np_look", words.split(), {}
-    levels = ["high", "low"] + (["both"] if re.search(r"\bboth\b", picture_help) else [])
     for name in names("*.np"):
-        texts = {name: read(name)}
-        yield "np_look", ["why", name], texts
-        for level in levels:
-            for infra in ("central", "cache"):
-                yield "np_look", ["picture", name, "--level", level, "--infra", infra, "--budget", "2000"], texts
+        yield from source_looks(name)
+        high = subprocess.run([programs["np"], "high", name, "--history"], cwd=EXAMPLES, capture_output=True, check=False).stdout
+        yield "np_look", ["follow", name, "high"], {name: read(name), "high": high}
+        yield "np_look", ["follow", name, "high"], {name: read(name), "high": high.replace(b"Print", b"Stop", 1)}
     for history, name in HISTORIES.items():
         texts = {name: read(name), history: read(history), "cut": read(history)[:-30]}
-        yield "np_look", ["picture", name, history], texts
-        yield "np_look", ["why", name, history], texts
+        for mode in ("picture", "page", "shiviz", "why"):
+            yield "np_look", [mode, name, history], texts
+        yield "np_look", ["picture", name, history, "--level", "high", "--past", "1"], texts
         yield "np_look", ["why", name, "cut"], texts
-    yield from seeded_calls(help_text)
     yield from told_calls()
+    yield from told_examples()
 
 
-def seeded_calls(help_text):
-    small = [it for it in names("*.np") if it not in ("ring-10.np", "ring-100.np")]
-    for name in small if re.search(r"(?m)^ +run\b", help_text) else []:
+def source_looks(name):
+    """What is drawn and told of a source."""
+    texts = {name: read(name)}
+    yield "np_look", ["why", name], texts
+    for infra in INFRASTRUCTURES:
+        way = ["--infra", infra, "--budget", "2000"]
+        for level in LEVELS:
+            yield "np_look", ["picture", name, "--level", level, *way], texts
+            yield "np_look", ["picture", name, "--level", level, *way, "--past", "1"], texts
+            yield "np_look", ["picture", name, "--level", level, *way, "--seed", "3"], texts
         for level in ("high", "low"):
-            yield "np_look", ["run", name, "--seed", "7", "--level", level, "--history"], {name: read(name)}
-    for name in small if re.search(r"(?m)^ +runs\b", help_text) else []:
-        yield "np_look", ["runs", name, "--runs", "20"], {name: read(name)}
+            yield "np_look", ["picture", name, "--level", level, *way, "--from", "3", "--to", "40"], texts
+            yield "np_look", ["picture", name, "--level", level, *way, "--agent", "main"], texts
+            yield "np_look", ["run", name, "--seed", "7", "--level", level, "--history", *way], texts
+        yield "np_look", ["page", name, *way], texts
+        yield "np_look", ["page", name, *way, "--seed", "3"], texts
+    for level in ("high", "low") if name not in LARGE else ():
+        yield "np_look", ["runs", name, "--runs", "20", "--level", level], texts
+        yield "np_look", ["runs", name, "--runs", "20", "--level", level, "--from", "5", "--unordered"], texts
 
 
 def told_calls():
@@ -153,3 +172,32 @@ def told_calls():
         if is_new and words and words[0] in ("check", "show", "run", "high", "low"):
             seen.add(source)
             yield "np_look", ["why", "a"], {"a": source}
+
+
+ESCAPE = re.compile(rb"\\(\\|t|r|x[0-9a-f]{2})")
+ESCAPED = {b"\\": b"\\", b"t": b"\t", b"r": b"\r"}
+
+
+def unescaped(line):
+    return ESCAPE.sub(lambda it: ESCAPED.get(it.group(1)) or bytes([int(it.group(1)[1:], 16)]), line)
+
+
+def told_examples():
+    """The examples of what np_look tells: each begins with its words, and has files, whose lines stand behind a bar."""
+    for file in sorted(glob.glob(os.path.join(LOOK_EXAMPLES, "*.txt"))):
+        with open(file, "rb") as text:
+            blocks = re.split(rb"^words ", text.read(), flags=re.M)[1:]
+        for block in blocks:
+            words, *lines = block.split(b"\n")
+            yield "np_look", words.decode().split(" "), files_of(lines)
+
+
+def files_of(lines):
+    files, name = {}, None
+    for line in lines:
+        if line.startswith(b"file "):
+            name = line[5:].decode()
+            files[name] = []
+        elif line.startswith(b"|"):
+            files[name].append(unescaped(line[2:]))
+    return {name: b"\n".join(parts) for name, parts in files.items()}
