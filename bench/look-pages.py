@@ -88,9 +88,9 @@ class Browser:
         )
         os.close(told)
         os.close(hear)
-        self.number, self.bytes, self.events, self.session = 0, b"", [], None
+        self.number, self.bytes, self.events, self.tab = 0, b"", [], None
         target = self.ask("Target.createTarget", url="about:blank")["targetId"]
-        self.session = self.ask("Target.attachToTarget", targetId=target, flatten=True)["sessionId"]
+        self.tab = self.ask("Target.attachToTarget", targetId=target, flatten=True)["sessionId"]
         for domain in ("Page", "Runtime", "Log"):
             self.ask(f"{domain}.enable")
 
@@ -104,8 +104,8 @@ class Browser:
 
     def send(self, number, method, params):
         message = {"id": number, "method": method, "params": params}
-        if self.session:
-            message["sessionId"] = self.session
+        if self.tab:
+            message["sessionId"] = self.tab
         os.write(self.tell, json.dumps(message).encode() + b"\0")
 
     def ask(self, method, **params):
@@ -161,7 +161,7 @@ class Browser:
             out.write(base64.b64decode(data))
 
     def end(self):
-        self.session = None
+        self.tab = None
         self.send(0, "Browser.close", {})
         self.child.wait(timeout=30)
 

@@ -1,5 +1,5 @@
 -- A page is formed, since its pictures are.
-use Rattle.std.proofs.Common.{◌≡◌, ℕ, List, subst, sym, ap, ◌∙◌}
+use Rattle.std.proofs.Common.{◌≡◌, ℕ, List, subst, sym, ap}
 use Rattle.markup_text.specs.Formed.{IsFormed, MarkupIsFormed}
 use Rattle.run_pictures.specs.declared.step.Step.{Step}
 use Rattle.picture_svg.specs.declared.style.TheConstants.{STYLE as PICTURES}

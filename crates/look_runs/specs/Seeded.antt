@@ -1,6 +1,5 @@
 -- What a run by seed is, and what is written of it (docs/SCHEDULES.md, "What is proved").
 use Rattle.std.specs.Prelude.{◌≡◌, ℕ, List}
-use Rattle.np_syntax.specs.declared.event.End.{End}
 use Rattle.np_syntax.specs.declared.program.LowProgram.{LowProgram}
 use Rattle.np_syntax.specs.declared.program.Program.{Program}
 use Rattle.np_calculus.specs.Starts.{start_high, start_low}

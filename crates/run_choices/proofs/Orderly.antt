@@ -1,17 +1,16 @@
 -- What holds along a run that is ours: which names are new, at which sites agents are, and what is left on the links.
-use Rattle.std.proofs.Common.{◌≡◌, ◌⊎◌, inl, inr, ⊎_elim, ℕ, ◌+◌, ◌<◌, ◌≤◌, Bool, true, false, cond, nat_eq, nat_lt}
-use Rattle.std.proofs.Common.{List, [], ◌∷◌, ◌++◌, length, take, Option, None, Some, IsSome, refl, sym, ap, subst, ◌∙◌, arith}
+use Rattle.std.proofs.Common.{◌≡◌, ℕ, ◌+◌, ◌<◌, ◌≤◌, Bool, true, false, cond, nat_eq, nat_lt}
+use Rattle.std.proofs.Common.{List, [], ◌∷◌, ◌++◌, length, take, Option, None, Some, refl, sym, ap, subst, ◌∙◌, arith}
 use Rattle.std.specs.Prelude.{IfSome}
 use Rattle.std.proofs.Math.Seq.{take-append_seam}
 use Rattle.std.proofs.lemmas.Bool.{eq-eqb, eqb-true}
 use Rattle.std.proofs.lemmas.List.{append-nil, append_assoc}
-use Rattle.std.specs.Option.{option_map}
 use Rattle.std.specs.FinMap as map
 use Rattle.std.specs.FinSet as set
 use Rattle.np_syntax.specs.Options.{◌>>=◌}
 use Rattle.np_syntax.proofs.Options.{done, none_of, then, when}
 use Rattle.np_calculus.proofs.Common.{Name, Event, Kind, Made, NameSet, same_name, same_name-is, same_name-itself, Config, Contents, inside, Change}
-use Rattle.np_calculus.proofs.Common.{Write, apply, act, acting_in, acting, change, layer, sight, Expr, Env, eval, out-Value, way}
+use Rattle.np_calculus.proofs.Common.{apply, act, acting_in, change, layer, sight, Expr, Env, eval, out-Value, way}
 use Rattle.np_syntax.specs.declared.event.Kind.TheVariants as kind
 use Rattle.np_syntax.specs.declared.event.Made.TheVariants as made
 use Rattle.np_tables.proofs.Tables.{born_insert}
@@ -37,7 +36,7 @@ use Rattle.run_save.specs.declared.trips.Item.{Item}
 use Rattle.run_save.specs.declared.trips.Item.TheVariants as item
 use Rattle.run_save.specs.declared.trips.Trip.{Trip}
 use Rattle.run_save.specs.Left.{link, names_made}
-use Rattle.run_save.specs.Ours.{AreNext, GoesOn, IsOursFrom, TakesPutFirst, names_by, names_of}
+use Rattle.run_save.specs.Ours.{AreNext, GoesOn, IsOursFrom, TakesPutFirst, names_of}
 use Rattle.run_save.specs.Travels.{IsFirstInFirstOut, Travels, departure, none_yet, puts, same_item, sending, takes as taken_now, travels, travels_on}
 use Rattle.run_save.proofs.LinkLaws.{same_item-itself}
 use Rattle.np_agents.specs.Placed.{travels as under_way}

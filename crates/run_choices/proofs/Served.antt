@@ -18,7 +18,7 @@ use Rattle.np_calculus.specs.declared.config.Atom.{Atom}
 use Rattle.np_calculus.specs.declared.config.Packet.{Packet}
 use Rattle.np_calculus.specs.declared.config.Place.{Place}
 use Rattle.np_calculus.specs.declared.config.Place.TheVariants as place
-use Rattle.np_calculus.specs.Begins.{arrival, begun_by, event_at, landing, made_by, made_there}
+use Rattle.np_calculus.specs.Begins.{begun_by, event_at, made_by, made_there}
 use Rattle.np_calculus.specs.Config.{Config}
 use Rattle.np_calculus.specs.NotEnabled.{by_atom}
 use Rattle.np_calculus.specs.Reductions.{apply, run, way}
@@ -27,14 +27,14 @@ use Rattle.np_serial.proofs.SerialEvents.{run-push}
 use Rattle.run_save.specs.declared.trips.Item.{Item}
 use Rattle.run_save.specs.declared.trips.Item.TheVariants as item
 use Rattle.run_save.specs.Left.{first_beside, left_on, link, names_made}
-use Rattle.run_save.specs.Ours.{AreNext, GoesOn, IsOursFrom, IsPutFirst, TakesPutFirst, names_of}
+use Rattle.run_save.specs.Ours.{AreNext, IsOursFrom, IsPutFirst, TakesPutFirst, names_of}
 use Rattle.run_save.specs.Travels.{Travels, on_link, travels}
 use Rattle.run_save.proofs.GoingOn.{ours-goes-on}
 use Rattle.run_save.proofs.RunLaws.{prefix-ours}
 use Rattle.choice_lists.specs.declared.choice.Choice.{Choice}
 use Rattle.choice_lists.specs.declared.choice.Choice.TheVariants as choice
 use Rattle.choice_lists.specs.declared.choice.Draw.{Draw}
-use Rattle.choice_lists.specs.Choices.{IsChoice, begun, begun_at, choice_by, choice_of, event_by}
+use Rattle.choice_lists.specs.Choices.{begun, begun_at, choice_by, choice_of, event_by}
 use Rattle.choice_lists.specs.Held.{Held, Lists}
 use Rattle.run_choices.specs.InTurn.{EachOwnRun, EachServes, MakesInTurn, coming, event_behind, event_drawn, in_turn, in_turn_at, in_turn_of, later_name, next_name, own_event, seat, seat_of}
 use Rattle.run_choices.specs.Runs.{Orders}

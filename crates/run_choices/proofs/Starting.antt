@@ -1,5 +1,5 @@
 -- The low start of a program is one from which its sites run.
-use Rattle.std.proofs.Common.{◌≡◌, ◌<◌, ℕ, ⊎_elim, length, sym, subst, arith}
+use Rattle.std.proofs.Common.{◌<◌, ⊎_elim, length, sym, subst, arith}
 use Rattle.np_syntax.specs.declared.program.LowProgram.{LowProgram}
 use Rattle.np_calculus.specs.declared.config.Place.{Place}
 unfoldable use Rattle.np_calculus.specs.Starts.{start_low}

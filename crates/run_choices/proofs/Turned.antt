@@ -1,5 +1,5 @@
 -- The sites can make each choice: what comes stands for what is first on its link, and an atom makes the next names of its site.
-use Rattle.std.proofs.Common.{◌≡◌, ℕ, ◌+◌, ◌<◌, ◌≤◌, Bool, true, false, cond, is_some, List, [], ◌∷◌, ◌++◌, length, Option, None, Some, MatchBool, refl, sym, ap, subst, ◌∙◌, arith}
+use Rattle.std.proofs.Common.{◌≡◌, ℕ, ◌+◌, ◌<◌, Bool, true, false, cond, is_some, List, [], ◌∷◌, ◌++◌, Option, None, Some, refl, sym, ap, subst, ◌∙◌, arith}
 use Rattle.std.specs.Option.{option_map, option_map_or}
 use Rattle.std.specs.FinMap as map
 use Rattle.np_syntax.specs.Options.{◌>>=◌}
@@ -18,20 +18,19 @@ use Rattle.np_calculus.specs.declared.config.Atom.{Atom}
 use Rattle.np_calculus.specs.declared.config.Packet.{Packet}
 use Rattle.np_calculus.specs.declared.config.Place.{Place}
 use Rattle.np_calculus.specs.declared.config.Place.TheVariants as place
-use Rattle.np_calculus.specs.Begins.{AreNew, arrival, begun_by, event_at, landing, made_by, made_there}
+use Rattle.np_calculus.specs.Begins.{AreNew, begun_by, made_by, made_there}
 use Rattle.np_calculus.specs.Config.{Config}
 use Rattle.np_calculus.specs.NotEnabled.{by_atom}
 use Rattle.np_calculus.specs.Reductions.{apply, run, way}
 use Rattle.np_calculus.specs.Seen.{is_at}
 use Rattle.np_calculus.specs.Well.{Has}
 use Rattle.np_configuration.specs.Errands.{errand_of}
-use Rattle.np_configuration.proofs.ErrandForms.{mapped_from}
-use Rattle.np_serial.specs.Serial.{IsEnabled, IsReached}
+use Rattle.np_serial.specs.Serial.{IsReached}
 use Rattle.run_save.specs.declared.notes.Notes.{Notes}
 use Rattle.run_save.specs.declared.trips.Item.{Item}
 use Rattle.run_save.specs.declared.trips.Item.TheVariants as item
 use Rattle.run_save.specs.Left.{first_beside, names_made, noted_count, noted_first}
-use Rattle.run_save.specs.Notes.{AreNoted, IsNoted}
+use Rattle.run_save.specs.Notes.{IsNoted}
 use Rattle.run_save.specs.Ours.{AreNext, GoesOn, IsOursFrom, IsPutFirst, TakesPutFirst, names_of}
 use Rattle.run_save.specs.Travels.{Travels, travels}
 use Rattle.run_save.proofs.GoingOn.{ours-goes-on}
@@ -39,7 +38,7 @@ use Rattle.run_save.proofs.LeftLaws.{count-noted, first-noted}
 use Rattle.run_save.proofs.RunLaws.{order-whole}
 use Rattle.choice_lists.specs.declared.choice.Choice.{Choice}
 use Rattle.choice_lists.specs.declared.choice.Choice.TheVariants as choice
-use Rattle.choice_lists.specs.Choices.{IsChoice, begun, begun_at, errand_in, event_by}
+use Rattle.choice_lists.specs.Choices.{IsChoice, begun, begun_at}
 use Rattle.run_choices.specs.InTurn.{EachIsServed, IsCourse, IsOwnRun, IsServed, coming, event_behind, event_in_turn, in_turn, in_turn_at, in_turn_of, later_name, next_name, own_event, seat, seat_of, site_of}
 use Rattle.run_choices.proofs.Carried.{bound, first-left, heading, target}
 use Rattle.run_choices.proofs.Chosen.{travels-way}

@@ -1,4 +1,4 @@
-use Rattle.std.proofs.Common.{◌≡◌, map, subst, take, ap, ◌∙◌}
+use Rattle.std.proofs.Common.{map, subst, take, ap, ◌∙◌}
 use Rattle.picture_svg.specs.Pictures.{IsPicture}
 use Rattle.look_pages.specs.declared.drafts.TheConstants.{MOST_ROWS}
 use Rattle.look_pages.specs.ShownPages.{line_of}

@@ -1,7 +1,6 @@
-use Rattle.std.proofs.Common.{◌≡◌, map, ap, subst, sym, ◌∙◌}
+use Rattle.std.proofs.Common.{map, ap, subst, ◌∙◌}
 use Rattle.run_pictures.specs.declared.step.Followed.{Followed}
 use Rattle.run_pictures.specs.declared.step.Step.{Step}
-use Rattle.source_words.specs.Words.{source_of}
 use Rattle.np_on_sites.specs.ByInfrastructure.{lift_by}
 use Rattle.look_pages.specs.ShownPages.{IsPageOfSteps}
 use Rattle.look_pages.proofs.pages.page_of.Goals as goal

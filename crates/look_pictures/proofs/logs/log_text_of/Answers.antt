@@ -1,4 +1,4 @@
-use Rattle.std.proofs.Common.{◌≡◌, ap, ◌∙◌}
+use Rattle.std.proofs.Common.{ap, ◌∙◌}
 use Rattle.shiviz_log.specs.Logs.{log}
 use Rattle.look_pictures.proofs.logs.log_text_of.Goals as goal
 

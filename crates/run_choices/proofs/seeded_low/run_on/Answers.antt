@@ -1,4 +1,4 @@
-use Rattle.std.proofs.Common.{◌≡◌, ◌∷◌, ◌++◌, [], ◌≤◌, ◌+◌, ℕ, length, length-append, List, Some, refl, sym, ap, subst, ◌∙◌, arith}
+use Rattle.std.proofs.Common.{◌≡◌, ◌∷◌, [], ◌≤◌, ℕ, length, length-append, List, Some, sym, ap, subst, ◌∙◌, arith}
 use Rattle.np_syntax.specs.Options.{◌>>=◌}
 use Rattle.np_syntax.specs.declared.event.Event.{Event}
 use Rattle.np_calculus.specs.Reductions.{run}
@@ -8,7 +8,7 @@ use Rattle.rand_pcg.specs.Pcg.{pcg32}
 use Rattle.run_save.specs.Notes.{AreNoted}
 use Rattle.run_save.specs.Ours.{IsOursFrom}
 use Rattle.run_save.proofs.RunLaws.{nothing-ours}
-use Rattle.choice_lists.specs.Draws.{behind, draws, seeded}
+use Rattle.choice_lists.specs.Draws.{draws, seeded}
 use Rattle.run_choices.specs.Made.{AreMade}
 use Rattle.choice_lists.specs.Held.{held}
 use Rattle.run_choices.specs.InTurn.{MakesNext, event_behind, event_drawn}

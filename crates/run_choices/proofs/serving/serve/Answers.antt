@@ -1,6 +1,5 @@
-use Rattle.std.proofs.Common.{◌≡◌, ◌∷◌, ◌++◌, [], List, sym, ap, subst, ◌∙◌}
+use Rattle.std.proofs.Common.{List, sym, subst}
 use Rattle.np_syntax.specs.declared.event.Event.{Event}
-use Rattle.np_calculus.specs.Reductions.{run}
 use Rattle.np_serial.proofs.SerialEvents.{run-push}
 use Rattle.run_choices.specs.InTurn.{IsCourse}
 use Rattle.run_choices.proofs.Turned.{course-goes-on}
