@@ -74,21 +74,11 @@ module _ {work : NameMap Errand} {atoms : NameMap Atom} {packets : NameMap Packe
   pub kept-flight : IsKept work atoms packets born → (m : Name) (p : Packet) → map.get packets m ≡ Some p → set.contains born m ≡ true
   kept-flight k m p there = k.flown m (is_some_of _ p there)
 
-  -- an atom goes on as another one
-  pub kept-on : IsKept work atoms packets born → (m : Name) (a b : Atom) → map.get atoms m ≡ Some a
-      → IsKept (map.insert work m (errand_of b)) (map.insert atoms m b) packets born
-  kept-on k m a b there = kept-put k m b (kept-mark k m a there)
-
 -- an atom goes on as another one, and a further one stands under a new mark
 pub kept-more : {work : NameMap Errand} {atoms : NameMap Atom} {packets : NameMap Packet} {born : NameSet} → IsKept work atoms packets born
     → (m n : Name) (a b more : Atom) → map.get atoms m ≡ Some a
     → IsKept (map.insert (map.insert work n (errand_of more)) m (errand_of b)) (map.insert (map.insert atoms n more) m b) packets (set.insert born n)
 kept-more {born = born} k m n a b more there = let grown = kept-born k n in kept-put (kept-put grown n more (born_here born n)) m b (kept-mark grown m a there)
-
--- the same, of what equals the parts
-pub kept-as : {work : NameMap Errand} {atoms : NameMap Atom} {packets : NameMap Packet} {born : NameSet} → IsKept work atoms packets born
-    → (work' : NameMap Errand) (atoms' : NameMap Atom) → work' ≡ work → atoms' ≡ atoms → IsKept work' atoms' packets born
-kept-as k work' atoms' e f = rw (e, f) k
 
 -- nothing stands there
 pub kept-none : (born : NameSet) → IsKept map.empty map.empty map.empty born

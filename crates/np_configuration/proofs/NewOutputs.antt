@@ -1,8 +1,8 @@
 -- The errand of an output that an event makes, and how a configuration with it stays kept.
-use Rattle.std.proofs.Common.{◌≡◌, Bool, true, false, Option, Some, refl, sym, subst, ap, ◌∙◌}
+use Rattle.std.proofs.Common.{◌≡◌, true, Option, Some, subst, ap, ◌∙◌}
 use Rattle.std.specs.FinMap as map
 use Rattle.std.specs.FinSet as set
-use Rattle.np_configuration.proofs.Common.{Name, Value, Expr, ◌>>=◌, Errand, NameMap, NameSet, same_name, Atom, Packet, Env, chan_of, errand_at, giving, IsKept, errand_of, output_in}
+use Rattle.np_configuration.proofs.Common.{Name, Value, Expr, ◌>>=◌, Errand, NameMap, NameSet, Atom, Packet, Env, chan_of, errand_at, giving, IsKept, errand_of, output_in}
 use Rattle.np_syntax.specs.declared.value.Value.{out-Value}
 use Rattle.np_syntax.specs.declared.value.Value as value
 use Rattle.np_syntax.specs.declared.value.Value.TheVariants.{outs-Chan}
@@ -10,10 +10,9 @@ use Rattle.np_syntax.specs.declared.expression.ExprForm as expr
 use Rattle.np_syntax.specs.declared.process.Tag.{Tag}
 use Rattle.np_syntax.specs.declared.process.ProcForm.TheVariants.{outs-Out}
 use Rattle.np_tables.specs.declared.errand.Errand.TheVariants as errand
-use Rattle.np_tables.proofs.Tables.{get-put, same_name-is}
 use Rattle.np_eval.specs.Eval.{as_chan}
 use Rattle.np_eval.proofs.Evals.{eval-form, eval-val}
-use Rattle.np_configuration.proofs.Keeping.{kept-mark, kept-put, kept-more}
+use Rattle.np_configuration.proofs.Keeping.{kept-put}
 
 -- a value as an expression, as it stands in an output that is made
 abbrev literal : Value → Expr
@@ -28,30 +27,9 @@ pub output-errand : (b n : Name) (v : Value) (tag : Tag) → errand_of (output_i
 output-errand b n v tag = ap (errand_at b map.empty) (outs-Out (literal (value.Chan n)) (literal v)) ∙ ap (giving b) (literal-chan n map.empty)
 
 module _ {work : NameMap Errand} {atoms : NameMap Atom} {packets : NameMap Packet} {born : NameSet} where
-  -- an atom stays where another one comes under a new mark
-  pub kept-passes : IsKept work atoms packets born → (m mark : Name) (a b : Atom) → map.get atoms m ≡ Some a → set.contains born mark ≡ false
-      → map.get (map.insert atoms mark b) m ≡ Some a
-  kept-passes k m mark a b there new = rw (get-put atoms mark b m, apart (same_name m mark) (same_name-is m mark), there) refl
-    where
-      known : set.contains born m ≡ true
-      known = kept-mark k m a there
-
-      apart : (t : Bool) → (t ≡ true → m ≡ mark) → t ≡ false
-      apart false h = refl
-      apart true h = let both : set.contains born mark ≡ true = ap (set.contains born) (sym (h refl)) ∙ known in absurd cc
-
   -- an output stands under a mark that is born
   pub kept-output : IsKept work atoms packets born → (m b n : Name) (v : Value) (tag : Tag) → set.contains born m ≡ true
       → IsKept (map.insert work m (errand.Gives (record { agent = b; chan = n }))) (map.insert atoms m (output_in b n v tag)) packets born
   kept-output k m b n v tag known =
       subst (λ (x : Errand). IsKept (map.insert work m x) (map.insert atoms m (output_in b n v tag)) packets born)
       (output-errand b n v tag) (kept-put k m (output_in b n v tag) known)
-
-  -- an atom goes on as another one, and an output stands under a new mark
-  pub kept-output_more : IsKept work atoms packets born → (m mark b n : Name) (v : Value) (tag : Tag) (a next : Atom) → map.get atoms m ≡ Some a
-      → IsKept (map.insert (map.insert work mark (errand.Gives (record { agent = b; chan = n }))) m (errand_of next))
-      (map.insert (map.insert atoms mark (output_in b n v tag)) m next) packets (set.insert born mark)
-  kept-output_more k m mark b n v tag a next there =
-      let both = map.insert (map.insert atoms mark (output_in b n v tag)) m next in
-      subst (λ (x : Errand). IsKept (map.insert (map.insert work mark x) m (errand_of next)) both packets (set.insert born mark))
-      (output-errand b n v tag) (kept-more k m mark a next (output_in b n v tag) there)

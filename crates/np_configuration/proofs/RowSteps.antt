@@ -2,7 +2,7 @@
 use Rattle.std.proofs.Common.{◌≡◌, ℕ, Bool, true, false, not, ◌&&◌, cond, Option, None, Some, [], ◌∷◌, is_some, refl, ap, ◌∙◌}
 use Rattle.std.specs.FinMap as map
 use Rattle.std.specs.FinSet as set
-use Rattle.np_configuration.proofs.Common.{Name, Value, Expr, Proc, Event, ◌>>=◌, same_name, Atom, Packet, Config, Env, chan_of, layer, errand_at, inside, acting, goes, goes_under, output_in, row}
+use Rattle.np_configuration.proofs.Common.{Name, Value, Expr, Proc, Event, ◌>>=◌, same_name, Atom, Packet, Config, Env, chan_of, layer, inside, acting, goes, goes_under, output_in, row}
 use Rattle.np_syntax.specs.Options.{◌>>◌, need}
 use Rattle.np_syntax.specs.declared.event.Kind.{Kind}
 use Rattle.np_syntax.specs.declared.event.Kind.TheVariants as kind
@@ -143,13 +143,16 @@ module _ (c : Config) (e : Event) where
   ends = record still { atoms = cut e.actor ∷ [] }
 
   -- the two ways of a location test
-  ways : (a : Atom) (met unmet : Proc) (l : Local) (t : Bool) → (cond t (here_row e a met l.agent l.chan l.value) (away_row e a unmet) >>= after_change c e)
-      ≡ cond t (to.here_way c e a met l) (to.away_way c e a unmet)
+  abbrev asked : Atom → Proc → Proc → Name → Name → Value → Bool → Bool → Local
+  asked a met unmet b n v here t = record { agent = b; chan = n; value = v; here = here; next = goes a (cond t met unmet) }
+
+  ways : (a : Atom) (met unmet : Proc) (b n : Name) (v : Value) (here t : Bool) → (cond t (here_row e a met b n v) (away_row e a unmet) >>= after_change c e)
+      ≡ cond t (to.here_way c e (asked a met unmet b n v here t)) (to.away_way c e (asked a met unmet b n v here t))
   unfolding here_row away_row
-  ways a met unmet l true =
-      one-made (λ d. d) None (λ m. record still { atoms = put m (output_in l.agent l.chan l.value e.tag) ∷ put e.actor (goes a met) ∷ [] })
-      (λ m. record c { atoms = map.insert (map.insert c.atoms m (output_in l.agent l.chan l.value e.tag)) e.actor (goes a met); born = set.insert c.born m }) (λ m is. refl) ∙ whole _
-  ways a met unmet l false = unmade (λ d. d) e.made (becomes e (goes a unmet)) (record c { atoms = map.insert c.atoms e.actor (goes a unmet) }) refl ∙ whole _
+  ways a met unmet b n v here true =
+      one-made (λ d. d) None (λ m. record still { atoms = put m (output_in b n v e.tag) ∷ put e.actor (goes a met) ∷ [] })
+      (λ m. to.forked c e (record { mark = m; comes = output_in b n v e.tag; stays = goes a met })) (λ m is. refl) ∙ whole _
+  ways a met unmet b n v here false = unmade (λ d. d) e.made (becomes e (goes a unmet)) (stood c e.actor (goes a unmet)) refl ∙ whole _
 
   -- each row is that of the table
   pub rows-are : (k : Kind) → row k c e ≡ to.row_of k c e
@@ -162,29 +165,29 @@ module _ (c : Config) (e : Event) where
       alone-before (flown c e.actor) (eval p.3 a.env) (λ v. record ends { packets = put e.actor (packet v) ∷ [] }) packet (λ v. refl)
   rows-are kind.Let = row-is kind.Let to.let_more _ refl λ a p acts.
       ap (λ q. q >>= after_change c e) (joined (eval p.1 a.env) (λ v. bind p.0 v a.env) (λ env. alone e (becomes e (goes_under a p.2 env))))
-      ∙ alone-after (to.entered c e a p.2) (bound_to p.0 p.1 a.env) (λ env. becomes e (goes_under a p.2 env)) (to.entry a p.2) (λ env. refl)
+      ∙ alone-after (stood c e.actor) (bound_to p.0 p.1 a.env) (λ env. becomes e (goes_under a p.2 env)) (λ env. goes_under a p.2 env) (λ env. refl)
   rows-are kind.If = row-is kind.If to.if_more _ refl λ a p acts.
-      alone-after _ (truth_of p.0 a.env) (λ t. becomes e (goes a (cond t p.1 p.2))) (λ t. (t, errand_at a.agent a.env (layer (cond t p.1 p.2)))) (λ t. refl)
+      alone-after (stood c e.actor) (truth_of p.0 a.env) (λ t. becomes e (goes a (cond t p.1 p.2))) (λ t. goes a (cond t p.1 p.2)) (λ t. refl)
   rows-are kind.Depart = row-is kind.Depart to.depart_more _ refl λ a p acts.
-      alone-after _ (site_of c p.0 a.env) (λ t. record (becomes e (goes a p.1)) { places = put a.agent (place.Way t) ∷ [] })
-      (λ t. record { agent = a.agent; to = t; errand = errand_at a.agent a.env (layer p.1) }) (λ t. refl)
+      alone-after (to.departed c e) (site_of c p.0 a.env) (λ t. record (becomes e (goes a p.1)) { places = put a.agent (place.Way t) ∷ [] })
+      (λ t. record { to = t; atom = goes a p.1 }) (λ t. refl)
   rows-are kind.Lookup = row-is kind.Lookup to.lookup_more _ refl λ a p acts. deeper (agent_of p.0 a.env) _ _ _ λ b names.
-      alone-after _ (places_of p.1 a.env) (λ places. becomes e (found_on a p.2 p.3 p.4 (find_place places b))) (λ places. to.lookup_by a p.2 p.3 p.4 (find_place places b))
+      alone-after (stood c e.actor) (places_of p.1 a.env) (λ places. becomes e (found_on a p.2 p.3 p.4 (find_place places b))) (λ places. to.lookup_by a p.2 p.3 p.4 (find_place places b))
       (λ places. ap (λ (y : Atom). record c { atoms = map.insert c.atoms e.actor y }) (found-goes a p.2 p.3 p.4 (find_place places b)))
   rows-are kind.Open = row-is kind.Open to.open_more _ refl λ a x acts.
       alone-before (stood c e.actor) (letter_of x a.env) (λ l. becomes e (output_in a.agent l.0 l.1 e.tag)) (λ l. output_in a.agent l.0 l.1 e.tag) (λ l. refl)
   rows-are kind.Post = row-is kind.Post to.post_more _ refl λ a p acts. deeper (agent_of p.0 a.env) _ _ _ λ b names. deeper (chan_of p.1 a.env) _ _ _ λ n on.
       alone-before (stood c e.actor) (eval p.2 a.env) (λ v. becomes e (output_in b n v e.tag)) (λ v. output_in b n v e.tag) (λ v. refl)
   rows-are kind.Comm = row-is kind.Comm to.comm_more _ refl λ a p acts.
-      taking _ a acts p.0 p.1 (λ o env. record still { atoms = put e.actor (goes_under a p.2 env) ∷ cut o ∷ [] }) (λ o env. (o, to.entry a p.2 env)) (λ o env. refl)
+      taking _ a acts p.0 p.1 (λ o env. record still { atoms = put e.actor (goes_under a p.2 env) ∷ cut o ∷ [] }) (λ o env. (o, goes_under a p.2 env)) (λ o env. refl)
   rows-are kind.Rep = row-is kind.Rep to.rep_more _ refl λ a p acts.
       taking _ a acts p.0 p.1 (λ o env. record still { atoms = put o (goes_under a p.2 env) ∷ [] }) (λ o env. (o, goes_under a p.2 env)) (λ o env. refl)
   rows-are kind.New = row-is kind.New to.new_more _ refl λ a p acts.
       let env : Name → Env = λ n. map.insert a.env p.0 (value.Chan n) in
-      one-made _ e.other (λ n. becomes e (goes_under a p.2 (env n))) (λ n. to.entry a p.2 (env n)) (λ n is. rw is refl)
+      one-made _ e.other (λ n. becomes e (goes_under a p.2 (env n))) (λ n. goes_under a p.2 (env n)) (λ n is. rw is refl)
   rows-are kind.Fork = row-is kind.Fork to.fork_more _ refl λ a p acts.
       one-made _ e.other (λ m. record still { atoms = put m (goes a p.1) ∷ put e.actor (goes a p.0) ∷ [] })
-      (λ m. record { mark = m; env = a.env; comes = errand_at a.agent a.env (layer p.1); stays = errand_at a.agent a.env (layer p.0) }) (λ m is. refl)
+      (λ m. record { mark = m; comes = goes a p.1; stays = goes a p.0 }) (λ m is. refl)
   rows-are kind.Agent = row-is kind.Agent to.agent_more _ refl λ a p acts.
       let env : Name → Env = λ b. map.insert a.env p.0 (value.Agent b) in
       two-made _ (λ b m. record still {
@@ -193,6 +196,6 @@ module _ (c : Config) (e : Event) where
       }) (λ b m. to.agent_by a p.1 p.2 b m (env b)) (λ b m. refl)
   rows-are kind.Local = row-is kind.Local to.local_more _ refl λ a p acts.
       deeper (agent_of p.0 a.env) _ _ _ λ b names. deeper (chan_of p.1 a.env) _ _ _ λ n on. deeper (eval p.2 a.env) _ _ _ λ v gives. deeper (no_other e.other) _ _ _ λ u lone.
-      ways a p.3 p.4 (record { agent = b; chan = n; value = v; here = is_at c b e.site; errand = errand_at a.agent a.env (layer (cond (is_at c b e.site) p.3 p.4)) }) (is_at c b e.site)
+      ways a p.3 p.4 b n v (is_at c b e.site) (is_at c b e.site)
   rows-are kind.Arrive = refl
   rows-are kind.Land = refl

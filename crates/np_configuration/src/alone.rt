@@ -5,24 +5,22 @@ ghost use Rattle.np_configuration.specs.Rows.{print_row, stop_row};
 ghost use Rattle.np_configuration.specs.Applied.{Applied, Finds};
 
 use super::cfg::Cfg;
-use super::entries::Entry;
 use super::fail::ApplyFail::{self, NotEnabled};
 use super::filing::file_two;
 use super::frames::{bound, with_chan};
 use super::views::is_alone;
-use np_agents::{chosen, split};
-use np_eval::{Frame, as_if, as_let, as_new, as_par, as_print, as_stop, errand_of, eval, truth_of};
-use np_syntax::{Event, Made, Name, Value};
-use np_tables::Errand;
+use np_agents::{atom_of, chosen, going_on};
+use np_calculus::Atom;
+use np_eval::{as_if, as_let, as_new, as_par, as_print, as_stop, eval, truth_of};
+use np_syntax::{Event, Name, Value};
 use std::alloc::Global;
 
-/// A composition that is enabled: the mark of its second part, the frame of that, and what each part waits for.
+/// An atom that goes on as two: one that comes under a new mark, and what it goes on as itself.
 #[derive(Drop)]
-struct Fork {
-    mark: Name,
-    env: Frame,
-    comes: Errand,
-    stays: Errand,
+pub(super) struct Fork {
+    pub(super) mark: Name,
+    pub(super) comes: Atom,
+    pub(super) stays: Atom,
 }
 
 // The rows of atoms that act alone, within their agent.
@@ -57,10 +55,13 @@ impl Cfg {
             &mut self.atoms,
             &mut self.born,
             &mut self.work,
-            (fork.mark, fork.comes),
-            (e.actor, fork.stays),
+            fork.mark,
+            &fork.comes,
+            e.actor,
+            &fork.stays,
         )?;
-        split(&mut self.atoms, e.actor, fork.mark, fork.env);
+        self.atoms.put(fork.mark, fork.comes);
+        self.atoms.put(e.actor, fork.stays);
         self.born.put(fork.mark);
         Ok(())
     }
@@ -78,27 +79,21 @@ impl Cfg {
         let Some(mark) = self.one_new(e) else {
             return Err(NotEnabled);
         };
-        let stays = errand_of(atom.agent, left, &atom.env);
-        let comes = errand_of(atom.agent, right, &atom.env);
-        let env = atom.env.copy(alloc)?;
-        Ok(Fork {
-            mark,
-            env,
-            comes,
-            stays,
-        })
+        let comes = going_on(alloc, atom, right)?;
+        let stays = going_on(alloc, atom, left)?;
+        Ok(Fork { mark, comes, stays })
     }
 
     pub(super) fn apply_new(&mut self, alloc: Global, e: &Event) -> Result<(), ApplyFail>
         ensures { Applied (new_row self.old e.now) self.old self.new result }
     {
-        let entry = self.find_new(alloc, e)?;
-        self.enter(e.actor, e.made, entry)?;
+        let atom = self.find_new(alloc, e)?;
+        self.enter(e.actor, atom, e.made)?;
         Ok(())
     }
 
     /// How an atom goes on that makes a channel, where the row is met.
-    fn find_new(&self, alloc: Global, e: &Event) -> Result<Entry, ApplyFail>
+    fn find_new(&self, alloc: Global, e: &Event) -> Result<Atom, ApplyFail>
         ensures { Finds (new_row self.now e.now) (IsFound (new_found self.now e.now)) result }
     {
         let Some(atom) = self.acting(e) else {
@@ -111,20 +106,19 @@ impl Cfg {
             return Err(NotEnabled);
         };
         let env = with_chan(alloc, &atom.env, binder, chan)?;
-        let errand = errand_of(atom.agent, body, &env);
-        Ok(Entry { env, errand })
+        Ok(atom_of(alloc, atom.agent, body, env)?)
     }
 
     pub(super) fn apply_let(&mut self, alloc: Global, e: &Event) -> Result<(), ApplyFail>
         ensures { Applied (let_row self.old e.now) self.old self.new result }
     {
-        let entry = self.find_let(alloc, e)?;
-        self.enter(e.actor, Made::Nothing, entry)?;
+        let atom = self.find_let(alloc, e)?;
+        self.stand(e.actor, atom)?;
         Ok(())
     }
 
     /// How an atom goes on that gives names to a value, where the row is met.
-    fn find_let(&self, alloc: Global, e: &Event) -> Result<Entry, ApplyFail>
+    fn find_let(&self, alloc: Global, e: &Event) -> Result<Atom, ApplyFail>
         ensures { Finds (let_row self.now e.now) (IsFound (let_found self.now e.now)) result }
     {
         let Some(atom) = self.acting(e) else {
@@ -139,20 +133,19 @@ impl Cfg {
         if !is_alone(e) {
             return Err(NotEnabled);
         }
-        let errand = errand_of(atom.agent, body, &env);
-        Ok(Entry { env, errand })
+        Ok(atom_of(alloc, atom.agent, body, env)?)
     }
 
     pub(super) fn apply_if(&mut self, alloc: Global, e: &Event) -> Result<(), ApplyFail>
         ensures { Applied (if_row self.old e.now) self.old self.new result }
     {
-        let (truth, errand) = self.find_if(alloc, e)?;
-        self.go_on(e.actor, truth, errand)?;
+        let atom = self.find_if(alloc, e)?;
+        self.stand(e.actor, atom)?;
         Ok(())
     }
 
     /// How a test goes on, where the row is met.
-    fn find_if(&self, alloc: Global, e: &Event) -> Result<(bool, Errand), ApplyFail>
+    fn find_if(&self, alloc: Global, e: &Event) -> Result<Atom, ApplyFail>
         ensures { Finds (if_row self.now e.now) (IsFound (if_found self.now e.now)) result }
     {
         let Some(atom) = self.acting(e) else {
@@ -167,8 +160,7 @@ impl Cfg {
         if !is_alone(e) {
             return Err(NotEnabled);
         }
-        let errand = errand_of(atom.agent, chosen(met, unmet, truth), &atom.env);
-        Ok((truth, errand))
+        Ok(going_on(alloc, atom, chosen(met, unmet, truth))?)
     }
 
     pub(super) fn apply_print(&mut self, alloc: Global, e: &Event) -> Result<(), ApplyFail>

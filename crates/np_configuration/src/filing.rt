@@ -51,26 +51,30 @@ pub fn put_filed(
     Ok(())
 }
 
-/// Files a new mark and one that was there, with room for both atoms and for two names that are born. Want of memory
-/// leaves the work lists as they were.
+/// Files an atom that comes under a new mark and one that goes on, with room for both and for two names that are born. Want
+/// of memory leaves the work lists as they were.
 pub fn file_two(
     atoms: &mut Table<Atom>,
     born: &mut Names,
     work: &mut WorkLists,
-    comes: (Name, Errand),
-    stays: (Name, Errand),
+    mark: Name,
+    comes: &Atom,
+    actor: Name,
+    stays: &Atom,
 ) -> Result<(), Memory>
-    requires { map.get work.old comes.0 ≡ None }
+    requires { map.get work.old mark ≡ None }
     ensures atoms { atoms.new.items ≡ atoms.old.items }
     ensures born { born.new.members ≡ born.old.members }
     ensures room { OnOk result (2 ≤ atoms.new.spare) }
     ensures names { OnOk result (2 ≤ born.new.spare) }
-    ensures ok { OnOk result (work.new ≡ map.insert (map.insert work.old comes.0 comes.1) stays.0 stays.1) }
+    ensures ok { OnOk result (work.new ≡ map.insert (map.insert work.old mark (errand_of comes.now)) actor (errand_of stays.now)) }
     ensures err { OnErr result (work.new ≡ work.old) }
 {
     atoms.reserve(2)?;
     born.reserve(2)?;
-    work.file_two(comes.0, comes.1, stays.0, stays.1)
+    let first = errand_of(comes.agent, &comes.proc, &comes.env);
+    let second = errand_of(stays.agent, &stays.proc, &stays.env);
+    work.file_two(mark, first, actor, second)
 }
 
 /// The names that an event makes are born. It takes no memory.

@@ -3,23 +3,13 @@ ghost use Rattle.np_configuration.specs.Applied.{Applied, Finds};
 
 use super::cfg::Cfg;
 use super::fail::ApplyFail::{self, NotEnabled};
-use super::filing::file;
 use super::frames::with_found;
 use super::views::is_alone;
-use np_agents::{chosen, go_under, output_in};
+use np_agents::{atom_of, chosen, output_in};
 use np_calculus::Atom;
-use np_eval::{Frame, agent_of, as_lookup, as_open, errand_of, find_place, letter_of, places_of};
+use np_eval::{agent_of, as_lookup, as_open, find_place, letter_of, places_of};
 use np_syntax::Event;
-use np_tables::Errand;
 use std::alloc::Global;
-
-/// A lookup that is enabled: whether it goes on as its first process, under which frame, and what it waits for then.
-#[derive(Drop)]
-struct Lookup {
-    first: bool,
-    env: Frame,
-    errand: Errand,
-}
 
 // The rows of letters and of maps of places.
 impl Cfg {
@@ -50,18 +40,16 @@ impl Cfg {
         Ok(output_in(alloc, atom.agent, chan, value, e.tag)?)
     }
 
-    #[tactic(auto, using(np_tables::proofs::Tables::puts))]
     pub(super) fn apply_lookup(&mut self, alloc: Global, e: &Event) -> Result<(), ApplyFail>
         ensures { Applied (lookup_row self.old e.now) self.old self.new result }
     {
-        let looked = self.find_lookup(alloc, e)?;
-        file(&mut self.atoms, &mut self.work, e.actor, looked.errand)?;
-        go_under(&mut self.atoms, e.actor, looked.first, looked.env);
+        let atom = self.find_lookup(alloc, e)?;
+        self.stand(e.actor, atom)?;
         Ok(())
     }
 
-    /// How a lookup goes on, where the row is met.
-    fn find_lookup(&self, alloc: Global, e: &Event) -> Result<Lookup, ApplyFail>
+    /// What a lookup goes on as, where the row is met.
+    fn find_lookup(&self, alloc: Global, e: &Event) -> Result<Atom, ApplyFail>
         ensures { Finds (lookup_row self.now e.now) (IsFound (lookup_found self.now e.now)) result }
     {
         let Some(atom) = self.acting(e) else {
@@ -81,8 +69,7 @@ impl Cfg {
         }
         let found = find_place(places.as_slice(), agent);
         let env = with_found(alloc, &atom.env, binder, found)?;
-        let first = found.is_some();
-        let errand = errand_of(atom.agent, chosen(met, unmet, first), &env);
-        Ok(Lookup { first, env, errand })
+        let next = chosen(met, unmet, found.is_some());
+        Ok(atom_of(alloc, atom.agent, next, env)?)
     }
 }

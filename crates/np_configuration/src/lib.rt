@@ -2,7 +2,7 @@
 //!
 //! `apply` makes an event of any of the seventeen kinds exactly if its row is met, and leaves the configuration of that row;
 //! where the row is not met, or memory runs out, it changes nothing. First a function of `&self`, such as `find_let`, finds
-//! what the row needs; then a short one that several rows share makes room, files the errand and changes the atoms. `idle`,
+//! what the row needs, and makes the atoms that go on; then a short one makes room, files them and puts them in. `idle`,
 //! `start_high` and `start_low` are their definitions. `Cfg::next` gives what can happen next, and nothing only if no site
 //! can act.
 //!

@@ -4,21 +4,13 @@ ghost use Rattle.np_configuration.specs.Applied.{Applied, Finds};
 ghost use Rattle.np_configuration.specs.Views.{taken_by};
 
 use super::cfg::Cfg;
-use super::entries::Entry;
 use super::fail::ApplyFail::{self, NotEnabled};
+use np_agents::atom_of;
 use np_calculus::Atom;
 use np_conditions::none_made;
-use np_eval::{Frame, as_inp, as_rep, bind, chan_of, errand_of};
-use np_syntax::{Event, Made, Memory, Name, Pat, Proc};
+use np_eval::{Frame, as_inp, as_rep, bind, chan_of};
+use np_syntax::{Event, Memory, Name, Pat};
 use std::alloc::Global;
-
-/// A copy of a process, as the atom of an agent, under a frame.
-fn copied(alloc: Global, agent: Name, proc: &Proc, env: Frame) -> Result<Atom, Memory>
-    ensures { IfOk result (λ atom. atom ≡ record { agent = agent; proc = proc.now; env = env }) }
-{
-    let proc = proc.copy(alloc)?;
-    Ok(Atom { agent, proc, env })
-}
 
 // The rows of an input and an output that meet.
 impl Cfg {
@@ -42,14 +34,14 @@ impl Cfg {
     pub(super) fn apply_comm(&mut self, alloc: Global, e: &Event) -> Result<(), ApplyFail>
         ensures { Applied (comm_row self.old e.now) self.old self.new result }
     {
-        let (mark, entry) = self.find_comm(alloc, e)?;
-        self.enter(e.actor, Made::Nothing, entry)?;
+        let (mark, atom) = self.find_comm(alloc, e)?;
+        self.stand(e.actor, atom)?;
         self.end(mark);
         Ok(())
     }
 
-    /// The output that an input takes, and how the input goes on, where the row is met.
-    fn find_comm(&self, alloc: Global, e: &Event) -> Result<(Name, Entry), ApplyFail>
+    /// The output that an input takes, and what the input goes on as, where the row is met.
+    fn find_comm(&self, alloc: Global, e: &Event) -> Result<(Name, Atom), ApplyFail>
         ensures { Finds (comm_row self.now e.now) (IsFound (comm_found self.now e.now)) result }
     {
         let Some(atom) = self.acting(e) else {
@@ -70,8 +62,7 @@ impl Cfg {
         let Some(()) = none_made(e.made) else {
             return Err(NotEnabled);
         };
-        let errand = errand_of(atom.agent, body, &env);
-        Ok((mark, Entry { env, errand }))
+        Ok((mark, atom_of(alloc, atom.agent, body, env)?))
     }
 
     pub(super) fn apply_rep(&mut self, alloc: Global, e: &Event) -> Result<(), ApplyFail>
@@ -82,8 +73,7 @@ impl Cfg {
         Ok(())
     }
 
-    /// The output that a replicated input takes, and the copy of its body that stands in its place, where the row is
-    /// met.
+    /// The output that a replicated input takes, and its body, which stands in its place, where the row is met.
     fn find_rep(&self, alloc: Global, e: &Event) -> Result<(Name, Atom), ApplyFail>
         ensures { Finds (rep_row self.now e.now) (IsFound (rep_found self.now e.now)) result }
     {
@@ -105,6 +95,6 @@ impl Cfg {
         let Some(()) = none_made(e.made) else {
             return Err(NotEnabled);
         };
-        Ok((mark, copied(alloc, atom.agent, body, env)?))
+        Ok((mark, atom_of(alloc, atom.agent, body, env)?))
     }
 }

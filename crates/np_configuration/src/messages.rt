@@ -8,23 +8,22 @@ use super::cfg::Cfg;
 use super::fail::ApplyFail::{self, NotEnabled};
 use super::filing::{file, file_two};
 use super::views::is_alone;
-use np_agents::{chosen, go_on, output_in};
+use np_agents::{chosen, going_on, output_in};
 use np_calculus::{Atom, Packet};
 use np_conditions::{no_other, none_made, one_made, one_site, one_tag};
-use np_eval::{agent_of, as_iflocal, as_post, as_send, chan_of, errand_of, eval};
+use np_eval::{agent_of, as_iflocal, as_post, as_send, chan_of, eval};
 use np_syntax::{Event, Name, Value};
 use np_tables::{Errand, Meeting};
 use std::alloc::Global;
 
-/// What a location test finds: its agent, channel and value, whether the agent is here, and what the process waits for
-/// when it goes on.
+/// What a location test finds: its agent, channel and value, whether the agent is here, and what it goes on as.
 #[derive(Drop)]
 struct Local {
     agent: Name,
     chan: Name,
     value: Value,
     here: bool,
-    errand: Errand,
+    next: Atom,
 }
 
 // The rows of what goes from one agent to another.
@@ -136,7 +135,7 @@ impl Cfg {
         if asked.here {
             self.local_here(alloc, e, asked)
         } else {
-            self.local_away(e, &asked)
+            self.local_away(e, asked)
         }
     }
 
@@ -163,13 +162,13 @@ impl Cfg {
             return Err(NotEnabled);
         };
         let here = self.is_at(agent, e.site);
-        let errand = errand_of(atom.agent, chosen(met, unmet, here), &atom.env);
+        let next = going_on(alloc, atom, chosen(met, unmet, here))?;
         Ok(Local {
             agent,
             chan,
             value,
             here,
-            errand,
+            next,
         })
     }
 
@@ -181,30 +180,29 @@ impl Cfg {
     {
         let mark = one_made(e.made).ok_or(NotEnabled)?;
         self.fresh(mark).ok_or(NotEnabled)?;
-        let agent = asked.agent;
-        let chan = asked.chan;
-        let comes = Errand::Gives(Meeting { agent, chan });
-        let made = output_in(alloc, agent, chan, asked.value, e.tag)?;
+        let made = output_in(alloc, asked.agent, asked.chan, asked.value, e.tag)?;
         file_two(
             &mut self.atoms,
             &mut self.born,
             &mut self.work,
-            (mark, comes),
-            (e.actor, asked.errand),
+            mark,
+            &made,
+            e.actor,
+            &asked.next,
         )?;
         self.atoms.put(mark, made);
-        go_on(&mut self.atoms, e.actor, true);
+        self.atoms.put(e.actor, asked.next);
         self.born.put(mark);
         Ok(())
     }
 
     /// A location test that does not find its agent: the process goes on as the second.
-    fn local_away(&mut self, e: &Event, asked: &Local) -> Result<(), ApplyFail>
-        requires { IsLocal self.old e.now asked.now false }
+    fn local_away(&mut self, e: &Event, asked: Local) -> Result<(), ApplyFail>
+        requires { IsLocal self.old e.now asked false }
         ensures { Applied (local_row self.old e.now) self.old self.new result }
     {
         none_made(e.made).ok_or(NotEnabled)?;
-        self.go_on(e.actor, false, asked.errand)?;
+        self.stand(e.actor, asked.next)?;
         Ok(())
     }
 }

@@ -42,7 +42,7 @@ fn names_alone(alloc: Global, sites: u32) -> Result<Cfg, Memory>
     })
 }
 
-/// The first atom of an agent, with a copy of its process.
+/// The first atom of an agent, which shares its process.
 fn first_atom(alloc: Global, agent: Name, proc: &Proc) -> Result<Atom, Memory>
     ensures { IfOk result (λ atom. atom ≡ first_atom agent proc.now) }
 {

@@ -3,37 +3,24 @@ ghost use Rattle.np_calculus.specs.Reductions.{row};
 ghost use Rattle.np_syntax.specs.declared.event.Kind.TheVariants as kind;
 ghost use Rattle.np_configuration.specs.Applied.{Applied, Finds};
 
+use super::alone::Fork;
 use super::cfg::Cfg;
 use super::fail::ApplyFail::{self, NotEnabled};
-use super::filing::{file, file_two};
+use super::filing::{file_atom, file_two};
 use super::frames::two_with_agent;
 use super::views::is_alone;
-use np_agents::{go_on, split_agent};
-use np_calculus::Place;
+use np_agents::{atom_of, going_on};
+use np_calculus::{Atom, Place};
 use np_conditions::{no_other, none_made, one_site, one_tag, way};
-use np_eval::{Frame, as_agent_form, as_migrate, errand_of};
-use np_syntax::{Event, Name, Role, Tag};
-use np_tables::Errand;
+use np_eval::{as_agent_form, as_migrate};
+use np_syntax::{Event, Role, Tag};
 use std::alloc::Global;
 
-/// An agent that can be made: its name, the mark of its atom, the frames of that atom and of the one that makes it, and
-/// what each of them waits for.
-#[derive(Drop)]
-struct NewAgent {
-    agent: Name,
-    mark: Name,
-    env: Frame,
-    own: Frame,
-    comes: Errand,
-    stays: Errand,
-}
-
-/// A departure that is enabled: the agent, the site to which it goes, and what its atom waits for then.
+/// A departure that is enabled: the site to which the agent goes, and what its atom goes on as.
 #[derive(Drop)]
 struct Departure {
-    agent: Name,
     to: u32,
-    errand: Errand,
+    atom: Atom,
 }
 
 // The rows of agents: how they are made, and how they move.
@@ -43,30 +30,27 @@ impl Cfg {
         ensures { Applied (agent_row self.old e.now) self.old self.new result }
     {
         let made = self.find_agent(alloc, e)?;
+        let agent = made.comes.agent;
         self.places.reserve(1)?;
         file_two(
             &mut self.atoms,
             &mut self.born,
             &mut self.work,
-            (made.mark, made.comes),
-            (e.actor, made.stays),
-        )?;
-        self.places.put(made.agent, Place::At(e.site));
-        split_agent(
-            &mut self.atoms,
-            e.actor,
-            made.agent,
             made.mark,
-            made.env,
-            made.own,
-        );
-        self.born.put(made.agent);
+            &made.comes,
+            e.actor,
+            &made.stays,
+        )?;
+        self.places.put(agent, Place::At(e.site));
+        self.atoms.put(made.mark, made.comes);
+        self.atoms.put(e.actor, made.stays);
+        self.born.put(agent);
         self.born.put(made.mark);
         Ok(())
     }
 
-    /// The agent that an atom makes, where the row is met.
-    fn find_agent(&self, alloc: Global, e: &Event) -> Result<NewAgent, ApplyFail>
+    /// The atom of the agent that an atom makes, and what that goes on as, where the row is met.
+    fn find_agent(&self, alloc: Global, e: &Event) -> Result<Fork, ApplyFail>
         ensures { Finds (agent_row self.now e.now) (IsFound (agent_found self.now e.now)) result }
     {
         let Some(atom) = self.acting(e) else {
@@ -79,16 +63,9 @@ impl Cfg {
             return Err(NotEnabled);
         };
         let (env, own) = two_with_agent(alloc, &atom.env, binder, agent)?;
-        let stays = errand_of(atom.agent, rest, &own);
-        let comes = errand_of(agent, body, &env);
-        Ok(NewAgent {
-            agent,
-            mark,
-            env,
-            own,
-            comes,
-            stays,
-        })
+        let comes = atom_of(alloc, agent, body, env)?;
+        let stays = atom_of(alloc, atom.agent, rest, own)?;
+        Ok(Fork { mark, comes, stays })
     }
 
     #[tactic(auto, using(np_tables::proofs::Tables::puts))]
@@ -96,10 +73,11 @@ impl Cfg {
         ensures { Applied (depart_row self.old e.now) self.old self.new result }
     {
         let leaves = self.find_depart(alloc, e)?;
+        let agent = leaves.atom.agent;
         self.places.reserve(1)?;
-        file(&mut self.atoms, &mut self.work, e.actor, leaves.errand)?;
-        self.places.put(leaves.agent, Place::Way(leaves.to));
-        go_on(&mut self.atoms, e.actor, true);
+        file_atom(&mut self.work, e.actor, &leaves.atom)?;
+        self.places.put(agent, Place::Way(leaves.to));
+        self.atoms.replace(e.actor, leaves.atom);
         Ok(())
     }
 
@@ -119,9 +97,8 @@ impl Cfg {
         if !is_alone(e) {
             return Err(NotEnabled);
         }
-        let agent = atom.agent;
-        let errand = errand_of(agent, body, &atom.env);
-        Ok(Departure { agent, to, errand })
+        let atom = going_on(alloc, atom, body)?;
+        Ok(Departure { to, atom })
     }
 
     #[tactic(auto, using(np_tables::proofs::Tables::puts), unfolding(np_calculus::specs::Reductions::arrive_row))]

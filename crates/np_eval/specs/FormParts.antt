@@ -5,12 +5,15 @@ use Rattle.np_syntax.specs.declared.expression.Expr.{Expr}
 use Rattle.np_syntax.specs.declared.pattern.Pat.{Pat}
 use Rattle.np_syntax.specs.declared.process.Proc.{Proc}
 use Rattle.np_syntax.specs.declared.process.ProcForm.{ProcForm-F}
-pub use Rattle.np_syntax.specs.ProcessParts.{as_par, as_agent_form}
 use Rattle.np_eval.specs.Forms.{Layer}
 
 abbrev pub as_stop : Layer → Option (Unit {0})
 as_stop ProcForm-F.Stop = Some tt
 as_stop _ = None
+
+abbrev pub as_par : Layer → Option (Proc × Proc)
+as_par (ProcForm-F.Par left right) = Some (left, right)
+as_par _ = None
 
 -- the binder, its type and the body
 abbrev pub as_new : Layer → Option (ℕ × Ty × Proc)
@@ -25,6 +28,11 @@ as_inp _ = None
 abbrev pub as_rep : Layer → Option (Expr × Pat × Proc)
 as_rep (ProcForm-F.Rep c x body) = Some (c, x, body)
 as_rep _ = None
+
+-- the binder, the new agent's process and what goes on
+abbrev pub as_agent_form : Layer → Option (ℕ × Proc × Proc)
+as_agent_form (ProcForm-F.Agent b body rest) = Some (b, body, rest)
+as_agent_form _ = None
 
 abbrev pub as_migrate : Layer → Option (Expr × Proc)
 as_migrate (ProcForm-F.Migrate s body) = Some (s, body)

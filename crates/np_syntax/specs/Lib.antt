@@ -5,7 +5,6 @@ pub mod Numerals
 pub mod Options
 pub mod Parts
 pub mod Printed
-pub mod ProcessParts
 pub mod Reordering
 pub mod Results
 pub mod formers

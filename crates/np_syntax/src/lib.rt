@@ -1,13 +1,13 @@
 //! The data that all layers share: lists, boxes, names, values, types, expressions, patterns, processes, programs of both
 //! levels, and events.
 //!
-//! A list is seen as its items and a box as its content, so contracts see trees. A copy equals its original, and `same` is
-//! equality. An expression and a process keep their form on the heap, so what holds one is small. A form that is made of its
-//! parts and of copies of the rest is that form, and a process that is moved out of a form is the one that was in it. The
-//! printed text of a value is that of the table in docs/LANGUAGE.md. Chains of conditions (`>>=`, `need`), the escapes of
-//! strings and the limits, as named constants, stand here once for all crates.
+//! A list is seen as its items, and a box and what is shared as their content, so contracts see trees. A copy equals its
+//! original, and `same` is equality. An expression and a process keep their form on the heap, so what holds one is small. A
+//! process counts the owners of its form: a copy shares it, takes no memory and walks over nothing. A form that is made of its
+//! parts and of copies of the rest is that form. The printed text of a value is that of the table in docs/LANGUAGE.md. Chains of
+//! conditions (`>>=`, `need`), the escapes of strings and the limits, as named constants, stand here once for all crates.
 //!
-//! Contracts: `copy`, `same`, `process_forms`, `into_parts`, `into_creation`, `into_body`, `into_way`, `print_value`.
+//! Contracts: `copy`, `same`, `process_forms`, `print_value`.
 #![tactic(auto)]
 
 mod boxed;
@@ -22,6 +22,7 @@ mod printed;
 mod process;
 pub mod process_forms;
 mod program;
+mod shared;
 mod types;
 mod value;
 
@@ -40,5 +41,6 @@ pub use pattern::{Pat, PatForm};
 pub use printed::print_value;
 pub use process::{Proc, ProcForm, Role, Tag};
 pub use program::{LowProgram, Program};
+pub use shared::Shared;
 pub use types::{Cap, Ty};
 pub use value::{Name, Value};

@@ -1,9 +1,6 @@
-ghost use Rattle.std.specs.Prelude.{◌≡◌, cond, IfOk};
+ghost use Rattle.std.specs.Prelude.{◌≡◌, IfOk};
 ghost use Rattle.np_syntax.specs.Nodes.{proc_at};
-ghost use Rattle.np_syntax.specs.ProcessParts.{as_agent_form, as_par, body_at, way_at};
-ghost use Rattle.np_syntax.specs.declared.process.ProcForm.{out-ProcForm};
 
-use super::boxed::Boxed;
 use super::expression::Expr;
 use super::memory::Memory;
 use super::pattern::Pat;
@@ -11,6 +8,7 @@ use super::process_forms::{
     bind, channel, iflocal, input, lookup, migrate, open_letter, output, post, print, replicated,
     send, test,
 };
+use super::shared::Shared;
 use super::types::Ty;
 use std::alloc::Global;
 
@@ -30,12 +28,13 @@ pub struct Tag {
     pub role: Role,
 }
 
-/// A process with its offset in the source, in bytes. Its form stands on the heap, so what holds a process is small.
+/// A process with its offset in the source, in bytes. Its form stands on the heap, so what holds a process is small, and
+/// copies share it.
 #[cycle(process)]
 pub struct Proc {
     pub tag: Tag,
     pub at: u32,
-    pub form: Boxed<ProcForm>,
+    pub form: Shared<ProcForm>,
 }
 
 impl Drop for Proc {
@@ -96,97 +95,30 @@ impl Drop for ProcForm {
 }
 
 impl Proc {
-    /// The form, moved out of the process.
-    pub fn into_form(self) -> ProcForm
-        ensures { result ≡ self.form }
-    {
-        let Proc {
-            tag: _,
-            at: _,
-            form,
-        } = self;
-        form.into_inner()
-    }
-
     /// A process of that form, which stands on the heap from now on.
     pub fn new(alloc: Global, tag: Tag, at: u32, form: ProcForm) -> Result<Proc, Memory>
         ensures { IfOk result (λ proc. proc ≡ proc_at tag at form) }
     {
-        let form = Boxed::of(alloc, form)?;
+        let form = Shared::of(alloc, form)?;
         Ok(Proc { tag, at, form })
     }
 
-    #[cycle(proc_copy)]
+    /// A process with the same form, which has one owner more. It takes no memory and walks over nothing.
     pub fn copy(&self, alloc: Global) -> Result<Proc, Memory>
         ensures { IfOk result (λ copied. copied ≡ self.now) }
     {
-        let form = self.form.get().copy(alloc)?;
-        Proc::new(alloc, self.tag, self.at, form)
+        let _ = alloc;
+        let form = self.form.share()?;
+        Ok(Proc {
+            tag: self.tag,
+            at: self.at,
+            form,
+        })
     }
 }
 
 impl ProcForm {
-    /// The two parts of a composition, moved out of it.
-    pub fn into_parts(self) -> Option<(Proc, Proc)>
-        ensures { result ≡ as_par (out-ProcForm self) }
-    {
-        match self {
-            ProcForm::Par(left, right) => Some((left, right)),
-            other => {
-                drop(other);
-                None
-            }
-        }
-    }
-
-    /// The binder of a creation, the new agent's process and what goes on, moved out of it.
-    pub fn into_creation(self) -> Option<(u32, Proc, Proc)>
-        ensures { result ≡ as_agent_form (out-ProcForm self) }
-    {
-        match self {
-            ProcForm::Agent(binder, body, rest) => Some((binder, body, rest)),
-            other => {
-                drop(other);
-                None
-            }
-        }
-    }
-
-    /// The body of a form that has one, and is not kept when it goes on, moved out of it.
-    pub fn into_body(self) -> Option<Proc>
-        ensures { result ≡ body_at (out-ProcForm self) }
-    {
-        match self {
-            ProcForm::New(_binder, _ty, body) => Some(body),
-            ProcForm::Inp(_chan, _pat, body) => Some(body),
-            ProcForm::Let(_pat, _value, body) => Some(body),
-            ProcForm::Migrate(_site, body) => Some(body),
-            other => {
-                drop(other);
-                None
-            }
-        }
-    }
-
-    /// The process that a migration, a test or a lookup goes on as, moved out of it.
-    pub fn into_way(self, first: bool) -> Option<Proc>
-        ensures { result ≡ way_at (out-ProcForm self) first }
-    {
-        match self {
-            ProcForm::Migrate(_site, body) => Some(body),
-            ProcForm::If(_test, met, unmet) => Some(either(met, unmet, first)),
-            ProcForm::IfLocal(_agent, _chan, _value, met, unmet) => Some(either(met, unmet, first)),
-            ProcForm::Lookup(_agent, _places, _binder, met, unmet) => Some(either(
-                met, unmet, first,
-            )),
-            other => {
-                drop(other);
-                None
-            }
-        }
-    }
-
-    #[cycle(proc_copy)]
+    /// A form of copies of what stands in it, which shares its processes.
     pub fn copy(&self, alloc: Global) -> Result<ProcForm, Memory>
         ensures { IfOk result (λ copied. copied ≡ self.now) }
     {
@@ -229,11 +161,4 @@ impl ProcForm {
             }
         }
     }
-}
-
-/// The first or the second of two processes.
-fn either(met: Proc, unmet: Proc, first: bool) -> Proc
-    ensures { result ≡ cond first met unmet }
-{
-    if first { met } else { unmet }
 }

@@ -1,4 +1,3 @@
-pub mod Changed
 pub mod Errands
 pub mod Fed
 pub mod InStep

@@ -5,7 +5,6 @@ ghost use Rattle.std.specs.Borrow.{sem};
 ghost use Rattle.std.specs.FinMap as map;
 ghost use Rattle.np_tables.specs.Lent.{IsPlace, lends_item, lends_there};
 ghost use Rattle.np_tables.specs.Stored.{Covers};
-ghost use Rattle.np_tables.specs.Changed.{Changed};
 
 use indexmap::IndexMap;
 use np_syntax::{Memory, Name};
@@ -125,19 +124,6 @@ impl<V> Table<V> {
     {
         match self.entries.get_mut(&key) {
             Some(place) => std::mem::replace(place, value),
-            None => unreachable!(),
-        }
-    }
-
-    /// Lets a function change the value that is there, in its place.
-    pub fn change<R, F: FnOnce(&mut V) -> R>(&mut self, key: Name, f: F) -> R
-        requires there { IsSome (map.get self.old.items key) }
-        requires callable { F.IsAlwaysCallable f }
-        ensures items { Changed F.FnOnce f key self.old.items self.new.items result }
-        ensures spare { self.old.spare ≤ self.new.spare }
-    {
-        match self.entries.get_mut(&key) {
-            Some(place) => f(place),
             None => unreachable!(),
         }
     }

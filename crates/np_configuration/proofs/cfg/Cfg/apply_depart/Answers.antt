@@ -1,35 +1,33 @@
-use Rattle.std.proofs.lemmas.Grind.{common_steps}
-use Rattle.std.proofs.Common.{◌≡◌, true, Some, sym, ap, ◌∙◌, arith}
+use Rattle.std.proofs.Common.{Some, IsSome, refl, sym, subst, ap, ◌∙◌}
 use Rattle.std.specs.FinMap as map
-use Rattle.np_configuration.proofs.Common.{NameMap, the_view, Place, Config, goes}
+use Rattle.np_configuration.proofs.Common.{NameMap, the_view, Place, Config}
 use Rattle.np_calculus.specs.declared.config.Place.TheVariants as place
-use Rattle.np_configuration.specs.Found.{CanGo}
-use Rattle.np_configuration.proofs.Finds.{depart-step}
-use Rattle.np_configuration.proofs.Moved.{may-go, atoms-gone, gone-kept, remade-placed}
+use Rattle.np_eval.specs.FormParts.{as_migrate}
+use Rattle.np_configuration.specs.Rows.{depart_more, departed}
+use Rattle.np_configuration.proofs.Finds.{row-gives, stands}
+use Rattle.np_configuration.proofs.Keeping.{kept-put}
+use Rattle.np_configuration.proofs.Moved.{born-under, kept-equal, remade-placed}
 use Rattle.np_configuration.proofs.cfg.Cfg.apply_depart.Goals as goal
 
-pub go_on-requires : goal.go_on-requires
-go_on-requires c = record { whole = may-go c.self.view_is c.args.e.now.actor (depart-step c.args.self.now c.args.e.now _ c.in_ok-leaves.ensures).can c.in_ok-file.ensures.atoms }
-
-abbrev can : (c : goal.After-go_on) → CanGo c.args.self.now.atoms c.args.e.now.actor true c.in_ok-leaves.leaves.errand
-can c = (depart-step c.args.self.now c.args.e.now _ c.in_ok-leaves.ensures).can
-
-atoms : (c : goal.After-go_on) → c.go_on.new.atoms.items ≡ map.insert c.self.inside.atoms.items c.args.e.now.actor (goes (can c).atom (can c).next)
-atoms c = atoms-gone c.self.view_is c.args.e.now.actor (can c) c.in_ok-file.ensures.atoms c.go_on.ensures
+pub replace-requires : goal.replace-requires
+replace-requires c =
+    subst (λ (d : Config). IsSome (map.get d.atoms c.args.e.now.actor)) (sym c.self.view_is)
+    (stands as_migrate depart_more c.args.self.now c.args.e.now _ c.in_ok-leaves.ensures)
 
 pub invariant_of-self-2 : goal.invariant_of-self-2
-invariant_of-self-2 c = gone-kept c.self.view_is c.args.e.now.actor (can c) c.self.invariant c.in_ok-file.ensures.ok (atoms c)
+invariant_of-self-2 c =
+    kept-equal
+    (kept-put c.self.invariant c.args.e.now.actor c.in_ok-leaves.leaves.atom
+    (born-under c.self.view_is c.self.invariant c.args.e.now.actor (stands as_migrate depart_more c.args.self.now c.args.e.now _ c.in_ok-leaves.ensures)))
+    c.in_ok-file_atom.ensures.ok c.replace.ensures.items refl
 
 pub returns : goal.returns
 returns c =
-    let s = can c in
-    (depart-step c.args.self.now c.args.e.now _ c.in_ok-leaves.ensures).gives
+    let d = c.in_ok-leaves.leaves in
+    row-gives _ _ (departed c.args.self.now c.args.e.now) c.in_ok-leaves.ensures
     ∙ ap Some (sym
     (remade-placed {c = the_view c.self.inside}
     (c.put.ensures.items
-    ∙ ap (λ (x : NameMap Place). map.insert x c.in_ok-leaves.leaves.agent (place.Way c.in_ok-leaves.leaves.to)) (c.in_ok-reserve.ensures.items ∙ ap (λ (d : Config). d.places) c.self.view_is))
-    (atoms c ∙ ap (λ (d : Config). map.insert d.atoms c.args.e.now.actor (goes s.atom s.next)) c.self.view_is)
+    ∙ ap (λ (x : NameMap Place). map.insert x d.atom.agent (place.Way d.to)) (c.in_ok-reserve.ensures.items ∙ ap (λ (d : Config). d.places) c.self.view_is))
+    (c.replace.ensures.items ∙ ap (λ (x : Config). map.insert x.atoms c.args.e.now.actor d.atom) c.self.view_is)
     (ap (λ (d : Config). d.born) c.self.view_is) c.self.view_is))
-
-pub invariant_of-self-in_err-file : goal.invariant_of-self-in_err-file
-invariant_of-self-in_err-file c = grind (arith, common_steps)

@@ -1,9 +1,12 @@
 use Rattle.std.proofs.Common.{Some, sym, ap, ◌∙◌}
-use Rattle.np_configuration.proofs.Finds.{let-step}
+use Rattle.np_eval.specs.FormParts.{as_let}
+use Rattle.np_configuration.specs.Found.{stood}
+use Rattle.np_configuration.specs.Rows.{let_more}
+use Rattle.np_configuration.proofs.Finds.{row-gives, stands}
 use Rattle.np_configuration.proofs.cfg.Cfg.apply_let.Goals as goal
 
-pub enter-requires : goal.enter-requires
-enter-requires c = (let-step c.args.self.now c.args.e.now _ c.in_ok-entry.ensures).can
+pub stand-requires : goal.stand-requires
+stand-requires c = stands as_let let_more c.args.self.now c.args.e.now _ c.in_ok-atom.ensures
 
 pub returns : goal.returns
-returns c = let s = let-step c.args.self.now c.args.e.now _ c.in_ok-entry.ensures in s.gives ∙ ap Some (sym (c.in_ok-enter.ensures.ok.each s.can))
+returns c = row-gives _ _ (stood c.args.self.now c.args.e.now.actor) c.in_ok-atom.ensures ∙ ap Some (sym c.in_ok-stand.ensures.ok)
