@@ -6,7 +6,7 @@
 # It builds nothing: PROGRAM is the built program, by default crates/np/out/np. The source of a ring of N agents is that of
 # `gen N`; its run at the high level has 81 N + 37 events. The instructions are counted by valgrind, so the load of the machine does
 # not matter. Those of `check` of the same source (the start of the process, the reading, the types) are taken off those of
-# `high`; the copy of the source's process that a run starts with is counted with its events.
+# `high`.
 set -euo pipefail
 cd "$(dirname "$0")/.."
 source bench/parts.sh

@@ -1,5 +1,5 @@
 -- No run of the low program of an accepted source meets a value of a wrong type, or makes a post as the high level does.
-use Rattle.std.proofs.Common.{◌≡◌, Bool, true, false, List, [], ◌++◌, Some, refl, sym, subst, ◌∙◌, append-nil}
+use Rattle.std.proofs.Common.{◌≡◌, true, false, List, [], Some, refl, sym, subst, ◌∙◌, append-nil}
 use Rattle.np_syntax.specs.declared.event.Event.{Event}
 use Rattle.np_syntax.specs.declared.event.Kind.{Kind}
 use Rattle.np_syntax.specs.declared.event.Kind.TheVariants as kind
@@ -9,7 +9,7 @@ use Rattle.np_syntax.specs.declared.program.LowProgram.{LowProgram}
 use Rattle.np_syntax.specs.declared.program.Program.{Program}
 use Rattle.np_syntax.proofs.Options.{some_is}
 use Rattle.np_calculus.specs.Config.{Config}
-use Rattle.np_calculus.specs.Reductions.{apply, run}
+use Rattle.np_calculus.specs.Reductions.{run}
 use Rattle.np_calculus.specs.Runs.{RunsWell}
 use Rattle.np_calculus.specs.Starts.{start_low}
 use Rattle.np_calculus.specs.Well.{Well}

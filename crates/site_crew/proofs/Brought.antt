@@ -18,7 +18,7 @@ use Rattle.np_site_runs.proofs.merged.Linking.{all_second}
 use Rattle.np_code.specs.Programs.{ProgramTable}
 use Rattle.agent_move.specs.declared.item.Item.{Item}
 use Rattle.agent_move.specs.Items.{item_of}
-use Rattle.site_state.specs.Coming.{event_for}
+use Rattle.item_events.specs.Coming.{event_for}
 use Rattle.site_state.specs.Doing.{HasRoom}
 use Rattle.site_state.specs.Lines.{Waiting, queue_at}
 use Rattle.site_state.specs.Standings.{Standing}

@@ -55,7 +55,7 @@ use Rattle.agent_move.specs.declared.item.Item.{Item}
 use Rattle.agent_move.specs.declared.load.Load.{Load}
 use Rattle.agent_move.specs.declared.load.Load.TheVariants as load
 use Rattle.agent_move.specs.Items.{contents_of, item_of}
-use Rattle.site_state.specs.Coming.{event_for}
+use Rattle.item_events.specs.Coming.{event_for}
 use Rattle.site_state.specs.Doing.{HasRoom, IsPossible}
 use Rattle.site_state.specs.Lines.{queue_at}
 use Rattle.site_state.specs.Standings.{holding_of}

@@ -4,7 +4,7 @@ use Rattle.np_syntax.specs.declared.event.Event.{Event}
 use Rattle.site_links.specs.Words.{only_at}
 use Rattle.site_links.specs.declared.port.Port as Port
 use Rattle.agent_move.specs.declared.item.Item.{Item}
-use Rattle.site_state.specs.Coming.{event_for}
+use Rattle.item_events.specs.Coming.{event_for}
 use Rattle.site_state.specs.Doing.{HasRoom, HasTaken}
 use Rattle.site_state.specs.Lines.{queue_at}
 use Rattle.site_turn.specs.declared.seat.Seat.{Seat}

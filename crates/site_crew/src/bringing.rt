@@ -1,7 +1,7 @@
 //! An item that comes to a site again: it goes from the line of its sender over the link, and is accepted.
 ghost use Rattle.std.specs.Prelude.{◌≡◌, ◌<◌, ◌≤◌, ◌-◌, ◌⊎◌, ℕ, true, false, [], length, slice_get, Some, IfOk, MatchOption};
 ghost use Rattle.np_syntax.specs.declared.limits.TheConstants.{STAMPS_END};
-ghost use Rattle.site_state.specs.Coming.{event_for};
+ghost use Rattle.item_events.specs.Coming.{event_for};
 ghost use Rattle.site_state.specs.Lines.{queue_at};
 ghost use Rattle.site_crew.specs.Bringing.{AreClear, HasDue, HasNotBrought, HasNotTaken, HasSent, HasTakenOne, HaveSent, IsDueFrom, IsLast};
 ghost use Rattle.site_crew.specs.Bringing.{NoneIsDue, OneGoesOn};
@@ -14,10 +14,10 @@ use crate::catching::catch_at;
 use crate::counting::count;
 use crate::settling::{settle_pair, settle_to};
 use agent_move::Item;
+use item_events::event_for;
 use np_code::Code;
 use np_syntax::{Event, Memory};
 use site_links::Port;
-use site_state::event_for;
 use site_turn::{Seat, admit, has_room};
 
 /// Whether an item comes by the event.

@@ -34,7 +34,8 @@ use Rattle.agent_move.specs.declared.load.Load.{Load}
 use Rattle.agent_move.specs.declared.load.Load.TheVariants as load
 use Rattle.agent_move.specs.Items.{contents_of, item_of}
 use Rattle.agent_move.specs.Loads.{site_for}
-use Rattle.site_state.specs.Coming.{HasCome, HasGot, event_for}
+use Rattle.item_events.specs.Coming.{event_for}
+use Rattle.site_state.specs.Coming.{HasCome, HasGot}
 use Rattle.site_state.specs.Doing.{HasTaken, deed_of, recorded}
 use Rattle.site_state.specs.Lines.{queue_at}
 use Rattle.site_state.specs.Parts.{IsNoted}

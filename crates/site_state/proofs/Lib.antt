@@ -8,6 +8,7 @@ pub mod Left
 pub mod Lines
 pub mod Seats
 pub mod Sites
+pub mod Bits
 pub mod Noted
 pub mod Rows
 pub mod Tellings

@@ -1,12 +1,10 @@
 -- What comes to a site (docs/LANGUAGE.md, "Reductions").
-use Rattle.std.specs.Prelude.{◌≡◌, ◌<◌, ◌≤◌, ℕ, MatchOption, Some}
+use Rattle.std.specs.Prelude.{◌≡◌, ◌<◌, ◌≤◌, MatchOption, Some}
 use Rattle.std.specs.FinMap as map
-use Rattle.np_syntax.specs.declared.event.Event.{Event}
 use Rattle.np_syntax.specs.declared.process.Tag.{Tag}
 use Rattle.np_syntax.specs.declared.value.Name.{Name}
 use Rattle.np_syntax.specs.declared.value.Value.{Value}
 use Rattle.np_tables.specs.Names.{NameMap}
-use Rattle.np_calculus.specs.Begins.{arrival, landing}
 use Rattle.np_code.specs.Programs.{ProgramTable}
 use Rattle.agent_index.specs.declared.wait.Wait.TheVariants as wait
 use Rattle.agent_pool.specs.declared.held.Held.TheVariants as held
@@ -45,8 +43,3 @@ IsGiven old to mark chan value tag new = MatchOption (map.get old to) (new ≡ o
 abbrev pub HasCome : NameMap Pool → Load → NameMap Pool → Type 0
 HasCome old (load.Agent agent) new = new ≡ map.insert old agent.name agent
 HasCome old (load.Packet mark packet) new = IsGiven old packet.agent mark packet.chan packet.value packet.tag new
-
--- the event of this at a site
-abbrev pub event_for : ℕ → Load → Event
-event_for site (load.Agent agent) = arrival agent.name site
-event_for site (load.Packet mark packet) = landing mark packet

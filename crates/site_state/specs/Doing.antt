@@ -17,9 +17,9 @@ use Rattle.agent_pool.specs.Pools.{Pool, atoms_of}
 use Rattle.agent_pool.specs.Rows.{event_of, ready_of}
 use Rattle.agent_move.specs.declared.item.Item.{Item}
 use Rattle.agent_move.specs.Items.{item_of}
+use Rattle.item_events.specs.Coming.{event_for}
 use Rattle.site_state.specs.declared.stepping.Stepped.{Stepped}
 use Rattle.site_state.specs.declared.stepping.Stepped.TheVariants as stepped
-use Rattle.site_state.specs.Coming.{event_for}
 use Rattle.site_state.specs.Lines.{Waiting, IsPut, SameLines}
 use Rattle.site_agents.specs.Standings.{CanDo, NoneCan, NoneCanDo}
 use Rattle.site_state.specs.Standings.{KeepsQuiet, Standing, Stays, holding_of, with_clock}

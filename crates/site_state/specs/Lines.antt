@@ -1,6 +1,8 @@
 -- What contracts see of the items that a site has to put on its links.
-use Rattle.std.specs.Prelude.{◌≡◌, ◌≢◌, ◌<◌, ◌≤◌, ℕ, List, [], ◌∷◌, ◌++◌, length, get_or, refl}
+use Rattle.std.specs.Prelude.{◌≡◌, ◌≢◌, ◌<◌, ◌≤◌, ℕ, List, [], ◌∷◌, ◌++◌, length, get_or, refl, MatchOption}
+use Rattle.std.specs.Int.{bit_at}
 use Rattle.std.specs.Coded.{Coded, code_by, coded×, coded_ℕ, coded_list}
+use Rattle.np_syntax.specs.declared.limits.TheConstants.{MOST_SITES}
 use Rattle.site_state.specs.declared.line.TheConstants.{PLACES}
 use Rattle.agent_move.specs.declared.item.Item.{Item}
 use Rattle.agent_move.specs.contracts.item.Item as item
@@ -76,3 +78,40 @@ pub record IsTaken (old : List Waiting) (to : ℕ) (item : Item) (new : List Wai
 -- no line has items
 pub record NothingOut (lines : List Waiting) : Type 0 where
   pub each : (to : ℕ) → queue_at lines to ≡ []
+
+-- ---- which lines may have items, a bit for each site
+
+-- the bit of a site is not set
+pub record IsUnmarked (marks to : ℕ) : Type 0 where
+  pub within : to < MOST_SITES
+  pub bit : bit_at marks to ≡ 0
+
+-- the bit at a place is set, and none below it
+pub record IsLowest (bits place : ℕ) : Type 0 where
+  pub within : place < MOST_SITES
+  pub set : bit_at bits place ≡ 1
+  pub before : (to : ℕ) → to < place → bit_at bits to ≡ 0
+
+-- a site's bit is set, and the others are as they were
+pub record IsMarked (old site new : ℕ) : Type 0 where
+  pub there : IsUnmarked new site → ⊥
+  pub others : (to : ℕ) → to ≢ site → bit_at new to ≡ bit_at old to
+
+-- a site's bit is not set, and the others are as they were
+pub record IsStruck (old site new : ℕ) : Type 0 where
+  pub there : site < MOST_SITES → IsUnmarked new site
+  pub others : (to : ℕ) → to < MOST_SITES → to ≢ site → bit_at new to ≡ bit_at old to
+
+-- a line without a mark has no items
+pub record AreMarked (marks : ℕ) (lines : List Waiting) : Type 0 where
+  pub each : (to : ℕ) → IsUnmarked marks to → queue_at lines to ≡ []
+
+-- no line from a number on has items
+pub record NothingFrom (lines : List Waiting) (from : ℕ) : Type 0 where
+  pub each : (to : ℕ) → from ≤ to → queue_at lines to ≡ []
+
+-- between two numbers no line has items, and there is a line with the second
+pub record IsNext (lines : List Waiting) (from to : ℕ) : Type 0 where
+  pub after : from ≤ to
+  pub within : to < length lines
+  pub before : (t : ℕ) → from ≤ t → t < to → queue_at lines t ≡ []

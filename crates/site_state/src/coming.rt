@@ -1,58 +1,17 @@
 //! What comes to the agents at a site.
 
-ghost use Rattle.std.specs.Prelude.{◌≡◌, ◌<◌, ◌≤◌, OnOk};
+ghost use Rattle.std.specs.Prelude.{◌≡◌, ◌<◌, OnOk};
 ghost use Rattle.std.specs.FinMap as map;
-ghost use Rattle.np_calculus.specs.Begins.{arrival, landing};
-ghost use Rattle.site_state.specs.Coming.{HasCome, HasSpare, HasRoomFor, IsGiven, KeepsSeats, event_for};
+ghost use Rattle.item_events.specs.Coming.{event_for};
+ghost use Rattle.site_state.specs.Coming.{HasCome, HasSpare, HasRoomFor, IsGiven, KeepsSeats};
 ghost use Rattle.site_agents.specs.Standings.{AreNamed};
 ghost use Rattle.site_state.specs.Standings.{SameAgents};
 
 use agent_move::{Item, Load};
 use agent_pool::Agent;
-use np_calculus::Packet;
-use np_syntax::{Event, Kind, Made, Memory, Name, Role, Tag, Value};
+use item_events::event_for;
+use np_syntax::{Event, Memory, Name, Tag, Value};
 use site_agents::Agents;
-
-/// The event of an agent that arrives.
-fn arrival(agent: Name, site: u32) -> Event
-    ensures { result ≡ arrival agent site }
-{
-    Event {
-        site,
-        kind: Kind::Arrive,
-        actor: agent,
-        other: None,
-        tag: Tag {
-            node: 0,
-            role: Role::Plain,
-        },
-        made: Made::Nothing,
-    }
-}
-
-/// The event of a packet that lands.
-fn landing(mark: Name, packet: &Packet) -> Event
-    ensures { result ≡ landing mark packet.now }
-{
-    Event {
-        site: packet.to,
-        kind: Kind::Land,
-        actor: mark,
-        other: None,
-        tag: packet.tag,
-        made: Made::Nothing,
-    }
-}
-
-/// The event of what comes to a site.
-pub fn event_for(site: u32, load: &Load) -> Event
-    ensures { result ≡ event_for site load.now }
-{
-    match load {
-        Load::Agent(agent) => arrival(agent.name(), site),
-        Load::Packet(mark, packet) => landing(*mark, packet),
-    }
-}
 
 /// Makes sure of a place for one more atom of the agent of a name, if there is one.
 pub fn make_room(agents: &mut Agents, name: Name) -> Result<(), Memory>
@@ -114,23 +73,17 @@ pub fn take_in(agents: &mut Agents, site: u32, load: Load) -> Event
     ensures come { HasCome agents.old.agents load agents.new.agents }
     ensures keeps { KeepsSeats agents.old agents.new }
 {
+    let event = event_for(site, &load);
     match load {
-        Load::Agent(agent) => {
-            let event = arrival(agent.name(), site);
-            settle(agents, agent);
-            event
-        }
-        Load::Packet(mark, packet) => {
-            let event = landing(mark, &packet);
-            give(
-                agents,
-                packet.agent,
-                mark,
-                packet.chan,
-                packet.value,
-                packet.tag,
-            );
-            event
-        }
+        Load::Agent(agent) => settle(agents, agent),
+        Load::Packet(mark, packet) => give(
+            agents,
+            packet.agent,
+            mark,
+            packet.chan,
+            packet.value,
+            packet.tag,
+        ),
     }
+    event
 }

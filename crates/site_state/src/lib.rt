@@ -16,6 +16,7 @@ mod inner;
 mod leaving;
 mod line;
 mod making;
+mod marks;
 mod noting;
 mod outgoing;
 mod sending;
@@ -24,6 +25,5 @@ mod stepping;
 mod telling;
 mod within;
 
-pub use coming::event_for;
 pub use site::Site;
 pub use stepping::Stepped;

@@ -1,4 +1,4 @@
-ghost use Rattle.std.specs.Prelude.{◌≡◌, ◌≢◌, ◌<◌, ◌+◌, max, None, Some};
+ghost use Rattle.std.specs.Prelude.{◌≡◌, ◌≢◌, ◌<◌, ◌+◌, max, None};
 ghost use Rattle.np_syntax.specs.declared.limits.TheConstants.{STAMPS_END};
 ghost use Rattle.np_syntax.specs.declared.event.Kind.TheVariants as kind;
 ghost use Rattle.agent_pool.specs.Rows.{event_of};
@@ -8,6 +8,7 @@ ghost use Rattle.np_site_runs.specs.Holdings.{name_of};
 
 use super::site::Site;
 use agent_pool::Ready;
+use item_events::record_taken;
 use np_syntax::{Event, Made, Name};
 
 /// How many names are made.
@@ -67,8 +68,7 @@ impl Site {
         requires stamp { stamp < STAMPS_END }
         ensures { IsNoted self.old (max self.old.clock stamp + 1) event None self.new }
     {
-        let stamp = self.clock.meet(stamp);
-        self.history.push(stamp, event);
+        record_taken(&mut self.clock, &mut self.history, stamp, event);
         self.next += names_in(event.made);
     }
 }

@@ -1,18 +1,20 @@
 ghost use Rattle.std.specs.Prelude.{◌≡◌, ◌<◌, ◌≤◌, ◌^◌, ◌+◌, [], length, ◌↔◌, IfOk, IsTrue, OnOk, MatchOption, option_copied, slice_get};
 ghost use Rattle.site_state.specs.declared.line.TheConstants.{PLACES};
 ghost use Rattle.site_state.specs.Lines.{queue_at, room_at, AreEmpty, AreGrown, HaveRoom, HaveRoomBelow, NothingOut, SameLines, IsPut};
-ghost use Rattle.site_state.specs.Lines.{IsTaken};
+ghost use Rattle.site_state.specs.Lines.{IsNext, IsTaken, NothingFrom};
 
 use super::line::{Line, PLACES};
+use super::marks::Marks;
 use agent_move::Item;
 use np_syntax::Memory;
 use std::alloc::Global;
 use std::marker::Model;
 
-/// The items that a site has to put on its links, in a line for each site. `sure` is for how many more there is room in
-/// each line. `last` is a hint: the site for which an item came last.
+/// The items that a site has to put on its links, in a line for each site. `marks` are of the lines that may have items.
+/// `sure` is for how many more there is room in each line. `last` is a hint: the site for which an item came last.
 pub struct Outgoing {
     lines: Vec<Line>,
+    marks: Marks,
     sure: u32,
     last: u32,
 }
@@ -21,6 +23,7 @@ impl Drop for Outgoing {
     fn drop(self) {
         let Outgoing {
             lines: _,
+            marks: _,
             sure: _,
             last: _,
         } = self;
@@ -28,7 +31,7 @@ impl Drop for Outgoing {
 }
 
 impl Model for Outgoing {
-    ghost use Rattle.site_state.specs.Lines.{Queues, queues_code, HaveRoom};
+    ghost use Rattle.site_state.specs.Lines.{AreMarked, Queues, queues_code, HaveRoom};
 
     ghost Value = { Queues };
 
@@ -36,7 +39,7 @@ impl Model for Outgoing {
 
     ghost view = { λ outgoing. record { lines = outgoing.lines.items; sure = outgoing.sure } };
 
-    ghost invariant = { λ outgoing. HaveRoom outgoing.sure outgoing.lines.items };
+    ghost invariant = { λ outgoing. HaveRoom outgoing.sure outgoing.lines.items × AreMarked outgoing.marks outgoing.lines.items };
 }
 
 impl Outgoing {
@@ -48,17 +51,10 @@ impl Outgoing {
         let lines = lines_for(alloc, sites)?;
         Ok(Outgoing {
             lines,
+            marks: Marks::none(),
             sure: PLACES,
             last: 0,
         })
-    }
-
-    /// For how many sites there is a line.
-    pub fn sites(&self) -> u32
-        requires { length self.now.lines < 2 ^ 32 }
-        ensures { result ≡ length self.now.lines }
-    {
-        self.lines.len() as u32
     }
 
     /// Whether there is no item for any site.
@@ -75,6 +71,18 @@ impl Outgoing {
         match self.lines.get(to as usize) {
             Some(line) => line.is_empty(),
             None => true,
+        }
+    }
+
+    /// The first site from a number on for which there may be an item.
+    pub fn next_from(&self, from: u32) -> Option<u32>
+        ensures { MatchOption result (NothingFrom self.now.lines from) (IsNext self.now.lines from) }
+    {
+        let to = self.marks.first_from(from);
+        if (to as usize) < self.lines.len() {
+            Some(to)
+        } else {
+            None
         }
     }
 
@@ -115,6 +123,7 @@ impl Outgoing {
     {
         self.sure -= 1;
         self.last = to;
+        self.marks.mark(to);
         self.lines[to as usize].put(item);
     }
 
@@ -125,7 +134,11 @@ impl Outgoing {
             (λ item. IsTaken self.old.lines to item self.new.lines) }
         ensures sure { self.new.sure ≡ self.old.sure }
     {
-        self.lines[to as usize].take()
+        let item = self.lines[to as usize].take();
+        if is_empty_at(&self.lines, to as usize) {
+            self.marks.strike(to);
+        }
+        item
     }
 
     /// An item comes first in the line for a site.
@@ -136,6 +149,7 @@ impl Outgoing {
         ensures sure { self.old.sure ≤ self.new.sure + 1 }
     {
         self.sure = self.sure.saturating_sub(1);
+        self.marks.mark(to);
         self.lines[to as usize].put_first(item);
     }
 }

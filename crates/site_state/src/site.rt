@@ -3,7 +3,7 @@ ghost use Rattle.std.specs.Prelude.{option_copied, slice_get};
 ghost use Rattle.std.specs.FinMap as map;
 ghost use Rattle.np_syntax.specs.declared.limits.TheConstants.{LARGEST_BUDGET};
 ghost use Rattle.site_agents.specs.Standings.{AreIdle};
-ghost use Rattle.site_state.specs.Lines.{NothingOut, queue_at, room_at};
+ghost use Rattle.site_state.specs.Lines.{IsNext, NothingFrom, NothingOut, queue_at, room_at};
 ghost use Rattle.site_state.specs.Standings.{IsNew, IsSettled, IsStanding, NoneOut, IsOut, StaysForAll};
 
 use super::outgoing::Outgoing;
@@ -179,6 +179,13 @@ impl Site {
         ensures { IsTrue result ↔ (queue_at self.now.outgoing to ≡ []) }
     {
         self.outgoing.has_none_for(to)
+    }
+
+    /// The first site from a number on for which an item may wait to be put on its link.
+    pub fn next_for(&self, from: u32) -> Option<u32>
+        ensures { MatchOption result (NothingFrom self.now.outgoing from) (IsNext self.now.outgoing from) }
+    {
+        self.outgoing.next_from(from)
     }
 
     /// The site for which an item was put out last. It is a hint.

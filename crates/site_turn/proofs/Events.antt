@@ -1,6 +1,7 @@
 -- Steps of a turn that made an event, and steps that made none.
 use Rattle.std.proofs.Common.{◌≡◌, ◌<◌, ◌+◌, ℕ, Bool, true, false, List, [], ◌∷◌, ◌++◌, length, Option, None, Some, option_map, refl, sym, ap, subst, ◌∙◌, arith, inl, inr, length-append, ◌≢◌, ◌≤◌, append-nil, cond, eq-eqb}
 use Rattle.std.specs.Prelude.{◌⊎◌, is_some}
+use Rattle.std.proofs.lemmas.Bool.{cases_lt}
 use Rattle.std.proofs.lemmas.Bool.Decides.{eqb_tells}
 use Rattle.std.proofs.lemmas.List.{append_assoc, append_cancel_left}
 use Rattle.std.specs.FinMap as table
@@ -238,6 +239,16 @@ module _ {P R : Type 0} {g : Port.Ghosts P R Item} {code : ProgramTable} where
       | inr w ↦ sent_still to (h.below to (omega arith)) (others to w.1)
     ];
     others = λ to more. links_trans to (h.others to (omega arith)) (others to (λ e. absurd (omega arith)));
+  }
+
+  -- the sites between two numbers had no items
+  pub sent_below_next : (n m : ℕ) {a b : Seat P} → HasSentBelow g code n a b → n ≤ m → ((to : ℕ) → n ≤ to → to < m → queue_at b.site.outgoing to ≡ []) → HasSentBelow g code m a b
+  sent_below_next n m h more none = record {
+    below = λ to less. elim (cases_lt to n) [
+      | inl l ↦ h.below to l
+      | inr l ↦ record { most = inl (none to l less) }
+    ];
+    others = λ to above. h.others to (omega arith);
   }
 
   -- ---- receiving

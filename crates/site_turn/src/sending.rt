@@ -10,7 +10,7 @@ use np_syntax::Kind;
 use site_links::{PLACES, Port};
 use site_state::Site;
 
-/// Puts what is outgoing on the links, as far as there is room. Where nothing is no site is asked.
+/// Puts what is outgoing on the links, as far as there is room. It goes by the sites for which something may be outgoing.
 #[tactic(auto, using(crate::proofs::Steps::turned_refl))]
 pub fn send<R, P: Port<R, Item>>(rt: &R, code: &Code, signs: &Signs, seat: &mut Seat<P>)
     requires { Seated P.Port code.now seat.old }
@@ -18,11 +18,14 @@ pub fn send<R, P: Port<R, Item>>(rt: &R, code: &Code, signs: &Signs, seat: &mut 
     ensures only { OnlySends P.Port code.now seat.old seat.new }
     ensures all { SendsAll P.Port code.now seat.old seat.new }
 {
-    if seat.site.all_sent() {
-        return;
-    }
-    for to in 0..code.sites() {
+    let count = code.sites();
+    let mut from = 0;
+    while from < count {
+        let Some(to) = seat.site.next_for(from) else {
+            return;
+        };
         send_to(rt, code, signs, seat, to);
+        from = to + 1;
     }
 }
 

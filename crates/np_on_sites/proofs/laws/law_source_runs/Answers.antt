@@ -1,4 +1,3 @@
-use Rattle.np_on_sites.specs.SourceRuns.{RunsAreSourceRuns}
 use Rattle.np_on_sites.proofs.SourceRuns.{by_infrastructure, cached_run, central_run, on_sites}
 use Rattle.np_on_sites.proofs.laws.law_source_runs.Goals as goal
 

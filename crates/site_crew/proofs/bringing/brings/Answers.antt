@@ -2,7 +2,7 @@ use Rattle.std.proofs.Common.{◌≡◌, ◌∙◌, true, false, ap, sym}
 use Rattle.np_syntax.specs.declared.event.Event.{Event}
 use Rattle.np_syntax.specs.contracts.event.EventPartialEq.TheImpl as events
 use Rattle.agent_move.specs.declared.load.Load.{Load}
-use Rattle.site_state.specs.Coming.{event_for}
+use Rattle.item_events.specs.Coming.{event_for}
 use Rattle.site_crew.proofs.Redoing.{event-is, event-itself}
 use Rattle.site_crew.proofs.bringing.brings.Goals as goal
 

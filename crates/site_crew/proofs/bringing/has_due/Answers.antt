@@ -3,7 +3,7 @@ use Rattle.std.specs.Prelude.{slice_get}
 use Rattle.np_syntax.specs.declared.event.Event.{Event}
 use Rattle.np_syntax.proofs.Options.{some_is}
 use Rattle.agent_move.specs.declared.item.Item.{Item}
-use Rattle.site_state.specs.Coming.{event_for}
+use Rattle.item_events.specs.Coming.{event_for}
 use Rattle.site_state.specs.Lines.{queue_at}
 use Rattle.site_turn.specs.declared.seat.Seat.{Seat}
 use Rattle.site_crew.specs.Bringing.{HasDue}

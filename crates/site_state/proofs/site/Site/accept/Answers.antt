@@ -1,6 +1,7 @@
 use Rattle.std.proofs.lemmas.Grind.{common_steps}
 use Rattle.std.proofs.Common.{◌+◌, max, None, refl, sym, ap, subst, ◌∙◌, arith}
-use Rattle.site_state.specs.Coming.{HasCome, event_for}
+use Rattle.item_events.specs.Coming.{event_for}
+use Rattle.site_state.specs.Coming.{HasCome}
 use Rattle.site_state.specs.Parts.{IsNoted}
 use Rattle.site_state.specs.Standings.{Standing}
 use Rattle.site_state.proofs.Arrivals.{has_taken}
