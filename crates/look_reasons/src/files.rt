@@ -3,7 +3,7 @@
 ghost use Rattle.std.specs.Prelude.{◌≤◌, length, IfErr, IfOk};
 ghost use Rattle.look_reasons.specs.Unread.{IsUnread};
 
-use super::histories::{History, Purpose, of_history};
+use super::histories::{Compiled, History, Purpose, of_history};
 use super::naming::{explained, named};
 use super::sources::{lowered, source_told, told};
 use np_histories::LONGEST_HISTORY;
@@ -91,7 +91,11 @@ pub fn reason_of_history<T: Texts>(
         Ok(lines) => lines,
         Err(refusal) => return unread(alloc, name, refusal),
     };
-    of_history(alloc, &low, name, lines.as_slice(), history)
+    let compiled = Compiled {
+        source: bytes.as_slice(),
+        low: &low,
+    };
+    of_history(alloc, compiled, name, lines.as_slice(), history)
 }
 
 /// What is told of a source, of a history of it, or of what a word names that stands in the place of a source.

@@ -3,16 +3,18 @@
 ghost use Rattle.std.specs.Prelude.{◌≡◌, ◌<◌, ◌≤◌, ◌^◌, length, IfErr, IsSome, OnOk};
 ghost use Rattle.np_calculus.specs.Reductions.{run};
 ghost use Rattle.np_calculus.specs.Starts.{start_low};
+ghost use Rattle.np_syntax.specs.declared.limits.TheConstants.{LONGEST_SOURCE};
 ghost use Rattle.np_histories.specs.declared.limits.TheConstants.{LONGEST_HISTORY};
 ghost use Rattle.look_reasons.specs.Unread.{IsUnread};
 
+use super::notes::{front_note, noted, run_note};
 use super::sources::{are_many, told};
 use history_reasons::{
     Layout, layout_of, no_line, not_a_run, not_ours, past_budget, syntax_reasons,
 };
 use np_histories::{LONGEST_HISTORY, check_run, events_of};
 use np_io::Word;
-use np_syntax::{Event, Kind, LowProgram, Memory};
+use np_syntax::{Event, Kind, LONGEST_SOURCE, LowProgram, Memory};
 use np_verdict::Refusal;
 use np_words::Infrastructure;
 use refusal_diagnoses::{Told, nothing, told_of};
@@ -87,6 +89,13 @@ fn unfit(alloc: Global, low: &LowProgram, events: &[Event], purpose: Purpose) ->
         Purpose::Past(_) => Ok(()),
         Purpose::Resume(budget) => unresumed(alloc, low, events, budget),
     }
+}
+
+/// A source and its low program.
+#[derive(Clone, Copy)]
+pub(super) struct Compiled<'a> {
+    pub source: &'a [u8],
+    pub low: &'a LowProgram,
 }
 
 /// A history that is told of.
@@ -197,24 +206,50 @@ pub(super) fn of_lines(alloc: Global, name: &Word, bytes: &[u8]) -> Result<Told,
     }
 }
 
-/// What is told of a history of a low program.
+/// What is noted of events that are refused so.
+fn refusal_note(
+    alloc: Global,
+    compiled: Compiled<'_>,
+    infrastructure: Infrastructure,
+    events: &[Event],
+    refusal: Refusal,
+) -> Result<Option<np_syntax::Text>, Memory>
+    requires source { length compiled.source.now ≤ LONGEST_SOURCE }
+    requires events { length events.now < 2 ^ 32 }
+{
+    match refusal {
+        Refusal::NotARun(_) => run_note(alloc, infrastructure, compiled.source, events),
+        _ => Ok(None),
+    }
+}
+
+/// What is told of a history of a source.
 pub(super) fn of_history(
     alloc: Global,
-    low: &LowProgram,
+    compiled: Compiled<'_>,
     name: &Word,
     bytes: &[u8],
     history: History,
 ) -> Result<Told, Refusal>
-    requires sites { length low.now.sites < 2 ^ 32 }
+    requires source { length compiled.source.now ≤ LONGEST_SOURCE }
+    requires sites { length compiled.low.now.sites < 2 ^ 32 }
     requires short { length bytes.now ≤ LONGEST_HISTORY }
     ensures { IfErr result IsUnread }
 {
+    let History {
+        infrastructure,
+        purpose,
+    } = history;
+    let low = compiled.low;
     let events = match events_of(alloc, bytes) {
         Ok(events) => events,
         Err(_) => return of_lines(alloc, name, bytes),
     };
-    match unfit(alloc, low, events.as_slice(), history.purpose) {
-        Ok(()) => Ok(nothing(alloc)),
+    match unfit(alloc, low, events.as_slice(), purpose) {
+        Ok(()) => {
+            let note = front_note(alloc, infrastructure, low, bytes);
+            noted(alloc, Ok(nothing(alloc)), note)
+        }
         Err(Refusal::Memory) => Err(Refusal::Memory),
         Err(refusal) => {
             let text = Text {
@@ -222,10 +257,11 @@ pub(super) fn of_history(
                 low,
                 bytes,
                 layout: layout_of(bytes),
-                purpose: history.purpose,
+                purpose,
             };
             let found = event_reasons(text, events.as_slice(), refusal);
-            text_told(alloc, name, bytes, refusal, found)
+            let note = refusal_note(alloc, compiled, infrastructure, events.as_slice(), refusal);
+            noted(alloc, text_told(alloc, name, bytes, refusal, found), note)
         }
     }
 }

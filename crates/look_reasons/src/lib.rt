@@ -1,7 +1,8 @@
 //! What `np_look why` tells: the refusal of a source, of a history of it, or of words of np; or what a word names.
 //!
 //! The refusals are those of np's own functions, in the order of np. It fails only for want of memory, and where a file cannot be
-//! read (`IsUnread`).
+//! read (`IsUnread`). Of a history it notes that it is a run with the other infrastructure (`IsRunWith`), and that what stands before
+//! it is not what its events print.
 //!
 //! Contracts: `reason_of`, `reason_of_file`, `reason_of_history`, `reason_of_words` (`IsUnread`).
 #![tactic(auto)]
@@ -9,6 +10,7 @@
 mod files;
 mod histories;
 mod naming;
+mod notes;
 mod sources;
 mod words;
 

@@ -2,6 +2,7 @@
 
 ghost use Rattle.std.specs.Prelude.{◌<◌, ◌≤◌, ◌^◌, length, IfErr, IfOk};
 ghost use Rattle.np_syntax.specs.declared.limits.TheConstants.{LONGEST_SOURCE};
+ghost use Rattle.np_sources.specs.Reaches.{IsLowOf};
 ghost use Rattle.look_reasons.specs.Unread.{IsUnread};
 
 use np_io::Word;
@@ -157,7 +158,8 @@ pub(super) fn lowered(
     bytes: &[u8],
 ) -> Result<LowProgram, Refusal>
     requires { length bytes.now ≤ LONGEST_SOURCE }
-    ensures { IfOk result (λ low. length low.sites < 2 ^ 32) }
+    ensures few { IfOk result (λ low. length low.sites < 2 ^ 32) }
+    ensures made { IfOk result (IsLowOf infrastructure bytes.now) }
 {
     low_of(alloc, infrastructure, bytes)
 }

@@ -80,6 +80,7 @@ fn word_len(line: &[u8]) -> usize
         b"wanted:".as_slice(),
         b"why:".as_slice(),
         b"next:".as_slice(),
+        b"note:".as_slice(),
     ]
     .iter()
     {

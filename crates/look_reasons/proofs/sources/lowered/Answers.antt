@@ -10,5 +10,5 @@ few : {E : Type 0} (r : Result LowProgram E) → IfOk r (λ low. RunsWell (start
 few (Ok low) runs = omega (arith, runs.sites, low-sites low)
 few (Err e) runs = tt
 
-pub returns : goal.returns
-returns c = few c.low_of.result c.low_of.ensures.runs
+pub returns-clause-few : goal.returns-clause-few
+returns-clause-few c = few c.low_of.result c.low_of.ensures.runs
