@@ -1,14 +1,14 @@
 -- How one write of the table of lanes shows in the lines, in the rooms and in who waits.
-use Rattle.std.proofs.Common.{◌≡◌, ◌≤◌, ◌+◌, Bool, true, false, cond, ◌&&◌, List, [], ◌∷◌, ◌++◌, Option, None, Some, Result, Ok, Err, OnOk, refl, sym, ap, subst, ◌∙◌, arith}
+use Rattle.std.proofs.Common.{◌≡◌, ◌≤◌, ◌+◌, Bool, true, false, cond, ◌&&◌, List, [], ◌∷◌, ◌++◌, Option, None, Some, Result, Ok, Err, MatchOption, OnOk, refl, sym, ap, subst, ◌∙◌, arith}
 use Rattle.std.specs.FinMap as map
 use Rattle.np_syntax.specs.declared.value.Name.{Name}
 use Rattle.np_syntax.proofs.Options.{done}
 use Rattle.np_tables.specs.Names.{NameMap, same_name}
-use Rattle.np_tables.proofs.Tables.{get-none, get-put, get-cut, same_name-is, same_name-itself, same_name-swap, put-put, cut-put, put_here}
+use Rattle.np_tables.proofs.Tables.{get-none, get-put, get-cut, same_name-is, same_name-itself, same_name-swap, cut-put, put_here}
 use Rattle.agent_index.specs.declared.wait.Wait.{Wait}
 use Rattle.agent_index.specs.declared.wait.Wait.TheVariants as wait
-use Rattle.agent_index.specs.Lines.{Waiting, is_none, is_bare, inputs_in, outputs_in, in_line, same_line, SetsLine}
-use Rattle.agent_index.specs.Lanes.{free, owes, HasRooms, AreFilled, HadRoom, IsOpened, SameBut, OwesMore, IsGrown, BothGrown, AreGrown, IsPaid}
+use Rattle.agent_index.specs.Lines.{Waiting, is_none, is_bare, inputs_in, outputs_in, in_line, same_line, without, SetsLine}
+use Rattle.agent_index.specs.Lanes.{free, owes, HasRooms, AreFilled, HadRoom, HasLeft, IsOpened, LosesInput, LosesOutput, OwesMore, IsGrown, BothGrown, AreGrown, IsPaid}
 
 -- what was opened has a place
 pub opened-room : (lanes : NameMap Waiting) (f s : Option Name) (chan : Name) (w : Waiting) → HasRooms lanes f s → 1 ≤ free f + free s → IsOpened (map.get lanes chan) w
@@ -69,21 +69,20 @@ module _ (old after : NameMap Waiting) (chan : Name) (o : Option Waiting) (is : 
       by q w false same e = filled.each q w e
 
 -- look-ups after the write
-pub after-put : (old new after : NameMap Waiting) (chan : Name) (w : Waiting) → SameBut old new chan → after ≡ map.insert new chan w
-    → (q : Name) → map.get after q ≡ cond (same_name q chan) (Some w) (map.get old q)
-after-put old new after chan w rest is q = ap (λ m. map.get m q) (is ∙ rest.put w) ∙ get-put old chan w q
+pub after-put : (old after : NameMap Waiting) (chan : Name) (w : Waiting) → after ≡ map.insert old chan w → (q : Name) → map.get after q ≡ cond (same_name q chan) (Some w) (map.get old q)
+after-put old after chan w is q = ap (λ m. map.get m q) is ∙ get-put old chan w q
 
 -- who waits afterwards, if there is someone
 abbrev pub left : Waiting → Option Waiting
 left w = cond (is_bare w) None (Some w)
 
-pub after-settle : (old new after : NameMap Waiting) (chan : Name) (w : Waiting) → SameBut old new chan → after ≡ cond (is_bare w) (map.remove new chan) (map.insert new chan w)
+pub after-settle : (old after : NameMap Waiting) (chan : Name) (w : Waiting) → after ≡ cond (is_bare w) (map.remove old chan) (map.insert old chan w)
     → (q : Name) → map.get after q ≡ cond (same_name q chan) (left w) (map.get old q)
-after-settle old new after chan w rest is q = ap (λ m. map.get m q) is ∙ by (is_bare w)
+after-settle old after chan w is q = ap (λ m. map.get m q) is ∙ by (is_bare w)
   where
-    by : (t : Bool) → map.get (cond t (map.remove new chan) (map.insert new chan w)) q ≡ cond (same_name q chan) (cond t None (Some w)) (map.get old q)
-    by true = ap (λ m. map.get m q) rest.cut ∙ get-cut old chan q
-    by false = ap (λ m. map.get m q) (rest.put w) ∙ get-put old chan w q
+    by : (t : Bool) → map.get (cond t (map.remove old chan) (map.insert old chan w)) q ≡ cond (same_name q chan) (cond t None (Some w)) (map.get old q)
+    by true = get-cut old chan q
+    by false = get-put old chan w q
 
 none-is : (xs : List Name) → is_none xs ≡ true → xs ≡ []
 none-is [] h = refl
@@ -140,10 +139,10 @@ module _ (old new : NameMap Waiting) (grown : AreGrown old new) where
 
 -- ---- a mark that comes
 
-module _ (old new after : NameMap Waiting) (f s g t : Option Name) (chan : Name) (v w : Waiting) (rest : SameBut old new chan) (is : after ≡ map.insert new chan w) where
+module _ (old after : NameMap Waiting) (f s g t : Option Name) (chan : Name) (v w : Waiting) (is : after ≡ map.insert old chan w) where
   pub entered-rooms : HasRooms old f s → 1 ≤ free f + free s → IsOpened (map.get old chan) v → v.room ≤ w.room + 1 → OwesMore g t f s chan → HasRooms after g t
   entered-rooms rooms h opened room owe =
-      rooms-set old after chan (Some w) (after-put old new after chan w rest is) f s g t rooms (λ q. let e = owe.owes q in omega (arith, e))
+      rooms-set old after chan (Some w) (after-put old after chan w is) f s g t rooms (λ q. let e = owe.owes q in omega (arith, e))
       (λ u e. subst (λ (x : Waiting). 2 ≤ x.room + (owes g chan + owes t chan)) (sym (done e)) here)
     where
       more : owes g chan + owes t chan ≡ owes f chan + owes s chan + 1
@@ -153,20 +152,20 @@ module _ (old new after : NameMap Waiting) (f s g t : Option Name) (chan : Name)
       here = let r = opened-room old f s chan v rooms h opened in omega (arith, r, room, more)
 
   pub entered-filled : AreFilled old → is_bare w ≡ false → AreFilled after
-  entered-filled filled full = filled-set old after chan (Some w) (after-put old new after chan w rest is) filled (λ u e. subst (λ x. is_bare x ≡ false) (sym (done e)) full)
+  entered-filled filled full = filled-set old after chan (Some w) (after-put old after chan w is) filled (λ u e. subst (λ x. is_bare x ≡ false) (sym (done e)) full)
 
 -- ---- a mark that goes
 
-module _ (old new after : NameMap Waiting) (f s : Option Name) (chan : Name) (v w : Waiting) (stood : Some v ≡ map.get old chan) (rest : SameBut old new chan)
-    (is : after ≡ cond (is_bare w) (map.remove new chan) (map.insert new chan w)) where
+module _ (old after : NameMap Waiting) (f s : Option Name) (chan : Name) (v w : Waiting) (stood : Some v ≡ map.get old chan)
+    (is : after ≡ cond (is_bare w) (map.remove old chan) (map.insert old chan w)) where
   pub left-rooms : HasRooms old f s → v.room ≤ w.room → HasRooms after f s
   left-rooms rooms room =
-      rooms-set old after chan (left w) (after-settle old new after chan w rest is) f s f s rooms (λ q. omega arith)
+      rooms-set old after chan (left w) (after-settle old after chan w is) f s f s rooms (λ q. omega arith)
       (λ u e. subst (λ (x : Waiting). 2 ≤ x.room + (owes f chan + owes s chan)) (sym (left-filled w u e).0) (let r = rooms.each chan v (sym stood) in omega (arith, r, room)))
 
   pub left-all : AreFilled old → AreFilled after
   left-all filled =
-      filled-set old after chan (left w) (after-settle old new after chan w rest is) filled
+      filled-set old after chan (left w) (after-settle old after chan w is) filled
       (λ u e. subst (λ x. is_bare x ≡ false) (sym (left-filled w u e).0) (left-filled w u e).1)
 
 -- no one waited there
@@ -177,36 +176,80 @@ after-none old after chan none is q = ap (λ m. map.get m q) is ∙ by (same_nam
     by true same = ap (map.get old) (same_name-is q chan same) ∙ sym none
     by false same = refl
 
+-- ---- a channel whose lane is changed in place
+
+-- what is left of a channel from which a mark goes, if someone waits there
+abbrev pub Goes : (Waiting → Waiting → Type 0) → NameMap Waiting → Name → NameMap Waiting → Type 0
+Goes Loses old chan new = MatchOption (map.get old chan) (new ≡ old) (HasLeft Loses old chan new)
+
+-- no one is left in the lane that stands for a channel
+pub bare-here : (old : NameMap Waiting) (chan : Name) (w : Waiting) → is_bare w ≡ true → (v : Waiting) → map.get (map.insert old chan w) chan ≡ Some v → is_bare v ≡ true
+bare-here old chan w bare v e = subst (λ x. is_bare x ≡ true) (done (sym e ∙ put_here old chan w)) bare
+
+pub goes-bare : (Loses : Waiting → Waiting → Type 0) (old new : NameMap Waiting) (chan : Name) (v w : Waiting) → Some v ≡ map.get old chan → Loses v w → is_bare w ≡ true
+    → new ≡ map.remove (map.insert old chan w) chan → Goes Loses old chan new
+goes-bare Loses old new chan v w stood loses bare is = subst (λ o. MatchOption o (new ≡ old) (HasLeft Loses old chan new)) stood (record {
+  after = w;
+  loses = loses;
+  items = is ∙ cut-put old chan w ∙ subst (λ t. map.remove old chan ≡ cond t (map.remove old chan) (map.insert old chan w)) (sym bare) refl;
+})
+
+module _ (Loses : Waiting → Waiting → Type 0) (room : (v w : Waiting) → Loses v w → v.room ≤ w.room) (old new : NameMap Waiting) (chan : Name) where
+  pub gone-rooms : (f s : Option Name) → Goes Loses old chan new → HasRooms old f s → HasRooms new f s
+  gone-rooms f s goes rooms = by (map.get old chan) refl goes
+    where
+      by : (o : Option Waiting) → map.get old chan ≡ o → MatchOption o (new ≡ old) (HasLeft Loses old chan new) → HasRooms new f s
+      by None is same = subst (λ m. HasRooms m f s) (sym same) rooms
+      by (Some v) is left = left-rooms old new f s chan v left.after (sym is) left.items rooms (room v left.after left.loses)
+
+  pub gone-filled : (f s : Option Name) → Goes Loses old chan new → AreFilled old → AreFilled new
+  gone-filled f s goes filled = by (map.get old chan) refl goes
+    where
+      by : (o : Option Waiting) → map.get old chan ≡ o → MatchOption o (new ≡ old) (HasLeft Loses old chan new) → AreFilled new
+      by None is same = subst AreFilled (sym same) filled
+      by (Some v) is left = left-all old new f s chan v left.after (sym is) left.items filled
+
+module _ (old new : NameMap Waiting) (chan mark : Name) where
+  pub gone-output : Goes (LosesOutput mark) old chan new → SetsLine old new (wait.Gives chan) (without (in_line old (wait.Gives chan)) mark)
+  gone-output goes = by (map.get old chan) refl goes
+    where
+      by : (o : Option Waiting) → map.get old chan ≡ o → MatchOption o (new ≡ old) (HasLeft (LosesOutput mark) old chan new)
+          → SetsLine old new (wait.Gives chan) (without (in_line old (wait.Gives chan)) mark)
+      by None is same = gives-set old new chan None (after-none old new chan (sym is) same) _ (ap (λ o. without (outputs_in o) mark) (sym is)) (ap inputs_in (sym is))
+      by (Some v) is l =
+          gives-set old new chan (left l.after) (after-settle old new chan l.after l.items) _
+          (left-outputs l.after ∙ l.loses.outputs ∙ ap (λ o. without (outputs_in o) mark) (sym is)) (left-inputs l.after ∙ l.loses.inputs ∙ ap inputs_in (sym is))
+
+  pub gone-input : Goes (LosesInput mark) old chan new → SetsLine old new (wait.Takes chan) (without (in_line old (wait.Takes chan)) mark)
+  gone-input goes = by (map.get old chan) refl goes
+    where
+      by : (o : Option Waiting) → map.get old chan ≡ o → MatchOption o (new ≡ old) (HasLeft (LosesInput mark) old chan new)
+          → SetsLine old new (wait.Takes chan) (without (in_line old (wait.Takes chan)) mark)
+      by None is same = takes-set old new chan None (after-none old new chan (sym is) same) _ (ap (λ o. without (inputs_in o) mark) (sym is)) (ap outputs_in (sym is))
+      by (Some v) is l =
+          takes-set old new chan (left l.after) (after-settle old new chan l.after l.items) _
+          (left-inputs l.after ∙ l.loses.inputs ∙ ap (λ o. without (inputs_in o) mark) (sym is)) (left-outputs l.after ∙ l.loses.outputs ∙ ap outputs_in (sym is))
+
 -- ---- what is paid
 
 both-itself : (o : Option Waiting) → BothGrown o o
 both-itself None = tt
 both-itself (Some v) = record { inputs = refl; outputs = refl; room = omega arith }
 
-pub grown-itself : (old new : NameMap Waiting) → new ≡ old → AreGrown old new
-grown-itself old new is = subst (AreGrown old) (sym is) (record { each = λ q. both-itself (map.get old q) })
-
-pub grown-put : (old new after : NameMap Waiting) (chan : Name) (v w : Waiting) → Some v ≡ map.get old chan → SameBut old new chan → after ≡ map.insert new chan w → IsGrown v w → AreGrown old after
-grown-put old new after chan v w stood rest is grew = record { each = λ q. subst (BothGrown (map.get old q)) (sym (after-put old new after chan w rest is q)) (by q (same_name q chan) refl) }
+pub grown-put : (old after : NameMap Waiting) (chan : Name) (v w : Waiting) → Some v ≡ map.get old chan → after ≡ map.insert old chan w → IsGrown v w → AreGrown old after
+grown-put old after chan v w stood is grew = record { each = λ q. subst (BothGrown (map.get old q)) (sym (after-put old after chan w is q)) (by q (same_name q chan) refl) }
   where
     by : (q : Name) (t : Bool) → same_name q chan ≡ t → BothGrown (map.get old q) (cond t (Some w) (map.get old q))
     by q true same = subst (λ o. BothGrown o (Some w)) (stood ∙ ap (map.get old) (sym (same_name-is q chan same))) grew
     by q false same = both-itself (map.get old q)
 
-pub paid-put : (old new after : NameMap Waiting) (owed : Option Name) (chan : Name) (w : Waiting) → SameBut old new chan → after ≡ map.insert new chan w → owed ≡ Some chan → 2 ≤ w.room → IsPaid after owed
-paid-put old new after owed chan w rest is owes_it room = record {
+pub paid-put : (old after : NameMap Waiting) (owed : Option Name) (chan : Name) (w : Waiting) → after ≡ map.insert old chan w → owed ≡ Some chan → 2 ≤ w.room → IsPaid after owed
+paid-put old after owed chan w is owes_it room = record {
   each = λ q u h e.
       let here : q ≡ chan = done (sym owes_it ∙ h) in
       let there : Some w ≡ Some u =
-      sym (after-put old new after chan w rest is chan ∙ ap (λ t. cond t (Some w) (map.get old chan)) (same_name-itself chan)) ∙ ap (map.get after) (sym here) ∙ e in
+      sym (after-put old after chan w is chan ∙ ap (λ t. cond t (Some w) (map.get old chan)) (same_name-itself chan)) ∙ ap (map.get after) (sym here) ∙ e in
       subst (λ (x : Waiting). 2 ≤ x.room) (sym (done there)) room;
-}
-
-pub paid-none : (old new : NameMap Waiting) (owed : Option Name) (chan : Name) → None ≡ map.get old chan → new ≡ old → owed ≡ Some chan → IsPaid new owed
-paid-none old new owed chan none is owes_it = record {
-  each = λ q u h e.
-      let here : q ≡ chan = done (sym owes_it ∙ h) in
-      absurd (let x = none ∙ ap (map.get old) (sym here) ∙ ap (λ m. map.get m q) (sym is) ∙ e in cc);
 }
 
 pub ok-to : {A E P Q : Type 0} (r : Result A E) → (P → Q) → OnOk r P → OnOk r Q
@@ -219,6 +262,3 @@ no-rooms lanes f s is = record { each = λ q w e. absurd (let x = sym (ap (λ m.
 
 pub no-filled : (lanes : NameMap Waiting) → lanes ≡ map.empty → AreFilled lanes
 no-filled lanes is = record { each = λ q w e. absurd (let x = sym (ap (λ m. map.get m q) is ∙ get-none q) ∙ e in cc) }
-
--- what stands for a channel is written over
-pub ruleset lifts = (put-put, cut-put, put_here)

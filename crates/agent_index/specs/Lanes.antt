@@ -1,11 +1,11 @@
 -- What contracts see of the lanes, and what always holds of them.
-use Rattle.std.specs.Prelude.{◌≡◌, ℕ, false, ◌+◌, ◌≤◌, cond, [], length, Option, None, Some, All, refl}
+use Rattle.std.specs.Prelude.{◌≡◌, ℕ, false, ◌+◌, ◌≤◌, ◌++◌, ◌∷◌, cond, [], length, Option, None, Some, All, refl}
 use Rattle.std.specs.Coded.{Coded, code_by, coded×, coded_ℕ}
 use Rattle.std.specs.FinMap as map
 use Rattle.np_syntax.specs.declared.value.Name.{Name}
 use Rattle.np_syntax.specs.contracts.value.Name as name
 use Rattle.np_tables.specs.Names.{NameMap, same_name}
-use Rattle.agent_index.specs.Lines.{Waiting, waiting_code, is_bare, inputs_in, outputs_in}
+use Rattle.agent_index.specs.Lines.{Waiting, waiting_code, is_bare, inputs_in, outputs_in, without}
 use Rattle.agent_index.specs.declared.lanes.Lanes.TheInside.{Inside}
 
 -- who waits on each channel, and how many marks more are sure to find a place on any
@@ -58,11 +58,6 @@ pub record IsOpened (before : Option Waiting) (w : Waiting) : Type 0 where
   pub outputs : w.outputs ≡ outputs_in before
   pub room : HadRoom before w.room
 
--- the tables are the same but for what stands for a channel
-pub record SameBut (old new : NameMap Waiting) (chan : Name) : Type 0 where
-  pub put : (w : Waiting) → map.insert new chan w ≡ map.insert old chan w
-  pub cut : map.remove new chan ≡ map.remove old chan
-
 -- one more place is owed to a channel
 pub record OwesMore (first second before_first before_second : Option Name) (chan : Name) : Type 0 where
   pub owes : (q : Name) → owes first q + owes second q ≡ owes before_first q + owes before_second q + cond (same_name chan q) 1 0
@@ -85,3 +80,44 @@ pub record AreGrown (old new : NameMap Waiting) : Type 0 where
 -- a channel that was owed a place has two now
 pub record IsPaid (lanes : NameMap Waiting) (owed : Option Name) : Type 0 where
   pub each : (chan : Name) (w : Waiting) → owed ≡ Some chan → map.get lanes chan ≡ Some w → 2 ≤ w.room
+
+-- ---- what stands for a channel is changed in place
+
+-- an output that waited is gone
+pub record LosesOutput (mark : Name) (before after : Waiting) : Type 0 where
+  pub inputs : after.inputs ≡ before.inputs
+  pub outputs : after.outputs ≡ without before.outputs mark
+  pub room : before.room ≤ after.room
+
+-- an input that waited is gone
+pub record LosesInput (mark : Name) (before after : Waiting) : Type 0 where
+  pub inputs : after.inputs ≡ without before.inputs mark
+  pub outputs : after.outputs ≡ before.outputs
+  pub room : before.room ≤ after.room
+
+-- an output waits behind the others
+pub record GainsOutput (mark : Name) (before after : Waiting) : Type 0 where
+  pub inputs : after.inputs ≡ before.inputs
+  pub outputs : after.outputs ≡ before.outputs ++ mark ∷ []
+  pub room : before.room ≤ after.room + 1
+
+-- an input waits behind the others
+pub record GainsInput (mark : Name) (before after : Waiting) : Type 0 where
+  pub inputs : after.inputs ≡ before.inputs ++ mark ∷ []
+  pub outputs : after.outputs ≡ before.outputs
+  pub room : before.room ≤ after.room + 1
+
+-- who waits on a channel has changed so; where no one is left, nothing stands for the channel
+pub record HasLeft (Loses : Waiting → Waiting → Type 0) (old : NameMap Waiting) (chan : Name) (new : NameMap Waiting)
+    (before : Waiting) : Type 0 where
+  pub after : Waiting
+  pub loses : Loses before after
+  pub items : new ≡ cond (is_bare after) (map.remove old chan) (map.insert old chan after)
+
+-- who waits on a channel has changed so, where no one waited from a free lane on
+pub record HasCome (Gains : Waiting → Waiting → Type 0) (old : NameMap Waiting) (chan : Name) (new : NameMap Waiting) : Type 0 where
+  pub before : Waiting
+  pub opened : IsOpened (map.get old chan) before
+  pub after : Waiting
+  pub gains : Gains before after
+  pub items : new ≡ map.insert old chan after

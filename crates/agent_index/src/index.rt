@@ -1,4 +1,4 @@
-ghost use Rattle.std.specs.Prelude.{◌≡◌, ◌<◌, ◌≤◌, ◌+◌, length, slice_index_or, MatchOption, OnOk, IsOk, IsSome};
+ghost use Rattle.std.specs.Prelude.{◌≡◌, ◌<◌, ◌≤◌, ◌+◌, length, slice_index_or, MatchOption, OnOk, IfOk, IsOk, IsSome};
 ghost use Rattle.std.specs.Option.{option_copied};
 ghost use Rattle.std.specs.FinMap as map;
 ghost use Rattle.np_tables.specs.Stored.{Covers};
@@ -18,20 +18,32 @@ use std::marker::Model;
 pub const MOST_AHEAD: usize = 2;
 
 /// Values by their marks, each filed under what it waits for. Its `spare` is how many values are sure to find a
-/// place, whatever they wait for. Beside it stands who is to be served next, which contracts do not see.
+/// place, whatever they wait for. Beside it stands who is to be served next, which contracts do not see. All of it stands
+/// behind one pointer, so that an index is small where it is moved.
 pub struct Index<V> {
+    inner: Box<Inner<V>>,
+}
+
+/// The values, the marks by what they wait for, and who is to be served next.
+struct Inner<V> {
     entries: Table<(Wait, V)>,
     lanes: Lanes,
     turns: Turns,
 }
 
-impl<V: Drop> Drop for Index<V> {
+impl<V: Drop> Drop for Inner<V> {
     fn drop(self) {
-        let Index {
+        let Inner {
             entries: _,
             lanes: _,
             turns: _,
         } = self;
+    }
+}
+
+impl<V: Drop> Drop for Index<V> {
+    fn drop(self) {
+        let Index { inner: _ } = self;
     }
 }
 
@@ -45,12 +57,12 @@ impl<V> Model for Index<V> {
     ghost coded = { shelf_code V.code };
 
     ghost view = { λ index. record {
-      items = index.entries.items;
-      spare = min index.entries.spare index.lanes.spare;
-      keys = index.entries.keys;
+      items = index.inner.value.entries.items;
+      spare = min index.inner.value.entries.spare index.inner.value.lanes.spare;
+      keys = index.inner.value.entries.keys;
     } };
 
-    ghost invariant = { λ index. IsInStep index.entries.items index.lanes.lanes };
+    ghost invariant = { λ index. IsInStep index.inner.value.entries.items index.inner.value.lanes.lanes };
 }
 
 /// A mark that is kept leaves the line of what it waits for.
@@ -65,22 +77,28 @@ fn leave<V>(entries: &Table<(Wait, V)>, lanes: &mut Lanes, turns: &mut Turns, ma
     }
 }
 
-impl<V> Index<V> {
-    /// No values, which takes no memory.
-    pub fn new(alloc: Global) -> Index<V>
-        ensures { result.items ≡ map.empty }
+impl<V: Drop> Index<V> {
+    /// No values.
+    pub fn new(alloc: Global) -> Result<Index<V>, Memory>
+        ensures { IfOk result (λ index. index.items ≡ map.empty) }
     {
-        Index {
+        let inner = Inner {
             entries: Table::new(alloc),
             lanes: Lanes::new(alloc),
             turns: Turns::new(alloc),
+        };
+        match Box::new(alloc, inner) {
+            Ok(inner) => Ok(Index { inner }),
+            Err(_) => Err(Memory),
         }
     }
+}
 
+impl<V> Index<V> {
     pub fn get(&self, mark: Name) -> Option<&V>
         ensures { option_copied result ≡ value_of (map.get self.now.items mark) }
     {
-        match self.entries.get(mark) {
+        match self.inner.entries.get(mark) {
             Some(kept) => Some(&kept.1),
             None => None,
         }
@@ -90,7 +108,7 @@ impl<V> Index<V> {
     pub fn wait(&self, mark: Name) -> Option<Wait>
         ensures { result ≡ wait_of (map.get self.now.items mark) }
     {
-        match self.entries.get(mark) {
+        match self.inner.entries.get(mark) {
             Some(kept) => Some(kept.0),
             None => None,
         }
@@ -101,7 +119,7 @@ impl<V> Index<V> {
         ensures len { result ≡ length self.now.keys }
         ensures covers { Covers self.now.items self.now.keys }
     {
-        self.entries.len()
+        self.inner.entries.len()
     }
 
     /// The mark at an index of the walk.
@@ -110,24 +128,24 @@ impl<V> Index<V> {
         ensures at { result ≡ slice_index_or self.now.keys index result }
         ensures there { IsSome (map.get self.now.items result) }
     {
-        self.entries.key(index)
+        self.inner.entries.key(index)
     }
 
     /// Who waits on a channel, and none where no one does.
     pub fn waiting(&self, chan: Name) -> Option<&Waiters>
         ensures { MatchOption result (NoneWaits self.now.items chan) (λ waiters. Lends self.now.items chan waiters.now) }
     {
-        self.lanes.get(chan)
+        self.inner.lanes.get(chan)
     }
 
     /// A mark that is kept under what acts alone, and waits longest. It is a hint: there may be one where none is told.
     pub fn first_alone(&self) -> Option<Name> {
-        self.turns.alone()
+        self.inner.turns.alone()
     }
 
     /// An input and an output on one channel that wait longest there. It is a hint too.
     pub fn first_pair(&self) -> Option<(Name, Name)> {
-        let waiters = self.lanes.get(self.turns.busy()?)?;
+        let waiters = self.inner.lanes.get(self.inner.turns.busy()?)?;
         Some((waiters.first_input()?, waiters.first_output()?))
     }
 
@@ -140,8 +158,8 @@ impl<V> Index<V> {
         ensures ok { OnOk result (more ≤ self.new.spare) }
         ensures room { more ≤ self.old.spare → IsOk result }
     {
-        self.entries.reserve(more)?;
-        self.lanes.reserve(more)
+        self.inner.entries.reserve(more)?;
+        self.inner.lanes.reserve(more)
     }
 
     /// Takes a value out.
@@ -150,9 +168,10 @@ impl<V> Index<V> {
         ensures items { self.new.items ≡ map.remove self.old.items mark }
         ensures spare { self.old.spare ≤ self.new.spare }
     {
-        let (wait, value) = self.entries.take(mark)?;
-        self.lanes.leave(wait, mark);
-        self.turns.leave(&self.entries, &self.lanes, wait, mark);
+        let inner = &mut *self.inner;
+        let (wait, value) = inner.entries.take(mark)?;
+        inner.lanes.leave(wait, mark);
+        inner.turns.leave(&inner.entries, &inner.lanes, wait, mark);
         Some(value)
     }
 }
@@ -165,10 +184,11 @@ impl<V: Drop> Index<V> {
         ensures items { self.new.items ≡ map.insert self.old.items mark (wait, value) }
         ensures spare { self.old.spare ≤ self.new.spare + 1 }
     {
-        leave(&self.entries, &mut self.lanes, &mut self.turns, mark);
-        self.lanes.enter(wait, mark);
-        self.entries.put(mark, (wait, value));
-        self.turns.enter(&self.lanes, wait, mark);
+        let inner = &mut *self.inner;
+        leave(&inner.entries, &mut inner.lanes, &mut inner.turns, mark);
+        inner.lanes.enter(wait, mark);
+        inner.entries.put(mark, (wait, value));
+        inner.turns.enter(&inner.lanes, wait, mark);
     }
 
     pub fn remove(&mut self, mark: Name)

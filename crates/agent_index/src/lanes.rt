@@ -1,9 +1,10 @@
-ghost use Rattle.std.specs.Prelude.{◌≡◌, ◌<◌, ◌≤◌, ◌+◌, ◌++◌, ◌∷◌, [], length, cond, All, OnOk, IsOk, IsSome, IfSome, IfNone, Some, None};
+ghost use Rattle.std.specs.Prelude.{◌≡◌, ◌<◌, ◌≤◌, ◌+◌, ◌++◌, ◌∷◌, [], length, All, MatchOption, OnOk, IsOk, IfSome, Some};
 ghost use Rattle.std.specs.Prelude.{true, false};
 ghost use Rattle.std.specs.Option.{option_copied};
 ghost use Rattle.std.specs.FinMap as map;
-ghost use Rattle.agent_index.specs.Lines.{in_line, without, is_bare, SetsLine, SameLines};
-ghost use Rattle.agent_index.specs.Lanes.{free, owes, AreGrown, IsFree, IsOpened, IsPaid, OwesMore, SameBut};
+ghost use Rattle.agent_index.specs.Lines.{Waiting, in_line, without, is_bare, SetsLine, SameLines};
+ghost use Rattle.agent_index.specs.Lanes.{free, AreGrown, GainsInput, GainsOutput, HasCome, HasLeft, IsFree, IsPaid};
+ghost use Rattle.agent_index.specs.Lanes.{LosesInput, LosesOutput, OwesMore};
 
 use super::wait::Wait;
 use super::waiters::Waiters;
@@ -53,57 +54,121 @@ impl Model for Lanes {
     ghost invariant = { IsLanes };
 }
 
-/// Takes out who waits on a channel, to be put back.
-#[tactic(auto, using(crate::proofs::LaneLaws::lifts))]
-fn lift(alloc: Global, table: &mut Table<Waiters>, chan: Name) -> Option<Waiters>
-    ensures value { result ≡ map.get table.old.items chan }
-    ensures same { IfNone result (table.new.items ≡ table.old.items) }
-    ensures there { IsSome result → IsSome (map.get table.new.items chan) }
-    ensures rest { SameBut table.old.items table.new.items chan }
-    ensures spare { table.old.spare ≤ table.new.spare }
-{
-    if table.has(chan) {
-        Some(table.swap(chan, Waiters::new(alloc)))
-    } else {
-        None
-    }
-}
-
-/// The same, or a free lane where no one waits there.
-fn open(alloc: Global, table: &mut Table<Waiters>, stock: &mut List<Waiters>, chan: Name) -> Waiters
+/// A free lane.
+fn free_lane(stock: &mut List<Waiters>) -> Waiters
     requires stock { 1 ≤ length stock.old }
     requires stocked { All IsFree stock.old }
-    ensures opened { IsOpened (map.get table.old.items chan) result }
-    ensures rest { SameBut table.old.items table.new.items chan }
-    ensures spare { table.old.spare ≤ table.new.spare }
+    ensures free { IsFree result }
     ensures stock { length stock.old ≤ length stock.new + 1 }
     ensures stocked { All IsFree stock.new }
 {
-    match lift(alloc, table, chan) {
+    match stock.pop() {
         Some(waiters) => waiters,
-        None => match stock.pop() {
-            Some(waiters) => waiters,
-            None => unreachable!(),
-        },
+        None => unreachable!(),
     }
 }
 
-/// Puts back who waits on a channel. If there is no one, the lane is kept for others.
-fn settle(table: &mut Table<Waiters>, stock: &mut List<Waiters>, chan: Name, waiters: Waiters)
-    requires there { IsSome (map.get table.old.items chan) }
+/// Keeps a lane in which no one waits for others, if it has places and there are few.
+fn keep(stock: &mut List<Waiters>, waiters: Waiters)
+    requires bare { is_bare waiters ≡ true }
     requires stocked { All IsFree stock.old }
-    ensures items { table.new.items ≡ cond (is_bare waiters) (map.remove table.old.items chan) (map.insert table.old.items chan waiters) }
+    ensures stock { length stock.old ≤ length stock.new }
+    ensures stocked { All IsFree stock.new }
+{
+    if waiters.room() >= MOST_OWED && stock.len() < MOST_STOCK {
+        let _ = stock.push(waiters);
+    }
+}
+
+/// The lane of a channel on which no one waits goes, and is kept for others.
+fn give_up(table: &mut Table<Waiters>, stock: &mut List<Waiters>, chan: Name)
+    requires bare { (w : Waiting) → map.get table.old.items chan ≡ Some w → is_bare w ≡ true }
+    requires stocked { All IsFree stock.old }
+    ensures items { table.new.items ≡ map.remove table.old.items chan }
     ensures spare { table.old.spare ≤ table.new.spare }
     ensures stock { length stock.old ≤ length stock.new }
     ensures stocked { All IsFree stock.new }
 {
-    if waiters.is_bare() {
-        table.remove(chan);
-        if waiters.room() >= MOST_OWED && stock.len() < MOST_STOCK {
-            let _ = stock.push(waiters);
+    if let Some(waiters) = table.take(chan) {
+        keep(stock, waiters);
+    }
+}
+
+/// A mark comes last of the outputs that wait on a channel, in a free lane where no one waits there.
+fn enter_output(table: &mut Table<Waiters>, stock: &mut List<Waiters>, chan: Name, mark: Name)
+    requires room { (w : Waiting) → map.get table.old.items chan ≡ Some w → 0 < w.room }
+    requires place { 1 ≤ table.old.spare }
+    requires stock { 1 ≤ length stock.old }
+    requires stocked { All IsFree stock.old }
+    ensures come { HasCome (GainsOutput mark) table.old.items chan table.new.items }
+    ensures spare { table.old.spare ≤ table.new.spare + 1 }
+    ensures stock { length stock.old ≤ length stock.new + 1 }
+    ensures stocked { All IsFree stock.new }
+{
+    match table.get_mut(chan) {
+        Some(waiters) => waiters.add_output(mark),
+        None => {
+            let mut waiters = free_lane(stock);
+            waiters.add_output(mark);
+            table.put(chan, waiters);
         }
-    } else {
-        table.replace(chan, waiters);
+    }
+}
+
+/// A mark leaves the outputs that wait on a channel.
+fn leave_output(table: &mut Table<Waiters>, stock: &mut List<Waiters>, chan: Name, mark: Name)
+    requires { All IsFree stock.old }
+    ensures left { MatchOption (map.get table.old.items chan) (table.new.items ≡ table.old.items)
+        (HasLeft (LosesOutput mark) table.old.items chan table.new.items) }
+    ensures spare { table.old.spare ≤ table.new.spare }
+    ensures stock { length stock.old ≤ length stock.new }
+    ensures stocked { All IsFree stock.new }
+{
+    let Some(waiters) = table.get_mut(chan) else {
+        return;
+    };
+    waiters.remove_output(mark);
+    if waiters.is_bare() {
+        give_up(table, stock, chan);
+    }
+}
+
+/// A mark comes last of the inputs that wait on a channel, in a free lane where no one waits there.
+fn enter_input(table: &mut Table<Waiters>, stock: &mut List<Waiters>, chan: Name, mark: Name)
+    requires room { (w : Waiting) → map.get table.old.items chan ≡ Some w → 0 < w.room }
+    requires place { 1 ≤ table.old.spare }
+    requires stock { 1 ≤ length stock.old }
+    requires stocked { All IsFree stock.old }
+    ensures come { HasCome (GainsInput mark) table.old.items chan table.new.items }
+    ensures spare { table.old.spare ≤ table.new.spare + 1 }
+    ensures stock { length stock.old ≤ length stock.new + 1 }
+    ensures stocked { All IsFree stock.new }
+{
+    match table.get_mut(chan) {
+        Some(waiters) => waiters.add_input(mark),
+        None => {
+            let mut waiters = free_lane(stock);
+            waiters.add_input(mark);
+            table.put(chan, waiters);
+        }
+    }
+}
+
+/// A mark leaves the inputs that wait on a channel.
+fn leave_input(table: &mut Table<Waiters>, stock: &mut List<Waiters>, chan: Name, mark: Name)
+    requires { All IsFree stock.old }
+    ensures left { MatchOption (map.get table.old.items chan) (table.new.items ≡ table.old.items)
+        (HasLeft (LosesInput mark) table.old.items chan table.new.items) }
+    ensures spare { table.old.spare ≤ table.new.spare }
+    ensures stock { length stock.old ≤ length stock.new }
+    ensures stocked { All IsFree stock.new }
+{
+    let Some(waiters) = table.get_mut(chan) else {
+        return;
+    };
+    waiters.remove_input(mark);
+    if waiters.is_bare() {
+        give_up(table, stock, chan);
     }
 }
 
@@ -118,18 +183,8 @@ fn owe(first: &mut Option<Name>, second: &mut Option<Name>, chan: Name)
     }
 }
 
-/// Whether the lane of a channel, if it has one, has all places that it may be owed.
-fn has_places(table: &Table<Waiters>, chan: Name) -> bool
-    ensures { result ≡ true → IsPaid table.now.items (Some chan) }
-{
-    match table.get(chan) {
-        Some(waiters) => waiters.room() >= MOST_OWED,
-        None => true,
-    }
-}
-
 /// Gives a channel that is owed places what it is owed.
-fn pay(alloc: Global, table: &mut Table<Waiters>, owed: Option<Name>) -> Result<(), Memory>
+fn pay(table: &mut Table<Waiters>, owed: Option<Name>) -> Result<(), Memory>
     ensures grown { AreGrown table.old.items table.new.items }
     ensures spare { table.old.spare ≤ table.new.spare }
     ensures ok { OnOk result (IsPaid table.new.items owed) }
@@ -137,15 +192,10 @@ fn pay(alloc: Global, table: &mut Table<Waiters>, owed: Option<Name>) -> Result<
     let Some(chan) = owed else {
         return Ok(());
     };
-    if has_places(table, chan) {
-        return Ok(());
+    match table.get_mut(chan) {
+        Some(waiters) => waiters.reserve(MOST_OWED),
+        None => Ok(()),
     }
-    let Some(mut waiters) = lift(alloc, table, chan) else {
-        return Ok(());
-    };
-    let paid = waiters.reserve(MOST_OWED);
-    table.replace(chan, waiters);
-    paid
 }
 
 /// One free lane more.
@@ -212,8 +262,8 @@ impl Lanes {
         }
         self.table.reserve(MOST_OWED)?;
         fill(self.alloc, &mut self.stock)?;
-        pay(self.alloc, &mut self.table, self.first)?;
-        pay(self.alloc, &mut self.table, self.second)?;
+        pay(&mut self.table, self.first)?;
+        pay(&mut self.table, self.second)?;
         self.first = None;
         self.second = None;
         Ok(())
@@ -233,15 +283,11 @@ impl Lanes {
     {
         match wait {
             Wait::Gives(chan) => {
-                let mut waiters = open(self.alloc, &mut self.table, &mut self.stock, chan);
-                waiters.add_output(mark);
-                self.table.put(chan, waiters);
+                enter_output(&mut self.table, &mut self.stock, chan, mark);
                 owe(&mut self.first, &mut self.second, chan);
             }
             Wait::Takes(chan) => {
-                let mut waiters = open(self.alloc, &mut self.table, &mut self.stock, chan);
-                waiters.add_input(mark);
-                self.table.put(chan, waiters);
+                enter_input(&mut self.table, &mut self.stock, chan, mark);
                 owe(&mut self.first, &mut self.second, chan);
             }
             _ => {}
@@ -255,18 +301,10 @@ impl Lanes {
     {
         match wait {
             Wait::Gives(chan) => {
-                let Some(mut waiters) = lift(self.alloc, &mut self.table, chan) else {
-                    return;
-                };
-                waiters.remove_output(mark);
-                settle(&mut self.table, &mut self.stock, chan, waiters);
+                leave_output(&mut self.table, &mut self.stock, chan, mark);
             }
             Wait::Takes(chan) => {
-                let Some(mut waiters) = lift(self.alloc, &mut self.table, chan) else {
-                    return;
-                };
-                waiters.remove_input(mark);
-                settle(&mut self.table, &mut self.stock, chan, waiters);
+                leave_input(&mut self.table, &mut self.stock, chan, mark);
             }
             _ => {}
         }

@@ -80,7 +80,7 @@ impl Agent {
         ensures filed { IfOk result (λ agent. (code : ProgramTable) → wait_of code.processes held ≡ wait
             → IsFiled code.processes agent.atoms) }
     {
-        let mut atoms = Index::new(alloc);
+        let mut atoms = Index::new(alloc)?;
         atoms.reserve(1)?;
         atoms.put(mark, held, wait);
         Ok(Agent { name, atoms })
