@@ -1,5 +1,7 @@
 //! What stands in the list of all that can happen next, and which of it a number picks.
 //!
+//! The list is any that gives the entry at each place (`Entries`), so that no table is told of here.
+//!
 //! Contracts: `pick` (`pick`).
 #![tactic(auto)]
 
@@ -7,4 +9,4 @@ mod entry;
 mod picks;
 
 pub use entry::Entry;
-pub use picks::pick;
+pub use picks::{Entries, pick};

@@ -30,17 +30,17 @@ use Rattle.np_calculus.specs.Sight.{inside}
 use Rattle.np_configuration.specs.Errands.{errand_of}
 use Rattle.np_configuration.proofs.RestTests.{no_way}
 use Rattle.np_configuration.proofs.Rests.{idle-quiet, idle-still, quiet-idle}
-use Rattle.choice_lists.specs.declared.choice.Choice.{Choice}
-use Rattle.choice_lists.specs.declared.choice.Choice.TheVariants as choice
-use Rattle.choice_lists.specs.declared.choice.Draw.{Draw}
+use Rattle.run_choices.specs.declared.choice.Choice.{Choice}
+use Rattle.run_choices.specs.declared.choice.Choice.TheVariants as choice
+use Rattle.run_choices.specs.declared.choice.Draw.{Draw}
 use Rattle.choice_entries.specs.declared.entry.Entry.{Entry}
 use Rattle.choice_entries.specs.declared.entry.Entry.TheVariants as entry
-use Rattle.choice_lists.specs.Choices.{IsChoice, errand_in}
+use Rattle.run_choices.specs.Choices.{IsChoice, errand_in}
 use Rattle.choice_entries.specs.Picks.{pick}
-use Rattle.choice_lists.specs.Held.{Held, Lists, chosen_by, chosen_of}
-use Rattle.choice_lists.specs.Lines.{alike, has, has_some, same_entry, stands}
+use Rattle.run_choices.specs.Held.{Held, Lists, chosen_by, chosen_of}
+use Rattle.run_choices.specs.Lines.{alike, has, has_some, same_entry, stands}
 use Rattle.run_choices.specs.Runs.{EachIsChoice, EachIsPicked}
-use Rattle.choice_lists.proofs.Lists.{alike-itself, some-has}
+use Rattle.run_choices.proofs.Lists.{alike-itself, some-has}
 
 -- ---- elements of a list
 

@@ -5,8 +5,8 @@ use Rattle.np_syntax.specs.declared.event.Event.{Event}
 use Rattle.np_syntax.proofs.Options.{done, then}
 use Rattle.np_calculus.specs.Config.{Config}
 use Rattle.np_calculus.specs.Reductions.{apply, run}
-use Rattle.choice_lists.specs.declared.choice.Draw.{Draw}
-use Rattle.choice_lists.specs.Draws.{behind, drawn, draws}
+use Rattle.run_choices.specs.declared.choice.Draw.{Draw}
+use Rattle.run_choices.specs.Draws.{behind, drawn, draws}
 use Rattle.run_choices.specs.Made.{AreMade}
 use Rattle.run_choices.proofs.Runs.{same-next}
 

@@ -32,8 +32,8 @@ use Rattle.run_views.proofs.Among.{among-cases, among-every, among-first, among-
 use Rattle.run_views.proofs.Traced.{traced}
 use Rattle.choice_entries.specs.declared.entry.Entry.{Entry}
 use Rattle.choice_entries.specs.declared.entry.Entry.TheVariants as entry
-use Rattle.choice_lists.specs.Held.{Agrees, Held, InStep, Lists, touched}
-use Rattle.choice_lists.specs.Lines.{stands}
+use Rattle.run_choices.specs.Held.{Agrees, Held, InStep, Lists, touched}
+use Rattle.run_choices.specs.Lines.{stands}
 use Rattle.run_choices.specs.Runs.{agent_in}
 use Rattle.run_choices.specs.Seeded.{FirstMarks}
 

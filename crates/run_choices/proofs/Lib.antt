@@ -2,6 +2,7 @@ pub mod Carried
 pub mod Chosen
 pub mod Drawing
 pub mod Following
+pub mod Lists
 pub mod Named
 pub mod Orderly
 pub mod Runs

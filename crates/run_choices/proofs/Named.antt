@@ -37,9 +37,9 @@ use Rattle.np_configuration.specs.Errands.{errand_of}
 use Rattle.np_configuration.proofs.ErrandForms.{free-acts, given-errand, taken-errand}
 use Rattle.np_serial.specs.Serial.{IsEnabled, IsReached, actor_of, taken_by}
 use Rattle.np_serial.proofs.SerialEvents.{actor-there, begun-enabled, begun-some}
-use Rattle.choice_lists.specs.declared.choice.Choice.{Choice}
-use Rattle.choice_lists.specs.declared.choice.Choice.TheVariants as choice
-use Rattle.choice_lists.specs.Choices.{IsChoice, begun, begun_at, choice_by, choice_of, event_by}
+use Rattle.run_choices.specs.declared.choice.Choice.{Choice}
+use Rattle.run_choices.specs.declared.choice.Choice.TheVariants as choice
+use Rattle.run_choices.specs.Choices.{IsChoice, begun, begun_at, choice_by, choice_of, event_by}
 use Rattle.run_choices.specs.Runs.{EachCanGo, EachIsNamed, IsNamed}
 use Rattle.run_choices.proofs.Chosen.{travels-way}
 

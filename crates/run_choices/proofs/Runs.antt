@@ -6,8 +6,8 @@ use Rattle.np_syntax.proofs.Options.{done, then}
 use Rattle.np_calculus.specs.Config.{Config}
 use Rattle.np_calculus.specs.Reductions.{apply, run}
 use Rattle.np_serial.proofs.SerialEvents.{run-push}
-use Rattle.choice_lists.specs.Choices.{choice_of, event_by}
-use Rattle.choice_lists.specs.Held.{Held, Lists}
+use Rattle.run_choices.specs.Choices.{choice_of, event_by}
+use Rattle.run_choices.specs.Held.{Held, Lists}
 use Rattle.run_choices.specs.Runs.{EachRun, MakesFrom, Orders, Turn, event_made}
 use Rattle.run_choices.proofs.Chosen.{each-is-picked}
 use Rattle.run_choices.proofs.Named.{each-is-named}

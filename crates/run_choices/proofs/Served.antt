@@ -31,11 +31,11 @@ use Rattle.run_save.specs.Ours.{AreNext, IsOursFrom, IsPutFirst, TakesPutFirst, 
 use Rattle.run_save.specs.Travels.{Travels, on_link, travels}
 use Rattle.run_save.proofs.GoingOn.{ours-goes-on}
 use Rattle.run_save.proofs.RunLaws.{prefix-ours}
-use Rattle.choice_lists.specs.declared.choice.Choice.{Choice}
-use Rattle.choice_lists.specs.declared.choice.Choice.TheVariants as choice
-use Rattle.choice_lists.specs.declared.choice.Draw.{Draw}
-use Rattle.choice_lists.specs.Choices.{begun, begun_at, choice_by, choice_of, event_by}
-use Rattle.choice_lists.specs.Held.{Held, Lists}
+use Rattle.run_choices.specs.declared.choice.Choice.{Choice}
+use Rattle.run_choices.specs.declared.choice.Choice.TheVariants as choice
+use Rattle.run_choices.specs.declared.choice.Draw.{Draw}
+use Rattle.run_choices.specs.Choices.{begun, begun_at, choice_by, choice_of, event_by}
+use Rattle.run_choices.specs.Held.{Held, Lists}
 use Rattle.run_choices.specs.InTurn.{EachOwnRun, EachServes, MakesInTurn, coming, event_behind, event_drawn, in_turn, in_turn_at, in_turn_of, later_name, next_name, own_event, seat, seat_of}
 use Rattle.run_choices.specs.Runs.{Orders}
 use Rattle.run_choices.proofs.Chosen.{each-is-picked}

@@ -36,9 +36,9 @@ use Rattle.run_save.specs.Travels.{Travels, travels}
 use Rattle.run_save.proofs.GoingOn.{ours-goes-on}
 use Rattle.run_save.proofs.LeftLaws.{count-noted, first-noted}
 use Rattle.run_save.proofs.RunLaws.{order-whole}
-use Rattle.choice_lists.specs.declared.choice.Choice.{Choice}
-use Rattle.choice_lists.specs.declared.choice.Choice.TheVariants as choice
-use Rattle.choice_lists.specs.Choices.{IsChoice, begun, begun_at}
+use Rattle.run_choices.specs.declared.choice.Choice.{Choice}
+use Rattle.run_choices.specs.declared.choice.Choice.TheVariants as choice
+use Rattle.run_choices.specs.Choices.{IsChoice, begun, begun_at}
 use Rattle.run_choices.specs.InTurn.{EachIsServed, IsCourse, IsOwnRun, IsServed, coming, event_behind, event_in_turn, in_turn, in_turn_at, in_turn_of, later_name, next_name, own_event, seat, seat_of, site_of}
 use Rattle.run_choices.proofs.Carried.{bound, first-left, heading, target}
 use Rattle.run_choices.proofs.Chosen.{travels-way}

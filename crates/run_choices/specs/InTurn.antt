@@ -23,13 +23,13 @@ use Rattle.run_save.specs.Left.{first_beside, names_made}
 use Rattle.run_save.specs.Notes.{AreNoted}
 use Rattle.run_save.specs.Ours.{IsOursFrom}
 use Rattle.run_save.specs.Travels.{travels}
-use Rattle.choice_lists.specs.declared.choice.Choice.{Choice}
-use Rattle.choice_lists.specs.declared.choice.Choice.TheVariants as choice
-use Rattle.choice_lists.specs.declared.choice.Draw.{Draw}
-use Rattle.choice_lists.specs.Choices.{IsChoice, choice_of, event_by}
-use Rattle.choice_lists.specs.Draws.{draws, seeded}
+use Rattle.run_choices.specs.declared.choice.Choice.{Choice}
+use Rattle.run_choices.specs.declared.choice.Choice.TheVariants as choice
+use Rattle.run_choices.specs.declared.choice.Draw.{Draw}
+use Rattle.run_choices.specs.Choices.{IsChoice, choice_of, event_by}
+use Rattle.run_choices.specs.Draws.{draws, seeded}
 use Rattle.run_choices.specs.Made.{AreMade}
-use Rattle.choice_lists.specs.Held.{Held, Lists, chosen_by}
+use Rattle.run_choices.specs.Held.{Held, Lists, chosen_by}
 use Rattle.run_choices.specs.Runs.{Orders}
 use Rattle.run_choices.specs.Seeded.{FirstMarks}
 

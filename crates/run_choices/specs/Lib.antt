@@ -1,4 +1,8 @@
+pub mod Choices
+pub mod Draws
+pub mod Held
 pub mod InTurn
+pub mod Lines
 pub mod Made
 pub mod Runs
 pub mod Seeded

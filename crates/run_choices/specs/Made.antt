@@ -3,7 +3,7 @@ use Rattle.std.specs.Prelude.{◌≡◌, List, [], ◌∷◌, ◌++◌, Some}
 use Rattle.np_syntax.specs.declared.event.Event.{Event}
 use Rattle.np_calculus.specs.Config.{Config}
 use Rattle.np_calculus.specs.Reductions.{apply}
-use Rattle.choice_lists.specs.declared.choice.Draw.{Draw}
+use Rattle.run_choices.specs.declared.choice.Draw.{Draw}
 
 -- The events are made of the draws, one after another: what an event has to be where these were made before it, and which draw it is
 -- made of, is given.

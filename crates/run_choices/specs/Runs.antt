@@ -10,11 +10,11 @@ use Rattle.np_calculus.specs.Config.{Config}
 use Rattle.np_calculus.specs.Reductions.{apply, run}
 use Rattle.np_serial.specs.Serial.{IsEnabled, IsReached}
 use Rattle.rand_pcg.specs.Pcg.{pcg32}
-use Rattle.choice_lists.specs.declared.choice.Choice.{Choice}
-use Rattle.choice_lists.specs.declared.choice.Draw.{Draw}
-use Rattle.choice_lists.specs.Choices.{IsChoice, choice_of, event_by}
-use Rattle.choice_lists.specs.Draws.{draws, seeded}
-use Rattle.choice_lists.specs.Held.{Held, Lists, chosen_by}
+use Rattle.run_choices.specs.declared.choice.Choice.{Choice}
+use Rattle.run_choices.specs.declared.choice.Draw.{Draw}
+use Rattle.run_choices.specs.Choices.{IsChoice, choice_of, event_by}
+use Rattle.run_choices.specs.Draws.{draws, seeded}
+use Rattle.run_choices.specs.Held.{Held, Lists, chosen_by}
 use Rattle.run_choices.specs.Made.{AreMade}
 
 -- the agent of the atom of a mark

@@ -9,8 +9,8 @@ use Rattle.np_calculus.specs.Config.{Config}
 use Rattle.np_calculus.specs.Reductions.{apply}
 use Rattle.np_calculus.specs.Starts.{daemon_mark, main_mark}
 use Rattle.np_serial.specs.Serial.{IsEnabled}
-use Rattle.choice_lists.specs.declared.choice.Choice.{Choice}
-use Rattle.choice_lists.specs.Choices.{event_by}
+use Rattle.run_choices.specs.declared.choice.Choice.{Choice}
+use Rattle.run_choices.specs.Choices.{event_by}
 
 -- a start: atoms stand under the marks of main and of the daemon alone, and nothing is under way
 pub record FirstMarks (c : Config) : Type 0 where

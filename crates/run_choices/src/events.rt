@@ -4,9 +4,9 @@ ghost use Rattle.std.specs.Prelude.{◌≡◌, IfOk};
 ghost use Rattle.np_calculus.specs.declared.config.Place.TheVariants as place;
 ghost use Rattle.np_eval.specs.Forms.{layer};
 ghost use Rattle.np_calculus.specs.Begins.{arrival, begun_by, landing, made_by, made_there};
-ghost use Rattle.choice_lists.specs.Choices.{arrives, begun, begun_at, event_by, lands};
+ghost use Rattle.run_choices.specs.Choices.{arrives, begun, begun_at, event_by, lands};
 
-use choice_lists::Choice;
+use super::choice::Choice;
 use np_calculus::{Atom, Packet, Place};
 use np_configuration::Cfg;
 use np_eval::agent_of;

@@ -11,13 +11,14 @@ ghost use Rattle.np_calculus.specs.Starts.{start_high};
 ghost use Rattle.np_calculus.specs.Well.{Has};
 ghost use Rattle.np_serial.specs.Serial.{AreFresh, IsEnabled, IsReached, IsSerialRun};
 ghost use Rattle.np_syntax.specs.declared.limits.TheConstants.{MOST_SITES};
-ghost use Rattle.choice_lists.specs.Choices.{IsChoice, event_by};
-ghost use Rattle.choice_lists.specs.Held.{Lists, held};
+ghost use Rattle.run_choices.specs.Choices.{IsChoice, event_by};
+ghost use Rattle.run_choices.specs.Held.{Lists, held};
 ghost use Rattle.run_choices.specs.Runs.{AreChosen, agent_in};
 ghost use Rattle.run_choices.specs.Seeded.{Chooses, FirstMarks};
 
+use super::choice::{Choice, Draw, drawn};
 use super::events::{Fresh, event_of};
-use choice_lists::{Choice, Draw, Waiting, drawn};
+use super::waiting::Waiting;
 use np_calculus::{DAEMON_MARK, MAIN_MARK};
 use np_configuration::{ApplyFail, Cfg, apply, start_high};
 use np_serial::SerialRun;

@@ -7,9 +7,9 @@ ghost use Rattle.np_serial.specs.Serial.{IsSerialRun};
 ghost use Rattle.run_save.specs.Ours.{IsOurs, IsOursFrom};
 ghost use Rattle.run_choices.specs.InTurn.{IsDrawn, IsOwnStart};
 
+use super::choice::drawn;
 use super::seeded::{end_of, first_waiting};
 use super::serving::serve;
-use choice_lists::drawn;
 use np_configuration::{Cfg, start_low};
 use np_serial::SerialRun;
 use np_syntax::{Boxed, End, Event, List, LowProgram, Memory};

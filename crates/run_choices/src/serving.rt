@@ -8,8 +8,8 @@ ghost use Rattle.np_calculus.specs.Reductions.{apply};
 ghost use Rattle.np_calculus.specs.Well.{Has};
 ghost use Rattle.np_syntax.specs.declared.event.Event.{Event as OneEvent};
 ghost use Rattle.run_save.specs.Left.{noted_count, noted_first};
-ghost use Rattle.choice_lists.specs.Choices.{IsChoice};
-ghost use Rattle.choice_lists.specs.Held.{Lists, held};
+ghost use Rattle.run_choices.specs.Choices.{IsChoice};
+ghost use Rattle.run_choices.specs.Held.{Lists, held};
 ghost use Rattle.run_choices.specs.InTurn.{
   IsCourse,
   Serves,
@@ -24,9 +24,10 @@ ghost use Rattle.run_choices.specs.InTurn.{
   site_of,
 };
 
+use super::choice::Choice;
 use super::events::{Fresh, event_of};
 use super::seeded::make;
-use choice_lists::{Choice, Waiting};
+use super::waiting::Waiting;
 use np_calculus::Place;
 use np_conditions::way;
 use np_configuration::Cfg;

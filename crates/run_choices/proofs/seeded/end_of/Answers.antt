@@ -1,5 +1,5 @@
 use Rattle.std.proofs.Common.{refl, sym, ◌∙◌}
-use Rattle.choice_lists.specs.Held.{held}
+use Rattle.run_choices.specs.Held.{held}
 use Rattle.run_choices.proofs.Chosen.{choice-acts, chosen-is, none-idle}
 use Rattle.run_choices.proofs.seeded.end_of.Goals as goal
 

@@ -1,5 +1,5 @@
 use Rattle.std.proofs.Common.{ℕ, subst}
-use Rattle.choice_lists.specs.Held.{Agrees, held}
+use Rattle.run_choices.specs.Held.{Agrees, held}
 use Rattle.run_choices.proofs.Following.{first-lists}
 use Rattle.run_choices.proofs.seeded.first_waiting.Goals as goal
 

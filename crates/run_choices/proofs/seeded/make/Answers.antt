@@ -1,9 +1,9 @@
 use Rattle.std.proofs.Common.{Option, subst}
 use Rattle.np_syntax.specs.declared.value.Name.{Name}
 use Rattle.np_calculus.specs.FrameRule.{Every}
-use Rattle.choice_lists.specs.Held.{Agrees, held, touched}
+use Rattle.run_choices.specs.Held.{Agrees, held, touched}
 use Rattle.run_choices.proofs.Following.{followed}
-use Rattle.choice_lists.proofs.Lists.{on-ok}
+use Rattle.run_choices.proofs.Lists.{on-ok}
 use Rattle.run_choices.proofs.seeded.make.Goals as goal
 
 pub returns-clause-lists : goal.returns-clause-lists

@@ -3,9 +3,9 @@ use Rattle.np_syntax.specs.declared.event.Event.{Event}
 use Rattle.np_calculus.specs.Reductions.{run}
 use Rattle.np_serial.proofs.SerialEvents.{run-push, fresh-after, names-new, rest-run, ended-run}
 use Rattle.rand_pcg.specs.Pcg.{pcg32}
-use Rattle.choice_lists.specs.Draws.{draws, seeded}
+use Rattle.run_choices.specs.Draws.{draws, seeded}
 use Rattle.run_choices.specs.Made.{AreMade}
-use Rattle.choice_lists.specs.Held.{held}
+use Rattle.run_choices.specs.Held.{held}
 use Rattle.run_choices.specs.Runs.{ChoosesNext}
 use Rattle.run_choices.proofs.Chosen.{chosen-is, none-idle}
 use Rattle.run_choices.proofs.Drawing.{made-next, words-next}

@@ -2,9 +2,9 @@ use Rattle.std.proofs.Common.{◌≡◌, [], length, Some}
 use Rattle.np_calculus.specs.Reductions.{run}
 use Rattle.np_serial.specs.Serial.{AreFresh}
 use Rattle.rand_pcg.specs.Pcg.{pcg32}
-use Rattle.choice_lists.specs.Draws.{behind, draws, seeded}
+use Rattle.run_choices.specs.Draws.{behind, draws, seeded}
 use Rattle.run_choices.specs.Made.{AreMade}
-use Rattle.choice_lists.specs.Held.{Lists, held}
+use Rattle.run_choices.specs.Held.{Lists, held}
 use Rattle.run_choices.specs.Runs.{ChoosesNext}
 use Rattle.run_choices.proofs.seeded.run_on.Given as goal
 

@@ -8,9 +8,9 @@ use Rattle.rand_pcg.specs.Pcg.{pcg32}
 use Rattle.run_save.specs.Notes.{AreNoted}
 use Rattle.run_save.specs.Ours.{IsOursFrom}
 use Rattle.run_save.proofs.RunLaws.{nothing-ours}
-use Rattle.choice_lists.specs.Draws.{draws, seeded}
+use Rattle.run_choices.specs.Draws.{draws, seeded}
 use Rattle.run_choices.specs.Made.{AreMade}
-use Rattle.choice_lists.specs.Held.{held}
+use Rattle.run_choices.specs.Held.{held}
 use Rattle.run_choices.specs.InTurn.{MakesNext, event_behind, event_drawn}
 use Rattle.run_choices.proofs.Chosen.{chosen-is, none-idle}
 use Rattle.run_choices.proofs.Drawing.{made-next, words-next}

@@ -1,8 +1,8 @@
 use Rattle.std.proofs.Common.{◌≡◌, [], length}
 use Rattle.rand_pcg.specs.Pcg.{pcg32}
-use Rattle.choice_lists.specs.Draws.{behind, draws, seeded}
+use Rattle.run_choices.specs.Draws.{behind, draws, seeded}
 use Rattle.run_choices.specs.Made.{AreMade}
-use Rattle.choice_lists.specs.Held.{Lists, held}
+use Rattle.run_choices.specs.Held.{Lists, held}
 use Rattle.run_choices.specs.InTurn.{IsCourse, MakesNext}
 use Rattle.run_choices.proofs.seeded_low.run_on.Given as goal
 

@@ -16,9 +16,9 @@ use Rattle.np_agents.specs.Placed.{travels}
 use Rattle.np_calculus.specs.Config.{Config}
 use Rattle.choice_entries.specs.declared.entry.Entry.{Entry}
 use Rattle.choice_entries.specs.declared.entry.Entry.TheVariants as entry
-use Rattle.choice_lists.specs.Choices.{errand_in}
-use Rattle.choice_lists.specs.Held.{Agrees, InStep}
-use Rattle.choice_lists.specs.Lines.{InLines, Line, Moves, SameComing, SetsEntry, alike, closed_by, has, has_both, has_some, is_one, meeting_if, opened_by, stands}
+use Rattle.run_choices.specs.Choices.{errand_in}
+use Rattle.run_choices.specs.Held.{Agrees, InStep}
+use Rattle.run_choices.specs.Lines.{InLines, Line, Moves, SameComing, SetsEntry, alike, closed_by, has, has_both, has_some, is_one, meeting_if, opened_by, stands}
 
 pub turned : (q k : Name) → alike q k ≡ same_name k q
 turned q k = alike-same q k ∙ same_name-swap q k

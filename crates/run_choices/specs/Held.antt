@@ -12,14 +12,14 @@ use Rattle.np_calculus.specs.Config.{Config}
 use Rattle.np_calculus.specs.Footprints.{listed}
 use Rattle.run_views.specs.Past.{names_of}
 use Rattle.choice_entries.specs.Picks.{pick}
-use Rattle.choice_lists.specs.declared.choice.Choice.{Choice}
-use Rattle.choice_lists.specs.declared.choice.Choice.TheVariants as choice
-use Rattle.choice_lists.specs.declared.choice.Draw.{Draw}
+use Rattle.run_choices.specs.declared.choice.Choice.{Choice}
+use Rattle.run_choices.specs.declared.choice.Choice.TheVariants as choice
+use Rattle.run_choices.specs.declared.choice.Draw.{Draw}
 use Rattle.choice_entries.specs.declared.entry.Entry.{Entry}
 use Rattle.choice_entries.specs.declared.entry.Entry.TheVariants as entry
-use Rattle.choice_lists.specs.declared.waiting.Waiting.{Waiting}
-use Rattle.choice_lists.specs.Choices.{errand_in}
-use Rattle.choice_lists.specs.Lines.{InLines, Line, has_both, line_of, stands}
+use Rattle.run_choices.specs.declared.waiting.Waiting.{Waiting}
+use Rattle.run_choices.specs.Choices.{errand_in}
+use Rattle.run_choices.specs.Lines.{InLines, Line, has_both, line_of, stands}
 
 -- what each mark is filed under, the marks that wait for the same, and the entries
 pub record Held : Type 0 where
@@ -28,7 +28,7 @@ pub record Held : Type 0 where
   pub list : List Entry
 
 abbrev pub held : Waiting → Held
-held w = record { work = w.filed.items; line = line_of w.lines; list = w.list.keys }
+held w = record { work = w.filed.items; line = line_of w.lines; list = w.list.entries.keys }
 
 -- an atom that acts alone is an entry, and a channel on which both an input and an output wait is
 pub record InStep (h : Held) : Type 0 where

@@ -19,8 +19,8 @@ use Rattle.np_calculus.specs.Begins.{arrival, begun_by, event_at, landing, made_
 use Rattle.np_calculus.specs.Config.{Config}
 use Rattle.np_calculus.specs.Reductions.{way}
 use Rattle.np_configuration.specs.Errands.{errand_of}
-use Rattle.choice_lists.specs.declared.choice.Choice.{Choice}
-use Rattle.choice_lists.specs.declared.choice.Choice.TheVariants as choice
+use Rattle.run_choices.specs.declared.choice.Choice.{Choice}
+use Rattle.run_choices.specs.declared.choice.Choice.TheVariants as choice
 
 -- ---- the choices
 

@@ -2,7 +2,7 @@
 
 ghost use Rattle.std.specs.Prelude.{◌≡◌};
 ghost use Rattle.rand_pcg.specs.Pcg.{pcg32};
-ghost use Rattle.choice_lists.specs.Draws.{drawn};
+ghost use Rattle.run_choices.specs.Draws.{drawn};
 
 use np_syntax::Name;
 use rand_core::utils::NextWord;

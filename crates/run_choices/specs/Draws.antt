@@ -3,7 +3,7 @@ use Rattle.std.specs.Prelude.{ℕ, zero, suc, List, [], ◌∷◌}
 use Rattle.rand_core.specs.Pcg32Seed.{pcg32_seed}
 use Rattle.rand_pcg.specs.Lcg.{Lcg}
 use Rattle.rand_pcg.specs.Pcg.{pcg32_of_seed}
-use Rattle.choice_lists.specs.declared.choice.Draw.{Draw}
+use Rattle.run_choices.specs.declared.choice.Draw.{Draw}
 
 -- the next three words of a generator with this step, and the generator behind them
 abbrev pub drawn : {G : Type 0} → (G → ℕ × G) → G → Draw × G

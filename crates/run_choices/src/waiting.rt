@@ -7,16 +7,17 @@ ghost use Rattle.np_calculus.specs.Footprints.{listed};
 ghost use Rattle.np_agents.specs.Placed.{travels};
 ghost use Rattle.np_syntax.specs.Events.{made_names};
 ghost use Rattle.np_tables.specs.Names.{same_name};
-ghost use Rattle.choice_lists.specs.Choices.{errand_in};
+ghost use Rattle.run_choices.specs.Choices.{errand_in};
 ghost use Rattle.choice_entries.specs.Picks.{pick};
-ghost use Rattle.choice_lists.specs.Held.{Agrees, InStep, chosen_by, held, touched};
-ghost use Rattle.choice_lists.specs.Lines.{SameComing, line_of};
+ghost use Rattle.run_choices.specs.Held.{Agrees, InStep, chosen_by, held, touched};
+ghost use Rattle.run_choices.specs.Lines.{SameComing, line_of};
 
 use super::choice::{Choice, Draw};
+use super::entry_list::EntryList;
 use super::line::Line;
 use super::lines::{closed_by, enter, leave, opened_by, set_entry};
 use choice_entries::{Entry, pick};
-use indexmap::{IndexMap, IndexSet};
+use indexmap::IndexMap;
 use np_calculus::Place;
 use np_configuration::Cfg;
 use np_eval::errand_of;
@@ -29,7 +30,7 @@ pub struct Waiting {
     alloc: Global,
     filed: Table<Errand>,
     lines: IndexMap<Errand, Line>,
-    list: IndexSet<Entry>,
+    list: EntryList,
 }
 
 impl Drop for Waiting {
@@ -48,13 +49,13 @@ impl Waiting {
     pub fn new(alloc: Global) -> Waiting
         ensures step { InStep (held result) }
         ensures filed { result.filed.items ≡ map.empty }
-        ensures none { result.list.keys ≡ [] }
+        ensures none { result.list.entries.keys ≡ [] }
     {
         Waiting {
             alloc,
             filed: Table::new(alloc),
             lines: IndexMap::new(alloc),
-            list: IndexSet::new(alloc),
+            list: EntryList::new(alloc),
         }
     }
 
@@ -79,14 +80,14 @@ impl Waiting {
         requires { InStep (held self.old) }
         ensures step { OnOk result (InStep (held self.new)) }
         ensures filed { OnOk result (self.new.filed.items ≡ map.remove self.old.filed.items mark) }
-        ensures coming { OnOk result (SameComing self.old.list.keys self.new.list.keys) }
+        ensures coming { OnOk result (SameComing self.old.list.entries.keys self.new.list.entries.keys) }
     {
         let Some(errand) = self.filed.take(mark) else {
             return Ok(());
         };
         let others = leave(self.alloc, &mut self.lines, errand, mark)?;
         let gone = closed_by(mark, errand, others);
-        set_entry(&mut self.list, gone, false)
+        set_entry(&mut self.list.entries, gone, false)
     }
 
     /// An atom that waits for this stands under a mark, under which none stood.
@@ -95,12 +96,12 @@ impl Waiting {
         requires absent { map.get self.old.filed.items mark ≡ None }
         ensures step { OnOk result (InStep (held self.new)) }
         ensures filed { OnOk result (self.new.filed.items ≡ map.insert self.old.filed.items mark errand) }
-        ensures coming { OnOk result (SameComing self.old.list.keys self.new.list.keys) }
+        ensures coming { OnOk result (SameComing self.old.list.entries.keys self.new.list.entries.keys) }
     {
         self.filed.insert(mark, errand)?;
         enter(self.alloc, &mut self.lines, errand, mark)?;
         let new = opened_by(&self.lines, mark, errand);
-        set_entry(&mut self.list, new, true)
+        set_entry(&mut self.list.entries, new, true)
     }
 
     /// What stands under a mark waits for this, or nothing stands there.
@@ -109,7 +110,7 @@ impl Waiting {
         ensures step { OnOk result (InStep (held self.new)) }
         ensures filed { OnOk result ((q : Name) → map.get self.new.filed.items q
             ≡ cond (same_name q mark) errand (map.get self.old.filed.items q)) }
-        ensures coming { OnOk result (SameComing self.old.list.keys self.new.list.keys) }
+        ensures coming { OnOk result (SameComing self.old.list.entries.keys self.new.list.entries.keys) }
     {
         self.unfile(mark)?;
         match errand {
@@ -128,9 +129,9 @@ impl Waiting {
     {
         self.refile(name, errand_in(c, name))?;
         let flies = c.packet(name).is_some();
-        set_entry(&mut self.list, Some(Entry::Lands(name)), flies)?;
+        set_entry(&mut self.list.entries, Some(Entry::Lands(name)), flies)?;
         set_entry(
-            &mut self.list,
+            &mut self.list.entries,
             Some(Entry::Arrives(name)),
             is_under_way(c, name),
         )

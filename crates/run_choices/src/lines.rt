@@ -3,7 +3,7 @@
 ghost use Rattle.std.specs.Prelude.{◌≡◌, true, false, None, cond, IfOk, OnOk};
 ghost use Rattle.indexmap.specs.IndexMap as index_map;
 ghost use Rattle.np_tables.specs.Errands.{same_errand};
-ghost use Rattle.choice_lists.specs.Lines.{Moves, SetsEntry, closed_by, has_some, line_of, meeting_if, opened_by};
+ghost use Rattle.run_choices.specs.Lines.{Moves, SetsEntry, closed_by, has_some, line_of, meeting_if, opened_by};
 
 use super::line::Line;
 use choice_entries::Entry;

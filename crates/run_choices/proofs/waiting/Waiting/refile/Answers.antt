@@ -1,6 +1,6 @@
 use Rattle.np_tables.proofs.MarkLaws.{on_ok}
-use Rattle.choice_lists.proofs.Lists.{refiled-none, refiled-some, unfiled-there}
-use Rattle.choice_lists.proofs.waiting.Waiting.refile.Goals as goal
+use Rattle.run_choices.proofs.Lists.{refiled-none, refiled-some, unfiled-there}
+use Rattle.run_choices.proofs.waiting.Waiting.refile.Goals as goal
 
 pub file-requires-clause-absent : goal.file-requires-clause-absent
 file-requires-clause-absent c = unfiled-there c.args.self.now.filed.items c.unfile.new.self.filed.items c.args.mark c.in_ok-unfile.ensures.filed

@@ -1,7 +1,7 @@
 //! The marks that wait for the same.
 
 ghost use Rattle.std.specs.Prelude.{◌≡◌, ◌%◌, [], true, false, OnOk, length, slice_get};
-ghost use Rattle.choice_lists.specs.Lines.{Puts, has_some};
+ghost use Rattle.run_choices.specs.Lines.{Puts, has_some};
 
 use indexmap::IndexSet;
 use np_syntax::{Memory, Name};

@@ -1,4 +1,0 @@
-pub mod Choices
-pub mod Draws
-pub mod Held
-pub mod Lines
