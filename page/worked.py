@@ -7,7 +7,7 @@ import subprocess
 
 TOP = os.path.dirname(os.path.dirname(os.path.abspath(__file__)))
 EXAMPLES = os.path.join(TOP, "examples")
-LOOK_EXAMPLES = os.path.join(TOP, "crates", "look_examples", "data")
+LOOK_EXAMPLES = [os.path.join(TOP, "crates", "np_look", "data", name) for name in ("explained.txt", "why.txt")]
 # What needs a device that fails.
 NOT_CALLS = re.compile(rb"^(fail|piece)", re.M)
 PIECE = re.compile(rb'^(\d+ )?"(.*)"$')
@@ -184,7 +184,7 @@ def unescaped(line):
 
 def told_examples():
     """The examples of what np_look tells: each begins with its words, and has files, whose lines stand behind a bar."""
-    for file in sorted(glob.glob(os.path.join(LOOK_EXAMPLES, "*.txt"))):
+    for file in LOOK_EXAMPLES:
         with open(file, "rb") as text:
             blocks = re.split(rb"^words ", text.read(), flags=re.M)[1:]
         for block in blocks:
