@@ -28,7 +28,7 @@ pub use Rattle.np_calculus.specs.declared.config.Atom.{Atom}
 pub use Rattle.np_calculus.specs.declared.config.Packet.{Packet}
 pub use Rattle.np_calculus.specs.declared.config.Place.{Place}
 pub use Rattle.np_calculus.proofs.Steps.{acting-step}
-pub use Rattle.np_agents.specs.Placed.{NoneTravels}
+pub use Rattle.np_configuration.specs.Placed.{NoneTravels}
 pub use Rattle.np_configuration.specs.Errands.{IsKept, errand_of}
 pub use Rattle.np_configuration.specs.Found.{found_env}
 pub use Rattle.np_configuration.specs.Going.{GivesAt, MayAct}

@@ -4,6 +4,7 @@ pub mod Goings
 pub mod Keeping
 pub mod NewOutputs
 pub mod RowSteps
+pub mod Travels
 pub mod Finds
 pub mod Moved
 pub mod RestTests

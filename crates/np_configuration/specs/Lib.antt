@@ -4,5 +4,6 @@ pub mod Errands
 pub mod Found
 pub mod Going
 pub mod Next
+pub mod Placed
 pub mod Rows
 pub mod Views

@@ -5,7 +5,7 @@ use Rattle.np_tables.specs.Errands.{IsReady}
 use Rattle.np_tables.specs.Mapped.{mapped}
 use Rattle.np_calculus.specs.declared.config.Place.TheVariants as place
 use Rattle.np_calculus.specs.Config.{Config}
-use Rattle.np_agents.specs.Placed.{NoneTravels}
+use Rattle.np_configuration.specs.Placed.{NoneTravels}
 use Rattle.np_configuration.specs.declared.step.Step.{Step}
 use Rattle.np_configuration.specs.declared.step.Step.TheVariants as step
 use Rattle.np_configuration.specs.Errands.{errand_of}

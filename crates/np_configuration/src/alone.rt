@@ -4,12 +4,12 @@ ghost use Rattle.np_configuration.specs.Rows.{IsFound, fork_found, fork_row, if_
 ghost use Rattle.np_configuration.specs.Rows.{print_row, stop_row};
 ghost use Rattle.np_configuration.specs.Applied.{Applied, Finds};
 
+use super::atoms::{atom_of, chosen, going_on};
 use super::cfg::Cfg;
 use super::fail::ApplyFail::{self, NotEnabled};
 use super::filing::file_two;
 use super::frames::{bound, with_chan};
 use super::views::is_alone;
-use np_agents::{atom_of, chosen, going_on};
 use np_calculus::Atom;
 use np_eval::{as_if, as_let, as_new, as_par, as_print, as_stop, eval, truth_of};
 use np_syntax::{Event, Name, Value};

@@ -6,8 +6,8 @@ ghost use Rattle.np_calculus.specs.Seen.{acting, fresh, is_at, offered, site_of}
 ghost use Rattle.np_configuration.specs.Next.{IsNext};
 
 use super::going::any_may_act;
+use super::places::Places;
 use super::step::Step;
-use np_agents::Places;
 use np_calculus::{Atom, Packet, Place};
 use np_eval::{Frame, chan_of, eval};
 use np_syntax::{Event, Expr, List, Memory, Name, ProcForm, Value};

@@ -1,7 +1,7 @@
 ghost use Rattle.std.specs.Prelude.{◌↔◌, IsTrue};
 ghost use Rattle.np_configuration.specs.Going.{GivesAt, AnyGives, MayAct, AnyMayAct};
 
-use np_agents::Places;
+use super::places::Places;
 use np_calculus::Atom;
 use np_eval::errand_of;
 use np_syntax::Name;

@@ -1,11 +1,12 @@
 ghost use Rattle.np_configuration.specs.Rows.{IsFound, lookup_found, lookup_row, open_found, open_row};
 ghost use Rattle.np_configuration.specs.Applied.{Applied, Finds};
 
+use super::atoms::{atom_of, chosen};
 use super::cfg::Cfg;
 use super::fail::ApplyFail::{self, NotEnabled};
 use super::frames::with_found;
+use super::outputs::output_in;
 use super::views::is_alone;
-use np_agents::{atom_of, chosen, output_in};
 use np_calculus::Atom;
 use np_eval::{agent_of, as_lookup, as_open, find_place, letter_of, places_of};
 use np_syntax::Event;

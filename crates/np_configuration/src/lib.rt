@@ -10,6 +10,7 @@
 #![tactic(auto)]
 
 mod alone;
+mod atoms;
 mod cfg;
 mod entries;
 mod fail;
@@ -19,6 +20,8 @@ mod going;
 mod letters;
 mod meets;
 mod messages;
+mod outputs;
+mod places;
 mod rows;
 mod start;
 mod step;

@@ -3,9 +3,9 @@ ghost use Rattle.std.specs.Prelude.{◌≡◌, IfOk};
 ghost use Rattle.np_configuration.specs.Applied.{Applied, Finds};
 ghost use Rattle.np_configuration.specs.Views.{taken_by};
 
+use super::atoms::atom_of;
 use super::cfg::Cfg;
 use super::fail::ApplyFail::{self, NotEnabled};
-use np_agents::atom_of;
 use np_calculus::Atom;
 use np_conditions::none_made;
 use np_eval::{Frame, as_inp, as_rep, bind, chan_of};

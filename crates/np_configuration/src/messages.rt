@@ -4,11 +4,12 @@ ghost use Rattle.np_syntax.specs.declared.event.Kind.TheVariants as kind;
 ghost use Rattle.std.specs.Prelude.{true, false};
 ghost use Rattle.np_configuration.specs.Applied.{Applied, Finds};
 
+use super::atoms::{chosen, going_on};
 use super::cfg::Cfg;
 use super::fail::ApplyFail::{self, NotEnabled};
 use super::filing::{file, file_two};
+use super::outputs::output_in;
 use super::views::is_alone;
-use np_agents::{chosen, going_on, output_in};
 use np_calculus::{Atom, Packet};
 use np_conditions::{no_other, none_made, one_made, one_site, one_tag};
 use np_eval::{agent_of, as_iflocal, as_post, as_send, chan_of, eval};

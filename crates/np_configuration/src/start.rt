@@ -5,7 +5,7 @@ ghost use Rattle.np_calculus.specs.Starts.{with_all};
 
 use super::cfg::{Cfg, Near};
 use super::filing::put_filed;
-use np_agents::Places;
+use super::places::Places;
 use np_calculus::{Atom, DAEMON, DAEMON_MARK, MAIN, MAIN_MARK, Place};
 use np_eval::Frame;
 use np_syntax::{List, LowProgram, Memory, Name, Proc, Program};

@@ -4,12 +4,12 @@ ghost use Rattle.np_syntax.specs.declared.event.Kind.TheVariants as kind;
 ghost use Rattle.np_configuration.specs.Applied.{Applied, Finds};
 
 use super::alone::Fork;
+use super::atoms::{atom_of, going_on};
 use super::cfg::Cfg;
 use super::fail::ApplyFail::{self, NotEnabled};
 use super::filing::{file_atom, file_two};
 use super::frames::two_with_agent;
 use super::views::is_alone;
-use np_agents::{atom_of, going_on};
 use np_calculus::{Atom, Place};
 use np_conditions::{no_other, none_made, one_site, one_tag, way};
 use np_eval::{as_agent_form, as_migrate};

@@ -1,106 +1,158 @@
 -- What is written piece by piece.
-use Rattle.std.proofs.Common.{Bool, true, false, ◌≡◌, ℕ, List, ◌++◌, sym, ap, ◌∙◌, append_assoc, nat_lt}
+use Rattle.std.proofs.Common.{map, Bool, true, false, ◌≡◌, ℕ, List, ◌++◌, sym, ap, ◌∙◌, append_assoc, nat_lt}
 use Rattle.std.specs.Prelude.{codes}
+use Rattle.text_writer.specs.declared.writer.TextWriter.{TextWriter}
+use Rattle.text_writer.specs.Writes.{Writes}
+use Rattle.text_writer.proofs.Writing.{then, same}
 use Rattle.np_syntax.specs.declared.expression.Op.{Op}
-use Rattle.np_syntax.specs.declared.types.Ty.{Ty}
 use Rattle.np_syntax.specs.declared.expression.Expr.{Expr}
 use Rattle.np_syntax.specs.declared.expression.ExprForm.{ExprForm}
 use Rattle.np_syntax.specs.declared.expression.ExprForm as expr
 use Rattle.np_syntax.specs.declared.pattern.Pat.{Pat}
+use Rattle.np_syntax.specs.declared.pattern.PatForm.{PatForm}
+use Rattle.np_syntax.specs.declared.pattern.PatForm as pat
 use Rattle.np_syntax.specs.declared.process.Proc.{Proc}
 use Rattle.np_syntax.specs.declared.process.ProcForm.{ProcForm}
 use Rattle.np_syntax.specs.declared.process.ProcForm as form
 use Rattle.np_lex.specs.Tokens.{sign_text}
-use Rattle.np_show.specs.Shown.{type_text, op_sign, strength, left, right, joined}
-use Rattle.np_low_text.specs.LowText.{Sites, binder_text, pat_text, expr_text, expr_form_text, message_text, proc_text, proc_form_text}
-use Rattle.np_show.proofs.Joining.{glue, behind, four, five, six, seven, eight, ten, opened, closed, bracketed_is}
-use Rattle.np_low_text.proofs.Equations.{text-bin, text-pack, text-with, text-par, text-new, text-inp, text-rep, text-agent, text-migrate, text-iflocal, text-if, text-let, text-lookup}
+use Rattle.np_show.specs.Shown.{squared, op_sign, strength, left, right, joined}
+use Rattle.np_low_text.specs.LowText.{Sites, binder_text, pat_text, pat_form_text, expr_text, expr_form_text, message_text, proc_text, proc_form_text}
+use Rattle.np_show.proofs.Joining.{opened, closed, bracketed_is}
+use Rattle.np_low_text.proofs.Equations.{text-tuple, text-tuple_pat, text-bin, text-pack, text-with, text-par, text-agent, text-iflocal, text-if, text-lookup}
+
+pub tuple_pat_steps : (a b : TextWriter) {f : PatForm} (parts : List Pat) {now : List Pat} → f ≡ pat.Tuple parts → now ≡ parts → Writes a b (squared (map pat_text now)) → Writes a b (pat_form_text f)
+tuple_pat_steps a b {f} parts {now} ef en w =
+    same a b (squared (map pat_text now)) (pat_form_text f) w (ap (λ ps. squared (map pat_text ps)) en ∙ sym (ap pat_form_text ef ∙ text-tuple_pat parts))
 
 module _ (sites : Sites) where
-  bin_written : (l : ℕ) (o : Op) (x y : Expr) (out : List ℕ)
-      → out ++ opened (nat_lt (strength o) l) ++ expr_text sites (left o) x ++ codes " " ++ sign_text (op_sign o) ++ codes " " ++ expr_text sites (right o) y ++ closed (nat_lt (strength o) l)
-      ≡ out ++ expr_form_text sites l (expr.Bin o x y)
-  bin_written l o x y out =
+  -- ---- expressions
+
+  pub tuple_steps : (a b : TextWriter) (l : ℕ) {f : ExprForm} (parts : List Expr) {now : List Expr} → f ≡ expr.Tuple parts → now ≡ parts
+      → Writes a b (squared (map (expr_text sites 0) now)) → Writes a b (expr_form_text sites l f)
+  tuple_steps a b l {f} parts {now} ef en w =
+      same a b (squared (map (expr_text sites 0) now)) (expr_form_text sites l f) w
+      (ap (λ xs. squared (map (expr_text sites 0) xs)) en ∙ sym (ap (expr_form_text sites l) ef ∙ text-tuple sites l parts))
+
+  bin_written : (l : ℕ) (o : Op) (x y : Expr)
+      → opened (nat_lt (strength o) l) ++ (expr_text sites (left o) x ++ ((codes " " ++ sign_text (op_sign o) ++ codes " ") ++ (expr_text sites (right o) y ++ closed (nat_lt (strength o) l))))
+      ≡ expr_form_text sites l (expr.Bin o x y)
+  bin_written l o x y =
       tidy (opened (nat_lt (strength o) l)) (expr_text sites (left o) x) (codes " ") (sign_text (op_sign o)) (codes " ") (expr_text sites (right o) y) (closed (nat_lt (strength o) l))
-      ∙ ap (λ t. out ++ t) (sym (text-bin sites l o x y ∙ bracketed_is (nat_lt (strength o) l) (joined o (expr_text sites (left o) x) (expr_text sites (right o) y))))
+      ∙ sym (text-bin sites l o x y ∙ bracketed_is (nat_lt (strength o) l) (joined o (expr_text sites (left o) x) (expr_text sites (right o) y)))
     where
-      tidy : (a x m s n y b : List ℕ) → out ++ a ++ x ++ m ++ s ++ n ++ y ++ b ≡ out ++ (a ++ ((x ++ m ++ s ++ n ++ y) ++ b))
+      tidy : (a x m s n y b : List ℕ) → a ++ (x ++ ((m ++ s ++ n) ++ (y ++ b))) ≡ a ++ ((x ++ m ++ s ++ n ++ y) ++ b)
       tidy a x m s n y b = simp append_assoc
 
   -- the steps of `put_expr` at an operation, with what each callee gave
-  pub bin_steps : (l : ℕ) (o0 : List ℕ) {f : ExprForm} {o : Op} (x y : Expr) {s m n : ℕ} {o1 o2 o3 o4 : List ℕ} → f ≡ expr.Bin o x y → s ≡ strength o → m ≡ left o → n ≡ right o
-      → o1 ≡ o0 ++ opened (nat_lt s l) → o2 ≡ o1 ++ expr_text sites m x → o3 ≡ o2 ++ codes " " ++ sign_text (op_sign o) ++ codes " " → o4 ≡ o3 ++ expr_text sites n y
-      → o4 ++ closed (nat_lt s l) ≡ o0 ++ expr_form_text sites l f
-  bin_steps l o0 {o = o} x y ef es em en e1 e2 e3 e4 = rw (e4, e3, e2, e1, es, em, en, ef) (bin_written l o x y o0)
+  pub bin_steps : (l : ℕ) (a b d e g h : TextWriter) {f : ExprForm} {o : Op} (x y : Expr) {s m n : ℕ} → f ≡ expr.Bin o x y → s ≡ strength o → m ≡ left o → n ≡ right o
+      → Writes a b (opened (nat_lt s l)) → Writes b d (expr_text sites m x) → Writes d e (codes " " ++ sign_text (op_sign o) ++ codes " ") → Writes e g (expr_text sites n y) → Writes g h (closed (nat_lt s l))
+      → Writes a h (expr_form_text sites l f)
+  bin_steps l a b d e g h {f} {o} x y {s} {m} {n} ef es em en w1 w2 w3 w4 w5 =
+      let round = nat_lt s l in
+      let sign = codes " " ++ sign_text (op_sign o) ++ codes " " in
+      same a h (opened round ++ (expr_text sites m x ++ (sign ++ (expr_text sites n y ++ closed round)))) (expr_form_text sites l f)
+      (then a b h (opened round) (expr_text sites m x ++ (sign ++ (expr_text sites n y ++ closed round))) w1
+      (then b d h (expr_text sites m x) (sign ++ (expr_text sites n y ++ closed round)) w2
+      (then d e h sign (expr_text sites n y ++ closed round) w3 (then e g h (expr_text sites n y) (closed round) w4 w5))))
+      (rw (es, em, en, ef) (bin_written l o x y))
+
+  pub pack_steps : (l : ℕ) (a b d e g h : TextWriter) {f : ExprForm} (c v : Expr) → f ≡ expr.Pack c v → Writes a b (codes "pack(") → Writes b d (expr_text sites 0 c) → Writes d e (codes ", ")
+      → Writes e g (expr_text sites 0 v) → Writes g h (codes ")") → Writes a h (expr_form_text sites l f)
+  pack_steps l a b d e g h {f} c v ef w1 w2 w3 w4 w5 =
+      let x = expr_text sites 0 c in
+      let y = expr_text sites 0 v in
+      same a h (codes "pack(" ++ (x ++ (codes ", " ++ (y ++ codes ")")))) (expr_form_text sites l f)
+      (then a b h (codes "pack(") (x ++ (codes ", " ++ (y ++ codes ")"))) w1 (then b d h x (codes ", " ++ (y ++ codes ")")) w2
+      (then d e h (codes ", ") (y ++ codes ")") w3 (then e g h y (codes ")") w4 w5))))
+      (tidy (codes "pack(") x (codes ", ") y (codes ")") ∙ sym (ap (expr_form_text sites l) ef ∙ text-pack sites l c v))
+    where
+      tidy : (p x m y q : List ℕ) → p ++ (x ++ (m ++ (y ++ q))) ≡ p ++ x ++ m ++ y ++ q
+      tidy p x m y q = simp append_assoc
+
+  pub with_steps : (l : ℕ) (a b d e g h i j : TextWriter) {f : ExprForm} (m r c : Expr) → f ≡ expr.With m r c → Writes a b (codes "(") → Writes b d (expr_text sites 0 m) → Writes d e (codes " with ")
+      → Writes e g (expr_text sites 0 r) → Writes g h (codes " -> ") → Writes h i (expr_text sites 0 c) → Writes i j (codes ")") → Writes a j (expr_form_text sites l f)
+  with_steps l a b d e g h i j {f} m r c ef w1 w2 w3 w4 w5 w6 w7 =
+      let x = expr_text sites 0 m in
+      let y = expr_text sites 0 r in
+      let z = expr_text sites 0 c in
+      same a j (codes "(" ++ (x ++ (codes " with " ++ (y ++ (codes " -> " ++ (z ++ codes ")")))))) (expr_form_text sites l f)
+      (then a b j (codes "(") (x ++ (codes " with " ++ (y ++ (codes " -> " ++ (z ++ codes ")"))))) w1 (then b d j x (codes " with " ++ (y ++ (codes " -> " ++ (z ++ codes ")")))) w2
+      (then d e j (codes " with ") (y ++ (codes " -> " ++ (z ++ codes ")"))) w3 (then e g j y (codes " -> " ++ (z ++ codes ")")) w4
+      (then g h j (codes " -> ") (z ++ codes ")") w5 (then h i j z (codes ")") w6 w7))))))
+      (tidy (codes "(") x (codes " with ") y (codes " -> ") z (codes ")") ∙ sym (ap (expr_form_text sites l) ef ∙ text-with sites l m r c))
+    where
+      tidy : (p x m y n z q : List ℕ) → p ++ (x ++ (m ++ (y ++ (n ++ (z ++ q))))) ≡ p ++ x ++ m ++ y ++ n ++ z ++ q
+      tidy p x m y n z q = simp append_assoc
 
   -- ---- processes
 
-  par_written : (b : Bool) (p q : Proc) (out : List ℕ) → out ++ opened b ++ proc_text sites false p ++ codes " | " ++ proc_text sites true q ++ closed b ≡ out ++ proc_form_text sites b (form.Par p q)
-  par_written b p q out =
+  par_written : (b : Bool) (p q : Proc) → opened b ++ ((proc_text sites false p ++ codes " | ") ++ (proc_text sites true q ++ closed b)) ≡ proc_form_text sites b (form.Par p q)
+  par_written b p q =
       tidy (opened b) (proc_text sites false p) (codes " | ") (proc_text sites true q) (closed b)
-      ∙ ap (λ t. out ++ t) (sym (text-par sites b p q ∙ bracketed_is b (proc_text sites false p ++ codes " | " ++ proc_text sites true q)))
+      ∙ sym (text-par sites b p q ∙ bracketed_is b (proc_text sites false p ++ codes " | " ++ proc_text sites true q))
     where
-      tidy : (a p m q c : List ℕ) → out ++ a ++ p ++ m ++ q ++ c ≡ out ++ (a ++ ((p ++ m ++ q) ++ c))
+      tidy : (a p m q c : List ℕ) → a ++ ((p ++ m) ++ (q ++ c)) ≡ a ++ ((p ++ m ++ q) ++ c)
       tidy a p m q c = simp append_assoc
 
-  pub par_steps : (o0 : List ℕ) (b : Bool) {f : ProcForm} (p q : Proc) {o1 o2 o3 : List ℕ} → f ≡ form.Par p q → o1 ≡ o0 ++ opened b → o2 ≡ o1 ++ proc_text sites false p ++ codes " | "
-      → o3 ≡ o2 ++ proc_text sites true q → o3 ++ closed b ≡ o0 ++ proc_form_text sites b f
-  par_steps o0 b p q ef e1 e2 e3 = rw (e3, e2, e1, ef) (par_written b p q o0)
+  pub par_steps : (a b d e g : TextWriter) (bracket : Bool) {f : ProcForm} (p q : Proc) → f ≡ form.Par p q → Writes a b (opened bracket) → Writes b d (proc_text sites false p ++ codes " | ")
+      → Writes d e (proc_text sites true q) → Writes e g (closed bracket) → Writes a g (proc_form_text sites bracket f)
+  par_steps a b d e g bracket {f} p q ef w1 w2 w3 w4 =
+      same a g (opened bracket ++ ((proc_text sites false p ++ codes " | ") ++ (proc_text sites true q ++ closed bracket))) (proc_form_text sites bracket f)
+      (then a b g (opened bracket) ((proc_text sites false p ++ codes " | ") ++ (proc_text sites true q ++ closed bracket)) w1
+      (then b d g (proc_text sites false p ++ codes " | ") (proc_text sites true q ++ closed bracket) w2 (then d e g (proc_text sites true q) (closed bracket) w3 w4)))
+      (par_written bracket p q ∙ sym (ap (proc_form_text sites bracket) ef))
 
-  pub new_steps : (out : List ℕ) (b : Bool) {f : ProcForm} (c : ℕ) (t : Ty) (p : Proc) → f ≡ form.New c t p
-      → out ++ codes "new " ++ (binder_text c) ++ codes " : " ++ type_text t ++ codes " in " ++ proc_text sites true p ≡ out ++ proc_form_text sites b f
-  new_steps out b c t p ef = six out (codes "new ") (binder_text c) (codes " : ") (type_text t) (codes " in ") (proc_text sites true p) ∙ ap (λ l. out ++ l) (sym (ap (proc_form_text sites b) ef ∙ text-new sites b c t p))
+  -- a form of which one function writes the text
+  pub one_step : (a b : TextWriter) (bracket : Bool) {f g : ProcForm} (text : List ℕ) → f ≡ g → proc_form_text sites bracket g ≡ text → Writes a b text → Writes a b (proc_form_text sites bracket f)
+  one_step a b bracket {f} text ef eg w = same a b text (proc_form_text sites bracket f) w (sym (ap (proc_form_text sites bracket) ef ∙ eg))
 
-  pub inp_steps : (out : List ℕ) (b : Bool) {f : ProcForm} (c : Expr) (q : Pat) (p : Proc) → f ≡ form.Inp c q p
-      → out ++ (expr_text sites 3 c) ++ codes "?" ++ pat_text q ++ codes " -> " ++ proc_text sites true p ≡ out ++ proc_form_text sites b f
-  inp_steps out b c q p ef = five out (expr_text sites 3 c) (codes "?") (pat_text q) (codes " -> ") (proc_text sites true p) ∙ ap (λ l. out ++ l) (sym (ap (proc_form_text sites b) ef ∙ text-inp sites b c q p))
+  -- a form of which three functions write the text: what stands in front, a part with what stands behind it, and a part
+  pub three_steps : (a b d e : TextWriter) (bracket : Bool) {f g : ProcForm} (front part mid last text : List ℕ) → f ≡ g → proc_form_text sites bracket g ≡ text
+      → front ++ ((part ++ mid) ++ last) ≡ text → Writes a b front → Writes b d (part ++ mid) → Writes d e last → Writes a e (proc_form_text sites bracket f)
+  three_steps a b d e bracket {f} front part mid last text ef eg et w1 w2 w3 =
+      same a e (front ++ ((part ++ mid) ++ last)) (proc_form_text sites bracket f)
+      (then a b e front ((part ++ mid) ++ last) w1 (then b d e (part ++ mid) last w2 w3)) (et ∙ sym (ap (proc_form_text sites bracket) ef ∙ eg))
 
-  pub rep_steps : (out : List ℕ) (b : Bool) {f : ProcForm} (c : Expr) (q : Pat) (p : Proc) → f ≡ form.Rep c q p
-      → out ++ codes "*" ++ (expr_text sites 3 c) ++ codes "?" ++ pat_text q ++ codes " -> " ++ proc_text sites true p ≡ out ++ proc_form_text sites b f
-  rep_steps out b c q p ef = six out (codes "*") (expr_text sites 3 c) (codes "?") (pat_text q) (codes " -> ") (proc_text sites true p) ∙ ap (λ l. out ++ l) (sym (ap (proc_form_text sites b) ef ∙ text-rep sites b c q p))
+  pub agent_steps : (a b d e : TextWriter) (bracket : Bool) {f : ProcForm} (c : ℕ) (p q : Proc) → f ≡ form.Agent c p q → Writes a b (codes "agent " ++ binder_text c ++ codes " = ")
+      → Writes b d (proc_text sites true p ++ codes " in ") → Writes d e (proc_text sites true q) → Writes a e (proc_form_text sites bracket f)
+  agent_steps a b d e bracket c p q ef w1 w2 w3 =
+      three_steps a b d e bracket (codes "agent " ++ binder_text c ++ codes " = ") (proc_text sites true p) (codes " in ") (proc_text sites true q)
+      (codes "agent " ++ binder_text c ++ codes " = " ++ proc_text sites true p ++ codes " in " ++ proc_text sites true q) ef (text-agent sites bracket c p q)
+      (tidy (codes "agent ") (binder_text c) (codes " = ") (proc_text sites true p) (codes " in ") (proc_text sites true q)) w1 w2 w3
+    where
+      tidy : (x y z p m q : List ℕ) → (x ++ y ++ z) ++ ((p ++ m) ++ q) ≡ x ++ y ++ z ++ p ++ m ++ q
+      tidy x y z p m q = simp append_assoc
 
-  pub agent_steps : (out : List ℕ) (b : Bool) {f : ProcForm} (c : ℕ) (p q : Proc) {o1 o2 : List ℕ} → f ≡ form.Agent c p q → o1 ≡ out ++ codes "agent " ++ (binder_text c) ++ codes " = "
-      → o2 ≡ o1 ++ proc_text sites true p ++ codes " in " → o2 ++ proc_text sites true q ≡ out ++ proc_form_text sites b f
-  agent_steps out b c p q ef e1 e2 =
-      glue out _ _ _ _ (behind _ _ _ e1 e2) (six out (codes "agent ") (binder_text c) (codes " = ") (proc_text sites true p) (codes " in ") (proc_text sites true q))
-      (ap (proc_form_text sites b) ef ∙ text-agent sites b c p q)
+  pub iflocal_steps : (a b d e : TextWriter) (bracket : Bool) {f : ProcForm} (x c z : Expr) (p q : Proc) → f ≡ form.IfLocal x c z p q
+      → Writes a b (codes "iflocal <" ++ expr_text sites 3 x ++ codes ">" ++ message_text sites c z ++ codes " then ")
+      → Writes b d (proc_text sites true p ++ codes " else ") → Writes d e (proc_text sites true q) → Writes a e (proc_form_text sites bracket f)
+  iflocal_steps a b d e bracket x c z p q ef w1 w2 w3 =
+      three_steps a b d e bracket (codes "iflocal <" ++ expr_text sites 3 x ++ codes ">" ++ message_text sites c z ++ codes " then ") (proc_text sites true p) (codes " else ") (proc_text sites true q)
+      (codes "iflocal <" ++ expr_text sites 3 x ++ codes ">" ++ message_text sites c z ++ codes " then " ++ proc_text sites true p ++ codes " else " ++ proc_text sites true q) ef
+      (text-iflocal sites bracket x c z p q)
+      (tidy (codes "iflocal <") (expr_text sites 3 x) (codes ">") (message_text sites c z) (codes " then ") (proc_text sites true p) (codes " else ") (proc_text sites true q)) w1 w2 w3
+    where
+      tidy : (x y z u v p m q : List ℕ) → (x ++ y ++ z ++ u ++ v) ++ ((p ++ m) ++ q) ≡ x ++ y ++ z ++ u ++ v ++ p ++ m ++ q
+      tidy x y z u v p m q = simp append_assoc
 
-  pub migrate_steps : (out : List ℕ) (b : Bool) {f : ProcForm} (x : Expr) (p : Proc) → f ≡ form.Migrate x p
-      → out ++ codes "migrate to " ++ expr_text sites 0 x ++ codes " -> " ++ proc_text sites true p ≡ out ++ proc_form_text sites b f
-  migrate_steps out b x p ef = four out (codes "migrate to ") (expr_text sites 0 x) (codes " -> ") (proc_text sites true p) ∙ ap (λ l. out ++ l) (sym (ap (proc_form_text sites b) ef ∙ text-migrate sites b x p))
+  pub if_steps : (a b d e : TextWriter) (bracket : Bool) {f : ProcForm} (x : Expr) (p q : Proc) → f ≡ form.If x p q → Writes a b (codes "if " ++ expr_text sites 0 x ++ codes " then ")
+      → Writes b d (proc_text sites true p ++ codes " else ") → Writes d e (proc_text sites true q) → Writes a e (proc_form_text sites bracket f)
+  if_steps a b d e bracket x p q ef w1 w2 w3 =
+      three_steps a b d e bracket (codes "if " ++ expr_text sites 0 x ++ codes " then ") (proc_text sites true p) (codes " else ") (proc_text sites true q)
+      (codes "if " ++ expr_text sites 0 x ++ codes " then " ++ proc_text sites true p ++ codes " else " ++ proc_text sites true q) ef (text-if sites bracket x p q)
+      (tidy (codes "if ") (expr_text sites 0 x) (codes " then ") (proc_text sites true p) (codes " else ") (proc_text sites true q)) w1 w2 w3
+    where
+      tidy : (x y z p m q : List ℕ) → (x ++ y ++ z) ++ ((p ++ m) ++ q) ≡ x ++ y ++ z ++ p ++ m ++ q
+      tidy x y z p m q = simp append_assoc
 
-  pub iflocal_steps : (out : List ℕ) (b : Bool) {f : ProcForm} (x : Expr) (c : Expr) (z : Expr) (p q : Proc) {o1 o2 : List ℕ} → f ≡ form.IfLocal x c z p q
-      → o1 ≡ out ++ codes "iflocal <" ++ expr_text sites 3 x ++ codes ">" ++ message_text sites c z ++ codes " then "
-      → o2 ≡ o1 ++ proc_text sites true p ++ codes " else " → o2 ++ proc_text sites true q ≡ out ++ proc_form_text sites b f
-  iflocal_steps out b x c z p q ef e1 e2 =
-      glue out _ _ _ _ (behind _ _ _ e1 e2) (eight out (codes "iflocal <") (expr_text sites 3 x) (codes ">") (message_text sites c z) (codes " then ") (proc_text sites true p) (codes " else ") (proc_text sites true q))
-      (ap (proc_form_text sites b) ef ∙ text-iflocal sites b x c z p q)
-
-  pub if_steps : (out : List ℕ) (b : Bool) {f : ProcForm} (x : Expr) (p q : Proc) {o1 o2 : List ℕ} → f ≡ form.If x p q → o1 ≡ out ++ codes "if " ++ expr_text sites 0 x ++ codes " then "
-      → o2 ≡ o1 ++ proc_text sites true p ++ codes " else " → o2 ++ proc_text sites true q ≡ out ++ proc_form_text sites b f
-  if_steps out b x p q ef e1 e2 =
-      glue out _ _ _ _ (behind _ _ _ e1 e2) (six out (codes "if ") (expr_text sites 0 x) (codes " then ") (proc_text sites true p) (codes " else ") (proc_text sites true q))
-      (ap (proc_form_text sites b) ef ∙ text-if sites b x p q)
-
-  pub let_steps : (out : List ℕ) (b : Bool) {f : ProcForm} (q : Pat) (x : Expr) (p : Proc) → f ≡ form.Let q x p
-      → out ++ codes "let " ++ pat_text q ++ codes " = " ++ expr_text sites 0 x ++ codes " in " ++ proc_text sites true p ≡ out ++ proc_form_text sites b f
-  let_steps out b q x p ef = six out (codes "let ") (pat_text q) (codes " = ") (expr_text sites 0 x) (codes " in ") (proc_text sites true p) ∙ ap (λ l. out ++ l) (sym (ap (proc_form_text sites b) ef ∙ text-let sites b q x p))
-
-  pub lookup_steps : (out : List ℕ) (b : Bool) {f : ProcForm} (x m : Expr) (c : ℕ) (p q : Proc) {o1 o2 : List ℕ} → f ≡ form.Lookup x m c p q
-      → o1 ≡ out ++ codes "lookup " ++ expr_text sites 0 x ++ codes " in " ++ expr_text sites 0 m ++ codes " then " ++ binder_text c ++ codes " -> "
-      → o2 ≡ o1 ++ proc_text sites true p ++ codes " else " → o2 ++ proc_text sites true q ≡ out ++ proc_form_text sites b f
-  lookup_steps out b x m c p q ef e1 e2 =
-      glue out _ _ _ _ (behind _ _ _ e1 e2)
-      (ten out (codes "lookup ") (expr_text sites 0 x) (codes " in ") (expr_text sites 0 m) (codes " then ") (binder_text c) (codes " -> ") (proc_text sites true p) (codes " else ") (proc_text sites true q))
-      (ap (proc_form_text sites b) ef ∙ text-lookup sites b x m c p q)
-
-  pub pack_steps : (o0 : List ℕ) (l : ℕ) {f : ExprForm} (c v : Expr) {o1 o2 o3 o4 : List ℕ} → f ≡ expr.Pack c v → o1 ≡ o0 ++ codes "pack(" → o2 ≡ o1 ++ expr_text sites 0 c
-      → o3 ≡ o2 ++ codes ", " → o4 ≡ o3 ++ expr_text sites 0 v → o4 ++ codes ")" ≡ o0 ++ expr_form_text sites l f
-  pack_steps o0 l c v ef e1 e2 e3 e4 =
-      rw (e4, e3, e2, e1, ef) (five o0 (codes "pack(") (expr_text sites 0 c) (codes ", ") (expr_text sites 0 v) (codes ")") ∙ ap (λ t. o0 ++ t) (sym (text-pack sites l c v)))
-
-  pub with_steps : (o0 : List ℕ) (l : ℕ) {f : ExprForm} (m a c : Expr) {o1 o2 o3 o4 o5 o6 : List ℕ} → f ≡ expr.With m a c → o1 ≡ o0 ++ codes "(" → o2 ≡ o1 ++ expr_text sites 0 m
-      → o3 ≡ o2 ++ codes " with " → o4 ≡ o3 ++ expr_text sites 0 a → o5 ≡ o4 ++ codes " -> " → o6 ≡ o5 ++ expr_text sites 0 c → o6 ++ codes ")" ≡ o0 ++ expr_form_text sites l f
-  with_steps o0 l m a c ef e1 e2 e3 e4 e5 e6 =
-      rw (e6, e5, e4, e3, e2, e1, ef)
-      (seven o0 (codes "(") (expr_text sites 0 m) (codes " with ") (expr_text sites 0 a) (codes " -> ") (expr_text sites 0 c) (codes ")") ∙ ap (λ t. o0 ++ t) (sym (text-with sites l m a c)))
+  pub lookup_steps : (a b d e : TextWriter) (bracket : Bool) {f : ProcForm} (x m : Expr) (c : ℕ) (p q : Proc) → f ≡ form.Lookup x m c p q
+      → Writes a b (codes "lookup " ++ expr_text sites 0 x ++ codes " in " ++ expr_text sites 0 m ++ codes " then " ++ binder_text c ++ codes " -> ")
+      → Writes b d (proc_text sites true p ++ codes " else ") → Writes d e (proc_text sites true q) → Writes a e (proc_form_text sites bracket f)
+  lookup_steps a b d e bracket x m c p q ef w1 w2 w3 =
+      three_steps a b d e bracket (codes "lookup " ++ expr_text sites 0 x ++ codes " in " ++ expr_text sites 0 m ++ codes " then " ++ binder_text c ++ codes " -> ") (proc_text sites true p) (codes " else ") (proc_text sites true q)
+      (codes "lookup " ++ expr_text sites 0 x ++ codes " in " ++ expr_text sites 0 m ++ codes " then " ++ binder_text c ++ codes " -> " ++ proc_text sites true p ++ codes " else " ++ proc_text sites true q) ef
+      (text-lookup sites bracket x m c p q)
+      (tidy (codes "lookup ") (expr_text sites 0 x) (codes " in ") (expr_text sites 0 m) (codes " then ") (binder_text c) (codes " -> ") (proc_text sites true p) (codes " else ") (proc_text sites true q)) w1 w2 w3
+    where
+      tidy : (x y z u v w t p m q : List ℕ) → (x ++ y ++ z ++ u ++ v ++ w ++ t) ++ ((p ++ m) ++ q) ≡ x ++ y ++ z ++ u ++ v ++ w ++ t ++ p ++ m ++ q
+      tidy x y z u v w t p m q = simp append_assoc

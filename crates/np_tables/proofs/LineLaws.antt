@@ -1,12 +1,10 @@
 -- The marks by their errands: how a change of one line shows in the others, in the busy meetings and in what is ready.
-use Rattle.std.proofs.Common.{◌≡◌, Bool, true, false, not, cond, ◌&&◌, ◌||◌, nat_eq, Option, None, Some, unwrap_or, IsSome, IfNone, IfSome, List, [], ◌∷◌, slice_get, IsTrue, ℕ, refl, sym, ap, subst, ◌∙◌, arith}
+use Rattle.std.proofs.Common.{◌≡◌, Bool, true, false, not, cond, ◌&&◌, ◌||◌, nat_eq, Option, None, Some, unwrap_or, is_some, IsSome, IfNone, List, [], ◌∷◌, slice_get, IsTrue, ℕ, refl, sym, ap, subst, ◌∙◌, arith}
 use Rattle.std.specs.FinSet as set
 use Rattle.std.specs.FinSet.{len-empty, empty_of_len}
-use Rattle.std.specs.List.{list_any}
 use Rattle.std.specs.Map.{lookup}
 use Rattle.indexmap.specs.IndexMap as index_map
 use Rattle.indexmap.specs.IndexMap.{IndexMap}
-use Rattle.indexmap.specs.IndexSet.{IndexSet}
 use Rattle.np_syntax.specs.declared.value.Name.{Name}
 use Rattle.np_syntax.proofs.Bools.{and-out, and-true, and-false}
 use Rattle.np_tables.specs.Names.{NameSet, name_cmp, same_name}
@@ -222,17 +220,19 @@ at_here lines x k at r is here = ap (λ b. b && has_both lines k) is ∙ by_case
 here : (e : Errand) (x : Meeting) → Some x ≡ meeting_of e → (k : Meeting) → is_at e k ≡ same_meeting x k
 here e x there k = ap (λ o. is_here o k) (sym there)
 
-module _ {S R : Type 0} (lines : IndexMap Errand NameSet S) (e : Errand) (x : Meeting) (there : Some x ≡ meeting_of e) where
-  pub opens : (old new : IndexSet Meeting R) → true ≡ has_both lines x → ((k : Meeting) → is_busy new k ≡ cond (same_meeting x k) true (is_busy old k)) → (k : Meeting) → is_busy new k ≡ (is_busy old k || (is_at e k && has_both lines k))
-  opens old new meets write k = write k ∙ put (same_meeting x k) _ ∙ ap (λ b. is_busy old k || b) (sym (at_here lines x k (is_at e k) true (here e x there k) meets))
+module _ {S V R : Type 0} (lines : IndexMap Errand NameSet S) (e : Errand) (x : Meeting) (there : Some x ≡ meeting_of e) where
+  pub opens : (old new : IndexMap Meeting V R) (v : V) → true ≡ has_both lines x
+      → ((k : Meeting) → index_map.get same_meeting new k ≡ cond (same_meeting x k) (Some v) (index_map.get same_meeting old k))
+      → (k : Meeting) → is_busy new k ≡ (is_busy old k || (is_at e k && has_both lines k))
+  opens old new v meets write k = ap is_some (write k) ∙ put (same_meeting x k) _ ∙ ap (λ b. is_busy old k || b) (sym (at_here lines x k (is_at e k) true (here e x there k) meets))
     where
-      put : (t b : Bool) → cond t true b ≡ (b || (t && true))
-      put true true = refl
-      put true false = refl
-      put false true = refl
-      put false false = refl
+      put : (t : Bool) (o : Option V) → is_some (cond t (Some v) o) ≡ (is_some o || (t && true))
+      put true None = refl
+      put true (Some w) = refl
+      put false None = refl
+      put false (Some w) = refl
 
-  pub stays_shut : (busy : IndexSet Meeting R) → false ≡ has_both lines x → (k : Meeting) → is_busy busy k ≡ (is_busy busy k || (is_at e k && has_both lines k))
+  pub stays_shut : (busy : IndexMap Meeting V R) → false ≡ has_both lines x → (k : Meeting) → is_busy busy k ≡ (is_busy busy k || (is_at e k && has_both lines k))
   stays_shut busy apart k = same (same_meeting x k) _ ∙ ap (λ b. is_busy busy k || b) (sym (at_here lines x k (is_at e k) false (here e x there k) apart))
     where
       same : (t b : Bool) → b ≡ (b || (t && false))
@@ -242,16 +242,16 @@ module _ {S R : Type 0} (lines : IndexMap Errand NameSet S) (e : Errand) (x : Me
       same false false = refl
 
 -- a meeting whose errand has no marks left
-pub shuts : {R : Type 0} (e : Errand) (x : Meeting) → Some x ≡ meeting_of e → (others : Bool) → others ≡ false → (old new : IndexSet Meeting R)
-    → ((k : Meeting) → is_busy new k ≡ cond (same_meeting x k) false (is_busy old k)) → (k : Meeting) → is_busy new k ≡ (is_busy old k && (others || not (is_at e k)))
-shuts e x there others none old new write k =
-    write k ∙ cut (same_meeting x k) (is_busy old k) ∙ ap (λ b. is_busy old k && not b) (sym (here e x there k)) ∙ ap (λ b. is_busy old k && (b || not (is_at e k))) (sym none)
+pub shuts : {V R : Type 0} (e : Errand) (x : Meeting) → Some x ≡ meeting_of e → (others : Bool) → others ≡ false → (old new : IndexMap Meeting V R)
+    → ((k : Meeting) → index_map.get same_meeting new k ≡ cond (same_meeting x k) None (index_map.get same_meeting old k)) → (k : Meeting) → is_busy new k ≡ (is_busy old k && (others || not (is_at e k)))
+shuts {V = V} e x there others none old new write k =
+    ap is_some (write k) ∙ cut (same_meeting x k) (index_map.get same_meeting old k) ∙ ap (λ b. is_busy old k && not b) (sym (here e x there k)) ∙ ap (λ b. is_busy old k && (b || not (is_at e k))) (sym none)
   where
-    cut : (t b : Bool) → cond t false b ≡ (b && not t)
-    cut true true = refl
-    cut true false = refl
-    cut false true = refl
-    cut false false = refl
+    cut : (t : Bool) (o : Option V) → is_some (cond t None o) ≡ (is_some o && not t)
+    cut true None = refl
+    cut true (Some v) = refl
+    cut false None = refl
+    cut false (Some v) = refl
 
 apart_takes : (e : Errand) (k : Meeting) → is_at e k ≡ false → same_errand e (Takes k) ≡ false
 apart_takes Acts k h = refl
@@ -322,14 +322,14 @@ ended new (Gives l) none k h = ap (λ b. has_some (line_of new (Takes k)) && b) 
 ended new (Takes l) none k h = ap (λ b. b && has_some (line_of new (Gives k))) (ap (λ j. has_some (line_of new (Takes j))) (sym (same_meeting-is l k h)) ∙ none)
 ended new Stuck none k h = absurd (true_false (sym h))
 
-module _ {S R : Type 0} (old new : IndexMap Errand NameSet S) (busy after : IndexSet Meeting R) where
+module _ {S V R : Type 0} (old new : IndexMap Errand NameSet S) (busy after : IndexMap Meeting V R) where
   both_lines : (k : Meeting) → line_of old (Takes k) ≡ line_of new (Takes k) → line_of old (Gives k) ≡ line_of new (Gives k) → has_both old k ≡ has_both new k
   both_lines k t g = λ i. has_some (t i) && has_some (g i)
 
-  pub busy_same : BusyAt old busy → SameLines old new → after.keys ≡ busy.keys → BusyAt new after
-  busy_same at lines keys = record {
+  pub busy_same : BusyAt old busy → SameLines old new → after.entries ≡ busy.entries → BusyAt new after
+  busy_same at lines entries = record {
     at = λ k.
-        ap (λ ks. list_any (same_meeting k) ks) keys ∙ at.at k ∙ both_lines k (sym (lines.same (Takes k))) (sym (lines.same (Gives k)));
+        ap (λ ks. is_some (lookup (same_meeting k) ks)) entries ∙ at.at k ∙ both_lines k (sym (lines.same (Takes k))) (sym (lines.same (Gives k)));
   }
 
   pub busy_more : (e : Errand) (m : Name) → BusyAt old busy → SetsLine old new e (set.insert (line_of old e) m) → ((k : Meeting) → is_busy after k ≡ (is_busy busy k || (is_at e k && has_both new k))) → BusyAt new after
@@ -348,8 +348,8 @@ module _ {S R : Type 0} (old new : IndexMap Errand NameSet S) (busy after : Inde
   }
 
 -- nothing is busy where there are no marks
-pub busy_none : {S R : Type 0} (lines : IndexMap Errand NameSet S) (busy : IndexSet Meeting R) → ((e : Errand) → line_of lines e ≡ set.empty) → busy.keys ≡ [] → BusyAt lines busy
-busy_none lines busy none keys = record { at = λ k. ap (λ ks. list_any (same_meeting k) ks) keys ∙ sym (nowhere k) }
+pub busy_none : {S V R : Type 0} (lines : IndexMap Errand NameSet S) (busy : IndexMap Meeting V R) → ((e : Errand) → line_of lines e ≡ set.empty) → busy.entries ≡ [] → BusyAt lines busy
+busy_none lines busy none no_entries = record { at = λ k. ap (λ ks. is_some (lookup (same_meeting k) ks)) no_entries ∙ sym (nowhere k) }
   where
     takes_none : (k : Meeting) → has_some (line_of lines (Takes k)) ≡ false
     takes_none k = ap has_some (none (Takes k)) ∙ some-empty
@@ -357,10 +357,14 @@ busy_none lines busy none keys = record { at = λ k. ap (λ ks. list_any (same_m
     nowhere : (k : Meeting) → has_both lines k ≡ false
     nowhere k = ap (λ b. b && has_some (line_of lines (Gives k))) (takes_none k)
 
+-- the first of the entries is found
+pub first_found : {V : Type 0} (e : Meeting × V) (es : List (Meeting × V)) → is_some (lookup (same_meeting e.0) (e ∷ es)) ≡ true
+first_found e es = ap (λ t. is_some (cond t (Some e.1) (lookup (same_meeting e.0) es))) (same_meeting-itself e.0)
+
 -- the first of the busy meetings is busy
-pub first_busy : {R : Type 0} (busy : IndexSet Meeting R) (o : Option Meeting) → o ≡ slice_get busy.keys 0 → IfSome o (λ meeting. IsTrue (is_busy busy meeting))
-first_busy busy o e = first busy.keys o e
+pub first_busy : {V R : Type 0} (busy : IndexMap Meeting V R) (meeting : Meeting) (v : V) → Some (meeting, v) ≡ slice_get busy.entries 0 → IsTrue (is_busy busy meeting)
+first_busy {V = V} busy meeting v e = first busy.entries e
   where
-    first : (ks : List Meeting) (o : Option Meeting) → o ≡ slice_get ks 0 → IfSome o (λ k. IsTrue (list_any (same_meeting k) ks))
-    first [] o e = subst (λ (p : Option Meeting). IfSome p (λ k. IsTrue (list_any (same_meeting k) []))) (sym e) tt
-    first (k ∷ ks) o e = subst (λ (p : Option Meeting). IfSome p (λ q. IsTrue (list_any (same_meeting q) (k ∷ ks)))) (sym e) (ap (λ b. b || list_any (same_meeting k) ks) (same_meeting-itself k))
+    first : (es : List (Meeting × V)) → Some (meeting, v) ≡ slice_get es 0 → IsTrue (is_some (lookup (same_meeting meeting) es))
+    first [] e = absurd cc
+    first (k ∷ es) e = let is : k.0 ≡ meeting = cc in subst (λ m. IsTrue (is_some (lookup (same_meeting m) (k ∷ es)))) is (first_found k es)

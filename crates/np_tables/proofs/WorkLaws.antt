@@ -1,10 +1,9 @@
 -- The marks in their lines as the work that is filed: how a change of one shows in the other, and what is ready.
-use Rattle.std.proofs.Common.{◌≡◌, Bool, true, false, cond, ◌&&◌, ◌||◌, Option, None, Some, IsTrue, List, [], ◌∷◌, refl, sym, ap, ◌∙◌}
-use Rattle.std.specs.List.{list_any}
+use Rattle.std.proofs.Common.{◌≡◌, Bool, true, false, cond, ◌&&◌, ◌||◌, Option, None, Some, is_some, IsTrue, List, [], ◌∷◌, refl, sym, ap, ◌∙◌}
+use Rattle.std.specs.Map.{lookup}
 use Rattle.std.specs.FinMap as map
 use Rattle.std.specs.FinSet as set
 use Rattle.indexmap.specs.IndexMap.{IndexMap}
-use Rattle.indexmap.specs.IndexSet.{IndexSet}
 use Rattle.np_syntax.specs.declared.value.Name.{Name}
 use Rattle.np_syntax.proofs.Bools.{and-out, and-true}
 use Rattle.np_tables.specs.Names.{NameSet, same_name}
@@ -14,7 +13,7 @@ use Rattle.np_tables.specs.declared.errand.Errand.TheVariants.{Acts, Gives, Take
 use Rattle.np_tables.specs.Errands.{Work, Meet, NothingReady, same_meeting, same_errand, is_filed}
 use Rattle.np_tables.specs.Lines.{line_of, has_some, has_both, SetsLine, InLines, InLinesAnd, BusyAt, NoneDue}
 use Rattle.np_tables.proofs.Tables.{get-none, get-put, get-cut, cut_absent, same_name-is, same_names, born_insert, born_remove, contains-none}
-use Rattle.np_tables.proofs.LineLaws.{same_errand-is, same_errand-itself, same_meeting-itself, some_of_member, some-empty, true_false}
+use Rattle.np_tables.proofs.LineLaws.{same_errand-is, same_errand-itself, first_found, some_of_member, some-empty, true_false}
 
 abbrev member : {S : Type 0} → IndexMap Errand NameSet S → Errand → Name → Bool
 member lines e q = set.contains (line_of lines e) q
@@ -125,12 +124,12 @@ some_member s some none = true_false (sym some ∙ ap has_some (same_names s set
     by_case q true h = absurd (none q h)
     by_case q false h = h
 
-module _ {S R : Type 0} (work : Work) (lines : IndexMap Errand NameSet S) (busy : IndexSet Meeting R) (at : InLines work lines) (met : BusyAt lines busy) where
+module _ {S V R : Type 0} (work : Work) (lines : IndexMap Errand NameSet S) (busy : IndexMap Meeting V R) (at : InLines work lines) (met : BusyAt lines busy) where
   -- where nothing is due, nothing is ready
   pub nothing_ready : NoneDue lines busy → NothingReady work
   nothing_ready none = record {
     alone = λ q is. true_false (sym (some_of_member (line_of lines Acts) q (member_there work lines at Acts q is)) ∙ none.none_alone);
-    apart = λ i o meet. true_false (sym (both i o meet) ∙ sym (met.at meet.meeting) ∙ ap (list_any (same_meeting meet.meeting)) none.none_busy);
+    apart = λ i o meet. true_false (sym (both i o meet) ∙ sym (met.at meet.meeting) ∙ ap (λ (ks : List (Meeting × V)). is_some (lookup (same_meeting meet.meeting) ks)) none.none_busy);
   }
     where
       both : (i o : Name) (meet : Meet work i o) → has_both lines meet.meeting ≡ true
@@ -140,7 +139,7 @@ module _ {S R : Type 0} (work : Work) (lines : IndexMap Errand NameSet S) (busy 
           λ j. t j && g j
 
   pub none_due : NothingReady work → NoneDue lines busy
-  none_due nothing = record { none_alone = no_alone (has_some (line_of lines Acts)) refl; none_busy = no_busy busy.keys refl }
+  none_due nothing = record { none_alone = no_alone (has_some (line_of lines Acts)) refl; none_busy = no_busy busy.entries refl }
     where
       no_alone : (t : Bool) → has_some (line_of lines Acts) ≡ t → has_some (line_of lines Acts) ≡ false
       no_alone true h = absurd (some_member (line_of lines Acts) h λ q is. nothing.alone q (filed_there work lines at Acts q is))
@@ -151,9 +150,9 @@ module _ {S R : Type 0} (work : Work) (lines : IndexMap Errand NameSet S) (busy 
           some_member (line_of lines (Takes k)) p.0 λ i takes. some_member (line_of lines (Gives k)) p.1 λ o gives.
           nothing.apart i o (record { meeting = k; takes = filed_there work lines at (Takes k) i takes; gives = filed_there work lines at (Gives k) o gives })
 
-      no_busy : (ks : List Meeting) → busy.keys ≡ ks → busy.keys ≡ []
+      no_busy : (ks : List (Meeting × V)) → busy.entries ≡ ks → busy.entries ≡ []
       no_busy [] h = h
-      no_busy (k ∷ ks) h = absurd (meets_none k (sym (met.at k) ∙ ap (list_any (same_meeting k)) h ∙ ap (λ b. b || list_any (same_meeting k) ks) (same_meeting-itself k)))
+      no_busy (k ∷ ks) h = absurd (meets_none k.0 (sym (met.at k.0) ∙ ap (λ js. is_some (lookup (same_meeting k.0) js)) h ∙ first_found k ks))
 
 -- nothing is filed where there are no lines
 pub in_no_lines : {S : Type 0} (work : Work) (lines : IndexMap Errand NameSet S) → work ≡ map.empty → ((e : Errand) → line_of lines e ≡ set.empty) → InLines work lines

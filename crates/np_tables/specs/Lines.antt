@@ -1,12 +1,10 @@
 -- The marks by their errands, each errand's in a line, and the meetings that have both an input and an output.
-use Rattle.std.specs.Prelude.{◌≡◌, ℕ, Bool, false, [], ◌∷◌, not, ◌&&◌, ◌||◌, nat_eq, Option, None, Some, unwrap_or, if◌then◌else◌}
+use Rattle.std.specs.Prelude.{◌≡◌, ℕ, Bool, false, [], ◌∷◌, not, ◌&&◌, ◌||◌, nat_eq, Option, None, Some, unwrap_or, is_some, if◌then◌else◌}
 use Rattle.std.specs.FinMap as map
 use Rattle.std.specs.FinSet as set
 use Rattle.indexmap.specs.IndexMap as index_map
 use Rattle.indexmap.specs.IndexMap.{IndexMap}
 use Rattle.indexmap.specs.Layout.{hash_map}
-use Rattle.indexmap.specs.IndexSet as index_set
-use Rattle.indexmap.specs.IndexSet.{IndexSet}
 use Rattle.np_syntax.specs.declared.value.Name.{Name}
 use Rattle.np_tables.specs.Names.{NameSet, same_name}
 use Rattle.np_tables.specs.Errands.{Work, same_meeting, same_errand, is_filed, meeting_of}
@@ -62,22 +60,22 @@ module _ {S : Type 0} where
     pub at : (f : Errand) (q : Name) → set.contains (line_of lines f) q
         ≡ (is_filed (map.get work q) f || (same_errand e f && same_name q mark))
 
-module _ {S : Type 0} where
+module _ {V S : Type 0} where
   -- the meeting is among the busy ones
-  abbrev pub is_busy : IndexSet Meeting S → Meeting → Bool
-  is_busy busy meeting = index_set.contains same_meeting busy meeting
+  abbrev pub is_busy : IndexMap Meeting V S → Meeting → Bool
+  is_busy busy meeting = is_some (index_map.get same_meeting busy meeting)
 
-module _ {S R : Type 0} where
+module _ {S V R : Type 0} where
   -- there is something to be served in this turn
-  abbrev pub is_due : IndexMap Errand NameSet S → IndexSet Meeting R → Turn → Bool
+  abbrev pub is_due : IndexMap Errand NameSet S → IndexMap Meeting V R → Turn → Bool
   is_due lines busy (turn.Alone mark) = set.contains (line_of lines errand.Acts) mark
   is_due lines busy (turn.Meets meeting) = is_busy busy meeting
 
   -- nothing is to be served in any turn
-  pub record NoneDue (lines : IndexMap Errand NameSet S) (busy : IndexSet Meeting R) : Type 0 where
+  pub record NoneDue (lines : IndexMap Errand NameSet S) (busy : IndexMap Meeting V R) : Type 0 where
     pub none_alone : has_some (line_of lines errand.Acts) ≡ false
-    pub none_busy : busy.keys ≡ []
+    pub none_busy : busy.entries ≡ []
 
   -- the meetings that have both are the busy ones
-  pub record BusyAt (lines : IndexMap Errand NameSet S) (busy : IndexSet Meeting R) : Type 0 where
+  pub record BusyAt (lines : IndexMap Errand NameSet S) (busy : IndexMap Meeting V R) : Type 0 where
     pub at : (meeting : Meeting) → is_busy busy meeting ≡ has_both lines meeting

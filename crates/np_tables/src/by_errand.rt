@@ -1,6 +1,6 @@
 ghost use Rattle.std.specs.Prelude.{◌≡◌, ◌<◌, ◌&&◌, ◌||◌, ◌↔◌, not, Some, IfSome, IfNone, IfOk, OnOk, OnErr, IsTrue, true, false, []};
 ghost use Rattle.std.specs.FinSet as set;
-ghost use Rattle.indexmap.specs.IndexSet as index_set;
+ghost use Rattle.indexmap.specs.IndexMap as index_map;
 ghost use Rattle.np_tables.specs.declared.errand.Errand.TheVariants as errand;
 ghost use Rattle.np_tables.specs.Errands.{meeting_of};
 ghost use Rattle.np_tables.specs.Lines.{line_of, has_some, has_both, is_at, is_busy, is_due, NoneDue, SameLines, SetsLine, BusyAt};
@@ -8,7 +8,7 @@ ghost use Rattle.np_tables.specs.Lines.{line_of, has_some, has_both, is_at, is_b
 use super::errand::{Errand, Meeting};
 use super::line::Line;
 use super::turns::Turn;
-use indexmap::{IndexMap, IndexSet};
+use indexmap::IndexMap;
 use np_syntax::{Memory, Name};
 use std::alloc::Global;
 use std::marker::Model;
@@ -48,7 +48,7 @@ impl Model for Lines {
 /// The marks by their errands, each errand's in a line, and the meetings that have both an input and an output.
 pub struct ByErrand {
     lines: Lines,
-    busy: IndexSet<Meeting>,
+    busy: IndexMap<Meeting, ()>,
 }
 
 impl Drop for ByErrand {
@@ -220,8 +220,8 @@ impl Lines {
 }
 
 /// The meeting of an errand that a mark came under is busy if it has both now, which is told.
-fn open(lines: &Lines, busy: &mut IndexSet<Meeting>, errand: Errand) -> bool
-    requires room { 0 < index_set.spare busy.old }
+fn open(lines: &Lines, busy: &mut IndexMap<Meeting, ()>, errand: Errand) -> bool
+    requires room { 0 < index_map.spare busy.old }
     requires own { has_some (line_of lines.now errand) ≡ true }
     ensures busy { (meeting : Meeting) → is_busy busy.new meeting
         ≡ (is_busy busy.old meeting || (is_at errand meeting && has_both lines.now meeting)) }
@@ -233,14 +233,14 @@ fn open(lines: &Lines, busy: &mut IndexSet<Meeting>, errand: Errand) -> bool
     if !lines.meets(errand) {
         return false;
     }
-    match busy.insert(meeting) {
+    match busy.insert(meeting, ()) {
         Ok(_) => true,
         Err(_) => unreachable!(),
     }
 }
 
 /// The meeting of an errand that a mark left is busy no more if the errand has no others.
-fn close(busy: &mut IndexSet<Meeting>, errand: Errand, others: bool)
+fn close(busy: &mut IndexMap<Meeting, ()>, errand: Errand, others: bool)
     ensures { (meeting : Meeting) → is_busy busy.new meeting ≡ (is_busy busy.old meeting && (others || not (is_at errand meeting))) }
 {
     if others {
@@ -252,11 +252,14 @@ fn close(busy: &mut IndexSet<Meeting>, errand: Errand, others: bool)
 }
 
 /// One of the busy meetings, whichever.
-fn any_busy(busy: &IndexSet<Meeting>) -> Option<Meeting>
+fn any_busy(busy: &IndexMap<Meeting, ()>) -> Option<Meeting>
     ensures some { IfSome result (λ meeting. IsTrue (is_busy busy.now meeting)) }
-    ensures none { IfNone result (busy.now.keys ≡ []) }
+    ensures none { IfNone result (busy.now.entries ≡ []) }
 {
-    busy.first().copied()
+    match busy.first() {
+        Some((meeting, _)) => Some(*meeting),
+        None => None,
+    }
 }
 
 impl ByErrand {
@@ -266,7 +269,7 @@ impl ByErrand {
     {
         ByErrand {
             lines: Lines::new(alloc),
-            busy: IndexSet::new(alloc),
+            busy: IndexMap::new(alloc),
         }
     }
 
@@ -300,7 +303,7 @@ impl ByErrand {
     {
         match turn {
             Turn::Alone(mark) => self.lines.is_acting(mark),
-            Turn::Meets(meeting) => self.busy.contains(&meeting),
+            Turn::Meets(meeting) => self.busy.contains_key(&meeting),
         }
     }
 

@@ -1,14 +1,14 @@
 ghost use Rattle.std.specs.Prelude.{◌≡◌, ◌<◌, ◌≤◌, ◌+◌, ◌↔◌, OnOk, OnErr, IsOk, IsTrue, IfSome, IfNone, false};
 ghost use Rattle.std.specs.FinSet as set;
 
-use indexmap::IndexSet;
+use indexmap::IndexMap;
 use np_syntax::{Memory, Name};
 use std::alloc::Global;
 use std::marker::Model;
 
 /// A finite set of names. Its `spare` is how many new names are sure to find room.
 pub struct Names {
-    names: IndexSet<Name>,
+    names: IndexMap<Name, ()>,
 }
 
 impl Drop for Names {
@@ -19,13 +19,13 @@ impl Drop for Names {
 
 impl Model for Names {
     ghost use Rattle.np_tables.specs.Stored.{StoredNames, stored_names_code, set_of};
-    ghost use Rattle.indexmap.specs.IndexSet as indexed;
+    ghost use Rattle.indexmap.specs.IndexMap as indexed;
 
     ghost Value = { StoredNames };
 
     ghost coded = { stored_names_code };
 
-    ghost view = { λ held. record { members = set_of held.names.keys; spare = indexed.spare held.names } };
+    ghost view = { λ held. record { members = set_of (indexed.keys held.names); spare = indexed.spare held.names } };
 }
 
 impl Names {
@@ -34,14 +34,14 @@ impl Names {
         ensures { result.members ≡ set.empty }
     {
         Names {
-            names: IndexSet::new(alloc),
+            names: IndexMap::new(alloc),
         }
     }
 
     pub fn has(&self, name: Name) -> bool
         ensures { result ≡ set.contains self.now.members name }
     {
-        self.names.contains(&name)
+        self.names.contains_key(&name)
     }
 
     pub fn is_empty(&self) -> bool
@@ -55,7 +55,10 @@ impl Names {
         ensures some { IfSome result (λ name. IsTrue (set.contains self.now.members name)) }
         ensures none { IfNone result (self.now.members ≡ set.empty) }
     {
-        self.names.first().copied()
+        match self.names.first() {
+            Some((name, _)) => Some(*name),
+            None => None,
+        }
     }
 
     /// Makes sure of room for so many new names.
@@ -79,7 +82,7 @@ impl Names {
         ensures room { 0 < self.old.spare → IsOk result }
         ensures spare { self.old.spare ≤ self.new.spare + 1 }
     {
-        match self.names.insert(name) {
+        match self.names.insert(name, ()) {
             Ok(_) => Ok(()),
             Err(_) => Err(Memory),
         }

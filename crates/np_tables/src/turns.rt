@@ -3,7 +3,7 @@ ghost use Rattle.np_tables.specs.Queues.{Queues};
 ghost use Rattle.np_tables.specs.declared.turns.Turn.TheVariants as turn;
 
 use super::errand::Meeting;
-use indexmap::IndexSet;
+use indexmap::IndexMap;
 use np_syntax::Name;
 use std::alloc::Global;
 use std::collections::VecDeque;
@@ -19,7 +19,7 @@ pub enum Turn {
 /// nothing to be served. A meeting has one turn at most.
 pub struct Turns {
     queue: VecDeque<Turn>,
-    waiting: IndexSet<Meeting>,
+    waiting: IndexMap<Meeting, ()>,
 }
 
 impl Drop for Turns {
@@ -37,7 +37,7 @@ impl Turns {
     {
         Turns {
             queue: VecDeque::new(alloc),
-            waiting: IndexSet::new(alloc),
+            waiting: IndexMap::new(alloc),
         }
     }
 
@@ -52,7 +52,7 @@ impl Turns {
     pub fn meets(&mut self, meeting: Meeting)
         ensures { Queues self.old.queue.items self.new.queue.items (turn.Meets meeting) }
     {
-        if let Ok(true) = self.waiting.insert(meeting) {
+        if let Ok(None) = self.waiting.insert(meeting, ()) {
             self.again(meeting);
         }
     }

@@ -18,7 +18,7 @@ use Rattle.np_tables.proofs.Keyed.{alike-same}
 use Rattle.np_tables.proofs.LineLaws.{same_errand-is, same_errand-itself, same_meeting-is, same_meeting-itself}
 use Rattle.np_tables.proofs.Mapped.{get-mapped}
 use Rattle.np_tables.proofs.Tables.{get-none, same_name-is, same_tables}
-use Rattle.np_agents.specs.Placed.{travels}
+use Rattle.np_configuration.specs.Placed.{travels}
 use Rattle.np_calculus.specs.declared.config.Packet.{Packet}
 use Rattle.np_calculus.specs.declared.config.Place.{Place}
 use Rattle.np_calculus.specs.declared.config.Place.TheVariants as place

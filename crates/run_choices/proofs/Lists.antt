@@ -12,7 +12,7 @@ use Rattle.np_tables.specs.Errands.{Work, is_filed, same_errand, same_meeting}
 use Rattle.np_tables.proofs.Keyed.{alike-same}
 use Rattle.np_tables.proofs.LineLaws.{same_errand-is, same_errand-itself, same_meeting-is}
 use Rattle.np_tables.proofs.Tables.{get-none, get-put, get-cut, same_name-is, same_name-itself, same_name-swap}
-use Rattle.np_agents.specs.Placed.{travels}
+use Rattle.np_configuration.specs.Placed.{travels}
 use Rattle.np_calculus.specs.Config.{Config}
 use Rattle.choice_entries.specs.declared.entry.Entry.{Entry}
 use Rattle.choice_entries.specs.declared.entry.Entry.TheVariants as entry

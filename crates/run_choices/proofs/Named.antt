@@ -26,7 +26,7 @@ use Rattle.np_calculus.specs.declared.config.Atom.{Atom}
 use Rattle.np_calculus.specs.declared.config.Packet.{Packet}
 use Rattle.np_calculus.specs.declared.config.Place.{Place}
 use Rattle.np_calculus.specs.declared.config.Place.TheVariants as place
-use Rattle.np_agents.specs.Placed.{travels}
+use Rattle.np_configuration.specs.Placed.{travels}
 use Rattle.np_calculus.specs.Begins.{AreNew, arrival, begun_by, event_at, landing, made_by, made_there}
 use Rattle.np_calculus.specs.Idle.{waits}
 use Rattle.np_calculus.specs.Reductions.{role_index, site_in}

@@ -39,7 +39,7 @@ use Rattle.run_save.specs.Left.{link, names_made}
 use Rattle.run_save.specs.Ours.{AreNext, GoesOn, IsOursFrom, TakesPutFirst, names_of}
 use Rattle.run_save.specs.Travels.{IsFirstInFirstOut, Travels, departure, none_yet, puts, same_item, sending, takes as taken_now, travels, travels_on}
 use Rattle.run_save.proofs.LinkLaws.{same_item-itself}
-use Rattle.np_agents.specs.Placed.{travels as under_way}
+use Rattle.np_configuration.specs.Placed.{travels as under_way}
 use Rattle.np_eval.specs.Eval.{as_site}
 use Rattle.np_calculus.proofs.Fits.{some}
 use Rattle.run_save.proofs.GoingOn.{ours-goes-on}

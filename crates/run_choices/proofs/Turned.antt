@@ -11,7 +11,7 @@ use Rattle.np_syntax.specs.declared.process.ProcForm.{ProcForm-F}
 use Rattle.np_syntax.specs.declared.value.Name.{Name}
 use Rattle.np_syntax.proofs.Options.{done, then, there-is}
 use Rattle.np_tables.specs.declared.errand.Errand.{Errand}
-use Rattle.np_agents.specs.Placed.{travels as under_way}
+use Rattle.np_configuration.specs.Placed.{travels as under_way}
 use Rattle.np_eval.specs.Eval.{Env, agent_of}
 use Rattle.np_eval.specs.Forms.{Layer, layer}
 use Rattle.np_calculus.specs.declared.config.Atom.{Atom}

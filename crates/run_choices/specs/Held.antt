@@ -7,7 +7,7 @@ use Rattle.np_syntax.specs.declared.value.Name.{Name}
 use Rattle.np_tables.specs.declared.errand.Meeting.{Meeting}
 use Rattle.np_tables.specs.declared.errand.Errand.TheVariants as errand
 use Rattle.np_tables.specs.Errands.{Work, is_filed}
-use Rattle.np_agents.specs.Placed.{travels}
+use Rattle.np_configuration.specs.Placed.{travels}
 use Rattle.np_calculus.specs.Config.{Config}
 use Rattle.np_calculus.specs.Footprints.{listed}
 use Rattle.run_views.specs.Past.{names_of}

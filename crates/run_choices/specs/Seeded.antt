@@ -4,7 +4,7 @@ use Rattle.std.specs.FinMap as map
 use Rattle.np_syntax.specs.declared.value.Name.{Name}
 use Rattle.np_syntax.specs.declared.event.Event.{Event}
 use Rattle.np_tables.specs.Names.{same_name}
-use Rattle.np_agents.specs.Placed.{travels}
+use Rattle.np_configuration.specs.Placed.{travels}
 use Rattle.np_calculus.specs.Config.{Config}
 use Rattle.np_calculus.specs.Reductions.{apply}
 use Rattle.np_calculus.specs.Starts.{daemon_mark, main_mark}

@@ -4,7 +4,7 @@ ghost use Rattle.std.specs.Prelude.{◌≡◌, [], None, OnOk, cond};
 ghost use Rattle.std.specs.FinMap as map;
 ghost use Rattle.np_calculus.specs.FrameRule.{Every};
 ghost use Rattle.np_calculus.specs.Footprints.{listed};
-ghost use Rattle.np_agents.specs.Placed.{travels};
+ghost use Rattle.np_configuration.specs.Placed.{travels};
 ghost use Rattle.np_syntax.specs.Events.{made_names};
 ghost use Rattle.np_tables.specs.Names.{same_name};
 ghost use Rattle.run_choices.specs.Choices.{errand_in};

@@ -4,6 +4,7 @@ use np_show::put_type;
 use np_syntax::{List, Memory, Text, Ty};
 use source_places::filled;
 use std::alloc::Global;
+use text_writer::TextWriter;
 
 /// How many bytes a type may have that is shown whole.
 const LONGEST: usize = 60;
@@ -13,8 +14,9 @@ const FRONT: usize = 57;
 
 /// A type as it is written; a long one is cut.
 pub(super) fn type_text(alloc: Global, ty: &Ty) -> Result<Text, Memory> {
-    let mut text = List::new(alloc);
-    put_type(&mut text, ty)?;
+    let mut written = TextWriter::new(alloc);
+    put_type(&mut written, ty);
+    let text = written.finish()?;
     if text.len() <= LONGEST {
         return Ok(text);
     }

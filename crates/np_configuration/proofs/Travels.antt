@@ -7,8 +7,8 @@ use Rattle.np_tables.specs.Names.{NameMap, NameSet, same_name}
 use Rattle.np_tables.proofs.Tables.{get-none, get-put, contains-none, born_insert, born_remove}
 use Rattle.np_calculus.specs.declared.config.Place.{Place}
 use Rattle.np_calculus.specs.declared.config.Place.TheVariants as place
-use Rattle.np_agents.specs.Placed.{NoneTravels}
-use Rattle.np_agents.specs.Placed.{IsTravelling, travels}
+use Rattle.np_configuration.specs.Placed.{NoneTravels}
+use Rattle.np_configuration.specs.Placed.{IsTravelling, travels}
 use Rattle.np_calculus.specs.Reductions.{way}
 
 pub travels-none : IsTravelling map.empty set.empty

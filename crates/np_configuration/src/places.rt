@@ -1,6 +1,6 @@
 ghost use Rattle.std.specs.Prelude.{◌≡◌, ◌<◌, ◌≤◌, Some, IfSome, IfNone, OnOk, is_some};
 ghost use Rattle.std.specs.FinMap as map;
-ghost use Rattle.np_agents.specs.Placed.{NoneTravels};
+ghost use Rattle.np_configuration.specs.Placed.{NoneTravels};
 ghost use Rattle.np_calculus.specs.Sight.{at_site};
 ghost use Rattle.np_calculus.specs.declared.config.Place.TheVariants as place;
 
@@ -28,7 +28,7 @@ impl Drop for Places {
 }
 
 impl Model for Places {
-    ghost use Rattle.np_agents.specs.Placed.{Placed, placed_code, IsTravelling};
+    ghost use Rattle.np_configuration.specs.Placed.{Placed, placed_code, IsTravelling};
 
     ghost Value = { Placed };
 

@@ -1,6 +1,6 @@
-use Rattle.np_agents.proofs.Travels.{travels-at, travels-way}
-use Rattle.np_agents.proofs.places.Places.put.Goals as goal
-use Rattle.np_agents.proofs.places.Places.put.Goals.{in-At, in-Way}
+use Rattle.np_configuration.proofs.Travels.{travels-at, travels-way}
+use Rattle.np_configuration.proofs.places.Places.put.Goals as goal
+use Rattle.np_configuration.proofs.places.Places.put.Goals.{in-At, in-Way}
 
 pub invariant_of-self : goal.invariant_of-self
 invariant_of-self c = elim c.match-place.branch [

@@ -1,6 +1,6 @@
 use Rattle.std.proofs.Common.{arith}
 use Rattle.std.proofs.lemmas.Grind.{common_steps}
-use Rattle.np_agents.proofs.atoms.atom_of.Goals as goal
+use Rattle.np_configuration.proofs.atoms.atom_of.Goals as goal
 
 pub returns : goal.returns
 returns c = grind (arith, common_steps)

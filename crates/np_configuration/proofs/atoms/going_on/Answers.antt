@@ -1,6 +1,6 @@
 use Rattle.std.proofs.Common.{arith}
 use Rattle.std.proofs.lemmas.Grind.{common_steps}
-use Rattle.np_low_text.proofs.processes.put_lookup.Goals as goal
+use Rattle.np_configuration.proofs.atoms.going_on.Goals as goal
 
 pub returns : goal.returns
 returns c = grind (arith, common_steps)

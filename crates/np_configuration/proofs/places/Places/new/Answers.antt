@@ -1,5 +1,5 @@
-use Rattle.np_agents.proofs.Travels.{travels-none}
-use Rattle.np_agents.proofs.places.Places.new.Goals as goal
+use Rattle.np_configuration.proofs.Travels.{travels-none}
+use Rattle.np_configuration.proofs.places.Places.new.Goals as goal
 
 pub invariant_of-result : goal.invariant_of-result
 invariant_of-result c = rw (c.new.ensures, c.new-2.ensures) travels-none
