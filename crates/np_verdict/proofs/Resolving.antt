@@ -19,8 +19,8 @@ use Rattle.np_scope.specs.declared.scope.Meaning.{Meaning}
 use Rattle.np_scope.specs.declared.scope.Meaning.TheVariants as meaning
 use Rattle.np_scope.specs.Naming.{Named, meaning_of, meant_at, meant, use_of}
 use Rattle.np_scope.specs.Outcomes.{Outcome}
-use Rattle.np_scope.specs.Resolved.{expr_of, exprs_of, next_node, next_both, with_binder, pat_of, FormIn, ProcIn, two, under, proc_of, proc_form_of}
-use Rattle.np_scope.specs.Resolved.{stop_form, par_form, new_form, out_form, inp_form, rep_form, agent_form, migrate_form, iflocal_form, send_form, post_form}
+use Rattle.np_scope.specs.Resolved.{expr_of, exprs_of, next_node, next_both, with_binder, pat_of, FormIn, two, under, proc_of, proc_form_of}
+use Rattle.np_scope.specs.Resolved.{par_form, new_form, out_form, inp_form, rep_form, agent_form, migrate_form, iflocal_form, send_form, post_form}
 use Rattle.np_scope.specs.Resolved.{if_form, let_form, print_form, message, addressed, located, with_site, with_sites, home_at, home_of, first_numbers, main_of, resolved}
 use Rattle.np_scope.specs.Written.{HasLiterals, HaveLiterals, IsWritten}
 use Rattle.np_scope.proofs.Forms.{expr-form, expr-val, expr-main, expr-var, expr-tuple, expr-bin, proc-form, proc-stop, proc-par, proc-new, proc-out, proc-inp}

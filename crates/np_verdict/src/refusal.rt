@@ -1,14 +1,17 @@
 ghost use Rattle.std.specs.Prelude.{◌≡◌, IfOk};
+ghost use Rattle.text_writer.specs.Writes.{Writes};
 ghost use Rattle.np_verdict.specs.Faults.{of_grammar, of_scope, of_tokens};
 ghost use Rattle.np_verdict.specs.Lines.{line_of, placed_line, rule_text, status_of};
 
 use super::statuses::{BAD_HISTORY, BAD_SOURCE, BAD_USAGE, NO_MEMORY, READ_FAILED};
+use itoa::Buffer;
 use np_lex::LexFail;
 use np_parse::ParseFail;
 use np_scope::ScopeFail;
 use np_syntax::{List, Memory, Text};
 use np_types::{Rule, TypeFault};
 use std::alloc::Global;
+use text_writer::TextWriter;
 use thiserror::Error;
 
 /// Why np did not do what the command line asks for. An offset counts the bytes of the source from
@@ -152,10 +155,17 @@ pub fn line(alloc: Global, refusal: Refusal) -> Result<Text, Memory>
 fn placed_line(alloc: Global, name: &[u8], at: u32) -> Result<Text, Memory>
     ensures { IfOk result (λ text. text ≡ placed_line name.now at) }
 {
-    let mut text = List::from_slice(alloc, name)?;
-    text.append(at.to_string(alloc)?.as_bytes())?;
-    text.append(b"\n")?;
-    Ok(text)
+    let mut text = TextWriter::new(alloc);
+    put_placed(&mut text, name, at);
+    text.finish()
+}
+
+fn put_placed(text: &mut TextWriter, name: &[u8], at: u32)
+    ensures { Writes text.old text.new (placed_line name.now at) }
+{
+    text.put(name);
+    text.put(Buffer::new().format(at).as_bytes());
+    text.put(b"\n")
 }
 
 fn rule_text(rule: Rule) -> &'static [u8]
@@ -181,12 +191,11 @@ fn rule_text(rule: Rule) -> &'static [u8]
 fn fault_line(alloc: Global, fault: TypeFault) -> Result<Text, Memory>
     ensures { IfOk result (λ text. text ≡ line_of (Refusal.TypeFault fault)) }
 {
-    let mut text = List::from_slice(alloc, b"np: 16 TypeFault ")?;
-    text.append(rule_text(fault.rule))?;
-    text.append(b" at ")?;
-    text.append(fault.at.to_string(alloc)?.as_bytes())?;
-    text.append(b"\n")?;
-    Ok(text)
+    let mut text = TextWriter::new(alloc);
+    text.put(b"np: 16 TypeFault ");
+    text.put(rule_text(fault.rule));
+    put_placed(&mut text, b" at ", fault.at);
+    text.finish()
 }
 
 pub fn status(refusal: Refusal) -> u8

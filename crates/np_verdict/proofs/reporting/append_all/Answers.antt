@@ -1,6 +1,0 @@
-use Rattle.std.proofs.Common.{arith}
-use Rattle.std.proofs.lemmas.Grind.{common_steps}
-use Rattle.np_verdict.proofs.reporting.append_all.Goals as goal
-
-pub loop-site-preserved : goal.loop-site-preserved
-loop-site-preserved c = grind (arith, common_steps)
