@@ -1,7 +1,7 @@
 -- Texts that are formed as markup (docs/PICTURES.md, "Pages").
 use Rattle.std.specs.Prelude.{ℕ, List, [], ◌++◌, codes}
 use Rattle.markup_text.specs.declared.words.Tag.{Tag}
-use Rattle.markup_text.specs.declared.element.Attribute.{Attribute}
+use Rattle.markup_text.specs.Attributes.{Attribute}
 use Rattle.markup_text.specs.Escapes.{escaped}
 use Rattle.markup_text.specs.Markup.{Markup, closing, markup_text, opening, single_text}
 

@@ -1,3 +1,4 @@
+pub mod Attributes
 pub mod Escapes
 pub mod Formed
 pub mod Markup

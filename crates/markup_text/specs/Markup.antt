@@ -1,14 +1,9 @@
 -- The text of elements and of what stands in them (docs/PICTURES.md, "Pictures").
-use Rattle.std.specs.Prelude.{ℕ, List, [], ◌∷◌, ◌++◌, codes, decimal}
+use Rattle.std.specs.Prelude.{ℕ, List, [], ◌∷◌, ◌++◌, codes}
 use Rattle.std.specs.List.{flat_map}
 use Rattle.markup_text.specs.declared.words.Tag.{Tag}
 use Rattle.markup_text.specs.declared.words.Tag.TheVariants as tags
-use Rattle.markup_text.specs.declared.words.AttributeName.{AttributeName}
-use Rattle.markup_text.specs.declared.words.AttributeName.TheVariants as names
-use Rattle.markup_text.specs.declared.element.Attribute.{Attribute}
-use Rattle.markup_text.specs.declared.element.AttributeValue.{AttributeValue}
-use Rattle.markup_text.specs.declared.element.AttributeValue.TheVariants as values
-use Rattle.markup_text.specs.declared.element.Element.{Element}
+use Rattle.markup_text.specs.Attributes.{Attribute, attribute_text}
 use Rattle.markup_text.specs.Escapes.{escaped}
 
 -- ---- names
@@ -54,63 +49,30 @@ tag_word tags.HeadCell = codes "th"
 tag_word tags.Cell = codes "td"
 tag_word tags.Footer = codes "footer"
 
-abbrev pub attribute_word : AttributeName → List ℕ
-attribute_word names.X = codes "x"
-attribute_word names.Y = codes "y"
-attribute_word names.X1 = codes "x1"
-attribute_word names.Y1 = codes "y1"
-attribute_word names.X2 = codes "x2"
-attribute_word names.Y2 = codes "y2"
-attribute_word names.CenterX = codes "cx"
-attribute_word names.CenterY = codes "cy"
-attribute_word names.Radius = codes "r"
-attribute_word names.Corner = codes "rx"
-attribute_word names.Width = codes "width"
-attribute_word names.Height = codes "height"
-attribute_word names.ViewBox = codes "viewBox"
-attribute_word names.Class = codes "class"
-attribute_word names.Data = codes "d"
-attribute_word names.Namespace = codes "xmlns"
-attribute_word names.Role = codes "role"
-attribute_word names.AriaLabel = codes "aria-label"
-attribute_word names.Event = codes "data-e"
-attribute_word names.Id = codes "id"
-attribute_word names.Href = codes "href"
-attribute_word names.Language = codes "lang"
-attribute_word names.HttpEquiv = codes "http-equiv"
-attribute_word names.Name = codes "name"
-attribute_word names.Content = codes "content"
-attribute_word names.Kind = codes "type"
-attribute_word names.Checked = codes "checked"
-attribute_word names.For = codes "for"
-attribute_word names.Needs = codes "data-needs"
-attribute_word names.Twin = codes "data-twin"
-attribute_word names.Node = codes "data-n"
-attribute_word names.Live = codes "aria-live"
-
 -- ---- tags
 
-abbrev pub value_text : AttributeValue → List ℕ
-value_text (values.Number number) = decimal number
-value_text (values.Words bytes) = escaped bytes
-
--- an attribute, with the space before it
-abbrev pub attribute_text : Attribute → List ℕ
-attribute_text a = codes " " ++ attribute_word a.name ++ codes "=\"" ++ value_text a.value ++ codes "\""
+-- how the tag that opens an element begins
+abbrev pub tag_opened : Tag → List ℕ
+tag_opened tag = codes "<" ++ tag_word tag
 
 abbrev pub opening : Tag → List Attribute → List ℕ
-opening tag attributes = codes "<" ++ tag_word tag ++ flat_map attribute_text attributes ++ codes ">"
+opening tag attributes = tag_opened tag ++ flat_map attribute_text attributes ++ codes ">"
 
 abbrev pub closing : Tag → List ℕ
 closing tag = codes "</" ++ tag_word tag ++ codes ">"
 
 -- the one tag of an element in which nothing may stand
 abbrev pub single_text : Tag → List Attribute → List ℕ
-single_text tag attributes = codes "<" ++ tag_word tag ++ flat_map attribute_text attributes ++ codes "/>"
+single_text tag attributes = tag_opened tag ++ flat_map attribute_text attributes ++ codes "/>"
 
 -- ---- elements
 
 -- an element in which nothing but a text stands
+pub record Element : Type 0 where
+  pub tag : Tag
+  pub attributes : List Attribute
+  pub content : List ℕ
+
 abbrev pub element_text : Element → List ℕ
 element_text e = opening e.tag e.attributes ++ escaped e.content ++ closing e.tag
 

@@ -1,97 +1,84 @@
 //! Elements, and how they are written.
 
-ghost use Rattle.std.specs.Prelude.{◌≡◌, ◌++◌, OnOk};
-ghost use Rattle.std.specs.List.{flat_map};
+ghost use Rattle.std.specs.Prelude.{[], codes};
+ghost use Rattle.text_writer.specs.Writes.{Writes};
+ghost use Rattle.markup_text.specs.Attributes.{attribute_text, number, value_opened, words};
 ghost use Rattle.markup_text.specs.Markup as spec;
 
 use super::escape::put_escaped;
 use super::words::{AttributeName, Tag, attribute_word, tag_word};
 use itoa::Buffer;
-use np_syntax::{List, Memory, Text};
+use text_writer::TextWriter;
 
-/// What an attribute says.
-#[derive(Drop)]
-pub enum AttributeValue {
-    Number(u32),
-    Words(Text),
-}
-
-#[derive(Drop)]
-pub struct Attribute {
-    pub name: AttributeName,
-    pub value: AttributeValue,
-}
-
-/// An element in which nothing but a text stands.
-#[derive(Drop)]
-pub struct Element {
-    pub tag: Tag,
-    pub attributes: List<Attribute>,
-    pub content: Text,
-}
-
-fn put_value(text: &mut Text, value: &AttributeValue) -> Result<(), Memory>
-    ensures { OnOk result (text.new ≡ text.old ++ spec.value_text value.now) }
+/// Begins the tag that opens an element. Its attributes follow, and then `close_tag`, or `close_single` where nothing stands in it.
+pub fn open_tag(text: &mut TextWriter, tag: Tag)
+    ensures { Writes text.old text.new (spec.tag_opened tag) }
 {
-    match value {
-        AttributeValue::Number(number) => text.append(Buffer::new().format(*number).as_bytes()),
-        AttributeValue::Words(bytes) => put_escaped(text, bytes.as_slice()),
-    }
+    text.put(b"<");
+    text.put(tag_word(tag))
 }
 
-fn put_attribute(text: &mut Text, attribute: &Attribute) -> Result<(), Memory>
-    ensures { OnOk result (text.new ≡ text.old ++ spec.attribute_text attribute.now) }
+/// Ends the tag that opens an element.
+pub fn close_tag(text: &mut TextWriter)
+    ensures { Writes text.old text.new (codes ">") }
 {
-    text.append(b" ")?;
-    text.append(attribute_word(attribute.name))?;
-    text.append(b"=\"")?;
-    put_value(text, &attribute.value)?;
-    text.append(b"\"")
+    text.put(b">")
 }
 
-fn put_attributes(text: &mut Text, attributes: &[Attribute]) -> Result<(), Memory>
-    ensures { OnOk result (text.new ≡ text.old ++ flat_map spec.attribute_text attributes.now) }
+/// Ends the tag of an element in which nothing may stand.
+pub fn close_single(text: &mut TextWriter)
+    ensures { Writes text.old text.new (codes "/>") }
 {
-    for attribute in attributes {
-        put_attribute(text, attribute)?;
-    }
-    Ok(())
+    text.put(b"/>")
 }
 
-/// Appends the tag that opens an element.
-pub fn put_opening(text: &mut Text, tag: Tag, attributes: &[Attribute]) -> Result<(), Memory>
-    ensures { OnOk result (text.new ≡ text.old ++ spec.opening tag attributes.now) }
+/// Begins an attribute. Its value follows, escaped, and then `close_value`.
+pub fn open_value(text: &mut TextWriter, name: AttributeName)
+    ensures { Writes text.old text.new (value_opened name) }
 {
-    text.append(b"<")?;
-    text.append(tag_word(tag))?;
-    put_attributes(text, attributes)?;
-    text.append(b">")
+    text.put(b" ");
+    text.put(attribute_word(name));
+    text.put(b"=\"")
 }
 
-/// Appends the tag that closes an element.
-pub fn put_closing(text: &mut Text, tag: Tag) -> Result<(), Memory>
-    ensures { OnOk result (text.new ≡ text.old ++ spec.closing tag) }
+/// Ends an attribute.
+pub fn close_value(text: &mut TextWriter)
+    ensures { Writes text.old text.new (codes "\"") }
 {
-    text.append(b"</")?;
-    text.append(tag_word(tag))?;
-    text.append(b">")
+    text.put(b"\"")
 }
 
-/// Appends an element in which nothing may stand, as one tag.
-pub fn put_single(text: &mut Text, tag: Tag, attributes: &[Attribute]) -> Result<(), Memory>
-    ensures { OnOk result (text.new ≡ text.old ++ spec.single_text tag attributes.now) }
+/// Writes an attribute that says these words.
+pub fn put_words_attribute(text: &mut TextWriter, name: AttributeName, bytes: &[u8])
+    ensures { Writes text.old text.new (attribute_text (words name bytes.now)) }
 {
-    text.append(b"<")?;
-    text.append(tag_word(tag))?;
-    put_attributes(text, attributes)?;
-    text.append(b"/>")
+    open_value(text, name);
+    put_escaped(text, bytes);
+    close_value(text)
 }
 
-/// Appends an element: it opens, the text stands in it, and it closes.
-pub fn put_element(text: &mut Text, element: &Element) -> Result<(), Memory>
-    ensures { OnOk result (text.new ≡ text.old ++ spec.element_text element.now) }
+/// Writes an attribute that says a number.
+pub fn put_number_attribute(text: &mut TextWriter, name: AttributeName, value: u32)
+    ensures { Writes text.old text.new (attribute_text (number name value)) }
 {
-    put_opening(text, element.tag, element.attributes.as_slice())?;
-    put_escaped(text, element.content.as_slice())?;
-    put_closing(text, element.tag)
+    open_value(text, name);
+    text.put(Buffer::new().format(value).as_bytes());
+    close_value(text)
+}
+
+/// Writes the tag that opens an element without attributes.
+pub fn put_opening(text: &mut TextWriter, tag: Tag)
+    ensures { Writes text.old text.new (spec.opening tag []) }
+{
+    open_tag(text, tag);
+    close_tag(text)
+}
+
+/// Writes the tag that closes an element.
+pub fn put_closing(text: &mut TextWriter, tag: Tag)
+    ensures { Writes text.old text.new (spec.closing tag) }
+{
+    text.put(b"</");
+    text.put(tag_word(tag));
+    text.put(b">")
 }

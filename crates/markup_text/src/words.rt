@@ -1,7 +1,8 @@
 //! The names of elements and of their attributes.
 
 ghost use Rattle.std.specs.Prelude.{◌≡◌};
-ghost use Rattle.markup_text.specs.Markup as spec;
+ghost use Rattle.markup_text.specs.Attributes.{attribute_word};
+ghost use Rattle.markup_text.specs.Markup.{tag_word};
 
 /// The elements that pictures and pages are made of.
 #[derive(Clone, Copy)]
@@ -86,7 +87,7 @@ pub enum AttributeName {
 
 /// The name of an element.
 pub fn tag_word(tag: Tag) -> &'static [u8]
-    ensures { result.now ≡ spec.tag_word tag }
+    ensures { result.now ≡ tag_word tag }
 {
     match tag {
         Tag::Svg => b"svg",
@@ -133,7 +134,7 @@ pub fn tag_word(tag: Tag) -> &'static [u8]
 
 /// The name of an attribute.
 pub fn attribute_word(name: AttributeName) -> &'static [u8]
-    ensures { result.now ≡ spec.attribute_word name }
+    ensures { result.now ≡ attribute_word name }
 {
     match name {
         AttributeName::X => b"x",
