@@ -1,3 +1,4 @@
+pub mod Elements
 pub mod Escaping
 pub mod Formed
 mod Tame

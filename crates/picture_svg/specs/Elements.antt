@@ -4,9 +4,8 @@ use Rattle.markup_text.specs.declared.words.Tag.{Tag}
 use Rattle.markup_text.specs.declared.words.Tag.TheVariants as tags
 use Rattle.markup_text.specs.declared.words.AttributeName.{AttributeName}
 use Rattle.markup_text.specs.declared.words.AttributeName.TheVariants as names
-use Rattle.markup_text.specs.declared.element.Attribute.{Attribute}
-use Rattle.markup_text.specs.declared.element.AttributeValue.TheVariants as values
-use Rattle.markup_text.specs.declared.element.Element.{Element}
+use Rattle.markup_text.specs.Attributes.{Attribute, number, words}
+use Rattle.markup_text.specs.Markup.{Element}
 use Rattle.picture_svg.specs.declared.shapes.Flight.{Flight}
 use Rattle.picture_svg.specs.declared.shapes.Form.{Form}
 use Rattle.picture_svg.specs.declared.shapes.Form.TheVariants as forms
@@ -59,12 +58,9 @@ pale_word true = codes " pale"
 pale_word false = []
 
 abbrev pub class_of : Look → Hue → Bool → Attribute
-class_of look hue pale = record { name = names.Class; value = values.Words (look_word look ++ hue_word hue ++ pale_word pale) }
+class_of look hue pale = words names.Class (look_word look ++ hue_word hue ++ pale_word pale)
 
 -- ---- places and measures
-
-abbrev pub number : AttributeName → ℕ → Attribute
-number name n = record { name = name; value = values.Number n }
 
 abbrev pub point : AttributeName → AttributeName → Point → List Attribute
 point across down at = number across at.x ∷ number down at.y ∷ []
@@ -133,7 +129,7 @@ abbrev pub way : Flight → List ℕ
 way flight = reached (codes "M") flight.start ++ reached (codes "L") flight.end ++ head_part flight.head
 
 abbrev pub way_of : Flight → Attribute
-way_of flight = record { name = names.Data; value = values.Words (way flight) }
+way_of flight = words names.Data (way flight)
 
 -- an arrow, with the number of the event that it comes to
 abbrev pub flight_element : Flight → Element
@@ -146,5 +142,4 @@ flight_element flight = record {
 -- those of a picture, which begins so far from the left
 abbrev pub root_attributes : ℕ → ℕ → ℕ → List Attribute
 root_attributes left width height =
-    record { name = names.Namespace; value = values.Words (codes "http://www.w3.org/2000/svg") }
-    ∷ number names.X left ∷ number names.Width width ∷ number names.Height height ∷ []
+    words names.Namespace (codes "http://www.w3.org/2000/svg") ∷ number names.X left ∷ number names.Width width ∷ number names.Height height ∷ []

@@ -2,8 +2,7 @@
 use Rattle.std.specs.Prelude.{ℕ, ◌+◌, List, [], ◌∷◌, ◌++◌, map}
 use Rattle.std.specs.List.{flat_map}
 use Rattle.markup_text.specs.declared.words.Tag.TheVariants as tags
-use Rattle.markup_text.specs.declared.element.Element.{Element}
-use Rattle.markup_text.specs.Markup.{Markup, element_text, in_a_row}
+use Rattle.markup_text.specs.Markup.{Element, Markup, element_text, in_a_row}
 use Rattle.picture_svg.specs.declared.shapes.Drawing.{Drawing}
 use Rattle.picture_svg.specs.Elements.{flight_element, root_attributes, shape_element, spot_element}
 

@@ -1,13 +1,21 @@
 //! Each shape as an element.
 
-ghost use Rattle.std.specs.Prelude.{◌≡◌, ◌++◌, ◌∷◌, [], IfOk, OnOk};
+ghost use Rattle.std.specs.Prelude.{◌≡◌, decimal};
+ghost use Rattle.std.specs.List.{flat_map};
+ghost use Rattle.text_writer.specs.Writes.{Writes};
+ghost use Rattle.markup_text.specs.Attributes.{attribute_text};
+ghost use Rattle.markup_text.specs.Escapes.{escaped};
+ghost use Rattle.markup_text.specs.Markup.{element_text, opening};
+ghost use Rattle.markup_text.specs.declared.words.Tag.TheVariants as tags;
 ghost use Rattle.picture_svg.specs.Elements as spec;
 
 use super::shapes::{Flight, Form, Head, Hue, Look, Point, Shape, Spot};
 use itoa::Buffer;
-use markup_text::{Attribute, AttributeName, AttributeValue, Element, Tag};
-use np_syntax::{List, Memory, Text};
-use std::alloc::Global;
+use markup_text::{
+    AttributeName, Tag, close_tag, close_value, open_tag, open_value, put_closing, put_escaped,
+    put_number_attribute, put_words_attribute,
+};
+use text_writer::TextWriter;
 
 /// How large the marks of events are.
 const DOT: u32 = 5;
@@ -45,116 +53,91 @@ fn look_word(look: Look) -> &'static [u8]
     }
 }
 
-/// Appends the class of a colour, with a space before it.
-pub fn put_hue(text: &mut Text, hue: Hue) -> Result<(), Memory>
-    ensures { OnOk result (text.new ≡ text.old ++ spec.hue_word hue) }
+fn put_digits(text: &mut TextWriter, number: u32)
+    ensures { Writes text.old text.new (escaped (decimal number)) }
+{
+    put_escaped(text, Buffer::new().format(number).as_bytes())
+}
+
+/// Writes the class of a colour, with a space before it, as it stands in the value of an attribute.
+pub fn put_hue(text: &mut TextWriter, hue: Hue)
+    ensures { Writes text.old text.new (escaped (spec.hue_word hue)) }
 {
     match hue {
-        Hue::Plain => Ok(()),
-        Hue::Main => text.append(b" main"),
-        Hue::Daemon => text.append(b" daemon"),
+        Hue::Plain => {}
+        Hue::Main => put_escaped(text, b" main"),
+        Hue::Daemon => put_escaped(text, b" daemon"),
         Hue::Agent(number) => {
-            text.append(b" a")?;
-            text.append(Buffer::new().format(number).as_bytes())
+            put_escaped(text, b" a");
+            put_digits(text, number)
         }
     }
 }
 
-fn put_pale(text: &mut Text, pale: bool) -> Result<(), Memory>
-    ensures { OnOk result (text.new ≡ text.old ++ spec.pale_word pale) }
+fn put_pale(text: &mut TextWriter, pale: bool)
+    ensures { Writes text.old text.new (escaped (spec.pale_word pale)) }
 {
-    if pale { text.append(b" pale") } else { Ok(()) }
+    if pale {
+        put_escaped(text, b" pale")
+    }
 }
 
 /// The attribute that names the look and the colour, and whether a shape is pale.
-fn class_of(alloc: Global, look: Look, hue: Hue, pale: bool) -> Result<Attribute, Memory>
-    ensures { IfOk result (λ made. made ≡ spec.class_of look hue pale) }
+fn put_class(text: &mut TextWriter, look: Look, hue: Hue, pale: bool)
+    ensures { Writes text.old text.new (attribute_text (spec.class_of look hue pale)) }
 {
-    let mut text = List::from_slice(alloc, look_word(look))?;
-    put_hue(&mut text, hue)?;
-    put_pale(&mut text, pale)?;
-    Ok(Attribute {
-        name: AttributeName::Class,
-        value: AttributeValue::Words(text),
-    })
-}
-
-fn add_number(
-    attributes: &mut List<Attribute>,
-    name: AttributeName,
-    number: u32,
-) -> Result<(), Memory>
-    ensures { OnOk result (attributes.new ≡ attributes.old ++ spec.number name number ∷ []) }
-{
-    attributes.add(Attribute {
-        name,
-        value: AttributeValue::Number(number),
-    })
+    open_value(text, AttributeName::Class);
+    put_escaped(text, look_word(look));
+    put_hue(text, hue);
+    put_pale(text, pale);
+    close_value(text)
 }
 
 /// Two numbers, as those of a point.
-fn add_point(
-    attributes: &mut List<Attribute>,
-    across: AttributeName,
-    down: AttributeName,
-    at: Point,
-) -> Result<(), Memory>
-    ensures { OnOk result (attributes.new ≡ attributes.old ++ spec.point across down at) }
+fn put_point(text: &mut TextWriter, across: AttributeName, down: AttributeName, at: Point)
+    ensures { Writes text.old text.new (flat_map attribute_text (spec.point across down at)) }
 {
-    add_number(attributes, across, at.x)?;
-    add_number(attributes, down, at.y)
+    put_number_attribute(text, across, at.x);
+    put_number_attribute(text, down, at.y)
 }
 
-fn add_disc(attributes: &mut List<Attribute>, at: Point, radius: u32) -> Result<(), Memory>
-    ensures { OnOk result (attributes.new ≡ attributes.old ++ spec.disc at radius) }
+fn put_disc(text: &mut TextWriter, at: Point, radius: u32)
+    ensures { Writes text.old text.new (flat_map attribute_text (spec.disc at radius)) }
 {
-    add_point(
-        attributes,
-        AttributeName::CenterX,
-        AttributeName::CenterY,
-        at,
-    )?;
-    add_number(attributes, AttributeName::Radius, radius)
+    put_point(text, AttributeName::CenterX, AttributeName::CenterY, at);
+    put_number_attribute(text, AttributeName::Radius, radius)
 }
 
-fn add_plate(
-    attributes: &mut List<Attribute>,
-    at: Point,
-    width: u32,
-    height: u32,
-    corner: u32,
-) -> Result<(), Memory>
-    ensures { OnOk result (attributes.new ≡ attributes.old ++ spec.plate at width height corner) }
+fn put_plate(text: &mut TextWriter, at: Point, width: u32, height: u32, corner: u32)
+    ensures { Writes text.old text.new (flat_map attribute_text (spec.plate at width height corner)) }
 {
-    add_point(attributes, AttributeName::X, AttributeName::Y, at)?;
-    add_number(attributes, AttributeName::Width, width)?;
-    add_number(attributes, AttributeName::Height, height)?;
-    add_number(attributes, AttributeName::Corner, corner)
+    put_point(text, AttributeName::X, AttributeName::Y, at);
+    put_number_attribute(text, AttributeName::Width, width);
+    put_number_attribute(text, AttributeName::Height, height);
+    put_number_attribute(text, AttributeName::Corner, corner)
 }
 
-fn add_line(attributes: &mut List<Attribute>, from: Point, to: Point) -> Result<(), Memory>
-    ensures { OnOk result (attributes.new ≡ attributes.old ++ spec.line from to) }
+fn put_line(text: &mut TextWriter, from: Point, to: Point)
+    ensures { Writes text.old text.new (flat_map attribute_text (spec.line from to)) }
 {
-    add_point(attributes, AttributeName::X1, AttributeName::Y1, from)?;
-    add_point(attributes, AttributeName::X2, AttributeName::Y2, to)
+    put_point(text, AttributeName::X1, AttributeName::Y1, from);
+    put_point(text, AttributeName::X2, AttributeName::Y2, to)
 }
 
-/// The attributes of a form behind others.
-fn add_form(attributes: &mut List<Attribute>, form: &Form) -> Result<(), Memory>
-    ensures { OnOk result (attributes.new ≡ attributes.old ++ spec.form_of form.now) }
+/// The attributes of a form.
+fn put_form(text: &mut TextWriter, form: &Form)
+    ensures { Writes text.old text.new (flat_map attribute_text (spec.form_of form.now)) }
 {
     match form {
-        Form::Disc { at, radius } => add_disc(attributes, *at, *radius),
+        Form::Disc { at, radius } => put_disc(text, *at, *radius),
         Form::Plate {
             at,
             width,
             height,
             corner,
-        } => add_plate(attributes, *at, *width, *height, *corner),
-        Form::Line { from, to } => add_line(attributes, *from, *to),
-        Form::Words { at, text: _ } => {
-            add_point(attributes, AttributeName::X, AttributeName::Y, *at)
-        }
+        } => put_plate(text, *at, *width, *height, *corner),
+        Form::Line { from, to } => put_line(text, *from, *to),
+        Form::Words { at, text: _ } => put_point(text, AttributeName::X, AttributeName::Y, *at),
     }
 }
 
@@ -170,35 +153,26 @@ fn tag_of(form: &Form) -> Tag
 }
 
 /// The text that stands in a form.
-fn words_of(alloc: Global, form: &Form) -> Result<Text, Memory>
-    ensures { IfOk result (λ text. text ≡ spec.words_of form.now) }
+fn put_inner(text: &mut TextWriter, form: &Form)
+    ensures { Writes text.old text.new (escaped (spec.words_of form.now)) }
 {
     match form {
-        Form::Words { at: _, text } => text.copy(alloc),
-        _ => Ok(List::new(alloc)),
+        Form::Words { at: _, text: words } => put_escaped(text, words.as_slice()),
+        _ => {}
     }
 }
 
-/// The attributes that begin with the class.
-fn attributes_of(alloc: Global, look: Look, hue: Hue, pale: bool) -> Result<List<Attribute>, Memory>
-    ensures { IfOk result (λ made. made ≡ spec.class_of look hue pale ∷ []) }
+/// Writes the element of a shape.
+pub(crate) fn put_shape(text: &mut TextWriter, shape: &Shape)
+    ensures { Writes text.old text.new (element_text (spec.shape_element shape.now)) }
 {
-    let mut attributes = List::new(alloc);
-    attributes.add(class_of(alloc, look, hue, pale)?)?;
-    Ok(attributes)
-}
-
-pub(crate) fn shape_element(alloc: Global, shape: &Shape) -> Result<Element, Memory>
-    ensures { IfOk result (λ element. element ≡ spec.shape_element shape.now) }
-{
-    let mut attributes = attributes_of(alloc, shape.look, shape.hue, shape.pale)?;
-    add_form(&mut attributes, &shape.form)?;
-    let content = words_of(alloc, &shape.form)?;
-    Ok(Element {
-        tag: tag_of(&shape.form),
-        attributes,
-        content,
-    })
+    let tag = tag_of(&shape.form);
+    open_tag(text, tag);
+    put_class(text, shape.look, shape.hue, shape.pale);
+    put_form(text, &shape.form);
+    close_tag(text);
+    put_inner(text, &shape.form);
+    put_closing(text, tag)
 }
 
 fn radius_of(look: Look) -> u32
@@ -210,93 +184,81 @@ fn radius_of(look: Look) -> u32
     }
 }
 
-/// The element of a mark, with the number of its event.
-pub(crate) fn spot_element(alloc: Global, spot: &Spot) -> Result<Element, Memory>
-    ensures { IfOk result (λ element. element ≡ spec.spot_element spot.now) }
+/// Writes the element of a mark, with the number of its event.
+pub(crate) fn put_spot(text: &mut TextWriter, spot: &Spot)
+    ensures { Writes text.old text.new (element_text (spec.spot_element spot.now)) }
 {
-    let mut attributes = attributes_of(alloc, spot.look, spot.hue, spot.pale)?;
-    add_number(&mut attributes, AttributeName::Event, spot.event)?;
-    add_disc(&mut attributes, spot.at, radius_of(spot.look))?;
-    Ok(Element {
-        tag: Tag::Circle,
-        attributes,
-        content: List::new(alloc),
-    })
+    open_tag(text, Tag::Circle);
+    put_class(text, spot.look, spot.hue, spot.pale);
+    put_number_attribute(text, AttributeName::Event, spot.event);
+    put_disc(text, spot.at, radius_of(spot.look));
+    close_tag(text);
+    put_closing(text, Tag::Circle)
 }
 
-/// Appends a point of a way, behind the letter that says how it is reached.
-fn put_point(text: &mut Text, letter: &[u8], at: Point) -> Result<(), Memory>
-    ensures { OnOk result (text.new ≡ text.old ++ spec.reached letter.now at) }
+/// Writes a point of a way, behind the letter that says how it is reached.
+fn put_reached(text: &mut TextWriter, letter: &[u8], at: Point)
+    ensures { Writes text.old text.new (escaped (spec.reached letter.now at)) }
 {
-    text.append(letter)?;
-    text.append(Buffer::new().format(at.x).as_bytes())?;
-    text.append(b" ")?;
-    text.append(Buffer::new().format(at.y).as_bytes())
+    put_escaped(text, letter);
+    put_digits(text, at.x);
+    put_escaped(text, b" ");
+    put_digits(text, at.y)
 }
 
-fn put_head(text: &mut Text, head: Head) -> Result<(), Memory>
-    ensures { OnOk result (text.new ≡ text.old ++ spec.head_way head) }
+fn put_head(text: &mut TextWriter, head: Head)
+    ensures { Writes text.old text.new (escaped (spec.head_way head)) }
 {
-    put_point(text, b"M", head.left)?;
-    put_point(text, b"L", head.tip)?;
-    put_point(text, b"L", head.right)?;
-    text.append(b"Z")
+    put_reached(text, b"M", head.left);
+    put_reached(text, b"L", head.tip);
+    put_reached(text, b"L", head.right);
+    put_escaped(text, b"Z")
 }
 
-fn put_way(text: &mut Text, flight: &Flight) -> Result<(), Memory>
-    ensures { OnOk result (text.new ≡ text.old ++ spec.way flight.now) }
+/// What stands in the way of an arrow behind its end.
+fn put_head_part(text: &mut TextWriter, head: Option<Head>)
+    ensures { Writes text.old text.new (escaped (spec.head_part head)) }
 {
-    put_point(text, b"M", flight.start)?;
-    put_point(text, b"L", flight.end)?;
-    match flight.head {
-        Some(head) => put_head(text, head),
-        None => Ok(()),
+    if let Some(head) = head {
+        put_head(text, head)
     }
 }
 
 /// The way of an arrow, from its start to its end, and then round its head.
-fn way_of(alloc: Global, flight: &Flight) -> Result<Attribute, Memory>
-    ensures { IfOk result (λ made. made ≡ spec.way_of flight.now) }
+fn put_way(text: &mut TextWriter, flight: &Flight)
+    ensures { Writes text.old text.new (attribute_text (spec.way_of flight.now)) }
 {
-    let mut text = List::new(alloc);
-    put_way(&mut text, flight)?;
-    Ok(Attribute {
-        name: AttributeName::Data,
-        value: AttributeValue::Words(text),
-    })
+    open_value(text, AttributeName::Data);
+    put_reached(text, b"M", flight.start);
+    put_reached(text, b"L", flight.end);
+    put_head_part(text, flight.head);
+    close_value(text)
 }
 
-/// The element of an arrow, with the number of the event that it comes to.
-pub(crate) fn flight_element(alloc: Global, flight: &Flight) -> Result<Element, Memory>
-    ensures { IfOk result (λ element. element ≡ spec.flight_element flight.now) }
+/// Writes the element of an arrow, with the number of the event that it comes to.
+pub(crate) fn put_flight(text: &mut TextWriter, flight: &Flight)
+    ensures { Writes text.old text.new (element_text (spec.flight_element flight.now)) }
 {
-    let mut attributes = attributes_of(alloc, flight.look, flight.hue, flight.pale)?;
-    add_number(&mut attributes, AttributeName::Event, flight.to)?;
-    attributes.add(way_of(alloc, flight)?)?;
-    Ok(Element {
-        tag: Tag::Path,
-        attributes,
-        content: List::new(alloc),
-    })
+    open_tag(text, Tag::Path);
+    put_class(text, flight.look, flight.hue, flight.pale);
+    put_number_attribute(text, AttributeName::Event, flight.to);
+    put_way(text, flight);
+    close_tag(text);
+    put_closing(text, Tag::Path)
 }
 
-/// The attributes of a picture as a whole, which begins so far from the left.
-pub(crate) fn root_attributes(
-    alloc: Global,
-    left: u32,
-    width: u32,
-    height: u32,
-) -> Result<List<Attribute>, Memory>
-    ensures { IfOk result (λ made. made ≡ spec.root_attributes left width height) }
+/// Writes the tag that opens a picture as a whole, which begins so far from the left.
+pub(crate) fn put_root(text: &mut TextWriter, left: u32, width: u32, height: u32)
+    ensures { Writes text.old text.new (opening tags.Svg (spec.root_attributes left width height)) }
 {
-    let mut attributes = List::new(alloc);
-    let value = AttributeValue::Words(List::from_slice(alloc, b"http://www.w3.org/2000/svg")?);
-    attributes.add(Attribute {
-        name: AttributeName::Namespace,
-        value,
-    })?;
-    add_number(&mut attributes, AttributeName::X, left)?;
-    add_number(&mut attributes, AttributeName::Width, width)?;
-    add_number(&mut attributes, AttributeName::Height, height)?;
-    Ok(attributes)
+    open_tag(text, Tag::Svg);
+    put_words_attribute(
+        text,
+        AttributeName::Namespace,
+        b"http://www.w3.org/2000/svg",
+    );
+    put_number_attribute(text, AttributeName::X, left);
+    put_number_attribute(text, AttributeName::Width, width);
+    put_number_attribute(text, AttributeName::Height, height);
+    close_tag(text)
 }

@@ -8,6 +8,7 @@ use itoa::Buffer;
 use np_syntax::{Kind, List, Made, Memory, Role, Text};
 use run_pictures::{Followed, Mark, Message, Step, is_told};
 use std::alloc::Global;
+use text_writer::TextWriter;
 
 /// How wide a letter of a name is.
 const LETTER: u32 = 8;
@@ -21,25 +22,19 @@ const NUMBER_GAP: u32 = 14;
 /// How many letters a sentence may have behind the name of who acts.
 const LONGEST: usize = 48;
 
-/// Appends to whom something goes.
-fn put_target(text: &mut Text, cast: &Cast, step: &Step) -> Result<(), Memory> {
+/// Writes to whom something goes.
+fn put_target(text: &mut TextWriter, cast: &Cast, step: &Step) {
     match step.target {
-        Some(target) if target == step.agent => text.append(b"itself"),
-        Some(target) => text.append(cast.name(target)),
-        None => text.append(b"an agent"),
+        Some(target) if target == step.agent => text.put(b"itself"),
+        Some(target) => text.put(cast.name(target)),
+        None => text.put(b"an agent"),
     }
 }
 
-/// Appends the message of a step. Of a post that goes by the daemon that is the letter, with the agent for which it is.
-fn put_sent(
-    alloc: Global,
-    text: &mut Text,
-    cast: &Cast,
-    sites: &[Text],
-    step: &Step,
-) -> Result<(), Memory> {
+/// Writes the message of a step. Of a post that goes by the daemon that is the letter, with the agent for which it is.
+fn put_sent(alloc: Global, text: &mut TextWriter, cast: &Cast, sites: &[Text], step: &Step) {
     let Some(message) = &step.message else {
-        return text.append(b"a message");
+        return text.put(b"a message");
     };
     match step.event.tag.role {
         Role::Post => put_letter(alloc, text, cast, sites, &message.value),
@@ -48,66 +43,42 @@ fn put_sent(
 }
 
 /// What is sent, and to whom.
-fn put_sending(
-    alloc: Global,
-    text: &mut Text,
-    cast: &Cast,
-    sites: &[Text],
-    step: &Step,
-) -> Result<(), Memory> {
-    text.append(b"sends ")?;
-    put_sent(alloc, text, cast, sites, step)?;
-    text.append(b" to ")?;
+fn put_sending(alloc: Global, text: &mut TextWriter, cast: &Cast, sites: &[Text], step: &Step) {
+    text.put(b"sends ");
+    put_sent(alloc, text, cast, sites, step);
+    text.put(b" to ");
     put_target(text, cast, step)
 }
 
 /// What is taken, and from which channel.
-fn put_taking(
-    alloc: Global,
-    text: &mut Text,
-    cast: &Cast,
-    sites: &[Text],
-    step: &Step,
-) -> Result<(), Memory> {
+fn put_taking(alloc: Global, text: &mut TextWriter, cast: &Cast, sites: &[Text], step: &Step) {
     let Some(Message { chan, value }) = &step.message else {
-        return text.append(b"takes a message");
+        return text.put(b"takes a message");
     };
-    text.append(b"takes ")?;
-    put_value(alloc, text, cast, sites, value)?;
-    text.append(b" from ")?;
-    text.append(cast.channel(*chan))
+    text.put(b"takes ");
+    put_value(alloc, text, cast, sites, value);
+    text.put(b" from ");
+    text.put(cast.channel(*chan))
 }
 
 /// Whether an agent is found here, and what it gets then.
-fn put_looking(
-    alloc: Global,
-    text: &mut Text,
-    cast: &Cast,
-    sites: &[Text],
-    step: &Step,
-) -> Result<(), Memory> {
+fn put_looking(alloc: Global, text: &mut TextWriter, cast: &Cast, sites: &[Text], step: &Step) {
     if step.target.is_none() {
-        return text.append(b"does not find the agent here");
+        return text.put(b"does not find the agent here");
     }
-    text.append(b"gives ")?;
-    put_sent(alloc, text, cast, sites, step)?;
-    text.append(b" to ")?;
-    put_target(text, cast, step)?;
-    text.append(b", which is here")
+    text.put(b"gives ");
+    put_sent(alloc, text, cast, sites, step);
+    text.put(b" to ");
+    put_target(text, cast, step);
+    text.put(b", which is here")
 }
 
 /// What comes, or is lost.
-fn put_landing(
-    alloc: Global,
-    text: &mut Text,
-    cast: &Cast,
-    sites: &[Text],
-    step: &Step,
-) -> Result<(), Memory> {
+fn put_landing(alloc: Global, text: &mut TextWriter, cast: &Cast, sites: &[Text], step: &Step) {
     if step.here {
-        text.append(b"gets ")?;
+        text.put(b"gets ");
     } else {
-        text.append(b"is not here, lost: ")?;
+        text.put(b"is not here, lost: ");
     }
     put_sent(alloc, text, cast, sites, step)
 }
@@ -136,38 +107,38 @@ fn site_name(sites: &[Text], site: u32) -> &[u8] {
     }
 }
 
-/// Appends a word and a name.
-fn put_two(text: &mut Text, word: &[u8], name: &[u8]) -> Result<(), Memory> {
-    text.append(word)?;
-    text.append(name)
+/// Writes a word and a name.
+fn put_two(text: &mut TextWriter, word: &[u8], name: &[u8]) {
+    text.put(word);
+    text.put(name)
 }
 
-/// Appends what is done in a step, which prints this.
+/// Writes what is done in a step, which prints this.
 fn put_deed(
     alloc: Global,
-    text: &mut Text,
+    text: &mut TextWriter,
     cast: &Cast,
     sites: &[Text],
     printed: &[u8],
     step: &Step,
-) -> Result<(), Memory> {
+) {
     let made = step.event.made;
     match step.event.kind {
-        Kind::Stop => text.append(b"ends a process"),
-        Kind::Fork => text.append(b"splits in two"),
+        Kind::Stop => text.put(b"ends a process"),
+        Kind::Fork => text.put(b"splits in two"),
         Kind::New => put_two(text, b"makes a channel ", channel(cast, made)),
-        Kind::Let => text.append(b"names a value"),
-        Kind::If => text.append(b"decides"),
+        Kind::Let => text.put(b"names a value"),
+        Kind::If => text.put(b"decides"),
         Kind::Comm | Kind::Rep => put_taking(alloc, text, cast, sites, step),
         Kind::Agent => put_two(text, b"makes agent ", child(cast, made)),
-        Kind::Depart => text.append(b"leaves"),
+        Kind::Depart => text.put(b"leaves"),
         Kind::Arrive => put_two(text, b"arrives at ", site_name(sites, step.event.site)),
         Kind::Local => put_looking(alloc, text, cast, sites, step),
         Kind::Send | Kind::Post => put_sending(alloc, text, cast, sites, step),
         Kind::Land => put_landing(alloc, text, cast, sites, step),
         Kind::Print => put_two(text, b"prints ", printed),
-        Kind::Open => text.append(b"opens a letter"),
-        Kind::Lookup => text.append(b"looks an agent up"),
+        Kind::Open => text.put(b"opens a letter"),
+        Kind::Lookup => text.put(b"looks an agent up"),
     }
 }
 
@@ -179,8 +150,9 @@ pub(crate) fn sentence_of(
     printed: &[u8],
     step: &Step,
 ) -> Result<Text, Memory> {
-    let mut text = List::new(alloc);
-    put_deed(alloc, &mut text, cast, sites, printed, step)?;
+    let mut written = TextWriter::new(alloc);
+    put_deed(alloc, &mut written, cast, sites, printed, step);
+    let text = written.finish()?;
     if text.len() <= LONGEST {
         return Ok(text);
     }
