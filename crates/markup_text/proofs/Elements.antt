@@ -1,5 +1,6 @@
 -- Elements that are written, piece by piece.
 use Rattle.std.proofs.Common.{◌≡◌, ℕ, false, List, [], ◌∷◌, ◌++◌, append_assoc, append-nil, sym, ap, ◌∙◌}
+use Rattle.std.proofs.lemmas.List.Concat.{flat_map-append}
 use Rattle.std.specs.Prelude.{codes}
 use Rattle.std.specs.List.{flat_map}
 use Rattle.text_writer.specs.declared.writer.TextWriter.{TextWriter}
@@ -21,6 +22,14 @@ attribute-then a b c x xs = then a b c (attribute_text x) (flat_map attribute_te
 
 pub attribute-last : (a b : TextWriter) (x : Attribute) → Writes a b (attribute_text x) → Writes a b (flat_map attribute_text (x ∷ []))
 attribute-last a b x f = same a b (attribute_text x) (attribute_text x ++ []) f (sym (append-nil (attribute_text x)))
+
+-- an attribute behind others
+pub attribute-behind : (a b c : TextWriter) (xs : List Attribute) (x : Attribute) → Writes a b (flat_map attribute_text xs) → Writes b c (attribute_text x)
+    → Writes a c (flat_map attribute_text (xs ++ x ∷ []))
+attribute-behind a b c xs x f g =
+    let before = flat_map attribute_text xs in
+    let last = flat_map attribute_text (x ∷ []) in
+    same a c (before ++ last) (flat_map attribute_text (xs ++ x ∷ [])) (then a b c before last f (attribute-last b c x g)) (sym (flat_map-append attribute_text xs (x ∷ [])))
 
 -- the tag that opens an element
 pub opening-written : (a b c d : TextWriter) (tag : Tag) (attributes : List Attribute) → Writes a b (tag_opened tag) → Writes b c (flat_map attribute_text attributes) → Writes c d (codes ">")

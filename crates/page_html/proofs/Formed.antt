@@ -6,6 +6,7 @@ use Rattle.markup_text.specs.declared.words.Tag.{Tag}
 use Rattle.markup_text.specs.declared.words.Tag.TheVariants as tags
 use Rattle.markup_text.specs.declared.words.AttributeName.{AttributeName}
 use Rattle.markup_text.specs.declared.words.AttributeName.TheVariants as names
+use Rattle.markup_text.specs.Attributes.{words}
 use Rattle.markup_text.specs.Markup.{closing}
 use Rattle.markup_text.specs.Formed.{IsFormed}
 use Rattle.picture_svg.specs.Elements.{hue_word}
@@ -22,7 +23,7 @@ use Rattle.page_html.specs.Heads.{head_text, meta, metas}
 use Rattle.page_html.specs.Marks.{letter, mark, other_letter, target}
 use Rattle.page_html.specs.Pages as pages
 use Rattle.page_html.specs.Pages.{IsFormedPage}
-use Rattle.page_html.specs.Parts.{bare, classed, counted, leaf, link, plain, words}
+use Rattle.page_html.specs.Parts.{bare, classed, counted, leaf, link, plain}
 use Rattle.page_html.specs.Sources as sources
 use Rattle.page_html.specs.Tables as tables
 use Rattle.page_html.specs.Views as views

@@ -6,8 +6,9 @@ use Rattle.base64.specs.GeneralPurpose.{encode_of}
 use Rattle.markup_text.specs.declared.words.Tag.TheVariants as tags
 use Rattle.markup_text.specs.declared.words.AttributeName.{AttributeName}
 use Rattle.markup_text.specs.declared.words.AttributeName.TheVariants as names
+use Rattle.markup_text.specs.Attributes.{words}
 use Rattle.markup_text.specs.Markup.{closing, single_text}
-use Rattle.page_html.specs.Parts.{bare, plain, words}
+use Rattle.page_html.specs.Parts.{bare, plain}
 
 -- the SHA-256 digest of bytes, in base 64
 abbrev pub digest : List ℕ → List ℕ

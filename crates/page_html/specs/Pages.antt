@@ -2,14 +2,14 @@
 use Rattle.std.specs.Prelude.{◌≡◌, ℕ, List, [], ◌∷◌, ◌++◌, codes}
 use Rattle.markup_text.specs.declared.words.Tag.TheVariants as tags
 use Rattle.markup_text.specs.declared.words.AttributeName.TheVariants as names
-use Rattle.markup_text.specs.declared.element.Attribute.{Attribute}
+use Rattle.markup_text.specs.Attributes.{Attribute, words}
 use Rattle.markup_text.specs.Formed.{IsFormed}
 use Rattle.markup_text.specs.Markup.{closing, opening}
 use Rattle.page_html.specs.declared.page.Level.TheVariants as levels
 use Rattle.page_html.specs.declared.page.Page.{Page}
 use Rattle.page_html.specs.declared.whole.TheConstants.{FOOT, HINT}
 use Rattle.page_html.specs.Heads.{head_text, policy}
-use Rattle.page_html.specs.Parts.{bare, classed, leaf, plain, words}
+use Rattle.page_html.specs.Parts.{bare, classed, leaf, plain}
 use Rattle.page_html.specs.Sources.{prints_text, source_text}
 use Rattle.page_html.specs.Tables.{table_text}
 use Rattle.page_html.specs.Views.{views_text}

@@ -2,20 +2,10 @@
 use Rattle.std.specs.Prelude.{ℕ, ◌+◌, List, [], ◌∷◌, ◌++◌}
 use Rattle.markup_text.specs.declared.words.Tag.{Tag}
 use Rattle.markup_text.specs.declared.words.Tag.TheVariants as tags
-use Rattle.markup_text.specs.declared.words.AttributeName.{AttributeName}
 use Rattle.markup_text.specs.declared.words.AttributeName.TheVariants as names
-use Rattle.markup_text.specs.declared.element.Attribute.{Attribute}
-use Rattle.markup_text.specs.declared.element.AttributeValue.TheVariants as values
+use Rattle.markup_text.specs.Attributes.{words}
 use Rattle.markup_text.specs.Escapes.{escaped}
 use Rattle.markup_text.specs.Markup.{closing, opening}
-
--- ---- attributes
-
-abbrev pub words : AttributeName → List ℕ → Attribute
-words name bytes = record { name = name; value = values.Words bytes }
-
-abbrev pub number : AttributeName → ℕ → Attribute
-number name n = record { name = name; value = values.Number n }
 
 -- ---- tags that open an element: without attributes, and with a class
 
@@ -34,8 +24,11 @@ abbrev pub leaf : Tag → List ℕ → List ℕ → List ℕ
 leaf tag class content = classed tag class ++ escaped content ++ closing tag
 
 -- a link to a place of the page
+abbrev pub opened_link : List ℕ → List ℕ
+opened_link target = opening tags.Link (words names.Href target ∷ [])
+
 abbrev pub link : List ℕ → List ℕ → List ℕ
-link target content = opening tags.Link (words names.Href target ∷ []) ++ escaped content ++ closing tags.Link
+link target content = opened_link target ++ escaped content ++ closing tags.Link
 
 -- ---- the texts of items, each by its number, of which the first has this one
 

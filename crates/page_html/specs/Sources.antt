@@ -3,7 +3,7 @@ use Rattle.std.specs.Prelude.{ℕ, List, [], ◌∷◌, ◌++◌, codes, decimal
 use Rattle.std.specs.List.{flat_map}
 use Rattle.markup_text.specs.declared.words.Tag.TheVariants as tags
 use Rattle.markup_text.specs.declared.words.AttributeName.TheVariants as names
-use Rattle.markup_text.specs.declared.element.Attribute.{Attribute}
+use Rattle.markup_text.specs.Attributes.{Attribute, number, words}
 use Rattle.markup_text.specs.Escapes.{escaped}
 use Rattle.markup_text.specs.Markup.{closing, opening}
 use Rattle.source_words.specs.declared.word.Class.{Class}
@@ -12,7 +12,7 @@ use Rattle.source_words.specs.declared.word.Line.{Line}
 use Rattle.source_words.specs.declared.word.Word.{Word}
 use Rattle.page_html.specs.declared.page.Printed.{Printed}
 use Rattle.page_html.specs.Marks.{mark, target}
-use Rattle.page_html.specs.Parts.{bare, classed, counted, leaf, link, number, plain, words}
+use Rattle.page_html.specs.Parts.{bare, classed, counted, leaf, link, plain}
 
 -- ---- words
 

@@ -2,7 +2,7 @@
 use Rattle.std.specs.Prelude.{ℕ, Bool, true, false, List, [], ◌∷◌, ◌++◌, codes, decimal, nat_eq, if◌then◌else◌}
 use Rattle.markup_text.specs.declared.words.Tag.TheVariants as tags
 use Rattle.markup_text.specs.declared.words.AttributeName.TheVariants as names
-use Rattle.markup_text.specs.declared.element.Attribute.{Attribute}
+use Rattle.markup_text.specs.Attributes.{Attribute, number, words}
 use Rattle.markup_text.specs.Escapes.{escaped}
 use Rattle.markup_text.specs.Markup.{closing, opening}
 use Rattle.picture_svg.specs.Elements.{hue_word}
@@ -11,7 +11,7 @@ use Rattle.page_html.specs.declared.page.Level.TheVariants as levels
 use Rattle.page_html.specs.declared.page.Row.{Row}
 use Rattle.page_html.specs.declared.page.View.{View}
 use Rattle.page_html.specs.Marks.{letter, mark, numbers, other_letter, target}
-use Rattle.page_html.specs.Parts.{bare, classed, counted, leaf, link, number, plain, words}
+use Rattle.page_html.specs.Parts.{bare, classed, counted, leaf, link, plain}
 
 -- ---- the row of an event
 

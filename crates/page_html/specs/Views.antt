@@ -2,12 +2,12 @@
 use Rattle.std.specs.Prelude.{ℕ, List, [], ◌∷◌, ◌++◌, codes}
 use Rattle.markup_text.specs.declared.words.Tag.TheVariants as tags
 use Rattle.markup_text.specs.declared.words.AttributeName.TheVariants as names
-use Rattle.markup_text.specs.declared.element.Attribute.{Attribute}
+use Rattle.markup_text.specs.Attributes.{Attribute, words}
 use Rattle.markup_text.specs.Escapes.{escaped}
 use Rattle.markup_text.specs.Markup.{closing, opening, single_text}
 use Rattle.page_html.specs.declared.page.Page.{Page}
 use Rattle.page_html.specs.declared.page.View.{View}
-use Rattle.page_html.specs.Parts.{classed, leaf, plain, words}
+use Rattle.page_html.specs.Parts.{classed, leaf, plain}
 
 -- ---- what chooses a view
 

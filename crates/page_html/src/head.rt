@@ -1,15 +1,19 @@
 //! The head of a page, with what a browser may load and run: nothing but the styles and the script that stand in the page.
 
-ghost use Rattle.std.specs.Prelude.{◌≡◌, ◌++◌, ◌∷◌, [], codes, IfOk, OnOk};
+ghost use Rattle.std.specs.Prelude.{◌≡◌, IfOk};
 ghost use Rattle.sha2.specs.Sha256.{sha256};
+ghost use Rattle.text_writer.specs.Writes.{Writes};
 ghost use Rattle.page_html.specs.Heads as spec;
 
-use super::parts::{add_words, one, put_bare, put_plain};
+use super::parts::put_plain;
 use base64::engine::general_purpose::STANDARD;
-use markup_text::{AttributeName, Tag, put_closing, put_single};
-use np_syntax::{List, Memory, Text};
+use markup_text::{
+    AttributeName, Tag, close_single, open_tag, put_closing, put_opening, put_words_attribute,
+};
+use np_syntax::{Memory, Text};
 use sha2::{Digest, Sha256};
 use std::alloc::Global;
+use text_writer::TextWriter;
 
 fn hash_of(bytes: &[u8]) -> [u8; 32]
     ensures { result ≡ sha256 bytes.now }
@@ -19,14 +23,14 @@ fn hash_of(bytes: &[u8]) -> [u8; 32]
     hasher.finalize()
 }
 
-/// The digest of bytes, as a policy writes it.
-fn digest(alloc: Global, bytes: &[u8]) -> Result<Text, Memory>
-    ensures { IfOk result (λ text. text ≡ spec.digest bytes.now) }
+/// Writes the digest of bytes, as a policy has it.
+fn put_digest(alloc: Global, text: &mut TextWriter, bytes: &[u8])
+    ensures { Writes text.old text.new (spec.digest bytes.now) }
 {
     let hash = hash_of(bytes);
     match STANDARD.encode(alloc, hash.as_slice()) {
-        Ok(encoded) => List::from_slice(alloc, encoded.as_bytes()),
-        Err(_) => Err(Memory),
+        Ok(encoded) => text.put(encoded.as_bytes()),
+        Err(_) => text.fail(),
     }
 }
 
@@ -39,58 +43,45 @@ pub(super) fn policy(
 ) -> Result<Text, Memory>
     ensures { IfOk result (λ text. text ≡ spec.policy style.now pictures.now script.now) }
 {
-    let first = digest(alloc, style)?;
-    let second = digest(alloc, pictures)?;
-    let third = digest(alloc, script)?;
-    let mut text = List::from_slice(alloc, b"default-src 'none'; style-src 'sha256-")?;
-    text.append(first.as_slice())?;
-    text.append(b"' 'sha256-")?;
-    text.append(second.as_slice())?;
-    text.append(b"'; script-src 'sha256-")?;
-    text.append(third.as_slice())?;
-    text.append(b"'; base-uri 'none'; form-action 'none'")?;
-    Ok(text)
+    let mut text = TextWriter::new(alloc);
+    text.put(b"default-src 'none'; style-src 'sha256-");
+    put_digest(alloc, &mut text, style);
+    text.put(b"' 'sha256-");
+    put_digest(alloc, &mut text, pictures);
+    text.put(b"'; script-src 'sha256-");
+    put_digest(alloc, &mut text, script);
+    text.put(b"'; base-uri 'none'; form-action 'none'");
+    text.finish()
 }
 
-/// Appends what a browser is told under a name.
-fn put_meta(
-    alloc: Global,
-    text: &mut Text,
-    attribute: AttributeName,
-    name: &[u8],
-    content: &[u8],
-) -> Result<(), Memory>
-    ensures { OnOk result (text.new ≡ text.old ++ spec.meta attribute name.now content.now) }
+/// Writes what a browser is told under a name.
+fn put_meta(text: &mut TextWriter, attribute: AttributeName, name: &[u8], content: &[u8])
+    ensures { Writes text.old text.new (spec.meta attribute name.now content.now) }
 {
-    let mut attributes = one(alloc, attribute, name)?;
-    add_words(alloc, &mut attributes, AttributeName::Content, content)?;
-    put_single(text, Tag::Meta, attributes.as_slice())
+    open_tag(text, Tag::Meta);
+    put_words_attribute(text, attribute, name);
+    put_words_attribute(text, AttributeName::Content, content);
+    close_single(text)
 }
 
-fn put_metas(alloc: Global, text: &mut Text, policy: &[u8]) -> Result<(), Memory>
-    ensures { OnOk result (text.new ≡ text.old ++ spec.metas policy.now) }
+fn put_metas(text: &mut TextWriter, policy: &[u8])
+    ensures { Writes text.old text.new (spec.metas policy.now) }
 {
     let named = AttributeName::Name;
     let told = AttributeName::HttpEquiv;
-    put_meta(alloc, text, told, b"Content-Security-Policy", policy)?;
+    put_meta(text, told, b"Content-Security-Policy", policy);
     let width = b"width=device-width,initial-scale=1";
-    put_meta(alloc, text, named, b"viewport", width)?;
-    put_meta(alloc, text, named, b"color-scheme", b"light dark")
+    put_meta(text, named, b"viewport", width);
+    put_meta(text, named, b"color-scheme", b"light dark")
 }
 
-/// Appends the head of a page.
-pub(super) fn put_head(
-    alloc: Global,
-    text: &mut Text,
-    title: &[u8],
-    policy: &[u8],
-    style: &[u8],
-) -> Result<(), Memory>
-    ensures { OnOk result (text.new ≡ text.old ++ spec.head_text title.now policy.now style.now) }
+/// Writes the head of a page.
+pub(super) fn put_head(text: &mut TextWriter, title: &[u8], policy: &[u8], style: &[u8])
+    ensures { Writes text.old text.new (spec.head_text title.now policy.now style.now) }
 {
-    put_bare(alloc, text, Tag::Head)?;
-    put_metas(alloc, text, policy)?;
-    put_plain(alloc, text, Tag::Title, title)?;
-    put_plain(alloc, text, Tag::Style, style)?;
+    put_opening(text, Tag::Head);
+    put_metas(text, policy);
+    put_plain(text, Tag::Title, title);
+    put_plain(text, Tag::Style, style);
     put_closing(text, Tag::Head)
 }

@@ -1,12 +1,16 @@
 //! Marks, to which links on a page lead: of an event by its level and number, of a line of the source by its number.
 
-ghost use Rattle.std.specs.Prelude.{◌≡◌, ◌++◌, codes, decimal, IfOk, OnOk};
+ghost use Rattle.std.specs.Prelude.{◌≡◌, decimal};
+ghost use Rattle.text_writer.specs.Writes.{Writes};
+ghost use Rattle.markup_text.specs.declared.words.AttributeName.TheVariants as names;
+ghost use Rattle.markup_text.specs.Attributes.{attribute_text, words};
+ghost use Rattle.markup_text.specs.Escapes.{escaped};
 ghost use Rattle.page_html.specs.Marks as spec;
 
 use super::page::Level;
 use itoa::Buffer;
-use np_syntax::{List, Memory, Text};
-use std::alloc::Global;
+use markup_text::{AttributeName, close_value, open_value, put_escaped};
+use text_writer::TextWriter;
 
 /// The letter of a level.
 pub(super) fn letter(level: Level) -> &'static [u8]
@@ -28,39 +32,55 @@ pub(super) fn other_letter(level: Level) -> &'static [u8]
     }
 }
 
-/// A mark: a letter, and a number.
-pub(super) fn mark(alloc: Global, letter: &[u8], number: usize) -> Result<Text, Memory>
-    ensures { IfOk result (λ text. text ≡ spec.mark letter.now number) }
+/// Writes a number, as it stands in the value of an attribute.
+pub(super) fn put_digits(text: &mut TextWriter, number: usize)
+    ensures { Writes text.old text.new (escaped (decimal number)) }
 {
-    let mut text = List::from_slice(alloc, letter)?;
-    text.append(Buffer::new().format(number).as_bytes())?;
-    Ok(text)
+    put_escaped(text, Buffer::new().format(number).as_bytes())
 }
 
-/// Where a link leads to a mark.
-pub(super) fn target(alloc: Global, letter: &[u8], number: usize) -> Result<Text, Memory>
-    ensures { IfOk result (λ text. text ≡ spec.target letter.now number) }
+/// Writes the attribute that makes an element the mark of this letter and number.
+pub(super) fn put_id(text: &mut TextWriter, letter: &[u8], number: usize)
+    ensures { Writes text.old text.new (attribute_text (words names.Id (spec.mark letter.now number))) }
 {
-    let mut text = List::from_slice(alloc, b"#")?;
-    text.append(letter)?;
-    text.append(Buffer::new().format(number).as_bytes())?;
-    Ok(text)
+    open_value(text, AttributeName::Id);
+    put_escaped(text, letter);
+    put_digits(text, number);
+    close_value(text)
 }
 
-fn put_spaced(text: &mut Text, number: u32) -> Result<(), Memory>
-    ensures { OnOk result (text.new ≡ text.old ++ spec.spaced number) }
+/// Writes the attribute that leads to a mark.
+pub(super) fn put_href(text: &mut TextWriter, letter: &[u8], number: usize)
+    ensures { Writes text.old text.new (attribute_text (words names.Href (spec.target letter.now number))) }
 {
-    text.append(Buffer::new().format(number).as_bytes())?;
-    text.append(b" ")
+    open_value(text, AttributeName::Href);
+    put_escaped(text, b"#");
+    put_escaped(text, letter);
+    put_digits(text, number);
+    close_value(text)
 }
 
-/// Numbers, each with a space behind it.
-pub(super) fn numbers(alloc: Global, numbers: &[u32]) -> Result<Text, Memory>
-    ensures { IfOk result (λ text. text ≡ spec.numbers numbers.now) }
+fn put_spaced(text: &mut TextWriter, number: u32)
+    ensures { Writes text.old text.new (escaped (spec.spaced number)) }
 {
-    let mut text = List::new(alloc);
+    put_digits(text, number as usize);
+    put_escaped(text, b" ")
+}
+
+/// Writes numbers, each with a space behind it.
+fn put_numbers(text: &mut TextWriter, numbers: &[u32])
+    ensures { Writes text.old text.new (escaped (spec.numbers numbers.now)) }
+{
     for number in numbers {
-        put_spaced(&mut text, *number)?;
+        put_spaced(text, *number);
     }
-    Ok(text)
+}
+
+/// Writes the attribute that says which events are needed.
+pub(super) fn put_needs(text: &mut TextWriter, numbers: &[u32])
+    ensures { Writes text.old text.new (attribute_text (words names.Needs (spec.numbers numbers.now))) }
+{
+    open_value(text, AttributeName::Needs);
+    put_numbers(text, numbers);
+    close_value(text)
 }

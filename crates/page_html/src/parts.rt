@@ -1,121 +1,67 @@
 //! Elements that pages are made of.
 
-ghost use Rattle.std.specs.Prelude.{◌≡◌, ◌++◌, ◌∷◌, [], IfOk, OnOk};
+ghost use Rattle.std.specs.Prelude.{◌∷◌, []};
+ghost use Rattle.text_writer.specs.Writes.{Writes};
+ghost use Rattle.markup_text.specs.Attributes.{words};
 ghost use Rattle.markup_text.specs.Markup.{opening};
+ghost use Rattle.page_html.specs.Marks.{target};
 ghost use Rattle.page_html.specs.Parts as spec;
 
+use super::marks::put_href;
 use markup_text::{
-    Attribute, AttributeName, AttributeValue, Tag, put_closing, put_escaped, put_opening,
+    AttributeName, Tag, close_tag, open_tag, put_closing, put_escaped, put_opening,
+    put_words_attribute,
 };
-use np_syntax::{List, Memory, Text};
-use std::alloc::Global;
+use text_writer::TextWriter;
 
-/// An attribute that has these bytes as its value.
-fn words(alloc: Global, name: AttributeName, bytes: &[u8]) -> Result<Attribute, Memory>
-    ensures { IfOk result (λ made. made ≡ spec.words name bytes.now) }
+/// Writes the tag that opens an element with one attribute.
+pub(super) fn put_opening_with(text: &mut TextWriter, tag: Tag, name: AttributeName, bytes: &[u8])
+    ensures { Writes text.old text.new (opening tag (words name bytes.now ∷ [])) }
 {
-    let value = AttributeValue::Words(List::from_slice(alloc, bytes)?);
-    Ok(Attribute { name, value })
+    open_tag(text, tag);
+    put_words_attribute(text, name, bytes);
+    close_tag(text)
 }
 
-/// The attributes that begin with this one.
-pub(super) fn one(
-    alloc: Global,
-    name: AttributeName,
-    bytes: &[u8],
-) -> Result<List<Attribute>, Memory>
-    ensures { IfOk result (λ made. made ≡ spec.words name bytes.now ∷ []) }
+/// Writes the tag that opens an element of a class.
+pub(super) fn put_classed(text: &mut TextWriter, tag: Tag, class: &[u8])
+    ensures { Writes text.old text.new (spec.classed tag class.now) }
 {
-    let mut attributes = List::new(alloc);
-    attributes.add(words(alloc, name, bytes)?)?;
-    Ok(attributes)
+    put_opening_with(text, tag, AttributeName::Class, class)
 }
 
-pub(super) fn add_words(
-    alloc: Global,
-    attributes: &mut List<Attribute>,
-    name: AttributeName,
-    bytes: &[u8],
-) -> Result<(), Memory>
-    ensures { OnOk result (attributes.new ≡ attributes.old ++ spec.words name bytes.now ∷ []) }
+/// Writes an element without attributes, in which a text stands.
+pub(super) fn put_plain(text: &mut TextWriter, tag: Tag, content: &[u8])
+    ensures { Writes text.old text.new (spec.plain tag content.now) }
 {
-    attributes.add(words(alloc, name, bytes)?)
-}
-
-pub(super) fn add_number(
-    attributes: &mut List<Attribute>,
-    name: AttributeName,
-    number: u32,
-) -> Result<(), Memory>
-    ensures { OnOk result (attributes.new ≡ attributes.old ++ spec.number name number ∷ []) }
-{
-    attributes.add(Attribute {
-        name,
-        value: AttributeValue::Number(number),
-    })
-}
-
-/// Appends the tag that opens an element without attributes.
-pub(super) fn put_bare(alloc: Global, text: &mut Text, tag: Tag) -> Result<(), Memory>
-    ensures { OnOk result (text.new ≡ text.old ++ spec.bare tag) }
-{
-    let none = List::new(alloc);
-    put_opening(text, tag, none.as_slice())
-}
-
-/// Appends the tag that opens an element of a class.
-pub(super) fn put_classed(
-    alloc: Global,
-    text: &mut Text,
-    tag: Tag,
-    class: &[u8],
-) -> Result<(), Memory>
-    ensures { OnOk result (text.new ≡ text.old ++ spec.classed tag class.now) }
-{
-    let attributes = one(alloc, AttributeName::Class, class)?;
-    put_opening(text, tag, attributes.as_slice())
-}
-
-/// Appends an element without attributes, in which a text stands.
-pub(super) fn put_plain(
-    alloc: Global,
-    text: &mut Text,
-    tag: Tag,
-    content: &[u8],
-) -> Result<(), Memory>
-    ensures { OnOk result (text.new ≡ text.old ++ spec.plain tag content.now) }
-{
-    put_bare(alloc, text, tag)?;
-    put_escaped(text, content)?;
+    put_opening(text, tag);
+    put_escaped(text, content);
     put_closing(text, tag)
 }
 
-/// Appends an element of a class, in which a text stands.
-pub(super) fn put_leaf(
-    alloc: Global,
-    text: &mut Text,
-    tag: Tag,
-    class: &[u8],
-    content: &[u8],
-) -> Result<(), Memory>
-    ensures { OnOk result (text.new ≡ text.old ++ spec.leaf tag class.now content.now) }
+/// Writes an element of a class, in which a text stands.
+pub(super) fn put_leaf(text: &mut TextWriter, tag: Tag, class: &[u8], content: &[u8])
+    ensures { Writes text.old text.new (spec.leaf tag class.now content.now) }
 {
-    put_classed(alloc, text, tag, class)?;
-    put_escaped(text, content)?;
+    put_classed(text, tag, class);
+    put_escaped(text, content);
     put_closing(text, tag)
 }
 
-/// Appends a link to a place of the page.
-pub(super) fn put_link(
-    alloc: Global,
-    text: &mut Text,
-    target: &[u8],
-    content: &[u8],
-) -> Result<(), Memory>
-    ensures { OnOk result (text.new ≡ text.old ++ spec.link target.now content.now) }
+/// Writes the tag that opens a link to a mark.
+fn put_opened_link(text: &mut TextWriter, letter: &[u8], number: usize)
+    ensures { Writes text.old text.new (spec.opened_link (target letter.now number)) }
 {
-    let attributes = one(alloc, AttributeName::Href, target)?;
-    put_opening(text, Tag::Link, attributes.as_slice())?;
-    put_escaped(text, content)?;
+    open_tag(text, Tag::Link);
+    put_href(text, letter, number);
+    close_tag(text)
+}
+
+/// Writes a link to a mark.
+pub(super) fn put_link(text: &mut TextWriter, letter: &[u8], number: usize, content: &[u8])
+    ensures { Writes text.old text.new (spec.link (target letter.now number) content.now) }
+{
+    put_opened_link(text, letter, number);
+    put_escaped(text, content);
     put_closing(text, Tag::Link)
 }
