@@ -3,18 +3,19 @@
 use itoa::Buffer;
 use np_syntax::{List, Memory, Text};
 use std::alloc::Global;
+use text_writer::TextWriter;
 
 /// Words in which the first text stands for each `%`, and the second for each `#`.
 pub fn filled_by(alloc: Global, words: &[u8], first: &[u8], second: &[u8]) -> Result<Text, Memory> {
-    let mut text = List::new(alloc);
+    let mut text = TextWriter::new(alloc);
     for byte in words {
         match *byte {
-            b'%' => text.append(first)?,
-            b'#' => text.append(second)?,
-            other => text.add(other)?,
+            b'%' => text.put(first),
+            b'#' => text.put(second),
+            other => text.put_byte(other),
         }
     }
-    Ok(text)
+    text.finish()
 }
 
 /// Words in which a text stands for each `%`.
@@ -29,15 +30,16 @@ pub fn number_text(alloc: Global, number: u64) -> Result<Text, Memory> {
 
 /// A number in digits, with a comma before each three of the last ones.
 pub fn counted(alloc: Global, number: u64) -> Result<Text, Memory> {
-    let digits = number_text(alloc, number)?;
+    let mut buffer = Buffer::new();
+    let digits = buffer.format(number).as_bytes();
     let mut left = digits.len();
-    let mut text = List::new(alloc);
-    for digit in digits.as_slice() {
-        if left % 3 == 0 && text.len() > 0 {
-            text.add(b',')?;
+    let mut text = TextWriter::new(alloc);
+    for digit in digits {
+        if left % 3 == 0 && left < digits.len() {
+            text.put_byte(b',');
         }
-        text.add(*digit)?;
+        text.put_byte(*digit);
         left = left.saturating_sub(1);
     }
-    Ok(text)
+    text.finish()
 }

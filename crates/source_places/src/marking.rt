@@ -2,12 +2,13 @@
 
 ghost use Rattle.std.specs.Prelude.{◌<◌, ◌^◌, length};
 
-use super::filling::number_text;
 use super::place::{Place, line_at, place_at};
 use super::reasons::Mark;
 use super::window::{Char, Window, chars_of, width_between, window_of};
+use itoa::Buffer;
 use np_syntax::{List, Memory, Text};
 use std::alloc::Global;
+use text_writer::TextWriter;
 
 /// A mark with its sign and the places at which it begins and ends.
 #[derive(Clone, Copy)]
@@ -39,41 +40,39 @@ pub(super) fn place_mark<'a>(bytes: &[u8], sign: u8, mark: &'a Mark) -> Placed<'
     }
 }
 
-/// Appends blanks, or any other byte, so many times.
-fn put_times(text: &mut Text, byte: u8, times: usize) -> Result<(), Memory> {
+/// Writes blanks, or any other byte, so many times.
+fn put_times(text: &mut TextWriter, byte: u8, times: usize) {
     for _ in 0..times {
-        text.add(byte)?;
+        text.put_byte(byte);
     }
-    Ok(())
 }
 
-/// Appends what stands before the bar: a number, right-aligned, or nothing.
-pub(super) fn put_gutter(text: &mut Text, number: &[u8], width: usize) -> Result<(), Memory> {
-    put_times(text, b' ', width.saturating_sub(number.len()))?;
-    text.append(number)?;
-    text.append(b" | ")
+/// Writes what stands before the bar: a number, right-aligned, or nothing.
+fn put_gutter(text: &mut TextWriter, number: &[u8], width: usize) {
+    put_times(text, b' ', width.saturating_sub(number.len()));
+    text.put(number);
+    text.put(b" | ")
 }
 
-/// Appends a place in round brackets: behind ` (to ` where a range of several lines ends, and else before the label.
-fn put_place(alloc: Global, text: &mut Text, front: &[u8], place: Place) -> Result<(), Memory> {
-    text.append(front)?;
-    text.append(number_text(alloc, place.line as u64)?.as_slice())?;
-    text.append(b":")?;
-    text.append(number_text(alloc, place.column as u64)?.as_slice())?;
-    text.append(b")")
+/// Writes a place in round brackets: behind ` (to ` where a range of several lines ends, and else before the label.
+fn put_place(text: &mut TextWriter, front: &[u8], place: Place) {
+    text.put(front);
+    text.put(Buffer::new().format(place.line).as_bytes());
+    text.put(b":");
+    text.put(Buffer::new().format(place.column).as_bytes());
+    text.put(b")")
 }
 
-/// Appends the label of a mark, and where its range ends if that is in a further line.
-fn put_label(alloc: Global, text: &mut Text, placed: Placed<'_>) -> Result<(), Memory> {
+/// Writes the label of a mark, and where its range ends if that is in a further line.
+fn put_label(text: &mut TextWriter, placed: Placed<'_>) {
     let label = placed.mark.label.as_slice();
     if !label.is_empty() {
-        text.append(b" ")?;
-        text.append(label)?;
+        text.put(b" ");
+        text.put(label);
     }
     if placed.begins.line < placed.ends.line {
-        put_place(alloc, text, b" (to ", placed.ends)?;
+        put_place(text, b" (to ", placed.ends);
     }
-    Ok(())
 }
 
 /// Whether a mark begins outside of the part of a line that is shown.
@@ -89,21 +88,21 @@ fn mark_line(
     placed: Placed<'_>,
     width: usize,
 ) -> Result<Text, Memory> {
-    let mut text = List::new(alloc);
-    put_gutter(&mut text, b"", width)?;
+    let mut text = TextWriter::new(alloc);
+    put_gutter(&mut text, b"", width);
     let from = placed.begins.at.saturating_sub(placed.begins.start);
     if is_outside(window, from) {
-        put_place(alloc, &mut text, b"(", placed.begins)?;
+        put_place(&mut text, b"(", placed.begins);
     } else {
         let to = placed.mark.range.to.saturating_sub(placed.begins.start);
         let front = if window.before { 3 } else { 0 };
         let blanks = width_between(chars, window.from, from).saturating_add(front);
-        put_times(&mut text, b' ', blanks)?;
+        put_times(&mut text, b' ', blanks);
         let signs = width_between(chars, from, to.min(window.to)).max(1);
-        put_times(&mut text, placed.sign, signs)?;
+        put_times(&mut text, placed.sign, signs);
     }
-    put_label(alloc, &mut text, placed)?;
-    Ok(text)
+    put_label(&mut text, placed);
+    text.finish()
 }
 
 /// The line itself, with its number, as far as it is shown.
@@ -114,17 +113,16 @@ fn numbered_line(
     number: usize,
     width: usize,
 ) -> Result<Text, Memory> {
-    let mut text = List::new(alloc);
-    let digits = number_text(alloc, number as u64)?;
-    put_gutter(&mut text, digits.as_slice(), width)?;
+    let mut text = TextWriter::new(alloc);
+    put_gutter(&mut text, Buffer::new().format(number).as_bytes(), width);
     if window.before {
-        text.append(b"...")?;
+        text.put(b"...");
     }
-    text.append(line.get(window.from..window.to).unwrap_or(&[]))?;
+    text.put(line.get(window.from..window.to).unwrap_or(&[]));
     if window.behind {
-        text.append(b"...")?;
+        text.put(b"...");
     }
-    Ok(text)
+    text.finish()
 }
 
 /// Adds a line of a text and the lines of its marks, which are at least one. The line is cut for the one of them that leads.

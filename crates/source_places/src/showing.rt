@@ -1,13 +1,15 @@
 //! Characters as they are shown on a terminal.
 
-ghost use Rattle.std.specs.Prelude.{◌≡◌, ◌≤◌, ◌%◌, ◌++◌, None, OnOk, drop, length, take};
+ghost use Rattle.std.specs.Prelude.{◌≡◌, ◌≤◌, ◌%◌, None, drop, length, take};
 ghost use Rattle.std.specs.List.{prefix_len};
+ghost use Rattle.text_writer.specs.Writes.{Writes};
 ghost use Rattle.source_places.specs.Shown as spec;
 ghost use Rattle.markup_text.specs.Escapes.{hex_digit};
 
 use bstr::decode_utf8;
 use markup_text::put_number;
-use np_syntax::{Memory, Text};
+use np_syntax::Text;
+use text_writer::TextWriter;
 
 /// Characters that are shown in one column, from the first of each range to its last.
 pub const NARROW: [(u32, u32); 9] = [
@@ -141,60 +143,59 @@ fn zeros_len(digits: &[u8]) -> usize
     digits.iter().take_while(|digit| is_zero(**digit)).count()
 }
 
-/// Appends digits without zeros in front.
-fn put_short(text: &mut Text, digits: &[u8]) -> Result<(), Memory>
-    ensures { OnOk result (text.new ≡ text.old ++ spec.short_digits digits.now) }
+/// Writes digits without zeros in front.
+fn put_short(text: &mut TextWriter, digits: &[u8])
+    ensures { Writes text.old text.new (spec.short_digits digits.now) }
 {
     let (_, short) = digits.split_at(zeros_len(digits));
-    text.append(short)
+    text.put(short)
 }
 
-/// Appends a character by its number.
-fn put_escaped(text: &mut Text, c: u32) -> Result<(), Memory>
-    ensures { OnOk result (text.new ≡ text.old ++ spec.escaped c) }
+/// Writes a character by its number.
+fn put_escaped(text: &mut TextWriter, c: u32)
+    ensures { Writes text.old text.new (spec.escaped c) }
 {
-    text.append(b"\\u{")?;
-    put_short(text, digits_of(c).as_slice())?;
-    text.append(b"}")
+    text.put(b"\\u{");
+    put_short(text, digits_of(c).as_slice());
+    text.put(b"}")
 }
 
-/// Appends a byte: itself where it can be printed, four blanks for a tab, and else its number.
-fn put_byte(text: &mut Text, byte: u8) -> Result<(), Memory>
-    ensures { OnOk result (text.new ≡ text.old ++ spec.shown_byte byte) }
+/// Writes a byte: itself where it can be printed, four blanks for a tab, and else its number.
+fn put_byte(text: &mut TextWriter, byte: u8)
+    ensures { Writes text.old text.new (spec.shown_byte byte) }
 {
     match byte {
-        b' '..=b'~' => text.add(byte),
-        b'\t' => text.append(b"    "),
+        b' '..=b'~' => text.put_byte(byte),
+        b'\t' => text.put(b"    "),
         _ => put_number(text, byte),
     }
 }
 
-/// Appends a character of these bytes.
-fn put_char(text: &mut Text, c: u32, bytes: &[u8]) -> Result<(), Memory>
-    ensures { OnOk result (text.new ≡ text.old ++ spec.shown_char c bytes.now) }
+/// Writes a character of these bytes.
+fn put_char(text: &mut TextWriter, c: u32, bytes: &[u8])
+    ensures { Writes text.old text.new (spec.shown_char c bytes.now) }
 {
     if c < 128 {
         put_byte(text, c as u8)
     } else if is_within(NARROW.as_slice(), c) || is_within(WIDE.as_slice(), c) {
-        text.append(bytes)
+        text.put(bytes)
     } else {
         put_escaped(text, c)
     }
 }
 
-/// Appends these bytes one by one.
-fn put_bytes(text: &mut Text, bytes: &[u8]) -> Result<(), Memory>
-    ensures { OnOk result (text.new ≡ text.old ++ spec.shown_found None bytes.now) }
+/// Writes these bytes one by one.
+fn put_bytes(text: &mut TextWriter, bytes: &[u8])
+    ensures { Writes text.old text.new (spec.shown_found None bytes.now) }
 {
     for byte in bytes {
-        put_byte(text, *byte)?;
+        put_byte(text, *byte);
     }
-    Ok(())
 }
 
-/// Appends the character in front.
-fn put_front(text: &mut Text, bytes: &[u8]) -> Result<(), Memory>
-    ensures { OnOk result (text.new ≡ text.old ++ spec.shown_front bytes.now) }
+/// Writes the character in front.
+fn put_front(text: &mut TextWriter, bytes: &[u8])
+    ensures { Writes text.old text.new (spec.shown_front bytes.now) }
 {
     let (found, _) = decode_utf8(bytes);
     let front = front_of(bytes, front_len(bytes));
@@ -204,32 +205,30 @@ fn put_front(text: &mut Text, bytes: &[u8]) -> Result<(), Memory>
     }
 }
 
-/// Appends bytes as they are shown.
-pub fn put_shown(text: &mut Text, bytes: &[u8]) -> Result<(), Memory>
-    ensures { OnOk result (text.new ≡ text.old ++ spec.shown bytes.now) }
+/// Writes bytes as they are shown.
+pub fn put_shown(text: &mut TextWriter, bytes: &[u8])
+    ensures { Writes text.old text.new (spec.shown bytes.now) }
 {
     let mut rest = bytes;
     for _ in bytes {
-        put_front(text, rest)?;
+        put_front(text, rest);
         rest = behind_front(rest, front_len(rest));
     }
-    Ok(())
 }
 
-/// Appends a line as it is shown.
-fn put_line(text: &mut Text, line: &Text) -> Result<(), Memory>
-    ensures { OnOk result (text.new ≡ text.old ++ spec.shown_line line.now) }
+/// Writes a line as it is shown.
+fn put_line(text: &mut TextWriter, line: &Text)
+    ensures { Writes text.old text.new (spec.shown_line line.now) }
 {
-    put_shown(text, line.as_slice())?;
-    text.append(b"\n")
+    put_shown(text, line.as_slice());
+    text.put(b"\n")
 }
 
-/// Appends lines as they are shown.
-pub fn put_lines(text: &mut Text, lines: &[Text]) -> Result<(), Memory>
-    ensures { OnOk result (text.new ≡ text.old ++ spec.shown_lines lines.now) }
+/// Writes lines as they are shown.
+pub fn put_lines(text: &mut TextWriter, lines: &[Text])
+    ensures { Writes text.old text.new (spec.shown_lines lines.now) }
 {
     for line in lines {
-        put_line(text, line)?;
+        put_line(text, line);
     }
-    Ok(())
 }
