@@ -16,6 +16,7 @@ use np_words::{Infrastructure, View};
 use refusal_diagnoses::Told;
 use source_places::{counted, filled, offset_of_line, put_lines, wrap};
 use std::alloc::Global;
+use text_writer::TextWriter;
 
 /// The infrastructure that is not this one.
 pub(super) fn other(infrastructure: Infrastructure) -> Infrastructure
@@ -126,7 +127,9 @@ pub(super) fn front_note(
 fn add_note(alloc: Global, text: &mut Text, note: &[u8]) -> Result<(), Memory> {
     let mut lines = List::new(alloc);
     wrap(alloc, &mut lines, b"note:", note)?;
-    put_lines(text, lines.as_slice())
+    let mut written = TextWriter::new(alloc);
+    put_lines(&mut written, lines.as_slice());
+    text.append(written.finish()?.as_slice())
 }
 
 /// What is told, with a note behind it where there is one.

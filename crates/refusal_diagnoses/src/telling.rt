@@ -1,70 +1,77 @@
 //! What is said of a refusal.
 
-ghost use Rattle.std.specs.Prelude.{◌≡◌, ◌++◌, ◌<◌, ◌^◌, None, Some, length, IfOk, OnOk};
+ghost use Rattle.std.specs.Prelude.{◌<◌, ◌^◌, None, Some, length, IfOk};
+ghost use Rattle.text_writer.specs.Writes.{Writes};
 ghost use Rattle.np_verdict.specs.Lines.{line_of};
 ghost use Rattle.refusal_diagnoses.specs.Diagnoses.{IsDiagnosis, IsToldThere, IsUsage, header, place_text};
 
 use super::places::place_for;
 use super::spot::spot_of;
 use itoa::Buffer;
-use np_syntax::{List, Memory, Text};
+use np_syntax::{Memory, Text};
 use np_verdict::{Refusal, line};
 use source_places::{Place, Reasons, lines_of, put_lines, put_shown};
 use std::alloc::Global;
+use text_writer::TextWriter;
 
-/// Appends what np writes of a refusal.
-fn put_refusal(alloc: Global, text: &mut Text, refusal: Refusal) -> Result<(), Memory>
-    ensures { OnOk result (text.new ≡ text.old ++ line_of refusal) }
+/// Writes what np writes of a refusal.
+fn put_refusal(alloc: Global, text: &mut TextWriter, refusal: Refusal)
+    ensures { Writes text.old text.new (line_of refusal) }
 {
-    let words = line(alloc, refusal)?;
-    text.append(words.as_slice())
+    match line(alloc, refusal) {
+        Ok(words) => text.put(words.as_slice()),
+        Err(_) => text.fail(),
+    }
 }
 
-/// Appends a line and a column.
-fn put_place(text: &mut Text, place: Place) -> Result<(), Memory>
-    ensures { OnOk result (text.new ≡ text.old ++ place_text place) }
+/// Writes a line and a column.
+fn put_place(text: &mut TextWriter, place: Place)
+    ensures { Writes text.old text.new (place_text place) }
 {
-    text.append(b":")?;
-    text.append(Buffer::new().format(place.line).as_bytes())?;
-    text.append(b":")?;
-    text.append(Buffer::new().format(place.column).as_bytes())
+    text.put(b":");
+    text.put(Buffer::new().format(place.line).as_bytes());
+    text.put(b":");
+    text.put(Buffer::new().format(place.column).as_bytes())
 }
 
 /// The file, the line and the column, and what np writes of a refusal.
-fn placed_header(alloc: Global, file: &[u8], place: Place, refusal: Refusal) -> Result<Text, Memory>
-    ensures { IfOk result (λ text. text ≡ header file.now (Some place) refusal) }
+fn put_placed_header(
+    alloc: Global,
+    text: &mut TextWriter,
+    file: &[u8],
+    place: Place,
+    refusal: Refusal,
+)
+    ensures { Writes text.old text.new (header file.now (Some place) refusal) }
 {
-    let mut text = List::new(alloc);
-    put_shown(&mut text, file)?;
-    put_place(&mut text, place)?;
-    text.append(b": ")?;
-    put_refusal(alloc, &mut text, refusal)?;
-    Ok(text)
+    put_shown(text, file);
+    put_place(text, place);
+    text.put(b": ");
+    put_refusal(alloc, text, refusal)
 }
 
 /// The file, and what np writes of a refusal.
-fn bare_header(alloc: Global, file: &[u8], refusal: Refusal) -> Result<Text, Memory>
-    ensures { IfOk result (λ text. text ≡ header file.now None refusal) }
+fn put_bare_header(alloc: Global, text: &mut TextWriter, file: &[u8], refusal: Refusal)
+    ensures { Writes text.old text.new (header file.now None refusal) }
 {
-    let mut text = List::new(alloc);
-    put_shown(&mut text, file)?;
-    text.append(b": ")?;
-    put_refusal(alloc, &mut text, refusal)?;
-    Ok(text)
+    put_shown(text, file);
+    text.put(b": ");
+    put_refusal(alloc, text, refusal)
 }
 
-/// What stands before the lines that tell a refusal.
-fn header_of(
+/// Writes what stands before the lines that tell a refusal.
+fn put_header(
     alloc: Global,
+    text: &mut TextWriter,
     file: &[u8],
     place: Option<Place>,
     refusal: Refusal,
-) -> Result<Text, Memory>
-    ensures { IfOk result (λ text. text ≡ header file.now place refusal) }
+)
+    ensures { Writes text.old text.new (header file.now place refusal) }
 {
     match place {
-        Some(place) => placed_header(alloc, file, place, refusal),
-        None => bare_header(alloc, file, refusal),
+        Some(place) => put_placed_header(alloc, text, file, place, refusal),
+        None => put_bare_header(alloc, text, file, refusal),
     }
 }
 
@@ -81,9 +88,10 @@ fn told_there(
     ensures { IfOk result (IsToldThere file.now place refusal) }
 {
     let lines = lines_of(alloc, bytes, reasons)?;
-    let mut text = header_of(alloc, file, place, refusal)?;
-    put_lines(&mut text, lines.as_slice())?;
-    Ok(text)
+    let mut text = TextWriter::new(alloc);
+    put_header(alloc, &mut text, file, place, refusal);
+    put_lines(&mut text, lines.as_slice());
+    text.finish()
 }
 
 /// What is said of a refusal of the text of a file.
@@ -105,7 +113,8 @@ pub(super) fn diagnosis(
 pub(super) fn usage_text(alloc: Global, lines: &[Text]) -> Result<Text, Memory>
     ensures { IfOk result IsUsage }
 {
-    let mut text = List::from_slice(alloc, b"np: 22 Usage\n")?;
-    put_lines(&mut text, lines)?;
-    Ok(text)
+    let mut text = TextWriter::new(alloc);
+    text.put(b"np: 22 Usage\n");
+    put_lines(&mut text, lines);
+    text.finish()
 }
