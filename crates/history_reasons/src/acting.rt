@@ -1,34 +1,29 @@
 //! Events of atoms.
 
 use super::absent::absent_text;
-use super::field::{ACTOR, KIND, MADE1, MADE2, NODE, OTHER, ROLE, SITE};
 use super::form_words::{kind_for, kind_word, maker_words, process_words, role_word};
-use super::names::{Seen, Wrong, makes, name_text};
-use np_calculus::{Atom, Place};
-use np_eval::eval;
-use np_syntax::{Event, Kind, Made, Memory, Name, ProcForm, Tag, Text, Value};
+use super::names::{Seen, Wrong, name_text};
+use history_conditions::{asked_agent, made_names, makes, names_wanted};
+use np_calculus::Atom;
+use np_syntax::{Event, Made, Memory, Name, Tag, Text};
 use source_places::{filled_by, number_text};
 
-/// What is wrong with an event by the atom that acts: there is none, it is elsewhere, or it is another process.
-pub(super) fn wrong_atom(seen: Seen<'_>, event: &Event) -> Result<Option<Wrong>, Memory> {
-    let Some(atom) = seen.reached.atom(event.actor) else {
-        let label = absent_text(seen, event.actor)?;
-        let later = seen.maker_from(event.actor, seen.index);
-        return seen.early(ACTOR, label, seen.text(b"the mark of an atom")?, later);
-    };
-    if seen.reached.place(atom.agent) != Some(Place::At(event.site)) {
-        let name = name_text(seen.alloc, event.actor)?;
-        let wanted = seen.with(b"the site at which the agent of % is", &name)?;
-        return seen.alien(SITE, seen.agent_where(atom.agent)?, wanted);
-    }
-    if kind_for(atom.proc.form.get()) == Some(event.kind) {
-        return Ok(None);
-    }
-    wrong_kind(seen, event, atom)
+/// What is told of a mark under which nothing stands, where a word says what was wanted.
+pub(super) fn no_atom(seen: Seen<'_>, mark: Name, wanted: &[u8]) -> Result<Wrong, Memory> {
+    let label = absent_text(seen, mark)?;
+    let later = seen.maker_from(mark, seen.index);
+    seen.early(label, seen.text(wanted)?, later)
+}
+
+/// What is told of an event at another site than the one at which the agent of its atom is.
+pub(super) fn acts_elsewhere(seen: Seen<'_>, event: &Event, atom: &Atom) -> Result<Wrong, Memory> {
+    let name = name_text(seen.alloc, event.actor)?;
+    let wanted = seen.with(b"the site at which the agent of % is", &name)?;
+    seen.alien(seen.agent_where(atom.agent)?, wanted)
 }
 
 /// What is told of an atom that makes no such events.
-fn wrong_kind(seen: Seen<'_>, event: &Event, atom: &Atom) -> Result<Option<Wrong>, Memory> {
+pub(super) fn wrong_kind(seen: Seen<'_>, event: &Event, atom: &Atom) -> Result<Wrong, Memory> {
     let form = atom.proc.form.get();
     let name = name_text(seen.alloc, event.actor)?;
     let words = b"under % stands #";
@@ -47,89 +42,41 @@ fn wrong_kind(seen: Seen<'_>, event: &Event, atom: &Atom) -> Result<Option<Wrong
             b"",
         )?,
     };
-    seen.alien(KIND, label, wanted)
+    seen.alien(label, wanted)
 }
 
-/// What is wrong with the node and the role of an event, where its atom or packet has this tag.
-pub(super) fn wrong_tag(
-    seen: Seen<'_>,
-    event: &Event,
-    tag: Tag,
-    owner: &[u8],
-) -> Result<Option<Wrong>, Memory> {
+/// What is told of a node that is not the one of this tag.
+pub(super) fn wrong_node(seen: Seen<'_>, tag: Tag, owner: &[u8]) -> Result<Wrong, Memory> {
     let node = number_text(seen.alloc, u64::from(tag.node))?;
-    if event.tag.node != tag.node {
-        let words = b"`%`, the node of #";
-        let wanted = filled_by(seen.alloc, words, node.as_slice(), owner)?;
-        return Ok(seen.wrong(NODE, seen.text(b"another node")?, wanted));
-    }
-    if event.tag.role != tag.role {
-        let words = b"`%`, as node # has";
-        let wanted = filled_by(seen.alloc, words, role_word(tag.role), node.as_slice())?;
-        return Ok(seen.wrong(ROLE, seen.text(b"another role")?, wanted));
-    }
-    Ok(None)
+    let words = b"`%`, the node of #";
+    let wanted = filled_by(seen.alloc, words, node.as_slice(), owner)?;
+    Ok(seen.wrong(seen.text(b"another node")?, wanted))
 }
 
-/// Whether events of a kind take an output.
-fn takes(kind: Kind) -> bool {
-    matches!(kind, Kind::Comm | Kind::Rep)
+/// What is told of a role that is not the one of this tag.
+pub(super) fn wrong_role(seen: Seen<'_>, tag: Tag) -> Result<Wrong, Memory> {
+    let node = number_text(seen.alloc, u64::from(tag.node))?;
+    let words = b"`%`, as node # has";
+    let wanted = filled_by(seen.alloc, words, role_word(tag.role), node.as_slice())?;
+    Ok(seen.wrong(seen.text(b"another role")?, wanted))
 }
 
-/// What is wrong with what an event takes: there is something, or nothing.
-pub(super) fn wrong_other(seen: Seen<'_>, event: &Event) -> Result<Option<Wrong>, Memory> {
+/// What is told of an event that takes an output and should take none, or the other way round.
+pub(super) fn wrong_other(seen: Seen<'_>, event: &Event) -> Result<Wrong, Memory> {
     match event.other {
-        Some(_) if !takes(event.kind) => {
+        Some(_) => {
             let wanted = seen.text(b"`-`, since only Comm and Rep take an output")?;
-            Ok(seen.wrong(OTHER, seen.text(b"a name")?, wanted))
+            Ok(seen.wrong(seen.text(b"a name")?, wanted))
         }
-        None if takes(event.kind) => {
+        None => {
             let wanted = seen.text(b"the mark of the output that is taken")?;
-            Ok(seen.wrong(OTHER, seen.text(b"none")?, wanted))
+            Ok(seen.wrong(seen.text(b"none")?, wanted))
         }
-        _ => Ok(None),
-    }
-}
-
-/// The agent of whom a location test asks.
-fn asked(seen: Seen<'_>, event: &Event) -> Result<Option<Name>, Memory> {
-    let Some(atom) = seen.reached.atom(event.actor) else {
-        return Ok(None);
-    };
-    let ProcForm::IfLocal(agent, _, _, _, _) = atom.proc.form.get() else {
-        return Ok(None);
-    };
-    let value = eval(seen.alloc, agent, &atom.env)?;
-    match &value {
-        Some(Value::Agent(name)) => Ok(Some(*name)),
-        _ => Ok(None),
-    }
-}
-
-/// How many names an event of a kind makes; of a location test it depends on where the agent is.
-fn wanted_names(seen: Seen<'_>, event: &Event, asked: Option<Name>) -> usize {
-    match event.kind {
-        Kind::Fork | Kind::New => 1,
-        Kind::Agent => 2,
-        Kind::Local => match asked {
-            Some(agent) if seen.reached.is_at(agent, event.site) => 1,
-            _ => 0,
-        },
-        _ => 0,
-    }
-}
-
-/// The names that an event makes.
-fn made_by(event: &Event) -> (Option<Name>, Option<Name>) {
-    match event.made {
-        Made::Nothing => (None, None),
-        Made::One(name) => (Some(name), None),
-        Made::Two(one, other) => (Some(one), Some(other)),
     }
 }
 
 /// How many names an event makes.
-fn made_count(event: &Event) -> usize {
+fn made_count(event: &Event) -> u32 {
     match event.made {
         Made::Nothing => 0,
         Made::One(_) => 1,
@@ -138,7 +85,7 @@ fn made_count(event: &Event) -> usize {
 }
 
 /// So many names.
-fn names_words(count: usize) -> (&'static [u8], &'static [u8]) {
+fn names_words(count: u32) -> (&'static [u8], &'static [u8]) {
     match count {
         0 => (b"0 names", b"no name"),
         1 => (b"1 name", b"one name"),
@@ -146,104 +93,71 @@ fn names_words(count: usize) -> (&'static [u8], &'static [u8]) {
     }
 }
 
-/// What is wrong with how many names an event makes.
-fn wrong_count(seen: Seen<'_>, event: &Event) -> Result<Option<Wrong>, Memory> {
-    let asked = asked(seen, event)?;
-    let wanted = wanted_names(seen, event, asked);
-    let count = made_count(event);
-    if count == wanted {
-        return Ok(None);
-    }
-    let field = if count == 0 || wanted == 0 || count < wanted && wanted == 1 {
-        MADE1
-    } else {
-        MADE2
-    };
+/// What is told of an event that makes too few or too many names.
+pub(super) fn wrong_count(seen: Seen<'_>, event: &Event) -> Result<Wrong, Memory> {
+    let asked = asked_agent(seen.alloc, seen.reached, event)?;
+    let wanted = names_wanted(seen.alloc, seen.reached, event)?;
     let mut words = seen.text(names_words(wanted).1)?;
     if let Some(agent) = asked {
         words.append(b", since ")?;
         words.append(seen.agent_where(agent)?.as_slice())?;
     }
-    Ok(seen.wrong(field, seen.text(names_words(count).0)?, words))
+    Ok(seen.wrong(seen.text(names_words(made_count(event)).0)?, words))
 }
 
-/// Why a name is not new, if it is not.
-fn born_text(seen: Seen<'_>, name: Name) -> Result<Option<Text>, Memory> {
+/// Where a name comes from that is not new.
+fn born_text(seen: Seen<'_>, name: Name) -> Result<Text, Memory> {
     let before = seen.events.get(..seen.index).unwrap_or(&[]);
     for index in 0..before.len() {
-        if makes(&before[index], name) {
+        if makes(before[index].made, name) {
             let line = seen.line_text(index)?;
-            return Ok(Some(seen.with(b"made in %", &line)?));
+            return seen.with(b"made in %", &line);
         }
     }
-    if name.site as usize == seen.sites.len() {
-        return Ok(Some(seen.text(b"one of the program's own names")?));
-    }
-    Ok(None)
+    seen.text(b"one of the program's own names")
 }
 
-/// What is wrong with a name that an event makes.
-fn wrong_name(seen: Seen<'_>, name: Option<Name>, field: usize) -> Result<Option<Wrong>, Memory> {
-    let Some(name) = name else {
-        return Ok(None);
+/// What is told of a name that is not new.
+fn not_new(seen: Seen<'_>, name: Option<Name>) -> Result<Wrong, Memory> {
+    let label = match name {
+        Some(name) => born_text(seen, name)?,
+        None => seen.text(b"no name")?,
     };
-    match born_text(seen, name)? {
-        Some(label) => Ok(seen.wrong(field, label, seen.text(b"a name that is new")?)),
-        None => Ok(None),
-    }
+    Ok(seen.wrong(label, seen.text(b"a name that is new")?))
 }
 
-/// What is wrong with the names that an event makes.
-pub(super) fn wrong_made(seen: Seen<'_>, event: &Event) -> Result<Option<Wrong>, Memory> {
-    if let Some(wrong) = wrong_count(seen, event)? {
-        return Ok(Some(wrong));
-    }
-    let (first, second) = made_by(event);
-    if let Some(wrong) = wrong_name(seen, first, MADE1)? {
-        return Ok(Some(wrong));
-    }
-    if let Some(wrong) = wrong_name(seen, second, MADE2)? {
-        return Ok(Some(wrong));
-    }
-    if second.is_some() && first == second {
-        let wanted = seen.text(b"two names that differ")?;
-        return Ok(seen.wrong(MADE2, seen.text(b"the same name twice")?, wanted));
-    }
-    Ok(None)
+/// What is told of a first name that is not new.
+pub(super) fn first_not_new(seen: Seen<'_>, event: &Event) -> Result<Wrong, Memory> {
+    not_new(seen, made_names(event.made).0)
 }
 
-/// What is wrong with the output that an event takes.
-pub(super) fn wrong_output(seen: Seen<'_>, event: &Event) -> Result<Option<Wrong>, Memory> {
-    let Some(other) = event.other else {
-        return Ok(None);
-    };
-    let wanted = seen.text(b"the mark of an output")?;
-    let Some(output) = seen.reached.atom(other) else {
-        let later = seen.maker_from(other, seen.index);
-        return seen.early(OTHER, absent_text(seen, other)?, wanted, later);
-    };
+/// What is told of a second name that is not new.
+pub(super) fn second_not_new(seen: Seen<'_>, event: &Event) -> Result<Wrong, Memory> {
+    not_new(seen, made_names(event.made).1)
+}
+
+/// What is told of one name that is made twice.
+pub(super) fn same_name_twice(seen: Seen<'_>) -> Result<Wrong, Memory> {
+    let wanted = seen.text(b"two names that differ")?;
+    Ok(seen.wrong(seen.text(b"the same name twice")?, wanted))
+}
+
+/// What is told of an atom that is taken and is no output.
+pub(super) fn no_output(seen: Seen<'_>, output: &Atom) -> Result<Wrong, Memory> {
     let form = output.proc.form.get();
-    if kind_for(form).is_some() {
-        let label = filled_by(seen.alloc, b"under it stands %", process_words(form), b"")?;
-        return seen.alien(OTHER, label, wanted);
-    }
-    wrong_partner(seen, event, output)
+    let label = filled_by(seen.alloc, b"under it stands %", process_words(form), b"")?;
+    seen.alien(label, seen.text(b"the mark of an output")?)
 }
 
-/// What is wrong with an output that an event takes: it stands in another agent, or is on another channel.
-fn wrong_partner(seen: Seen<'_>, event: &Event, output: &Atom) -> Result<Option<Wrong>, Memory> {
-    let Some(atom) = seen.reached.atom(event.actor) else {
-        return Ok(None);
-    };
-    if output.agent != atom.agent {
-        let label = seen.with(b"it stands in %", &seen.agent_text(output.agent)?)?;
-        let wanted = seen.with(b"an output in %", &seen.agent_text(atom.agent)?)?;
-        return Ok(seen.wrong(OTHER, label, wanted));
-    }
+/// What is told of an output that stands in another agent.
+pub(super) fn other_agent(seen: Seen<'_>, atom: &Atom, output: &Atom) -> Result<Wrong, Memory> {
+    let label = seen.with(b"it stands in %", &seen.agent_text(output.agent)?)?;
+    let wanted = seen.with(b"an output in %", &seen.agent_text(atom.agent)?)?;
+    Ok(seen.wrong(label, wanted))
+}
+
+/// What is told of an output on another channel.
+pub(super) fn other_channel(seen: Seen<'_>) -> Result<Wrong, Memory> {
     let label = seen.text(b"an output on another channel")?;
-    Ok(seen.wrong(
-        OTHER,
-        label,
-        seen.text(b"an output on the channel of the input")?,
-    ))
+    Ok(seen.wrong(label, seen.text(b"an output on the channel of the input")?))
 }

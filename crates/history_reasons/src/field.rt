@@ -1,5 +1,6 @@
 //! The fields of an event's line.
 
+use history_conditions::EventField;
 use np_syntax::LARGEST_NUMBER;
 
 /// A field, with how it is named and what it is to be.
@@ -70,6 +71,20 @@ pub(super) const FIELDS: [Field; 9] = [
         wanted: b"",
     },
 ];
+
+/// The index of a field that a condition is about.
+pub(super) fn place_of(field: EventField) -> usize {
+    match field {
+        EventField::Site => SITE,
+        EventField::Kind => KIND,
+        EventField::Actor => ACTOR,
+        EventField::Other => OTHER,
+        EventField::Node => NODE,
+        EventField::Role => ROLE,
+        EventField::FirstMade => MADE1,
+        EventField::SecondMade => MADE2,
+    }
+}
 
 /// The number that digits say, or a very large one.
 fn value_of(digits: &[u8]) -> u64 {

@@ -71,7 +71,7 @@ pub(super) fn field_in(line: &[u8], start: usize, field: usize) -> Range {
 }
 
 /// The range of a field of an event's line.
-pub(super) fn field_of(bytes: &[u8], layout: Layout, index: usize, field: usize) -> Range {
+pub(super) fn range_of(bytes: &[u8], layout: Layout, index: usize, field: usize) -> Range {
     let start = offset_of_line(bytes, layout.line_of(index));
     field_in(line_from(bytes, start), start, field)
 }

@@ -1,8 +1,6 @@
 //! Events of what is under way.
 
-use super::field::{ACTOR, SITE};
 use super::names::{Seen, Wrong};
-use np_calculus::Place;
 use np_syntax::{Event, Kind, Memory, Name, Text};
 use source_places::{filled_by, number_text};
 
@@ -17,24 +15,25 @@ fn goes_to(seen: Seen<'_>, who: Text, site: u32) -> Result<Text, Memory> {
     Ok(wanted)
 }
 
-/// What is wrong with an Arrive by where its agent is.
-pub(super) fn wrong_arrival(seen: Seen<'_>, event: &Event) -> Result<Option<Wrong>, Memory> {
-    match seen.reached.place(event.actor) {
-        None => {
-            let label = seen.text(b"no agent of this name")?;
-            seen.alien(ACTOR, label, seen.text(b"an agent that is under way")?)
-        }
-        Some(Place::At(_)) => {
-            let label = seen.agent_where(event.actor)?;
-            seen.alien(ACTOR, label, seen.text(b"an agent that is under way")?)
-        }
-        Some(Place::Way(site)) if site != event.site => {
-            let who = seen.agent_text(event.actor)?;
-            let wanted = goes_to(seen, who, site)?;
-            Ok(seen.wrong(SITE, seen.site_text(event.site)?, wanted))
-        }
-        Some(Place::Way(_)) => Ok(None),
-    }
+/// What is told of an Arrive whose agent is not under way.
+pub(super) fn no_traveller(seen: Seen<'_>, event: &Event) -> Result<Wrong, Memory> {
+    let label = match seen.reached.place(event.actor) {
+        Some(_) => seen.agent_where(event.actor)?,
+        None => seen.text(b"no agent of this name")?,
+    };
+    seen.alien(label, seen.text(b"an agent that is under way")?)
+}
+
+/// What is told of an Arrive at another site than the one to which its agent goes.
+pub(super) fn arrives_elsewhere(seen: Seen<'_>, event: &Event, to: u32) -> Result<Wrong, Memory> {
+    let wanted = goes_to(seen, seen.agent_text(event.actor)?, to)?;
+    Ok(seen.wrong(seen.site_text(event.site)?, wanted))
+}
+
+/// What is told of a Land at another site than the one to which its packet goes.
+pub(super) fn lands_elsewhere(seen: Seen<'_>, event: &Event, to: u32) -> Result<Wrong, Memory> {
+    let wanted = goes_to(seen, seen.text(b"the packet")?, to)?;
+    Ok(seen.wrong(seen.site_text(event.site)?, wanted))
 }
 
 /// The first event from one on, or the last one before another, that has a kind and an actor.
@@ -53,31 +52,19 @@ fn index_of(events: &[Event], kind: Kind, actor: Name, last: bool) -> Option<usi
 }
 
 /// What is told of a packet that is not under way.
-fn no_packet(seen: Seen<'_>, event: &Event) -> Result<Option<Wrong>, Memory> {
+pub(super) fn no_packet(seen: Seen<'_>, event: &Event) -> Result<Wrong, Memory> {
     let wanted = seen.text(b"a packet that is under way")?;
     let behind = seen.index.saturating_add(1);
     let later = seen.events.get(behind..).unwrap_or(&[]);
     if let Some(ahead) = index_of(later, Kind::Send, event.actor, false) {
         let sent = behind.saturating_add(ahead);
         let label = seen.with(b"sent further down, in %", &seen.line_text(sent)?)?;
-        return seen.early(ACTOR, label, wanted, Some(sent));
+        return seen.early(label, wanted, Some(sent));
     }
     let earlier = seen.events.get(..seen.index).unwrap_or(&[]);
     let label = match index_of(earlier, Kind::Land, event.actor, true) {
         Some(landed) => seen.with(b"landed in %", &seen.line_text(landed)?)?,
         None => seen.text(b"no packet has this mark")?,
     };
-    seen.alien(ACTOR, label, wanted)
-}
-
-/// What is wrong with a Land by where its packet goes.
-pub(super) fn wrong_landing(seen: Seen<'_>, event: &Event) -> Result<Option<Wrong>, Memory> {
-    match seen.reached.packet(event.actor) {
-        None => no_packet(seen, event),
-        Some(packet) if packet.to != event.site => {
-            let wanted = goes_to(seen, seen.text(b"the packet")?, packet.to)?;
-            Ok(seen.wrong(SITE, seen.site_text(event.site)?, wanted))
-        }
-        Some(_) => Ok(None),
-    }
+    seen.alien(label, wanted)
 }

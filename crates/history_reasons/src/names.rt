@@ -1,9 +1,10 @@
 //! How sites, agents and names are told.
 
 use super::layout::Layout;
+use history_conditions::makes;
 use np_calculus::Place;
 use np_configuration::Cfg;
-use np_syntax::{Event, List, Made, Memory, Name, Text};
+use np_syntax::{Event, List, Memory, Name, Text};
 use source_places::{filled, filled_by, number_text};
 use std::alloc::Global;
 
@@ -19,10 +20,9 @@ pub(super) struct Seen<'a> {
     pub reached: &'a Cfg,
 }
 
-/// What is wrong with an event: the field, how it is told, what was wanted, and how to go on.
+/// What is told of a condition that an event fails: what is there, what was wanted, and how to go on.
 #[derive(Drop)]
 pub(super) struct Wrong {
-    pub field: usize,
     pub label: Text,
     pub wanted: Text,
     pub next: Text,
@@ -37,15 +37,6 @@ pub(super) fn name_text(alloc: Global, name: Name) -> Result<Text, Memory> {
     filled_by(alloc, b"%.#", site.as_slice(), n.as_slice())
 }
 
-/// Whether an event makes a name.
-pub(super) fn makes(event: &Event, name: Name) -> bool {
-    match event.made {
-        Made::Nothing => false,
-        Made::One(made) => made == name,
-        Made::Two(one, other) => one == name || other == name,
-    }
-}
-
 impl<'a> Seen<'a> {
     /// A text of its own.
     pub(super) fn text(&self, words: &[u8]) -> Result<Text, Memory> {
@@ -57,52 +48,43 @@ impl<'a> Seen<'a> {
         filled(self.alloc, words, text.as_slice())
     }
 
-    /// What is wrong with a field; nothing is told of how to go on.
-    pub(super) fn wrong(&self, field: usize, label: Text, wanted: Text) -> Option<Wrong> {
-        Some(Wrong {
-            field,
+    /// What is there and what was wanted; nothing is told of how to go on.
+    pub(super) fn wrong(&self, label: Text, wanted: Text) -> Wrong {
+        Wrong {
             label,
             wanted,
             next: List::new(self.alloc),
-        })
+        }
     }
 
     /// The same, where history and source may not belong together.
-    pub(super) fn alien(
-        &self,
-        field: usize,
-        label: Text,
-        wanted: Text,
-    ) -> Result<Option<Wrong>, Memory> {
+    pub(super) fn alien(&self, label: Text, wanted: Text) -> Result<Wrong, Memory> {
         let next = self.text(BELONG)?;
-        Ok(Some(Wrong {
-            field,
+        Ok(Wrong {
             label,
             wanted,
             next,
-        }))
+        })
     }
 
     /// The same, where a later event makes or sends what is missing, if there is one.
     pub(super) fn early(
         &self,
-        field: usize,
         label: Text,
         wanted: Text,
         later: Option<usize>,
-    ) -> Result<Option<Wrong>, Memory> {
+    ) -> Result<Wrong, Memory> {
         let Some(later) = later else {
-            return self.alien(field, label, wanted);
+            return self.alien(label, wanted);
         };
         let line = self.line_text(later)?;
         let words = b"put this line behind %, or take the history from np again";
         let next = self.with(words, &line)?;
-        Ok(Some(Wrong {
-            field,
+        Ok(Wrong {
             label,
             wanted,
             next,
-        }))
+        })
     }
 
     /// The line of an event.
@@ -156,7 +138,7 @@ impl<'a> Seen<'a> {
         let events = self.events.get(from..).unwrap_or(&[]);
         let before = events
             .iter()
-            .take_while(|event| !makes(event, name))
+            .take_while(|event| !makes(event.made, name))
             .count();
         if before < events.len() {
             Some(from.saturating_add(before))

@@ -1,9 +1,10 @@
 //! Histories from which the sites of a source do not go on.
 
-ghost use Rattle.std.specs.Prelude.{◌<◌, ◌^◌, length};
+ghost use Rattle.std.specs.Prelude.{◌≡◌, ◌<◌, ◌≤◌, ◌^◌, ℕ, length};
+ghost use Rattle.history_reasons.specs.Counts.{events_at};
 
 use super::field::{ACTOR, MADE1, MADE2, SITE};
-use super::layout::{Layout, field_of};
+use super::layout::{Layout, range_of};
 use super::names::name_text;
 use np_calculus::Place;
 use np_configuration::Cfg;
@@ -15,7 +16,9 @@ use std::alloc::Global;
 const OURS: &[u8] = b"give a history that `np run` wrote; `np replay` follows this one too";
 
 /// How many events of a site there are.
-fn count_at(events: &[Event], site: u32) -> usize {
+fn count_at(events: &[Event], site: u32) -> usize
+    ensures { result ≡ events_at site events.now }
+{
     events.iter().filter(|event| event.site == site).count()
 }
 
@@ -34,7 +37,9 @@ fn nth_at(events: &[Event], site: u32, before: usize) -> Option<usize> {
 }
 
 /// How many events the site with the most of them has.
-fn most_at(events: &[Event], sites: u32) -> usize {
+fn most_at(events: &[Event], sites: u32) -> usize
+    ensures { (site : ℕ) → site < sites → events_at site events.now ≤ result }
+{
     let mut most: usize = 0;
     for site in 0..sites {
         most = most.max(count_at(events, site));
@@ -67,7 +72,7 @@ pub fn past_budget(
     let sites = u32::try_from(names.len()).unwrap_or(u32::MAX);
     let need = number_text(alloc, most_at(events, sites) as u64)?;
     let next = b"give `--budget %` or more: the saved events count too";
-    let range = field_of(bytes, layout, index, SITE);
+    let range = range_of(bytes, layout, index, SITE);
     Ok(Some(Reasons {
         refused: Some(marked(range, range.from, label)),
         beside: None,
@@ -234,12 +239,12 @@ pub fn not_ours(
         return Ok(None);
     };
     if let Some((field, next)) = unexpected(event, names_made(before, event.site)) {
-        let range = field_of(bytes, layout, index, field);
+        let range = range_of(bytes, layout, index, field);
         return Ok(Some(name_reasons(alloc, range, next)?));
     }
-    let range = field_of(bytes, layout, index, ACTOR);
+    let range = range_of(bytes, layout, index, ACTOR);
     let before = match overtaken_in(alloc, low, before, event)? {
-        Some(first) => Some(field_of(bytes, layout, first, ACTOR)),
+        Some(first) => Some(range_of(bytes, layout, first, ACTOR)),
         None => None,
     };
     Ok(Some(order_reasons(alloc, range, before)?))

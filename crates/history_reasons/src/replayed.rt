@@ -1,97 +1,94 @@
 //! Events that are no run.
 
-ghost use Rattle.std.specs.Prelude.{◌<◌, ◌^◌, length};
+ghost use Rattle.std.specs.Prelude.{◌≡◌, ◌<◌, ◌^◌, ◌↔◌, length, slice_get, IfOk, IsSome};
+ghost use Rattle.history_conditions.specs.Born.{IsReached};
+ghost use Rattle.history_conditions.specs.Conditions.{first_unmet};
+ghost use Rattle.history_reasons.specs.Unmet.{IsFailing, IsUnmetIn};
 
-use super::acting::{wrong_atom, wrong_made, wrong_other, wrong_output, wrong_tag};
-use super::field::KIND;
-use super::layout::{Layout, field_of};
-use super::moving::{wrong_arrival, wrong_landing};
+use super::field::place_of;
+use super::layout::{Layout, range_of};
 use super::names::{Seen, Wrong};
-use np_configuration::Cfg;
+use super::telling::told_of;
+use history_conditions::{Condition, EventField, Moment, field_of, unmet};
 use np_serial::{ReplayFail, replay};
-use np_syntax::{Event, Kind, List, LowProgram, Memory, Role, Tag};
+use np_syntax::{Event, List, LowProgram, Memory};
 use source_places::{Reasons, marked};
 use std::alloc::Global;
 
-/// What is wrong with what an event is of: who arrives, what lands, or which atom acts; and its tag.
-fn wrong_actor(seen: Seen<'_>, event: &Event) -> Result<Option<Wrong>, Memory> {
-    match event.kind {
-        Kind::Arrive => wrong_arrival(seen, event),
-        Kind::Land => wrong_landing(seen, event),
-        _ => wrong_atom(seen, event),
+/// An event that fails a condition: the condition, and the field of the event's line that it is about.
+#[derive(Clone, Copy)]
+pub struct Failing {
+    pub condition: Condition,
+    pub field: EventField,
+}
+
+/// The first condition that an event fails behind others, and its field.
+fn find_failing(moment: Moment<'_>, event: &Event) -> Result<Option<Failing>, Memory>
+    requires { IsReached moment.before.now moment.reached.now }
+    ensures { IfOk result (λ found. IsFailing moment.entry.reached.now event.now found) }
+{
+    match unmet(moment, event)? {
+        Some(condition) => Ok(Some(Failing {
+            condition,
+            field: field_of(condition),
+        })),
+        None => Ok(None),
     }
 }
 
-/// What is wrong with the tag of an event.
-fn wrong_owner(seen: Seen<'_>, event: &Event) -> Result<Option<Wrong>, Memory> {
-    let plain = Tag {
-        node: 0,
-        role: Role::Plain,
-    };
-    match event.kind {
-        Kind::Arrive => wrong_tag(seen, event, plain, b"an Arrive"),
-        Kind::Land => match seen.reached.packet(event.actor) {
-            Some(packet) => wrong_tag(seen, event, packet.tag, b"the packet"),
-            None => Ok(None),
-        },
-        _ => match seen.reached.atom(event.actor) {
-            Some(atom) => wrong_tag(seen, event, atom.proc.tag, b"the atom"),
-            None => Ok(None),
-        },
-    }
-}
-
-/// What is told where no condition is known to fail.
-fn unknown(seen: Seen<'_>) -> Result<Option<Wrong>, Memory> {
-    let wanted = seen.text(b"an event of this kind")?;
-    seen.alien(KIND, seen.text(b"not possible here")?, wanted)
-}
-
-/// The first condition that an event fails.
-fn first_wrong(seen: Seen<'_>, event: &Event) -> Result<Option<Wrong>, Memory> {
-    if let Some(wrong) = wrong_actor(seen, event)? {
-        return Ok(Some(wrong));
-    }
-    if let Some(wrong) = wrong_owner(seen, event)? {
-        return Ok(Some(wrong));
-    }
-    if let Some(wrong) = wrong_other(seen, event)? {
-        return Ok(Some(wrong));
-    }
-    if let Some(wrong) = wrong_made(seen, event)? {
-        return Ok(Some(wrong));
-    }
-    if let Some(wrong) = wrong_output(seen, event)? {
-        return Ok(Some(wrong));
-    }
-    unknown(seen)
-}
-
-/// What is told of the event that is seen.
-fn reasons_of(seen: Seen<'_>, bytes: &[u8]) -> Result<Option<Reasons>, Memory> {
-    let Some(event) = seen.events.get(seen.index) else {
-        return Ok(None);
-    };
-    let Some(wrong) = first_wrong(seen, event)? else {
-        return Ok(None);
-    };
+/// What is told of the event that is seen, where it fails a condition: it is marked at the field of the condition.
+fn reasons_of(
+    seen: Seen<'_>,
+    bytes: &[u8],
+    event: &Event,
+    failing: Failing,
+) -> Result<Reasons, Memory> {
     let Wrong {
-        field,
         label,
         wanted,
         next,
-    } = wrong;
-    let range = field_of(bytes, seen.layout, seen.index, field);
-    Ok(Some(Reasons {
+    } = told_of(seen, event, failing.condition)?;
+    let range = range_of(bytes, seen.layout, seen.index, place_of(failing.field));
+    Ok(Reasons {
         refused: Some(marked(range, range.from, label)),
         beside: None,
         wanted,
         why: List::new(seen.alloc),
         next,
-    }))
+    })
 }
 
-/// What is told of the event of an index, behind which events are no run of a low program.
+/// What is told of an event that is seen, where it fails a condition.
+fn told_at(
+    seen: Seen<'_>,
+    bytes: &[u8],
+    before: &[Event],
+    event: &Event,
+) -> Result<Option<Reasons>, Memory>
+    requires { IsReached before.now seen.reached.now }
+    ensures { IfOk result (λ found. IsSome found ↔ IsSome (first_unmet seen.entry.reached.now event.now)) }
+{
+    let moment = Moment {
+        alloc: seen.alloc,
+        before,
+        reached: seen.reached,
+    };
+    match find_failing(moment, event)? {
+        Some(failing) => Ok(Some(reasons_of(seen, bytes, event, failing)?)),
+        None => Ok(None),
+    }
+}
+
+/// The event of an index.
+fn event_at(events: &[Event], index: usize) -> &Event
+    requires { index < length events.now }
+    ensures { slice_get events.now index ≡ Some result.now }
+{
+    &events[index]
+}
+
+/// What is told of the event of an index, behind which events are no run of a low program. Something is told exactly where the
+/// events before it are a run and the event fails a condition there.
 pub fn not_a_run(
     alloc: Global,
     low: &LowProgram,
@@ -102,36 +99,27 @@ pub fn not_a_run(
 ) -> Result<Option<Reasons>, Memory>
     requires sites { length low.now.sites < 2 ^ 32 }
     requires events { length events.now < 2 ^ 32 }
+    ensures { IfOk result (λ found. IsUnmetIn low.now events.now index found) }
 {
-    let (front, _) = events.split_at(index.min(events.len()));
+    if events.len() <= index {
+        return Ok(None);
+    }
+    let (front, _) = events.split_at(index);
     match replay(alloc, low, front) {
         Ok(reached) => {
-            let reasons = told_at(alloc, low, bytes, layout, events, index, &reached);
+            let seen = Seen {
+                alloc,
+                sites: low.sites.as_slice(),
+                events,
+                layout,
+                index,
+                reached: &reached,
+            };
+            let reasons = told_at(seen, bytes, front, event_at(events, index));
             drop(reached);
             reasons
         }
         Err(ReplayFail::Memory) => Err(Memory),
         Err(ReplayFail::NotARun(_)) => Ok(None),
     }
-}
-
-/// What is told of the event of an index, before which this configuration is reached.
-fn told_at(
-    alloc: Global,
-    low: &LowProgram,
-    bytes: &[u8],
-    layout: Layout,
-    events: &[Event],
-    index: usize,
-    reached: &Cfg,
-) -> Result<Option<Reasons>, Memory> {
-    let seen = Seen {
-        alloc,
-        sites: low.sites.as_slice(),
-        events,
-        layout,
-        index,
-        reached,
-    };
-    reasons_of(seen, bytes)
 }

@@ -135,7 +135,7 @@ fn event_reasons(
     match refusal {
         Refusal::NotARun(index) => not_a_run(alloc, low, bytes, layout, events, index as usize),
         Refusal::NotOurs(index) => not_ours(alloc, low, bytes, layout, events, index as usize),
-        Refusal::NoLine(printed) => Ok(Some(no_line(alloc, bytes, layout, events, printed)?)),
+        Refusal::NoLine(_) => Ok(Some(no_line(alloc, bytes, layout, events)?)),
         Refusal::BudgetPast(site) => {
             let names = low.sites.as_slice();
             past_budget(

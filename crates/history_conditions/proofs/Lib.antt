@@ -1,0 +1,5 @@
+pub mod Born
+pub mod Common
+pub mod Enabled
+pub mod Held
+pub mod Law

@@ -1,0 +1,4 @@
+pub mod Born
+pub mod Conditions
+pub mod Refused
+pub mod Sent
