@@ -7,13 +7,11 @@ ghost use Rattle.cache_encode.specs.Encoded.{encoded_cached, main_of};
 
 use super::translator::translate;
 use daemon_encode::Translator;
-use daemon_texts::cached_daemon;
-use infrastructure_texts::Writer;
-use infrastructure_texts::cached_creations::main_text;
 use np_calculus::MAIN;
 use np_check::Checked;
 use np_syntax::{LowProgram, Memory, Proc, Program, copy_texts};
 use std::alloc::Global;
+use text_filling::{Writer, cached_daemon, cached_main_text};
 
 /// Main's process in the low program, and the number of the next binder.
 fn main_of(alloc: Global, sites: u32, p: &Program) -> Result<(Proc, u32), Memory>
@@ -28,7 +26,7 @@ fn main_of(alloc: Global, sites: u32, p: &Program) -> Result<(Proc, u32), Memory
     let forms = Translator { alloc, sites };
     let body = translate(forms, &p.main, &writer.agent(MAIN)?, p.binders)?;
     let first = body.next;
-    let main = main_text(writer, p.at, first, body.proc)?;
+    let main = cached_main_text(writer, p.at, first, body.proc)?;
     Ok((main, first + 7))
 }
 

@@ -7,9 +7,8 @@ ghost use Rattle.cache_encode.specs.Encoded as spec;
 ghost use Rattle.infrastructure_texts.specs.CacheTexts as text;
 
 use daemon_encode::{Translated, Translator};
-use infrastructure_texts::cached_creations::agent_text;
-use migration_texts::cached_post_text;
 use np_syntax::{Expr, Memory, Proc, ProcForm, Tag};
+use text_filling::{cached_agent_text, cached_post_text};
 
 /// The low process of a process of this agent, whose new binders are numbered from the next on.
 #[cycle(translate)]
@@ -143,6 +142,6 @@ fn creation(
     let next = rest.next;
     let first = body.next;
     let writer = forms.writer(tag);
-    let proc = agent_text(writer, agent, child, at, first, body.proc, rest.proc)?;
+    let proc = cached_agent_text(writer, agent, child, at, first, body.proc, rest.proc)?;
     Ok(Translated { proc, next })
 }

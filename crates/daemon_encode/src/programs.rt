@@ -6,12 +6,11 @@ ghost use Rattle.daemon_encode.specs.Encoded.{encoded, main_of};
 ghost use Rattle.daemon_encode.specs.LowSound.{IsLowSound};
 
 use super::translator::Translator;
-use daemon_texts::daemon;
-use infrastructure_texts::Writer;
 use np_calculus::MAIN;
 use np_check::Checked;
 use np_syntax::{LowProgram, Memory, Proc, Program, copy_texts};
 use std::alloc::Global;
+use text_filling::{Writer, daemon};
 
 /// Main's process in the low program, and the number of the next binder.
 fn main_of(alloc: Global, sites: u32, p: &Program) -> Result<(Proc, u32), Memory>

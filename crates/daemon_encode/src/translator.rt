@@ -8,11 +8,9 @@ ghost use Rattle.np_syntax.specs.declared.process.ProcForm as shape;
 ghost use Rattle.np_syntax.specs.declared.process.ProcForm.{ProcForm as Form};
 
 use super::translated::Translated;
-use infrastructure_texts::pieces::expression;
-use infrastructure_texts::{Made, Writer, WrittenExpr};
-use migration_texts::migrate_text;
 use np_syntax::{Expr, ExprForm, Memory, Pat, Proc, ProcForm, Tag, Ty, process_forms};
 use std::alloc::Global;
+use text_filling::{Made, Writer, WrittenExpr, expression, migrate_text};
 
 /// Translates the processes of a program of so many sites.
 #[derive(Clone, Copy)]

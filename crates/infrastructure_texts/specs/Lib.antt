@@ -1,7 +1,9 @@
 pub mod Pieces
 pub mod Texts
+pub mod Whole
 pub mod Daemon
 pub mod CacheTexts
 pub mod CacheDaemon
 pub mod Infrastructures
 pub mod InfrastructureTexts
+pub mod Filling

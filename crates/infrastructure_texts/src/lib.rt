@@ -1,21 +1,20 @@
-//! The processes that the infrastructures write out, piece by piece: what a post, a creation and main's bracket become, with
+//! The texts that the infrastructures write out, as tables: the daemon, and what main, a post, a creation and a migration become, with
 //! caches and without.
 //!
-//! Each function gives exactly the text of its definition (`Writer`); it knows no source. The definitions of all texts stand
-//! here, those of daemon_texts and migration_texts too, which are crates of their own so that a wrong text is refused in a
-//! check that takes seconds.
+//! A table has the pieces of a text, each before the processes in it. That a table, filled in, is the text of its definition is a law
+//! of its own, so that a wrong text is refused in a check that takes seconds. The crate writes nothing: text_filling fills the tables
+//! in.
 //!
-//! Contracts: the methods of `Writer`, `cached_creations::agent_text`.
+//! Contracts: `law_central_tables`, `law_cached_tables`.
 #![tactic(auto)]
 
-pub mod cached_creations;
-pub mod caches;
-pub mod own_names;
-pub mod pieces;
-mod places;
-mod texts;
-mod writer;
+mod laws;
+mod notation;
+mod tables;
 
-pub use pieces::WrittenExpr;
-pub use texts::Made;
-pub use writer::{Writer, Written};
+pub use laws::{law_cached_tables, law_central_tables};
+pub use notation::{Content, Names, Piece, Word};
+pub use tables::{
+    CACHED_CREATION, CACHED_DAEMON, CACHED_MAIN, CACHED_POST, CREATION, DAEMON, HERE, MAIN,
+    MIGRATION, POST,
+};

@@ -1,0 +1,2 @@
+mod Nths
+mod Wholes
